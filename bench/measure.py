@@ -1,0 +1,260 @@
+"""Measures the built program on generated cases. `bash bench/run` builds it and starts this."""
+
+import os
+import resource
+import signal
+import subprocess
+import sys
+import tempfile
+import time
+
+LARGEST_CASE = 1_000_000
+STACK = 8 * 1024 * 1024
+TRIES = 3
+
+
+class Run:
+    """What one run of the program gave: status, output and seconds."""
+
+    def __init__(self, command, case, stack=None, environment=None):
+        if len(case) > LARGEST_CASE:
+            raise ValueError(f"a case of {len(case)} bytes is too long")
+
+        def limit_stack():
+            if stack is not None:
+                resource.setrlimit(resource.RLIMIT_STACK, (stack, stack))
+
+        started = time.perf_counter()
+        ended = subprocess.run(
+            command, input=case, capture_output=True, preexec_fn=limit_stack, env=environment
+        )
+        self.seconds = time.perf_counter() - started
+        self.status = ended.returncode
+        self.output = ended.stdout
+
+
+def peak_memory(program, case, stack):
+    """The most memory that a run takes, in KiB, as GNU time tells it: a child of ours would count our own."""
+    with tempfile.NamedTemporaryFile("r") as told:
+        Run(["/usr/bin/time", "-o", told.name, "-f", "%M", program], case, stack)
+        return int(told.read())
+
+
+# --- growth ---
+
+
+def chain_of_additions(n):
+    """One assignment that adds n literals, from the left, so that the texts grow."""
+    lines = ["str x"]
+    for _ in range(n - 1):
+        lines += ["str x", "add"]
+    lines += ["assign a", "run"]
+    return lines, f'a = "{"x" * n}"\n'
+
+
+def assignments_in_a_row(n):
+    """n assignments, each of which reads the one before."""
+    lines = ["str x", "assign a0"]
+    for i in range(1, n):
+        lines += [f"var a{i - 1}", f"assign a{i}"]
+    lines.append("run")
+    return lines, "".join(f'a{i} = "x"\n' for i in range(n))
+
+
+def commands_with_replies(n):
+    """n assignments of commands, and as many replies."""
+    lines = []
+    for i in range(n):
+        lines += [f"cmd c{i}", f"assign a{i}", f"reply r{i}"]
+    lines.append("run")
+    questions = "".join(f'? command "c{i}"\n' for i in range(n))
+    return lines, questions + "".join(f'a{i} = "r{i}"\n' for i in range(n))
+
+
+FAMILIES = [
+    (chain_of_additions, 2_500),
+    (assignments_in_a_row, 4_000),
+    (commands_with_replies, 3_000),
+]
+
+
+def measure_growth(program):
+    print("growth: each size twice the one before; time and memory with their factors")
+    for family, smallest in FAMILIES:
+        print(f"\n{family.__name__}: {family.__doc__}")
+        print(f"{'n':>8} {'bytes':>8} {'seconds':>9} {'factor':>7} {'KiB':>9} {'factor':>7}")
+        before = None
+        for n in [smallest, 2 * smallest, 4 * smallest, 8 * smallest]:
+            lines, answer = family(n)
+            case = ("\n".join(lines) + "\n").encode()
+            now = measured(program, f"{family.__name__} of {n}", case, answer.encode())
+            factors = [f"{new / old:.2f}" for new, old in zip(now, before)] if before else ["", ""]
+            print(f"{n:>8} {len(case):>8} {now[0]:>9.4f} {factors[0]:>7} {now[1]:>9} {factors[1]:>7}")
+            before = now
+
+
+def measured(program, name, case, answer):
+    """Seconds and KiB of a case with a known answer, on a stack of any size."""
+    seconds = []
+    for _ in range(TRIES):
+        run = Run([program], case, resource.RLIM_INFINITY)
+        if run.status != 0 or run.output != answer:
+            sys.exit(f"{name}: status {run.status}, or a wrong answer")
+        seconds.append(run.seconds)
+    return min(seconds), peak_memory(program, case, resource.RLIM_INFINITY)
+
+
+# --- depth ---
+
+
+def to_the_left(depth, word):
+    return ["str x"] + ["str x", word] * depth
+
+
+def to_the_right(depth, word):
+    return ["str x"] * (depth + 1) + [word] * depth
+
+
+def evaluated(lines):
+    return lines + ["assign a", "run"]
+
+
+def only_dropped(lines):
+    """The assignment is overridden, so that its expression is built and let go, and not evaluated."""
+    return lines + ["assign a", "override a 5", "run"]
+
+
+def ends_by_itself(program, name, lines):
+    run = Run([program], ("\n".join(lines) + "\n").encode(), STACK)
+    if run.status == 0:
+        return True
+    if run.status < 0 and -run.status in (signal.SIGSEGV, signal.SIGBUS, signal.SIGABRT):
+        return False
+    sys.exit(f"{name}: status {run.status}")
+
+
+def deepest(program, name, lines_of):
+    """The depth of the deepest tower that ends by itself, and whether a case could hold a deeper one."""
+    good, bad = 0, (LARGEST_CASE - 100) // len("str x\nand\n") + 1
+    if ends_by_itself(program, name, lines_of(bad - 1)):
+        return bad - 1, False
+    while bad - good > 1:
+        middle = (good + bad) // 2
+        if ends_by_itself(program, name, lines_of(middle)):
+            good = middle
+        else:
+            bad = middle
+    return good, True
+
+
+def measure_depth(program):
+    print(f"depth: how many operators may nest on a stack of {STACK} bytes")
+    for use in [evaluated, only_dropped]:
+        for tower in [to_the_left, to_the_right]:
+            for word in ["and", "or", "add"]:
+                name = f"{word} {tower.__name__}, {use.__name__}"
+                depth, is_bounded = deepest(program, name, lambda n: use(tower(n, word)))
+                level = f"{STACK // (depth + 1)} bytes a level" if is_bounded else "as many as a case holds"
+                print(f"{name}: {depth} ({level})")
+
+
+# --- memory ---
+
+REFUSING = r"""
+#define _GNU_SOURCE
+#include <dlfcn.h>
+#include <stdlib.h>
+
+static long asked, refused;
+
+static int refuses(void)
+{
+    if (refused == 0) {
+        const char *text = getenv("REFUSED_ALLOCATION");
+        refused = text ? atol(text) : -1;
+    }
+    return ++asked == refused;
+}
+
+void *malloc(size_t size)
+{
+    static void *(*next)(size_t);
+    if (!next)
+        next = dlsym(RTLD_NEXT, "malloc");
+    return refuses() ? NULL : next(size);
+}
+
+void *realloc(void *block, size_t size)
+{
+    static void *(*next)(void *, size_t);
+    if (!next)
+        next = dlsym(RTLD_NEXT, "realloc");
+    return refuses() ? NULL : next(block, size);
+}
+"""
+
+CASES = {
+    "stored": "cmd one\ncmd two\nand\nassign a\nreply\nreply x\nrun\n",
+    "every line": "# all\n\nstr a\nassign a\nvar a\nstr b\nadd\ncmd c\nor\nexport b\noverride o 1\nreply x\nfail 7\nrun\n",
+    "refused": "cmd one\nassign a\nfail 3\nrun\n",
+    "unevaluated": "var x\nassign a\nrun\n",
+    "bad line": "str a\nassign a\nadd\n",
+}
+
+
+def is_told(run, whole):
+    """Whether a run with a refused allocation gave the whole answer, or told of want of memory and nothing else."""
+    if (run.status, run.output) == (whole.status, whole.output):
+        return True
+    if run.status == 1:
+        return whole.output.startswith(run.output)
+    *questions, last, end = run.output.split(b"\n")
+    asked = whole.output.split(b"\n")[: len(questions)]
+    return run.status == 2 and last == b"refused 12 OutOfMemory" and end == b"" and questions == asked
+
+
+def measure_memory(program):
+    print("memory: each allocation refused in turn")
+    with tempfile.TemporaryDirectory() as folder:
+        source = os.path.join(folder, "refusing.c")
+        library = os.path.join(folder, "refusing.so")
+        with open(source, "w") as file:
+            file.write(REFUSING)
+        subprocess.run(["cc", "-shared", "-fPIC", "-O1", "-o", library, source, "-ldl"], check=True)
+        for name, text in CASES.items():
+            refuse_each(program, library, name, text.encode())
+
+
+def refuse_each(program, library, name, case):
+    whole = Run([program], case)
+    counts = {}
+    same = 0
+    place = 0
+    while same < 20:
+        place += 1
+        environment = dict(os.environ, LD_PRELOAD=library, REFUSED_ALLOCATION=str(place))
+        run = Run([program], case, environment=environment)
+        if not is_told(run, whole):
+            sys.exit(f"{name}, allocation {place}: status {run.status}, {run.output!r}")
+        if (run.status, run.output) == (whole.status, whole.output):
+            same += 1
+            continue
+        same = 0
+        counts[run.status] = counts.get(run.status, 0) + 1
+    told = ", ".join(f"{count} with status {status}" for status, count in sorted(counts.items()))
+    print(f"{name}: {place - same} allocations; of the runs that one was refused in, {told}")
+
+
+MODES = {"growth": measure_growth, "depth": measure_depth, "memory": measure_memory}
+
+
+def main():
+    program, *words = sys.argv[1:]
+    for word in words or MODES:
+        if word not in MODES:
+            sys.exit(f"{word} is none of {', '.join(MODES)}")
+        MODES[word](program)
+        print()
+
+
+main()

@@ -1,0 +1,40 @@
+-- What stands behind the word of a line.
+use Rattle.std.specs.Prelude.{ℕ, ◌+◌, ◌-◌, ◌*◌, Bool, false, [], ◌∷◌, ◌&&◌, ◌||◌, ◌==◌, nat_le, length, Option, Some, None, if◌then◌else◌}
+use Rattle.std.specs.List.{list_all, before_first, after_first}
+use Rattle.just_syntax.specs.Plain.{Text}
+
+abbrev pub is_between : ℕ → ℕ → ℕ → Bool
+is_between low high byte = nat_le low byte && nat_le byte high
+
+-- a letter or `_`
+abbrev pub is_name_start : ℕ → Bool
+is_name_start byte = (byte == 95) || (is_between 65 90 byte || is_between 97 122 byte)
+
+-- `-`, a digit, a letter or `_`
+abbrev pub is_name_part : ℕ → Bool
+is_name_part byte = ((byte == 45) || is_between 48 57 byte) || is_name_start byte
+
+abbrev pub is_name : Text → Bool
+is_name [] = false
+is_name (first ∷ rest) = is_name_start first && list_all is_name_part rest
+
+-- the number that digits write behind those of another
+abbrev pub decimal_after : ℕ → Text → Option ℕ
+decimal_after n [] = Some n
+decimal_after n (digit ∷ digits) = if is_between 48 57 digit then decimal_after (10 * n + (digit - 48)) digits else None
+
+abbrev pub at_most : ℕ → Option ℕ → Option ℕ
+at_most most None = None
+at_most most (Some n) = if nat_le n most then Some n else None
+
+-- the number that one to four digits write, if it is at most 1000
+abbrev pub number : Text → Option ℕ
+number text = if is_between 1 4 (length text) then at_most 1000 (decimal_after 0 text) else None
+
+-- a text up to its first space
+abbrev pub word_of : Text → Text
+word_of text = before_first (λ byte. byte == 32) text
+
+-- what stands behind the first space of a text
+abbrev pub rest_of : Text → Text
+rest_of text = after_first (λ byte. byte == 32) text

@@ -1,0 +1,105 @@
+// The program: a case from a reader, its answer to a writer.
+
+ghost use Rattle.std.specs.Prelude.{◌≡◌, ◌<◌, ◌≤◌, IfOk, IfSome, IsErr, length};
+ghost use Rattle.just_bench.specs.declared.stream.TheConstants.{LIMIT};
+
+use crate::case::{Case, CaseError, build};
+use crate::context::{case_config, case_module, case_search};
+use crate::line::parse_lines;
+use crate::print::{print_bindings, print_questions, print_refusal};
+use crate::recording_host::RecordingHost;
+use crate::scripted_host::ScriptedHost;
+use crate::stream::{StreamError, read_case, write_text};
+use just_eval::evaluator::Evaluator;
+use just_syntax::out_of_memory::OutOfMemory;
+use just_value::scope::Scope;
+use std::alloc::Global;
+use std::collections::BTreeMap;
+use std::io::{Read, Write};
+
+// How many calls may be pending, and one more.
+const RECURSION_LIMIT: usize = 100;
+
+/// Reads a case, evaluates it, prints its answer, and gives the exit status: 0 for bindings, 2 for a refusal, 1
+/// for a case that is bad or too long, a read or a write that failed, or want of memory outside the evaluation.
+pub fn run<R: Read + Drop, W: Write + Drop>(alloc: Global, mut reader: R, mut writer: W) -> u8
+    ensures status { result ≤ 2 }
+    ensures too_long { IfSome (R.remaining reader) (λ case. LIMIT < length case → result ≡ 1) }
+{
+    match answer(alloc, &mut reader, &mut writer) {
+        Ok(status) => status,
+        Err(_) => 1,
+    }
+}
+
+// What the texts of a case's expressions are pieces of, the bytes and the lines, outlives them here.
+fn answer<R: Read, W: Write>(
+    alloc: Global,
+    reader: &mut R,
+    writer: &mut W,
+) -> Result<u8, StreamError>
+    ensures status { IfOk result (λ status. status ≤ 2) }
+    ensures too_long { IfSome (R.remaining reader.old) (λ case. LIMIT < length case → IsErr result) }
+    ensures unwritten { IfSome (R.remaining reader.old) (λ case. LIMIT < length case → writer.new ≡ writer.old) }
+{
+    let bytes = read_case(alloc, reader)?;
+    let lines = parse_lines(alloc, &bytes)?;
+    let mut text = String::new(alloc);
+    let status = match build(alloc, &lines) {
+        Ok(case) => evaluate(alloc, &mut text, case)?,
+        Err(CaseError::BadLine(place)) => {
+            writeln!(text, "bad line {place}")?;
+            1
+        }
+        Err(CaseError::OutOfMemory) => return Err(StreamError::OutOfMemory),
+    };
+    write_text(writer, &text)?;
+    Ok(status)
+}
+
+// Evaluates a case in a scope that binds nothing, adds what is printed of it, and gives the exit status.
+fn evaluate(alloc: Global, text: &mut String, case: Case) -> Result<u8, OutOfMemory>
+    ensures { IfOk result (λ status. status ≤ 2) }
+{
+    let parent = Scope::root(alloc, &[])?;
+    evaluate_in(alloc, text, case, &parent)
+}
+
+// The same in a scope, whose bindings the case sees.
+pub(crate) fn evaluate_in<'src>(
+    alloc: Global,
+    text: &mut String,
+    case: Case<'src>,
+    parent: &Scope<'src, '_>,
+) -> Result<u8, OutOfMemory>
+    ensures { IfOk result (λ status. status ≤ 2) }
+{
+    let module = case_module(alloc, case.assignments, case.evaluation_order)?;
+    let config = case_config(alloc)?;
+    let search = case_search(alloc)?;
+    let dotenv = BTreeMap::new(alloc);
+    let mut host = RecordingHost::new(alloc, ScriptedHost::new(case.replies));
+    let outcome = Evaluator::evaluate_assignments(
+        alloc,
+        &mut host,
+        &config,
+        &dotenv,
+        &module,
+        &case.overrides,
+        parent,
+        &search,
+        RECURSION_LIMIT,
+        None,
+    );
+    print_questions(text, host.questions())?;
+    match outcome {
+        Ok(scope) => {
+            print_bindings(text, &scope)?;
+            Ok(0)
+        }
+        Err(error) => {
+            print_refusal(alloc, text, &error)?;
+            Ok(2)
+        }
+    }
+}

@@ -1,0 +1,90 @@
+// Reads a case, and writes what is printed of it.
+
+ghost use Rattle.std.specs.Prelude.{◌≡◌, ◌<◌, ◌≤◌, IfOk, OnOk, IfSome, length, vec_len};
+ghost use Rattle.std.specs.Io.KnownBytes.{Appends};
+ghost use Rattle.just_bench.specs.declared.stream.StreamError.TheVariants.{Failed, OutOfMemory as Wanted};
+
+use just_syntax::out_of_memory::OutOfMemory;
+use std::alloc::{AllocError, Global};
+use std::io::{self, Read, Write};
+
+/// How many bytes a case has at most.
+pub const LIMIT: usize = 1_000_000;
+
+/// Why a case was not read or an answer not written.
+#[derive(Debug, Drop)]
+pub enum StreamError {
+    /// A read or a write failed, or a write took no byte.
+    Failed,
+    /// Memory was asked for and refused.
+    OutOfMemory,
+    /// The case has more than `LIMIT` bytes.
+    TooLong,
+}
+
+impl From<AllocError> for StreamError {
+    ghost from_gives = { λ _ e. e ≡ Wanted };
+
+    fn from(_error: AllocError) -> Self {
+        StreamError::OutOfMemory
+    }
+}
+
+impl From<OutOfMemory> for StreamError {
+    ghost from_gives = { λ _ e. e ≡ Wanted };
+
+    fn from(_error: OutOfMemory) -> Self {
+        StreamError::OutOfMemory
+    }
+}
+
+impl From<io::Error> for StreamError {
+    ghost from_gives = { λ _ e. e ≡ Failed };
+
+    fn from(_error: io::Error) -> Self {
+        StreamError::Failed
+    }
+}
+
+/// All bytes of a reader. Nothing is read behind a read that fails or gives no byte, nor once there are more
+/// than `LIMIT`.
+///
+/// # Errors
+///
+/// `Failed` where a read fails, and `TooLong` where there are more than `LIMIT` bytes. What was read is lost.
+pub fn read_case<R: Read>(alloc: Global, reader: &mut R) -> Result<Vec<u8>, StreamError>
+    ensures within { IfOk result (λ bytes. vec_len bytes ≤ LIMIT) }
+    ensures whole { IfOk result (λ bytes. IfSome (R.remaining reader.old) (λ rest. bytes.items ≡ rest)) }
+    ensures too_long { result ≡ Err StreamError.TooLong → IfSome (R.remaining reader.old) (λ rest. LIMIT < length rest) }
+{
+    let mut bytes = Vec::new(alloc);
+    let mut buffer = [0u8; 4096];
+    while bytes.len() <= LIMIT {
+        let count = reader.read(&mut buffer)?;
+        if count == 0 {
+            return Ok(bytes);
+        }
+        bytes.extend_from_slice(&buffer[..count])?;
+    }
+    Err(StreamError::TooLong)
+}
+
+/// Writes a whole text.
+///
+/// # Errors
+///
+/// `Failed` where a write fails or takes no byte, or the flush fails. What was written stands.
+pub fn write_text<W: Write>(writer: &mut W, text: &str) -> Result<(), StreamError>
+    ensures { OnOk result (Appends (W.contents writer.old) (W.contents writer.new) text.now) }
+{
+    let mut rest = text.as_bytes();
+    while !rest.is_empty() {
+        let count = writer.write(rest)?;
+        if count == 0 {
+            return Err(StreamError::Failed);
+        }
+        rest = &rest[count..];
+    }
+    writer.flush()?;
+    Ok(())
+}

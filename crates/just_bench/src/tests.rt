@@ -1,0 +1,7 @@
+// Cases, streams that fail, and evaluations in a scope that binds something.
+
+mod cases;
+mod evaluations;
+mod fakes;
+mod hosts;
+mod streams;

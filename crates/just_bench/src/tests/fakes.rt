@@ -1,0 +1,85 @@
+// Readers and writers that give and take pieces, and fail.
+
+use std::alloc::Global;
+use std::io::{self, Read, Write};
+
+// Gives a text in pieces, and fails behind some reads.
+#[derive(Drop)]
+pub(crate) struct PieceReader<'t> {
+    pub(crate) text: &'t [u8],
+    pub(crate) piece: usize,
+    pub(crate) good_reads: u64,
+    pub(crate) reads_after: u64,
+}
+
+impl Read for PieceReader<'_> {
+    fn read(&mut self, buf: &mut [u8]) -> io::Result<usize> {
+        if self.good_reads == 0 {
+            self.reads_after = self.reads_after.saturating_add(1);
+            return Err(io::Error::from(io::ErrorKind::Interrupted));
+        }
+        self.good_reads -= 1;
+        let count = self.piece.min(self.text.len()).min(buf.len());
+        let (piece, rest) = self.text.split_at(count);
+        buf[..count].copy_from_slice(piece);
+        self.text = rest;
+        Ok(count)
+    }
+}
+
+// Gives `#` for ever, and counts the bytes.
+#[derive(Drop)]
+pub(crate) struct EndlessReader {
+    pub(crate) given: usize,
+}
+
+impl Read for EndlessReader {
+    fn read(&mut self, buf: &mut [u8]) -> io::Result<usize> {
+        buf.fill(b'#');
+        self.given = self.given.saturating_add(buf.len());
+        Ok(buf.len())
+    }
+}
+
+// Takes some bytes a write, and fails behind some writes.
+#[derive(Drop)]
+pub(crate) struct PieceWriter {
+    pub(crate) written: Vec<u8>,
+    pub(crate) piece: usize,
+    pub(crate) good_writes: u64,
+}
+
+impl Write for PieceWriter {
+    fn write(&mut self, buf: &[u8]) -> io::Result<usize> {
+        if self.good_writes == 0 {
+            return Err(io::Error::from(io::ErrorKind::Interrupted));
+        }
+        self.good_writes -= 1;
+        let count = self.piece.min(buf.len());
+        self.written.extend_from_slice(&buf[..count])?;
+        Ok(count)
+    }
+
+    fn flush(&mut self) -> io::Result<()> {
+        Ok(())
+    }
+}
+
+// A reader that gives a whole text.
+pub(crate) fn whole_reader(text: &[u8]) -> PieceReader<'_> {
+    PieceReader {
+        text,
+        piece: usize::MAX,
+        good_reads: u64::MAX,
+        reads_after: 0,
+    }
+}
+
+// A writer that takes all.
+pub(crate) fn whole_writer(alloc: Global) -> PieceWriter {
+    PieceWriter {
+        written: Vec::new(alloc),
+        piece: usize::MAX,
+        good_writes: u64::MAX,
+    }
+}

@@ -1,0 +1,29 @@
+-- What runs of the forms come to.
+use Rattle.std.proofs.Common.{◌≡◌, ℕ, true, false, [], ◌∷◌, ◌++◌, refl, ap, subst, Option, Some, None}
+use Rattle.just_syntax.specs.Plain.{Text, Token}
+use Rattle.just_value.specs.Value.{Value, Names}
+use Rattle.just_value.specs.Refusal.{Internal}
+use Rattle.just_value.specs.Outcome.{Outcome, Gave, Refused, UnlessStopped}
+use Rattle.just_host.specs.Fixed.{Fixed}
+use Rattle.just_host.specs.Question.{Question, Answer, command_question}
+use Rattle.just_host.specs.Interaction.{Runs}
+use Rattle.just_eval.specs.Messages.{unevaluated_text}
+use Rattle.just_eval.specs.Meaning.{Situation, variable, command, answered}
+use Rattle.just_eval.proofs.Runs.{runs_done, runs_gives, runs_note, runs_ask, runs_when, runs_else}
+
+module _ {S : Type 0} {step : S → Question → Answer → S → Type 0} where
+  -- a variable that has a value
+  pub runs_found : {h : S} (t : Token) (number : Option ℕ) (n : ℕ) (names : Names) (v : Value) → number ≡ Some n → names n ≡ Some v → Runs step h (variable t number names) (Gave v) h
+  runs_found t number n names v e f = rw (e, f) (runs_note (runs_gives v))
+
+  -- a variable that has none
+  pub runs_missing : {h : S} (t : Token) (number : Option ℕ) (n : ℕ) (names : Names) (text : Text) → number ≡ Some n → names n ≡ None → text ≡ unevaluated_text t.lexeme → Runs step h (variable t number names) (Refused (Internal text t)) h
+  runs_missing t number n names text e f m = rw (e, f, m) (runs_note (runs_done _ _ refl))
+
+  -- a command expression, in a dry run
+  pub runs_dry : {h : S} (f : Fixed) (s : Situation) (text : Text) (t : Token) (v : Value) → f.config.dry_run ≡ true → v ≡ ((96 ∷ text) ++ 96 ∷ []) ∷ [] → Runs step h (command f s text t) (Gave v) h
+  runs_dry f s text t v d e = runs_note (runs_when _ _ _ d (runs_done _ _ (ap Gave e)))
+
+  -- a command expression that asks
+  pub runs_asked : {h m : S} (f : Fixed) (s : Situation) (text : Text) (t : Token) (q : Question) (a : Answer) (o : Outcome Value) → f.config.dry_run ≡ false → q ≡ command_question f s.environment s.shown text None → step h q a m → UnlessStopped o (answered t a) → Runs step h (command f s text t) o m
+  runs_asked {h = h} {m = m} f s text t q a o d is asked u = runs_note (runs_else _ _ _ d (runs_ask _ _ a (subst (λ p. step h p a m) is asked) (runs_done _ o u)))

@@ -1,0 +1,7 @@
+pub mod Runs
+pub mod Forms
+pub mod Tables
+pub mod Module
+pub mod Lexical
+pub mod Bound
+pub mod Internal

@@ -1,0 +1,11 @@
+use Rattle.std.proofs.Common.{[], ◌∷◌}
+use Rattle.just_value.specs.View.{frames_view}
+use Rattle.just_eval.proofs.Internal.{never_internal}
+use Rattle.just_eval.proofs.Lexical.{ran_lexical}
+use Rattle.just_eval.proofs.evaluator.Evaluator.evaluate_assignments.Goals as goal
+
+pub returns-clause-headline : goal.returns-clause-headline
+returns-clause-headline g c = λ resolved. ran_lexical _ ([] ∷ frames_view c.args.parent.now) _ _ (rw c.deref.ensures.value at c.run.ensures)
+
+pub returns-clause-never_internal : goal.returns-clause-never_internal
+returns-clause-never_internal g c = λ resolved. never_internal _ _ (frames_view c.args.parent.now) resolved (rw c.deref.ensures.value at c.run.ensures).run

@@ -1,0 +1,5 @@
+// Evaluation of a module's assignments, and of the expressions that they stand on.
+#![tactic(auto)]
+
+pub mod evaluator;
+mod message;

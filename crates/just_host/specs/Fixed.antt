@@ -1,0 +1,26 @@
+-- What stays the same while a module is evaluated.
+use Rattle.std.specs.Prelude.{Bool, List, Option, Some, None, if◌then◌else◌}
+use Rattle.just_syntax.specs.Plain.{Text}
+use Rattle.just_host.specs.Path.{joined}
+use Rattle.just_host.specs.Settings.{Config, Settings}
+
+-- The search's justfile and directory, and the module's settings, unexports, source, path, directory and mark.
+pub record Fixed : Type 0 where
+  pub config : Config
+  pub dotenv : List (Text × Text)
+  pub justfile : Text
+  pub search_directory : Text
+  pub settings : Settings
+  pub unexports : List Text
+  pub source : Text
+  pub module_path : Text
+  pub module_directory : Text
+  pub is_submodule : Bool
+
+abbrev pub or_joined : Text → Option Text → Text
+or_joined base (Some directory) = joined base directory
+or_joined base None = base
+
+-- the directory that commands are run in: the module's for a submodule, else the search's, joined with the one that is set
+abbrev pub working_directory : Fixed → Text
+working_directory f = or_joined (if f.is_submodule then f.module_directory else f.search_directory) f.settings.working_directory

@@ -1,0 +1,63 @@
+-- What is asked of a host, as a tree: a question has a branch for each answer.
+use Rattle.std.specs.Prelude.{◌≡◌, ℕ, List, [], ◌∷◌}
+use Rattle.just_syntax.specs.Plain.{Text, Token}
+use Rattle.just_value.specs.Refusal.{Refusal}
+use Rattle.just_value.specs.Outcome.{Outcome, Gave, Refused, Stopped, UnlessStopped}
+use Rattle.just_host.specs.Question.{Question, Answer}
+
+-- what evaluation reaches: a variable is read, a call is entered, a command stands there, also in a dry run
+pub data Note : Type 0 where
+  Read : ℕ → Note
+  Entered : Text → Note
+  Command : Token → Note
+
+-- what happens, in order
+pub data Event : Type 0 where
+  Asked : Question → Answer → Event
+  Noted : Note → Event
+
+-- what is still to be done: nothing, with an outcome; a question, with a branch for each answer; a note, and the rest
+pub data Tree (A : Type 0) : Type 0 where
+  done : Outcome A → Tree A
+  ask : Question → (Answer → Tree A) → Tree A
+  note : Note → Tree A → Tree A
+
+-- goes on with the value of a tree; a refusal ends it
+abbrev pub bind : {A B : Type 0} → Tree A → (A → Tree B) → Tree B
+bind (done (Gave a)) go = go a
+bind (done (Refused r)) go = done (Refused r)
+bind (done Stopped) go = done Stopped
+bind (ask q next) go = ask q (λ a. bind (next a) go)
+bind (note x rest) go = note x (bind rest go)
+
+abbrev pub gives : {A : Type 0} → A → Tree A
+gives a = done (Gave a)
+
+abbrev pub refuses : {A : Type 0} → Refusal → Tree A
+refuses r = done (Refused r)
+
+-- A path down a tree: these events, and then this outcome. For want of memory it may be stopped at any point.
+abbrev pub Path : {A : Type 0} → Tree A → List Event → Outcome A → Type 0
+Path (done wanted) [] o = UnlessStopped o wanted
+Path (ask q next) [] o = o ≡ Stopped
+Path (ask q next) (Asked p a ∷ events) o = (q ≡ p) × Path (next a) events o
+Path (note x rest) [] o = o ≡ Stopped
+Path (note x rest) (Noted y ∷ events) o = (x ≡ y) × Path rest events o
+Path _ _ _ = ⊥
+
+-- The questions among the events lead a host from one state to another, step by step: nothing else is asked.
+abbrev pub Chain : {S : Type 0} → (S → Question → Answer → S → Type 0) → S → List Event → S → Type 0
+Chain step old [] new = old ≡ new
+Chain {S} step old (Asked q a ∷ events) new = (mid : S) × step old q a mid × Chain step mid events new
+Chain step old (Noted x ∷ events) new = Chain step old events new
+
+-- Some events are a path down the tree to the outcome, and their questions lead the host from old to new.
+pub record Runs {S A : Type 0} (step : S → Question → Answer → S → Type 0) (old : S) (tree : Tree A) (outcome : Outcome A) (new : S) : Type 0 where
+  pub events : List Event
+  pub path : Path tree events outcome
+  pub chain : Chain step old events new
+
+-- Answered questions, and nothing else, lead the host from old to new.
+pub record GoesByAnswers {S : Type 0} (step : S → Question → Answer → S → Type 0) (old new : S) : Type 0 where
+  pub events : List Event
+  pub chain : Chain step old events new

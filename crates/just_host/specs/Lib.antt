@@ -1,0 +1,7 @@
+pub mod Path
+pub mod Fault
+pub mod Settings
+pub mod Fixed
+pub mod Question
+pub mod Interaction
+pub mod View

@@ -1,0 +1,48 @@
+// What stays the same while a module is evaluated.
+
+ghost use Rattle.std.specs.Prelude.{◌≡◌, IfOk, string_bytes};
+ghost use Rattle.just_host.specs.Fixed.{working_directory};
+ghost use Rattle.just_host.specs.View.{fixed_view};
+
+use crate::config::Config;
+use crate::justfile::Justfile;
+use crate::path;
+use crate::search::Search;
+use just_syntax::number::Number;
+use just_syntax::out_of_memory::OutOfMemory;
+use just_value::scope::Scope;
+use std::alloc::Global;
+use std::collections::{BTreeMap, HashMap};
+
+/// What stays the same while a module is evaluated.
+#[derive(Clone, Copy)]
+pub struct ExecutionContext<'src, 'run> {
+    pub config: &'run Config,
+    /// The variables of the loaded dotenv files.
+    pub dotenv: &'run BTreeMap<String, String>,
+    pub module: &'run Justfile<'src>,
+    /// The values that variables were given from outside, by their numbers.
+    pub overrides: &'run HashMap<Number, String>,
+    /// How many calls may be pending, and one more.
+    pub recursion_limit: usize,
+    pub scope: &'run Scope<'src, 'run>,
+    pub search: &'run Search,
+}
+
+impl<'src, 'run> ExecutionContext<'src, 'run> {
+    /// The directory that commands are run in: the module's own for a submodule, else that of the search,
+    /// joined with the one that is set.
+    pub fn working_directory(&self, alloc: Global) -> Result<String, OutOfMemory>
+        ensures { IfOk result (λ text. string_bytes text ≡ working_directory (fixed_view self.now)) }
+    {
+        let base = if self.module.submodule {
+            &self.module.working_directory
+        } else {
+            &self.search.working_directory
+        };
+        match &self.module.settings.working_directory {
+            Some(directory) => path::join(alloc, base, directory),
+            None => Ok(String::from_str(alloc, base)?),
+        }
+    }
+}

@@ -1,0 +1,4 @@
+pub mod Plain
+pub mod ListOperator
+pub mod Keyed
+pub mod View

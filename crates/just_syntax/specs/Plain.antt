@@ -1,0 +1,51 @@
+-- Plain syntax: texts are their bytes, and nothing has a place in memory.
+use Rattle.std.specs.Prelude.{ℕ, Bool, List, Option}
+
+abbrev pub Text : Type 0
+Text = List ℕ
+
+pub record Token : Type 0 where
+  pub column : ℕ
+  pub line : ℕ
+  pub offset : ℕ
+  pub lexeme : Text
+  pub path : Text
+
+-- a string literal: its text, how it was written, and whether its text was unindented
+pub record Literal : Type 0 where
+  pub cooked : Text
+  pub lexeme : Text
+  pub indented : Bool
+
+-- An expression. A name is its token.
+pub data Expr : Type 0 where
+  And : Expr → Expr → Expr
+  Backtick : Text → Token → Expr
+  Concatenation : Expr → Token → Expr → Expr
+  Or : Expr → Expr → Expr
+  StringLiteral : Literal → Expr
+  Variable : Token → Option ℕ → Expr
+
+-- a variable, and the expression that gives its value
+pub record Assignment : Type 0 where
+  pub eager : Bool
+  pub export : Bool
+  pub name : Token
+  pub number : ℕ
+  pub private : Bool
+  pub value : Expr
+
+-- a function that the file defines; each parameter is a name and its number
+pub record Function : Type 0 where
+  pub body : Expr
+  pub name : Token
+  pub parameters : List (Token × ℕ)
+
+pub data Attribute : Type 0 where
+  Env : Expr → Expr → Attribute
+  Other : Attribute
+
+-- a command and the arguments that come before all others
+pub record Interpreter : Type 0 where
+  pub arguments : List Text
+  pub command : Text

@@ -1,0 +1,53 @@
+-- What declared syntax is as plain syntax.
+use Rattle.std.specs.Prelude.{ℕ, List, map, string_bytes}
+use Rattle.std.specs.declared.string.String.{String}
+use Rattle.just_syntax.specs.declared.token.Token.{Token}
+use Rattle.just_syntax.specs.declared.name.Name.{Name}
+use Rattle.just_syntax.specs.declared.number.Number.{Number}
+use Rattle.just_syntax.specs.declared.string_literal.StringLiteral.{StringLiteral as Written}
+use Rattle.just_syntax.specs.declared.expression.Expression.{Expression, And', Backtick, Concatenation', Or', StringLiteral, Variable}
+use Rattle.just_syntax.specs.declared.assignment.Assignment.{Assignment}
+use Rattle.just_syntax.specs.declared.attribute.Attribute.{Attribute}
+use Rattle.just_syntax.specs.declared.attribute.Attribute.TheVariants.{Env, Other}
+use Rattle.just_syntax.specs.declared.attribute_set.AttributeSet.{AttributeSet}
+use Rattle.just_syntax.specs.declared.function_definition.FunctionDefinition.{FunctionDefinition}
+use Rattle.just_syntax.specs.declared.interpreter.Interpreter.{Interpreter}
+use Rattle.just_syntax.specs.Plain as plain
+use Rattle.just_syntax.specs.Plain.{Expr}
+
+abbrev pub token_view : Token → plain.Token
+token_view t = record { column = t.column; line = t.line; offset = t.offset; lexeme = t.lexeme.now; path = t.path.now }
+
+abbrev pub name_view : Name → plain.Token
+name_view name = token_view name.token
+
+abbrev pub literal_view : Written → plain.Literal
+literal_view s = record { cooked = string_bytes s.cooked; lexeme = s.lexeme.now; indented = s.indented }
+
+abbrev pub view : Expression → Expr
+view (And' p l q r) = plain.And (view l) (view r)
+view (Backtick contents t) = plain.Backtick (string_bytes contents) (token_view t)
+view (Concatenation' p l t q r) = plain.Concatenation (view l) (token_view t) (view r)
+view (Or' p l q r) = plain.Or (view l) (view r)
+view (StringLiteral literal) = plain.StringLiteral (literal_view literal)
+view (Variable name number) = plain.Variable (name_view name) number
+
+abbrev pub assignment_view : Assignment → plain.Assignment
+assignment_view a = record { eager = a.eager; export = a.export; name = name_view a.name; number = a.number; private = a.private; value = view a.value }
+
+abbrev pub parameter_view : Name × Number → plain.Token × ℕ
+parameter_view p = (name_view p.0, p.1)
+
+abbrev pub function_view : FunctionDefinition → plain.Function
+function_view f = record { body = view f.body; name = name_view f.name; parameters = map parameter_view f.parameters.items }
+
+abbrev pub attribute_view : Attribute → plain.Attribute
+attribute_view (Env key value) = plain.Env (view key) (view value)
+attribute_view Other = plain.Other
+
+-- the attributes, each with its name, in their order
+abbrev pub attributes_view : AttributeSet → List (plain.Attribute × plain.Token)
+attributes_view set = map (λ pair. (attribute_view pair.0, name_view pair.1)) set.attributes.items
+
+abbrev pub interpreter_view : {A : Type 0} → Interpreter (String A) → plain.Interpreter
+interpreter_view i = record { arguments = map string_bytes i.arguments.items; command = string_bytes i.command }

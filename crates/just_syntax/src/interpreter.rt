@@ -1,0 +1,8 @@
+// Commands with their first arguments.
+
+/// A command and the arguments that come before all others.
+#[derive(Debug, Drop)]
+pub struct Interpreter<T> {
+    pub arguments: Vec<T>,
+    pub command: T,
+}

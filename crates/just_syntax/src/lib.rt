@@ -1,0 +1,21 @@
+// The syntax that evaluation goes over: names, expressions, assignments, functions, and tables of them.
+#![tactic(auto)]
+
+pub mod assignment;
+pub mod attribute;
+pub mod attribute_set;
+pub mod expression;
+pub mod function_definition;
+pub mod indentation;
+pub mod interpreter;
+pub mod keyed;
+pub mod list_operator;
+pub mod name;
+pub mod number;
+pub mod numerator;
+pub mod out_of_memory;
+pub mod string_literal;
+pub mod table;
+#[cfg(test)]
+mod tests;
+pub mod token;

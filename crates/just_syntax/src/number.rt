@@ -1,0 +1,28 @@
+// The numbers of variables.
+
+ghost use Rattle.std.specs.Prelude.{◌≡◌};
+
+use std::marker::Model;
+
+/// The number of a variable, by which evaluation knows it.
+#[derive(Clone, Copy, Debug, PartialEq, Eq, PartialOrd, Ord, Hash)]
+pub struct Number(u64);
+
+impl Model for Number {
+    ghost use Rattle.std.specs.Prelude.{ℕ};
+
+    ghost Value = { ℕ };
+
+    ghost view = { λ number. number.0 };
+
+    ghost inverse = { λ n. record { 0 = n } };
+}
+
+impl Number {
+    /// A number as it is counted.
+    pub fn new(number: u64) -> Number
+        ensures { result ≡ number }
+    {
+        Number(number)
+    }
+}

@@ -1,0 +1,17 @@
+// Where numbers come from.
+
+ghost use Rattle.std.specs.Prelude.{◌≡◌};
+
+use crate::number::Number;
+
+/// Gives numbers to constants.
+pub struct Numerator;
+
+impl Numerator {
+    /// The number of the constant at place `i`, counted from 0: that place.
+    pub fn constant(i: usize) -> Number
+        ensures { result ≡ i }
+    {
+        Number::new(i as u64)
+    }
+}

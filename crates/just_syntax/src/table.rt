@@ -1,0 +1,119 @@
+// Tables: values in the order of their keys.
+
+ghost use Rattle.std.specs.Prelude.{◌≡◌, ℕ, List, [], IfOk, OnOk, OnErr, length, map, ◌==◌};
+ghost use Rattle.std.specs.Option.{option_map};
+ghost use Rattle.std.specs.Map.Iter.{ShowsInOrder, deref};
+ghost use Rattle.just_syntax.specs.Keyed.{with_value, value_at, IsInOrder};
+
+use crate::keyed::Keyed;
+use crate::out_of_memory::OutOfMemory;
+use std::alloc::Global;
+use std::collections::BTreeMap;
+use std::collections::btree_map::{IntoValues, Values};
+use std::marker::Model;
+
+/// Values by their keys, in the order of the keys' bytes. It keeps the allocator that it was made with.
+#[derive(Drop)]
+pub struct Table<V: Keyed> {
+    alloc: Global,
+    values: BTreeMap<String, V>,
+}
+
+impl<V: Keyed> Model for Table<V> {
+    ghost use Rattle.std.specs.Prelude.{List, map};
+    ghost use Rattle.std.specs.Map.{values_of};
+    ghost use Rattle.just_syntax.specs.Keyed.{IsKeyed};
+
+    ghost Value = { List V };
+
+    ghost view = { λ t. values_of t.values.entries };
+
+    ghost invariant = { λ t. IsKeyed V.key_text t.values.entries };
+}
+
+impl<V: Keyed> Table<V> {
+    /// No value. It takes no memory.
+    pub fn new(alloc: Global) -> Table<V>
+        ensures { result ≡ [] }
+    {
+        Table {
+            alloc,
+            values: BTreeMap::new(alloc),
+        }
+    }
+
+    /// How many values there are.
+    pub fn len(&self) -> usize
+        ensures count { result ≡ length self.now }
+        ensures in_order { IsInOrder V.key_text self.now }
+    {
+        self.values.len()
+    }
+
+    /// Whether there is no value.
+    pub fn is_empty(&self) -> bool
+        ensures { result ≡ (length self.now == 0) }
+    {
+        self.values.len() == 0
+    }
+
+    /// The value of a key.
+    pub fn get(&self, key: &str) -> Option<&V>
+        ensures { option_map (λ v. v.now) result ≡ value_at V.key_text key.now self.now }
+    {
+        self.values.get(key)
+    }
+
+    /// Puts a value in its place, instead of the one that has its key. For want of memory the table stays as
+    /// it was, and the value is dropped.
+    pub fn insert(&mut self, value: V) -> Result<(), OutOfMemory>
+    where
+        V: Drop,
+        ensures ok { OnOk result (self.new ≡ with_value V.key_text self.old value) }
+        ensures err { OnErr result (self.new ≡ self.old) }
+    {
+        let key = String::from_str(self.alloc, value.key())?;
+        self.values.insert(key, value)?;
+        Ok(())
+    }
+
+    /// The values, in the order of their keys.
+    pub fn iter(&self) -> Values<'_, String, V>
+        ensures rest { result ≡ self.now }
+        ensures runs { ShowsInOrder (deref {X = V}) }
+        ensures in_order { IsInOrder V.key_text self.now }
+    {
+        self.values.values()
+    }
+}
+
+impl<'a, V: Keyed> IntoIterator for &'a Table<V> {
+    ghost use Rattle.std.specs.Prelude.{◌≡◌};
+    ghost use Rattle.std.specs.Map.Iter.{ShowsInOrder, deref};
+
+    type Item = &'a V;
+
+    type IntoIter = Values<'a, String, V>;
+
+    ghost into_iter_gives = { λ t r. (r ≡ t.now) × ShowsInOrder (deref {X = V}) };
+
+    fn into_iter(self) -> Values<'a, String, V> {
+        self.iter()
+    }
+}
+
+impl<V: Keyed + Drop> IntoIterator for Table<V> {
+    ghost use Rattle.std.specs.Prelude.{◌≡◌};
+    ghost use Rattle.std.specs.Map.Iter.{GivesInOrder};
+
+    type Item = V;
+
+    type IntoIter = IntoValues<String, V, Global>;
+
+    ghost into_iter_gives = { λ t r. (r ≡ t) × GivesInOrder V };
+
+    fn into_iter(self) -> IntoValues<String, V, Global> {
+        let Table { alloc: _, values } = self;
+        values.into_values()
+    }
+}

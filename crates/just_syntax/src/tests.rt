@@ -1,0 +1,90 @@
+// Tables and the small calls.
+
+use crate::keyed::Keyed;
+use crate::list_operator::ListOperator;
+use crate::name::Name;
+use crate::number::Number;
+use crate::numerator::Numerator;
+use crate::table::Table;
+use crate::token::Token;
+use std::test::Fail;
+
+#[derive(Drop)]
+struct Named<'src> {
+    name: Name<'src>,
+    place: u64,
+}
+
+impl Keyed for Named<'_> {
+    ghost key_text = { λ n. n.name.token.lexeme.now };
+
+    fn key(&self) -> &str {
+        self.name.lexeme()
+    }
+}
+
+fn name(lexeme: &str) -> Name<'_> {
+    Name {
+        token: Token {
+            column: 0,
+            line: 0,
+            offset: 0,
+            lexeme,
+            path: "justfile",
+        },
+    }
+}
+
+#[test]
+fn table_keeps_values_by_key(rt: HostRuntime) -> Result<(), Fail> {
+    let alloc = rt.alloc();
+    let mut table = Table::new(alloc);
+    assert!(rt; table.is_empty());
+    for (place, lexeme) in ["b", "a", "", "é", "c", "a"].iter().enumerate() {
+        table.insert(Named {
+            name: name(lexeme),
+            place: place as u64,
+        })?;
+    }
+    assert_eq!(rt; table.len(), 5);
+    assert!(rt; !table.is_empty());
+    for (key, place) in [
+        ("", Some(2)),
+        ("a", Some(5)),
+        ("b", Some(0)),
+        ("aa", None),
+        ("é", Some(3)),
+    ] {
+        assert_eq!(rt; table.get(key).map(|named| named.place), place, "{key}");
+    }
+    let mut keys = String::new(alloc);
+    for named in table.iter() {
+        keys.push_str(named.key())?;
+    }
+    for named in table {
+        keys.push_str(named.key())?;
+    }
+    assert_eq!(rt; keys.as_str(), "abcéabcé");
+    Ok(())
+}
+
+#[test]
+fn small_calls(rt: HostRuntime) -> Result<(), Fail> {
+    let alloc = rt.alloc();
+    assert_eq!(rt; Numerator::constant(7), Number::new(7));
+    assert!(rt; Number::new(6) < Number::new(7));
+    let name = name("x");
+    assert_eq!(rt; name.lexeme(), "x");
+    assert_eq!(rt; name.token.lexeme(), "x");
+    for (operator, separator, text) in [
+        (ListOperator::Concatenate, "", "+"),
+        (ListOperator::Join, "/", "/"),
+    ] {
+        assert_eq!(rt; operator.separator(), separator);
+        assert_eq!(rt;
+            format!(in alloc; "{operator} {name}")?.as_str(),
+            format!(in alloc; "{text} x")?.as_str()
+        );
+    }
+    Ok(())
+}

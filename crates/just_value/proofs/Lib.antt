@@ -1,0 +1,3 @@
+mod Pairs
+mod Seen
+pub mod Values

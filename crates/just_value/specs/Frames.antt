@@ -1,0 +1,72 @@
+-- Bindings; a frame, its bindings by rising number; frames, innermost first.
+use Rattle.std.specs.Prelude.{ℕ, suc, Bool, true, false, List, [], ◌∷◌, Option, Some, None, codes}
+use Rattle.std.specs.Option.{option_or}
+use Rattle.std.specs.Ordering.{nat_cmp}
+use Rattle.std.specs.Map.{lookup}
+use Rattle.std.specs.BTreeMap.{insert_entry, is_at}
+use Rattle.just_syntax.specs.Plain.{Text, Token, Attribute}
+use Rattle.just_value.specs.Value.{Value, Names}
+
+pub record Bound : Type 0 where
+  pub attributes : List (Attribute × Token)
+  pub eager : Bool
+  pub export : Bool
+  pub file_depth : ℕ
+  pub name : Token
+  pub number : ℕ
+  pub prelude : Bool
+  pub private : Bool
+  pub value : Value
+
+abbrev pub Frame : Type 0
+Frame = List (ℕ × Bound)
+
+abbrev pub Frames : Type 0
+Frames = List Frame
+
+abbrev pub bound_at : ℕ → Frame → Option Bound
+bound_at n frame = lookup (is_at (nat_cmp n)) frame
+
+-- the frame with one more binding, in place of one of its number
+abbrev pub with_bound : Frame → Bound → Frame
+with_bound frame b = insert_entry nat_cmp frame b.number b
+
+-- the binding of a number in the first frame that has one
+abbrev pub innermost : ℕ → Frames → Option Bound
+innermost n [] = None
+innermost n (frame ∷ outer) = option_or (bound_at n frame) (innermost n outer)
+
+abbrev pub value_of : Option Bound → Option Value
+value_of None = None
+value_of (Some b) = Some b.value
+
+abbrev pub or_else : Option Value → Option Value → Option Value
+or_else None other = other
+or_else (Some v) other = Some v
+
+-- a frame's values, before these names
+abbrev pub over : Frame → Names → Names
+over frame names n = or_else (value_of (bound_at n frame)) (names n)
+
+-- the values of frames, an inner frame's before an outer one's
+abbrev pub value_in : Frames → Names
+value_in [] = λ n. None
+value_in (frame ∷ outer) = over frame (value_in outer)
+
+-- a binding put into the first frame
+abbrev pub bound_in_front : Frames → Bound → Frames
+bound_in_front [] b = []
+bound_in_front (frame ∷ outer) b = with_bound frame b ∷ outer
+
+-- a binding whose flags are all false, with no attribute
+abbrev pub plainly_bound : Token → ℕ → Value → Bound
+plainly_bound name n v = record { attributes = []; eager = false; export = false; file_depth = 0; name = name; number = n; prelude = false; private = false; value = v }
+
+-- a constant of the prelude, by its key and text
+abbrev pub constant_bound : ℕ → Text → Value → Bound
+constant_bound n key v = record { attributes = []; eager = false; export = false; file_depth = 0; name = record { column = 0; line = 0; offset = 0; lexeme = key; path = codes "PRELUDE" }; number = n; prelude = true; private = false; value = v }
+
+-- a frame with constants put in, keys and texts, numbered from a number on
+abbrev pub with_constants : Frame → ℕ → List (Text × Text) → Frame
+with_constants frame n [] = frame
+with_constants frame n (c ∷ cs) = with_constants (with_bound frame (constant_bound n c.0 (c.1 ∷ []))) (suc n) cs

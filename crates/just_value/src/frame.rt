@@ -1,0 +1,66 @@
+// Frames: bindings by their numbers.
+
+ghost use Rattle.std.specs.Prelude.{◌≡◌, [], OnOk, OnErr};
+ghost use Rattle.std.specs.Option.{option_map};
+ghost use Rattle.just_value.specs.Frames.{bound_at, with_bound};
+ghost use Rattle.just_value.specs.View.{bound_view, frame_view};
+
+use crate::binding::Binding;
+use just_syntax::number::Number;
+use just_syntax::out_of_memory::OutOfMemory;
+use std::alloc::Global;
+use std::collections::BTreeMap;
+use std::collections::btree_map::Values;
+use std::marker::Model;
+
+/// Bindings by their numbers.
+#[derive(Drop)]
+pub struct Frame<'src> {
+    bindings: BTreeMap<Number, Binding<'src>>,
+}
+
+impl<'src> Model for Frame<'src> {
+    ghost use Rattle.std.specs.Prelude.{ℕ, List};
+    ghost use Rattle.std.specs.Coded.{codes};
+    ghost use Rattle.just_value.specs.declared.binding.Binding.{Binding};
+    ghost use Rattle.just_syntax.specs.contracts.expression.Expression as expression;
+    ghost use denote.Signature.{static_lft};
+
+    ghost Value = { List (ℕ × Binding) };
+
+    ghost coded = { Prim.hlevel (codes, (expression.the_row static_lft).coded) };
+
+    ghost view = { λ f. f.bindings.entries };
+}
+
+impl<'src> Frame<'src> {
+    // No binding.
+    pub(crate) fn new(alloc: Global) -> Frame<'src>
+        ensures { frame_view result ≡ [] }
+    {
+        Frame {
+            bindings: BTreeMap::new(alloc),
+        }
+    }
+
+    /// The binding of a number.
+    pub fn binding(&self, number: Number) -> Option<&Binding<'src>>
+        ensures { option_map (λ b. bound_view b.now) result ≡ bound_at number (frame_view self.now) }
+    {
+        self.bindings.get(&number)
+    }
+
+    /// The bindings, by rising number.
+    pub fn bindings(&self) -> Values<'_, Number, Binding<'src>> {
+        self.bindings.values()
+    }
+
+    // Binds a number, in place of what it was bound to. For want of memory the frame stays as it was.
+    pub(crate) fn bind(&mut self, binding: Binding<'src>) -> Result<(), OutOfMemory>
+        ensures ok { OnOk result (frame_view self.new ≡ with_bound (frame_view self.old) (bound_view binding.entry)) }
+        ensures err { OnErr result (frame_view self.new ≡ frame_view self.old) }
+    {
+        self.bindings.insert(binding.number, binding)?;
+        Ok(())
+    }
+}

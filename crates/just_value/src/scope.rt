@@ -1,0 +1,135 @@
+// Scopes: an own frame, and the frames outside it.
+
+ghost use Rattle.std.specs.Prelude.{◌≡◌, [], ◌∷◌, IfOk, OnOk, OnErr, map};
+ghost use Rattle.std.specs.Option.{option_map};
+ghost use Rattle.just_value.specs.Frames.{innermost, value_in, bound_in_front, constant_bound, with_constants};
+ghost use Rattle.just_value.specs.View.{bound_view, constant_view, frame_view, frames_view};
+
+use crate::binding::Binding;
+use crate::frame::Frame;
+use crate::value::Value;
+use just_syntax::attribute_set::AttributeSet;
+use just_syntax::name::Name;
+use just_syntax::number::Number;
+use just_syntax::numerator::Numerator;
+use just_syntax::out_of_memory::OutOfMemory;
+use just_syntax::token::Token;
+use std::alloc::Global;
+use std::collections::btree_map::Values;
+
+/// An own frame, and the frames outside it, innermost first.
+#[derive(Drop)]
+pub struct Scope<'src, 'run> {
+    frame: Frame<'src>,
+    outer: Vec<&'run Frame<'src>>,
+}
+
+impl<'src, 'run> Scope<'src, 'run> {
+    /// One frame that binds these constants, keys and values, to their places counted from 0. Each is of the
+    /// prelude, and its name's path is `PRELUDE`.
+    pub fn root(
+        alloc: Global,
+        constants: &[(&'src str, &'src str)],
+    ) -> Result<Scope<'src, 'run>, OutOfMemory>
+        ensures { IfOk result (λ scope. frames_view scope ≡ with_constants [] 0 (map constant_view constants.now) ∷ []) }
+    {
+        let mut frame = Frame::new(alloc);
+        for (i, (key, value)) in constants.iter().enumerate() {
+            let value = Value::from_text(alloc, value)?;
+            frame.bind(constant(alloc, Numerator::constant(i), key, value))?;
+        }
+        Ok(Scope {
+            frame,
+            outer: Vec::new(alloc),
+        })
+    }
+
+    /// A new frame with no binding, and the frames of this scope outside it.
+    pub fn child<'inner>(&'inner self, alloc: Global) -> Result<Scope<'src, 'inner>, OutOfMemory>
+        ensures { IfOk result (λ scope. frames_view scope ≡ [] ∷ frames_view self.now) }
+    {
+        let mut outer = Vec::with_capacity(alloc, self.outer.len().saturating_add(1))?;
+        outer.push(&self.frame)?;
+        outer.extend_from_slice(&self.outer)?;
+        Ok(Scope {
+            frame: Frame::new(alloc),
+            outer,
+        })
+    }
+
+    /// Binds a number in the own frame, in place of what it was bound to there. For want of memory the scope
+    /// stays as it was, and the binding is dropped.
+    pub fn bind(&mut self, binding: Binding<'src>) -> Result<(), OutOfMemory>
+        ensures ok { OnOk result (frames_view self.new ≡ bound_in_front (frames_view self.old) (bound_view binding.entry)) }
+        ensures err { OnErr result (frames_view self.new ≡ frames_view self.old) }
+    {
+        self.frame.bind(binding)
+    }
+
+    /// The binding of a number in the innermost frame that has one.
+    pub fn binding(&self, number: Number) -> Option<&Binding<'src>>
+        ensures { option_map (λ b. bound_view b.now) result ≡ innermost number (frames_view self.now) }
+    {
+        let own = self.frame.binding(number);
+        if own.is_some() {
+            return own;
+        }
+        binding_in(&self.outer, number)
+    }
+
+    /// The value of a number in the innermost frame that binds it.
+    pub fn value(&self, number: Number) -> Option<&Value>
+        ensures { option_map (λ v. v.now) result ≡ value_in (frames_view self.now) number }
+    {
+        match self.binding(number) {
+            Some(binding) => Some(&binding.value),
+            None => None,
+        }
+    }
+
+    /// The bindings of the own frame, by rising number.
+    pub fn bindings(&self) -> Values<'_, Number, Binding<'src>> {
+        self.frame.bindings()
+    }
+}
+
+// The binding of a number in the first frame that has one.
+fn binding_in<'frame, 'src>(
+    frames: &[&'frame Frame<'src>],
+    number: Number,
+) -> Option<&'frame Binding<'src>>
+    ensures { option_map (λ b. bound_view b.now) result ≡ innermost number (map (λ f. frame_view f.now) frames.now) }
+{
+    for frame in frames {
+        let found = frame.binding(number);
+        if found.is_some() {
+            return found;
+        }
+    }
+    None
+}
+
+// What a constant is bound to.
+fn constant<'src>(alloc: Global, number: Number, key: &'src str, value: Value) -> Binding<'src>
+    ensures { bound_view result ≡ constant_bound number key.now value }
+{
+    Binding {
+        attributes: AttributeSet::new(alloc),
+        eager: false,
+        export: false,
+        file_depth: 0,
+        name: Name {
+            token: Token {
+                column: 0,
+                line: 0,
+                offset: 0,
+                lexeme: key,
+                path: "PRELUDE",
+            },
+        },
+        number,
+        prelude: true,
+        private: false,
+        value,
+    }
+}
