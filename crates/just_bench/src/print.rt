@@ -49,23 +49,60 @@ pub(crate) fn print_refusal(
     text: &mut String,
     error: &Error,
 ) -> Result<(), OutOfMemory> {
+    text.push_str("refused ")?;
     match error {
         Error::Backtick { output_error, .. } => {
             let fault = fault_text(alloc, output_error)?;
             let fault = Element(&fault);
-            writeln!(text, "refused 2 Backtick {fault}")?;
+            write!(text, "2 Backtick {fault}")?;
         }
-        Error::Internal { message, .. } => {
-            let message = Element(message);
-            writeln!(text, "refused 6 Internal {message}")?;
+        Error::Const(_) => text.push_str("3 Const")?,
+        Error::LeftOutRegex { .. } => text.push_str("8 LeftOutRegex")?,
+        Error::ListInStringContext { value, .. } => {
+            write!(text, "9 ListInStringContext {value}")?;
         }
         Error::ListOperation {
             lhs,
             operator,
             rhs,
             ..
-        } => writeln!(text, "refused 10 ListOperation {lhs} {operator} {rhs}")?,
-        Error::OutOfMemory => writeln!(text, "refused 12 OutOfMemory")?,
+        } => write!(text, "10 ListOperation {lhs} {operator} {rhs}")?,
+        Error::OutOfMemory => text.push_str("12 OutOfMemory")?,
+        _ => print_named_refusal(text, error)?,
     }
+    text.push('\n')?;
+    Ok(())
+}
+
+// Adds what is said of a refusal that has a message or a name.
+fn print_named_refusal(text: &mut String, error: &Error) -> Result<(), OutOfMemory> {
+    match error {
+        Error::Assert { message, .. } => print_message(text, "1 Assert", message),
+        Error::Check { message, .. } => print_message(text, "13 Check", message),
+        Error::EmptyListArgument { parameter, recipe } => {
+            write!(text, "4 EmptyListArgument {parameter} {recipe}")?;
+            Ok(())
+        }
+        Error::FunctionCall { function, message } => {
+            write!(text, "5 FunctionCall {function}")?;
+            print_message(text, "", message)
+        }
+        Error::Internal { message, .. } => print_message(text, "6 Internal", message),
+        Error::LeftOut { function } => {
+            write!(text, "7 LeftOut {function}")?;
+            Ok(())
+        }
+        Error::RecursionLimit { last } => {
+            write!(text, "11 RecursionLimit {last}")?;
+            Ok(())
+        }
+        _ => Ok(()),
+    }
+}
+
+// Adds a text and a quoted message.
+fn print_message(text: &mut String, head: &str, message: &str) -> Result<(), OutOfMemory> {
+    let message = Element(message);
+    write!(text, "{head} {message}")?;
     Ok(())
 }

@@ -1,5 +1,6 @@
 -- Plain syntax: texts are their bytes, and nothing has a place in memory.
 use Rattle.std.specs.Prelude.{ℕ, Bool, List, Option}
+use Rattle.just_syntax.specs.declared.parameter_kind.ParameterKind.{ParameterKind}
 
 abbrev pub Text : Type 0
 Text = List ℕ
@@ -49,3 +50,14 @@ pub data Attribute : Type 0 where
 pub record Interpreter : Type 0 where
   pub arguments : List Text
   pub command : Text
+
+-- a parameter of a recipe
+pub record Parameter : Type 0 where
+  pub default : Option Expr
+  pub export : Bool
+  pub flag : Bool
+  pub kind : ParameterKind
+  pub multiple : Bool
+  pub name : Token
+  pub number : ℕ
+  pub value : Option Expr

@@ -1,5 +1,5 @@
 -- What declared syntax is as plain syntax.
-use Rattle.std.specs.Prelude.{ℕ, List, map, string_bytes}
+use Rattle.std.specs.Prelude.{ℕ, List, map, string_bytes, option_map}
 use Rattle.std.specs.declared.string.String.{String}
 use Rattle.just_syntax.specs.declared.token.Token.{Token}
 use Rattle.just_syntax.specs.declared.name.Name.{Name}
@@ -11,8 +11,13 @@ use Rattle.just_syntax.specs.declared.attribute.Attribute.{Attribute}
 use Rattle.just_syntax.specs.declared.attribute.Attribute.TheVariants.{Env, Other}
 use Rattle.just_syntax.specs.declared.attribute_set.AttributeSet.{AttributeSet}
 use Rattle.just_syntax.specs.declared.function_definition.FunctionDefinition.{FunctionDefinition}
+use Rattle.just_syntax.specs.declared.enclosure.Enclosure.{Enclosure}
 use Rattle.just_syntax.specs.declared.interpreter.Interpreter.{Interpreter}
+use Rattle.just_syntax.specs.declared.parameter.Parameter.{Parameter}
+use Rattle.just_syntax.specs.declared.string_context.StringContext as declared_context
+use Rattle.just_syntax.specs.declared.string_context.StringContext.TheVariants as contexts
 use Rattle.just_syntax.specs.Plain as plain
+use Rattle.just_syntax.specs.StringContext.{StringContext, EnvKey, Function, Setting}
 use Rattle.just_syntax.specs.Plain.{Expr}
 
 abbrev pub token_view : Token → plain.Token
@@ -51,3 +56,16 @@ attributes_view set = map (λ pair. (attribute_view pair.0, name_view pair.1)) s
 
 abbrev pub interpreter_view : {A : Type 0} → Interpreter (String A) → plain.Interpreter
 interpreter_view i = record { arguments = map string_bytes i.arguments.items; command = string_bytes i.command }
+
+-- the recipe's parameter that is handed in
+abbrev pub recipe_parameter_view : Parameter → plain.Parameter
+recipe_parameter_view p = record { default = option_map view p.default; export = p.export; flag = p.flag; kind = p.kind; multiple = p.multiple; name = name_view p.name; number = p.number; value = option_map view p.value }
+
+abbrev pub string_context_view : declared_context.StringContext → StringContext
+string_context_view (contexts.EnvKey name) = EnvKey (name_view name)
+string_context_view (contexts.Function name) = Function (name_view name)
+string_context_view (contexts.Setting name) = Setting (name_view name)
+
+-- the value in the backticks
+abbrev pub enclosed : {T : Type 0} → Enclosure T → T
+enclosed e = e.value

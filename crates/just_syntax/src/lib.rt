@@ -4,6 +4,7 @@
 pub mod assignment;
 pub mod attribute;
 pub mod attribute_set;
+pub mod enclosure;
 pub mod expression;
 pub mod function_definition;
 pub mod indentation;
@@ -14,6 +15,9 @@ pub mod name;
 pub mod number;
 pub mod numerator;
 pub mod out_of_memory;
+pub mod parameter;
+pub mod parameter_kind;
+pub mod string_context;
 pub mod string_literal;
 pub mod table;
 #[cfg(test)]

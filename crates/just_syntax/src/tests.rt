@@ -1,10 +1,13 @@
-// Tables and the small calls.
+// Tables, what is printed, and the small calls.
 
+use crate::enclosure::Enclosure;
 use crate::keyed::Keyed;
 use crate::list_operator::ListOperator;
 use crate::name::Name;
 use crate::number::Number;
 use crate::numerator::Numerator;
+use crate::parameter_kind::ParameterKind;
+use crate::string_context::StringContext;
 use crate::table::Table;
 use crate::token::Token;
 use std::test::Fail;
@@ -85,6 +88,40 @@ fn small_calls(rt: HostRuntime) -> Result<(), Fail> {
             format!(in alloc; "{operator} {name}")?.as_str(),
             format!(in alloc; "{text} x")?.as_str()
         );
+    }
+    Ok(())
+}
+
+#[test]
+fn where_texts_are_wanted(rt: HostRuntime) -> Result<(), Fail> {
+    let alloc = rt.alloc();
+    for (context, text) in [
+        (StringContext::EnvKey(name("n")), "in key of `n` attribute"),
+        (
+            StringContext::Function(name("n")),
+            "in argument to function `n`",
+        ),
+        (StringContext::Setting(name("n")), "in setting `n`"),
+    ] {
+        assert_eq!(rt; context.token(), name("n").token);
+        assert_eq!(rt; format!(in alloc; "{context}")?.as_str(), text);
+    }
+    Ok(())
+}
+
+#[test]
+fn enclosures_and_parameter_kinds(rt: HostRuntime) -> Result<(), Fail> {
+    let alloc = rt.alloc();
+    let ticked = Enclosure::tick("a b");
+    assert_eq!(rt; format!(in alloc; "{ticked}")?.as_str(), "`a b`");
+    let twice = Enclosure::tick(Enclosure::tick(7));
+    assert_eq!(rt; format!(in alloc; "{twice}")?.as_str(), "``7``");
+    for (kind, variadic) in [
+        (ParameterKind::Singular, false),
+        (ParameterKind::Plus, true),
+        (ParameterKind::Star, true),
+    ] {
+        assert_eq!(rt; kind.is_variadic(), variadic);
     }
     Ok(())
 }

@@ -5,7 +5,7 @@ use Rattle.std.specs.declared.cmp.Ordering.TheVariants.{Less, Equal, Greater}
 use Rattle.std.specs.Ordering.{nat_cmp, match_ordering}
 use Rattle.std.specs.Option.{option_map, option_copied}
 use Rattle.std.specs.Borrow.{Bor}
-use Rattle.std.specs.Map.{lookup}
+use Rattle.std.specs.Map.{lookup, values_of}
 use Rattle.std.specs.BTreeMap.{insert_entry, is_at}
 
 map_choice : {X Y : Type 0} (f : X → Y) (o : Ordering) (a b c : List X) → map f (match_ordering o a b c) ≡ match_ordering o (map f a) (map f b) (map f c)
@@ -37,3 +37,8 @@ module _ {X Y : Type 0} (f : X → Y) where
   seen_lookup (e ∷ es) k =
       map_cond f (is_at (nat_cmp k) e.0) (Some e.1) (lookup (is_at (nat_cmp k)) es)
       ∙ ap (cond (is_at (nat_cmp k) e.0) (Some (f e.1))) (seen_lookup es k)
+
+  -- the values seen
+  pub seen_values : (es : List (ℕ × X)) → map f (values_of es) ≡ values_of (map seen es)
+  seen_values [] = refl
+  seen_values (e ∷ es) = ap (λ vs. f e.1 ∷ vs) (seen_values es)

@@ -1,7 +1,8 @@
 -- Bindings; a frame, its bindings by rising number; frames, innermost first.
-use Rattle.std.specs.Prelude.{ℕ, suc, Bool, true, false, List, [], ◌∷◌, Option, Some, None, codes}
+use Rattle.std.specs.Prelude.{◌≡◌, ◌==◌, if◌then◌else◌, ℕ, suc, Bool, true, false, List, [], ◌∷◌, Option, Some, None, map, codes}
 use Rattle.std.specs.Option.{option_or}
 use Rattle.std.specs.Ordering.{nat_cmp}
+use Rattle.std.specs.List.Sorted.{IsStrictlySortedBy}
 use Rattle.std.specs.Map.{lookup}
 use Rattle.std.specs.BTreeMap.{insert_entry, is_at}
 use Rattle.just_syntax.specs.Plain.{Text, Token, Attribute}
@@ -58,6 +59,20 @@ abbrev pub bound_in_front : Frames → Bound → Frames
 bound_in_front [] b = []
 bound_in_front (frame ∷ outer) b = with_bound frame b ∷ outer
 
+-- the first of some frames
+abbrev pub own_frame : Frames → Frame
+own_frame [] = []
+own_frame (frame ∷ outer) = frame
+
+-- the frames outside the first, if there are any
+abbrev pub outer_frames : Frames → Option Frames
+outer_frames (frame ∷ other ∷ outer) = Some (other ∷ outer)
+outer_frames frames = None
+
+-- each number is greater than the one before
+abbrev pub IsRising : List Bound → Type 0
+IsRising bounds = IsStrictlySortedBy nat_cmp (map (λ b. b.number) bounds)
+
 -- a binding whose flags are all false, with no attribute
 abbrev pub plainly_bound : Token → ℕ → Value → Bound
 plainly_bound name n v = record { attributes = []; eager = false; export = false; file_depth = 0; name = name; number = n; prelude = false; private = false; value = v }
@@ -70,3 +85,15 @@ constant_bound n key v = record { attributes = []; eager = false; export = false
 abbrev pub with_constants : Frame → ℕ → List (Text × Text) → Frame
 with_constants frame n [] = frame
 with_constants frame n (c ∷ cs) = with_constants (with_bound frame (constant_bound n c.0 (c.1 ∷ []))) (suc n) cs
+
+-- a number that is bound in the first frame has that binding, and each other number what it had
+abbrev pub BindsOneNumber : Type 0
+BindsOneNumber = (frame : Frame) (outer : Frames) (b : Bound) (n : ℕ) → innermost n (bound_in_front (frame ∷ outer) b) ≡ (if n == b.number then Some b else innermost n (frame ∷ outer))
+
+-- a frame with no binding in front changes no answer
+abbrev pub ChildAnswersAsParent : Type 0
+ChildAnswersAsParent = (frames : Frames) (n : ℕ) → innermost n ([] ∷ frames) ≡ innermost n frames
+
+-- the value of a number is that of its innermost binding
+abbrev pub ValueIsOfBinding : Type 0
+ValueIsOfBinding = (frames : Frames) (n : ℕ) → value_in frames n ≡ value_of (innermost n frames)

@@ -1,6 +1,13 @@
+pub mod Items
 pub mod Value
+pub mod Shown
+pub mod Listed
+pub mod ConstRefusal
 pub mod Refusal
 pub mod Outcome
 pub mod Applied
+pub mod Numbered
+pub mod Numbering
+pub mod Positional
 pub mod Frames
 pub mod View

@@ -1,7 +1,9 @@
 -- Why there is no value, want of memory aside.
 use Rattle.std.specs.Prelude.{ℤ}
 use Rattle.just_syntax.specs.Plain.{Text, Token}
+use Rattle.just_syntax.specs.StringContext.{StringContext}
 use Rattle.just_syntax.specs.declared.list_operator.ListOperator.{ListOperator}
+use Rattle.just_value.specs.ConstRefusal.{ConstRefusal}
 use Rattle.just_value.specs.Value.{Value}
 
 -- why a command gave no text
@@ -10,7 +12,17 @@ pub data Fault : Type 0 where
   Message : Text → Fault
   NoMemory : Fault
 
+-- A name is its token. A parameter and a recipe are told by their names' texts.
 pub data Refusal : Type 0 where
+  Assert : Text → Token → Refusal
   Backtick : Token → Fault → Refusal
+  Check : Text → Text → Refusal
+  Const : ConstRefusal → Refusal
+  EmptyListArgument : Text → Text → Refusal
+  FunctionCall : Token → Text → Refusal
   Internal : Text → Token → Refusal
+  LeftOut : Token → Refusal
+  LeftOutRegex : Token → Refusal
+  ListInStringContext : StringContext → Value → Refusal
   ListOperation : Value → ListOperator → Value → Token → Refusal
+  RecursionLimit : Token → Refusal

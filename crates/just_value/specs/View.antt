@@ -1,18 +1,31 @@
 -- What bindings, frames, scopes and refusals are as plain data.
-use Rattle.std.specs.Prelude.{◌∷◌, map, Option, Some, None, string_bytes, Result, Ok, Err}
+use Rattle.std.specs.Prelude.{ℕ, List, ◌∷◌, map, Option, Some, None, string_bytes, option_map, Result, Ok, Err}
 use Rattle.std.specs.Borrow.{Bor}
+use Rattle.std.specs.HashMap.{get_by}
+use Rattle.std.specs.Str.{bytes_eq}
 use Rattle.just_syntax.specs.Plain.{Text}
-use Rattle.just_syntax.specs.View.{token_view, name_view, attributes_view}
+use Rattle.just_syntax.specs.View.{token_view, name_view, string_context_view, attributes_view}
+use Rattle.std.specs.Map.Iter.{TakesFirst, deref}
 use Rattle.just_value.specs.declared.binding.Binding.{Binding}
+use Rattle.just_value.specs.declared.bindings.Bindings.{Bindings}
+use Rattle.just_value.specs.declared.expression_context.ExpressionContext.{ExpressionContext}
 use Rattle.just_value.specs.declared.frame.Frame.{Frame}
+use Rattle.just_value.specs.declared.list.List as list
+use Rattle.just_value.specs.declared.positional.Positional as declared_positional
 use Rattle.just_value.specs.declared.scope.Scope.{Scope}
+use Rattle.just_value.specs.declared.check_fault.CheckFault.{CheckFault}
+use Rattle.just_value.specs.declared.check_fault.CheckFault.TheVariants as checks
+use Rattle.just_value.specs.declared.const_error.ConstError.{ConstError}
+use Rattle.just_value.specs.declared.const_error.ConstError.TheVariants as consts
 use Rattle.just_value.specs.declared.error.CommandFault.{CommandFault}
 use Rattle.just_value.specs.declared.error.CommandFault.TheVariants as faults
 use Rattle.just_value.specs.declared.error.Error.{Error}
 use Rattle.just_value.specs.declared.error.Error.TheVariants as errors
 use Rattle.just_value.specs.Frames as plain
 use Rattle.just_value.specs.Frames.{Bound, Frames}
-use Rattle.just_value.specs.Refusal.{Fault, Code, Message, NoMemory, Refusal, Backtick, Internal, ListOperation}
+use Rattle.just_value.specs.ConstRefusal as constant
+use Rattle.just_value.specs.Positional.{Positional}
+use Rattle.just_value.specs.Refusal.{Fault, Code, Message, NoMemory, Refusal, Assert, Backtick, Check, Const, EmptyListArgument, FunctionCall, Internal, LeftOut, LeftOutRegex, ListInStringContext, ListOperation, RecursionLimit}
 use Rattle.just_value.specs.Outcome.{Outcome, Gave, without_value}
 
 abbrev pub bound_view : Binding → Bound
@@ -21,6 +34,14 @@ bound_view b = record { attributes = attributes_view b.attributes; eager = b.eag
 -- the bindings of a frame, by rising number
 abbrev pub frame_view : Frame → plain.Frame
 frame_view f = map (λ e. (e.0, bound_view e.1)) f
+
+-- the bindings that are still to come
+abbrev pub bindings_left : Bindings → List Binding
+bindings_left b = b.values
+
+-- the first of them comes next
+abbrev pub bindings_steps : Bindings → Option (Bor Binding) → Bindings → Type 0
+bindings_steps s next t = TakesFirst deref (bindings_left s) next (bindings_left t)
 
 -- the frames of a scope, innermost first
 abbrev pub frames_view : Scope → Frames
@@ -35,14 +56,47 @@ fault_view (faults.Code n) = Code n
 fault_view (faults.Fault text) = Message (string_bytes text)
 fault_view faults.OutOfMemory = NoMemory
 
+-- the message of a check that refused; none for want of memory
+abbrev pub check_refusal : CheckFault → Option Text
+check_refusal (checks.Refused message) = Some (string_bytes message)
+check_refusal checks.OutOfMemory = None
+
+abbrev pub const_refusal : ConstError → constant.ConstRefusal
+const_refusal (consts.Backtick t) = constant.Backtick (token_view t)
+const_refusal (consts.FunctionCall name) = constant.FunctionCall (name_view name)
+const_refusal (consts.Variable name) = constant.Variable (name_view name)
+
 -- the refusal that an error is, if it is not want of memory
 abbrev pub refusal : Error → Option Refusal
+refusal (errors.Assert message name) = Some (Assert (string_bytes message) (name_view name))
 refusal (errors.Backtick t f) = Some (Backtick (token_view t) (fault_view f))
+refusal (errors.Check parameter message) = Some (Check parameter.now (string_bytes message))
+refusal (errors.Const e) = Some (Const (const_refusal e))
+refusal (errors.EmptyListArgument parameter recipe) = Some (EmptyListArgument parameter.now recipe.now)
+refusal (errors.FunctionCall function message) = Some (FunctionCall (name_view function) (string_bytes message))
 refusal (errors.Internal message t) = Some (Internal (string_bytes message) (token_view t))
+refusal (errors.LeftOut function) = Some (LeftOut (name_view function))
+refusal (errors.LeftOutRegex t) = Some (LeftOutRegex (token_view t))
+refusal (errors.ListInStringContext context value) = Some (ListInStringContext (string_context_view context) value)
 refusal (errors.ListOperation l o r t) = Some (ListOperation l o r (token_view t))
+refusal (errors.RecursionLimit last) = Some (RecursionLimit (name_view last))
 refusal errors.OutOfMemory = None
 
 -- how a call ended, its value seen by f
 abbrev pub ended : {X A : Type 0} → (X → A) → Result X Error → Outcome A
 ended f (Ok x) = Gave (f x)
 ended f (Err e) = without_value (refusal e)
+
+-- the word before the last item of a list
+abbrev pub conjunction_of : {T : Type 0} → list.List T → Text
+conjunction_of l = l.conjunction.now
+
+abbrev pub items_of : {T : Type 0} → list.List T → List T
+items_of l = l.items.items
+
+-- the number that a name has
+abbrev pub looked_up : ExpressionContext → Text → Option ℕ
+looked_up context name = get_by (λ key. bytes_eq name key.now) context.bindings
+
+abbrev pub positional_view : declared_positional.Positional → Positional
+positional_view p = record { arguments = map string_bytes p.arguments.items; overrides = map (λ o. (string_bytes o.0, string_bytes o.1)) p.overrides.items; search_directory = option_map string_bytes p.search_directory }

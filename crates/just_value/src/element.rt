@@ -1,5 +1,8 @@
 // How a text is shown.
 
+ghost use Rattle.std.specs.Fmt.{WritesOnOk};
+ghost use Rattle.just_value.specs.Shown.{escaped, quoted};
+
 use std::fmt;
 use std::fmt::Write;
 
@@ -9,18 +12,37 @@ use std::fmt::Write;
 pub struct Element<'text>(pub &'text str);
 
 impl fmt::Display for Element<'_> {
+    ghost use Rattle.std.specs.Prelude.{Some};
+    ghost use Rattle.just_value.specs.Shown.{quoted};
+
+    ghost output = { λ element. Some (quoted element.0.now) };
+
     fn fmt<W: fmt::Write>(&self, f: &mut fmt::Formatter<W>) -> fmt::Result {
-        f.write_str("\"")?;
-        for character in self.0.chars() {
-            match character {
-                '\t' => f.write_str("\\t")?,
-                '\r' => f.write_str("\\r")?,
-                '\n' => f.write_str("\\n")?,
-                '"' => f.write_str("\\\"")?,
-                '\\' => f.write_str("\\\\")?,
-                _ => f.write_char(character)?,
-            }
-        }
-        f.write_str("\"")
+        write_quoted(f, self.0)
+    }
+}
+
+// A text in quotes.
+fn write_quoted<W: fmt::Write>(f: &mut fmt::Formatter<W>, text: &str) -> fmt::Result
+    ensures { WritesOnOk W.write_str_gives f.old result (quoted text.now) f.new }
+{
+    f.write_str("\"")?;
+    for character in text.chars() {
+        write_escaped(f, character)?;
+    }
+    f.write_str("\"")
+}
+
+// A character as a quoted text shows it.
+fn write_escaped<W: fmt::Write>(f: &mut fmt::Formatter<W>, character: char) -> fmt::Result
+    ensures { WritesOnOk W.write_str_gives f.old result (escaped character) f.new }
+{
+    match character {
+        '\t' => f.write_str("\\t"),
+        '\r' => f.write_str("\\r"),
+        '\n' => f.write_str("\\n"),
+        '"' => f.write_str("\\\""),
+        '\\' => f.write_str("\\\\"),
+        _ => f.write_char(character),
     }
 }

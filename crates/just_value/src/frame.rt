@@ -1,16 +1,17 @@
 // Frames: bindings by their numbers.
 
-ghost use Rattle.std.specs.Prelude.{◌≡◌, [], OnOk, OnErr};
+ghost use Rattle.std.specs.Prelude.{◌≡◌, [], OnOk, OnErr, map};
+ghost use Rattle.std.specs.Map.{values_of};
 ghost use Rattle.std.specs.Option.{option_map};
-ghost use Rattle.just_value.specs.Frames.{bound_at, with_bound};
-ghost use Rattle.just_value.specs.View.{bound_view, frame_view};
+ghost use Rattle.just_value.specs.Frames.{bound_at, with_bound, IsRising};
+ghost use Rattle.just_value.specs.View.{bindings_left, bound_view, frame_view};
 
 use crate::binding::Binding;
+use crate::bindings::Bindings;
 use just_syntax::number::Number;
 use just_syntax::out_of_memory::OutOfMemory;
 use std::alloc::Global;
 use std::collections::BTreeMap;
-use std::collections::btree_map::Values;
 use std::marker::Model;
 
 /// Bindings by their numbers.
@@ -31,6 +32,10 @@ impl<'src> Model for Frame<'src> {
     ghost coded = { Prim.hlevel (codes, (expression.the_row static_lft).coded) };
 
     ghost view = { λ f. f.bindings.entries };
+
+    ghost use Rattle.just_value.specs.Numbered.{IsNumbered};
+
+    ghost invariant = { λ f. IsNumbered f.bindings.entries };
 }
 
 impl<'src> Frame<'src> {
@@ -51,8 +56,11 @@ impl<'src> Frame<'src> {
     }
 
     /// The bindings, by rising number.
-    pub fn bindings(&self) -> Values<'_, Number, Binding<'src>> {
-        self.bindings.values()
+    pub fn bindings(&self) -> Bindings<'_, 'src>
+        ensures once { map bound_view (bindings_left result) ≡ values_of (frame_view self.now) }
+        ensures rising { IsRising (map bound_view (bindings_left result)) }
+    {
+        Bindings::new(self.bindings.values())
     }
 
     // Binds a number, in place of what it was bound to. For want of memory the frame stays as it was.

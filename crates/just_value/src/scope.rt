@@ -1,11 +1,13 @@
 // Scopes: an own frame, and the frames outside it.
 
 ghost use Rattle.std.specs.Prelude.{◌≡◌, [], ◌∷◌, IfOk, OnOk, OnErr, map};
+ghost use Rattle.std.specs.Map.{values_of};
 ghost use Rattle.std.specs.Option.{option_map};
-ghost use Rattle.just_value.specs.Frames.{innermost, value_in, bound_in_front, constant_bound, with_constants};
-ghost use Rattle.just_value.specs.View.{bound_view, constant_view, frame_view, frames_view};
+ghost use Rattle.just_value.specs.Frames.{innermost, value_in, bound_in_front, constant_bound, with_constants, own_frame, outer_frames, IsRising};
+ghost use Rattle.just_value.specs.View.{bindings_left, bound_view, constant_view, frame_view, frames_view};
 
 use crate::binding::Binding;
+use crate::bindings::Bindings;
 use crate::frame::Frame;
 use crate::value::Value;
 use just_syntax::attribute_set::AttributeSet;
@@ -15,7 +17,6 @@ use just_syntax::numerator::Numerator;
 use just_syntax::out_of_memory::OutOfMemory;
 use just_syntax::token::Token;
 use std::alloc::Global;
-use std::collections::btree_map::Values;
 
 /// An own frame, and the frames outside it, innermost first.
 #[derive(Drop)]
@@ -88,8 +89,29 @@ impl<'src, 'run> Scope<'src, 'run> {
     }
 
     /// The bindings of the own frame, by rising number.
-    pub fn bindings(&self) -> Values<'_, Number, Binding<'src>> {
+    pub fn bindings(&self) -> Bindings<'_, 'src>
+        ensures once { map bound_view (bindings_left result) ≡ values_of (own_frame (frames_view self.now)) }
+        ensures rising { IsRising (map bound_view (bindings_left result)) }
+    {
         self.frame.bindings()
+    }
+
+    /// The own frame.
+    pub fn frame(&self) -> &Frame<'src>
+        ensures { frame_view result.now ≡ own_frame (frames_view self.now) }
+    {
+        &self.frame
+    }
+
+    /// The frames outside the own one, innermost first, if there are any. A scope from `root` has none, and one
+    /// from `child` has some.
+    pub fn parent(&self) -> Option<&Vec<&'run Frame<'src>>>
+        ensures { option_map (λ outer. map (λ f. frame_view f.now) outer.now.items) result ≡ outer_frames (frames_view self.now) }
+    {
+        if self.outer.is_empty() {
+            return None;
+        }
+        Some(&self.outer)
     }
 }
 

@@ -1,8 +1,12 @@
-// Values, scopes and refusals.
+// Values, word lists, positional words, scopes and expression contexts.
 
 use crate::binding::Binding;
+use crate::const_error::ConstError;
 use crate::element::Element;
 use crate::error::Error;
+use crate::expression_context::ExpressionContext;
+use crate::list::List;
+use crate::positional::Positional;
 use crate::scope::Scope;
 use crate::value::Value;
 use just_syntax::attribute_set::AttributeSet;
@@ -10,233 +14,491 @@ use just_syntax::list_operator::ListOperator;
 use just_syntax::name::Name;
 use just_syntax::number::Number;
 use just_syntax::out_of_memory::OutOfMemory;
+use just_syntax::parameter::Parameter;
+use just_syntax::parameter_kind::ParameterKind;
 use just_syntax::token::Token;
 use std::alloc::Global;
-use std::process::Abort;
 use std::test::Fail;
 
 fn token(lexeme: &str) -> Token<'_> {
     Token {
-        column: 0,
-        line: 0,
-        offset: 0,
+        column: 2,
+        line: 1,
+        offset: 7,
         lexeme,
         path: "justfile",
     }
 }
 
-fn value(alloc: Global, texts: &[&str]) -> Result<Value, OutOfMemory> {
-    let mut elements = Vec::new(alloc);
-    for text in texts {
-        elements.push(String::from_str(alloc, text)?)?;
+fn name(lexeme: &str) -> Name<'_> {
+    Name {
+        token: token(lexeme),
     }
-    Ok(Value::from_elements(elements))
 }
 
-fn has(value: &Value, texts: &[&str]) -> bool {
-    let elements = value.elements();
-    elements.len() == texts.len()
-        && elements
-            .iter()
-            .zip(texts)
-            .all(|(element, text)| element.as_str() == *text)
-}
-
-#[test]
-fn operator_on_lists(rt: HostRuntime) -> Result<(), Fail> {
-    let plus = ListOperator::Concatenate;
-    let slash = ListOperator::Join;
-    let rows: [(&[&str], ListOperator, &[&str], Option<&[&str]>); 15] = [
-        (&[], plus, &[], Some(&[])),
-        (&["a", "b"], plus, &["c", "d"], Some(&["ac", "bd"])),
-        (&["a"], plus, &["b", "c", "d"], Some(&["ab", "ac", "ad"])),
-        (&["a", "b", "c"], plus, &["d"], Some(&["ad", "bd", "cd"])),
-        (&["a"], plus, &["b", "c"], Some(&["ab", "ac"])),
-        (&[], plus, &["a"], None),
-        (&["a"], plus, &[], None),
-        (&[], plus, &["a", "b"], None),
-        (&["a", "b"], plus, &[], None),
-        (&["a", "b"], plus, &["c", "d", "e"], None),
-        (&["a"], slash, &["b"], Some(&["a/b"])),
-        (&["a", "b"], slash, &["c", "d"], Some(&["a/c", "b/d"])),
-        (&["a", "b"], slash, &["c"], Some(&["a/c", "b/c"])),
-        (&[""], slash, &["/a"], Some(&["//a"])),
-        (&["a", "b"], slash, &["c", "d", "e"], None),
-    ];
-    for (lhs, operator, rhs, expected) in rows {
-        applies(&rt, rt.alloc(), lhs, operator, rhs, expected)?;
+fn value(alloc: Global, elements: &[&str]) -> Result<Value, OutOfMemory> {
+    let mut value = Value::new(alloc);
+    for element in elements {
+        value.push(element)?;
     }
-    Ok(())
+    Ok(value)
 }
 
-// An operator gives the expected texts, or is refused with both lists.
-fn applies(
-    rt: &impl Abort,
-    alloc: Global,
-    lhs: &[&str],
-    operator: ListOperator,
-    rhs: &[&str],
-    expected: Option<&[&str]>,
-) -> Result<(), OutOfMemory> {
-    let a = value(alloc, lhs)?;
-    let b = value(alloc, rhs)?;
-    match a.apply(alloc, &b, operator, token("+")) {
-        Ok(applied) => {
-            assert!(rt;
-                expected.is_some_and(|texts| has(&applied, texts)),
-                "{a} {operator} {b}: {applied}"
-            );
-        }
-        Err(
-            Error::ListOperation {
-                lhs: left,
-                operator: refused,
-                rhs: right,
-                token: place,
-            },
-        ) => {
-            assert!(rt;
-                expected.is_none() && has(&left, lhs) && has(&right, rhs),
-                "{a} {operator} {b}"
-            );
-            assert_eq!(rt; refused, operator);
-            assert_eq!(rt; place, token("+"));
-        }
-        Err(_) => return Err(OutOfMemory),
-    }
-    Ok(())
-}
-
-#[test]
-fn values(rt: HostRuntime) -> Result<(), Fail> {
-    let alloc = rt.alloc();
-    let one = Value::from_text(alloc, "foo bar")?;
-    assert!(rt; has(&one, &["foo bar"]));
-    assert!(rt; has(&one.try_clone(alloc)?, &["foo bar"]));
-    assert!(rt;
-        has(
-            &Value::from_string(alloc, String::from_str(alloc, "foo")?)?,
-            &["foo"]
-        )
-    );
-    assert!(rt; has(&Value::new(alloc), &[]));
-    let rows: [(&[&str], bool, &str); 6] = [
-        (&[], false, "[]"),
-        (&[""], true, r#""""#),
-        (&["foo"], true, r#""foo""#),
-        (&["foo", "bar"], true, r#"["foo", "bar"]"#),
-        (&["a\tb\"c"], true, r#""a\tb\"c""#),
-        (&["\\", "\n"], true, r#"["\\", "\n"]"#),
-    ];
-    for (texts, truthy, shown) in rows {
-        is_shown(&rt, alloc, texts, truthy, shown)?;
-    }
-    assert_eq!(rt;
-        format!(in alloc; "{}", Element("\ré"))?.as_str(),
-        r#""\ré""#
-    );
-    Ok(())
-}
-
-// A value's truth, text and copy.
-fn is_shown(
-    rt: &impl Abort,
-    alloc: Global,
-    texts: &[&str],
-    truthy: bool,
-    shown: &str,
-) -> Result<(), OutOfMemory> {
-    let value = value(alloc, texts)?;
-    assert_eq!(rt; value.is_truthy(), truthy, "{shown}");
-    assert_eq!(rt; format!(in alloc; "{value}")?.as_str(), shown);
-    assert!(rt; has(&value.try_clone(alloc)?, texts), "{shown}");
-    Ok(())
-}
-
-fn binding(alloc: Global, number: u64, text: &str) -> Result<Binding<'static>, OutOfMemory> {
-    Ok(Binding {
+fn binding<'src>(alloc: Global, lexeme: &'src str, number: u64, value: Value) -> Binding<'src> {
+    Binding {
         attributes: AttributeSet::new(alloc),
         eager: false,
         export: false,
         file_depth: 0,
-        name: Name { token: token("x") },
+        name: name(lexeme),
         number: Number::new(number),
         prelude: false,
         private: false,
-        value: Value::from_text(alloc, text)?,
-    })
-}
-
-fn binds(scope: &Scope, number: u64, text: &str) -> bool {
-    let number = Number::new(number);
-    let bound = scope.binding(number);
-    bound.is_some_and(|b| b.number == number && has(&b.value, &[text]))
-        && scope.value(number).is_some_and(|v| has(v, &[text]))
+        value,
+    }
 }
 
 #[test]
-fn frames_go_outwards(rt: HostRuntime) -> Result<(), Fail> {
+fn join_and_truth(rt: HostRuntime) -> Result<(), Fail> {
     let alloc = rt.alloc();
-    let mut parent = Scope::root(alloc, &[("ZERO", "0"), ("ONE", "1"), ("TWO", "2")])?;
-    for (number, text) in [(5, "five"), (1, "one"), (3, "three"), (1, "once more")] {
-        parent.bind(binding(alloc, number, text)?)?;
-    }
-    let mut child = parent.child(alloc)?;
-    assert!(rt; child.bindings().next().is_none());
-    child.bind(binding(alloc, 1, "inner")?)?;
-    for (number, outer, inner) in [
-        (0, "0", "0"),
-        (1, "once more", "inner"),
-        (2, "2", "2"),
-        (3, "three", "three"),
-        (5, "five", "five"),
+    let none: [&str; 0] = [];
+    for (elements, joined, truthy) in [
+        (none.as_slice(), "", false),
+        ([""].as_slice(), "", true),
+        (["foo"].as_slice(), "foo", true),
+        (["foo", "bar"].as_slice(), "foo bar", true),
+        (["foo bar", "baz"].as_slice(), "foo bar baz", true),
+        (["", ""].as_slice(), " ", true),
     ] {
-        assert!(rt; binds(&parent, number, outer), "{outer}");
-        assert!(rt; binds(&child, number, inner), "{inner}");
+        let value = value(alloc, elements)?;
+        assert_eq!(rt; value.join(alloc)?.as_str(), joined);
+        assert_eq!(rt; value.is_truthy(), truthy, "{value}");
+        assert_eq!(rt; value.is_empty(), !truthy, "{value}");
+        assert_eq!(rt; value.len(), elements.len(), "{value}");
     }
-    assert!(rt; child.binding(Number::new(6)).is_none());
-    assert!(rt; child.value(Number::new(6)).is_none());
-    assert!(rt; child.bindings().map(|b| b.number).eq([Number::new(1)]));
     Ok(())
 }
 
 #[test]
-fn bindings_by_rising_number(rt: HostRuntime) -> Result<(), Fail> {
+fn displays(rt: HostRuntime) -> Result<(), Fail> {
     let alloc = rt.alloc();
-    let root = Scope::root(alloc, &[])?;
-    let mut scope = root.child(alloc)?;
-    for (number, text) in [(5, "a"), (1, "b"), (3, "c"), (1, "d")] {
-        scope.bind(binding(alloc, number, text)?)?;
+    let none: [&str; 0] = [];
+    for (elements, shown) in [
+        (none.as_slice(), "[]"),
+        (["foo"].as_slice(), "\"foo\""),
+        (["foo", "bar"].as_slice(), "[\"foo\", \"bar\"]"),
+        (["a\tb\"c"].as_slice(), "\"a\\tb\\\"c\""),
+        (["\\", "\n"].as_slice(), "[\"\\\\\", \"\\n\"]"),
+        (["\r", "é", ""].as_slice(), "[\"\\r\", \"é\", \"\"]"),
+    ] {
+        let value = value(alloc, elements)?;
+        assert_eq!(rt; format!(in alloc; "{value}")?.as_str(), shown);
     }
-    let mut shown = String::new(alloc);
-    for bound in scope.bindings() {
-        shown.push_str(format!(in alloc; "{} ", bound.value)?.as_str())?;
-    }
-    assert_eq!(rt; shown.as_str(), r#""d" "c" "a" "#);
-    assert!(rt; root.bindings().next().is_none());
+    let element = Element("x\ty");
+    assert_eq!(rt; format!(in alloc; "{element}")?.as_str(), "\"x\\ty\"");
     Ok(())
 }
 
 #[test]
-fn constants_of_the_prelude(rt: HostRuntime) -> Result<(), Fail> {
+fn constructors(rt: HostRuntime) -> Result<(), Fail> {
     let alloc = rt.alloc();
-    let root = Scope::root(alloc, &[("HEX", "0123"), ("RED", "r")])?;
-    for (number, key, text) in [(0, "HEX", "0123"), (1, "RED", "r")] {
-        assert!(rt; binds(&root, number, text), "{key}");
-        let constant = root.binding(Number::new(number)).expect(&rt, key);
-        let expected = Token {
-            path: "PRELUDE",
-            ..token(key)
-        };
-        assert_eq!(rt; constant.name.token, expected);
-        assert!(rt; constant.prelude && !constant.eager && !constant.export && !constant.private);
-        assert_eq!(rt; constant.file_depth, 0);
+    let text = String::from_str(alloc, "foo")?;
+    let other = String::from_str(alloc, "bar")?;
+    let items = vec![in alloc;
+        String::from_str(alloc, "a")?,
+        String::from_str(alloc, "b c")?,
+    ]?;
+    let more = vec![in alloc; String::from_str(alloc, "d")?, String::from_str(alloc, "")?]?;
+    let pair = value(alloc, &["x", "y"])?;
+    for (made, elements) in [
+        (Value::from_text(alloc, "foo bar")?, ["foo bar"].as_slice()),
+        (Value::from_string(alloc, text)?, ["foo"].as_slice()),
+        (Value::from_bool(alloc, true)?, ["true"].as_slice()),
+        (Value::from_elements(items), ["a", "b c"].as_slice()),
+        (Value::from_iterator(alloc, more)?, ["d", ""].as_slice()),
+        (
+            Value::from_iterator(alloc, Some(other))?,
+            ["bar"].as_slice(),
+        ),
+        (pair.try_clone(alloc)?, ["x", "y"].as_slice()),
+    ] {
+        assert_eq!(rt; made.len(), elements.len(), "{made}");
+        for (element, wanted) in made.elements().iter().zip(elements) {
+            assert_eq!(rt; element.as_str(), *wanted, "{made}");
+        }
+    }
+    assert!(rt; Value::from_bool(alloc, false)?.is_empty());
+    Ok(())
+}
+
+#[test]
+fn iterators(rt: HostRuntime) -> Result<(), Fail> {
+    let alloc = rt.alloc();
+    let value = value(alloc, &["a", "", "bc"])?;
+    let mut all = String::new(alloc);
+    for text in value.iter() {
+        all.push_str(text)?;
+        all.push('.')?;
+    }
+    for text in &value {
+        all.push_str(text)?;
+        all.push('.')?;
+    }
+    let copy = value.try_clone(alloc)?;
+    for text in value {
+        all.push_str(&text)?;
+        all.push('.')?;
+    }
+    for text in copy.into_elements() {
+        all.push_str(&text)?;
+        all.push('.')?;
+    }
+    assert_eq!(rt; all.as_str(), "a..bc.a..bc.a..bc.a..bc.");
+    Ok(())
+}
+
+#[test]
+fn comparisons(rt: HostRuntime) -> Result<(), Fail> {
+    let alloc = rt.alloc();
+    let none: [&str; 0] = [];
+    let rising = [
+        value(alloc, none.as_slice())?,
+        value(alloc, &[""])?,
+        value(alloc, &["", ""])?,
+        value(alloc, &["a"])?,
+        value(alloc, &["a", "a"])?,
+        value(alloc, &["aa"])?,
+        value(alloc, &["b"])?,
+        value(alloc, &["é"])?,
+    ];
+    for (i, x) in rising.iter().enumerate() {
+        for (j, y) in rising.iter().enumerate() {
+            assert_eq!(rt; x == y, i == j, "{x} {y}");
+            assert_eq!(rt; x < y, i < j, "{x} {y}");
+            assert_eq!(rt; x.cmp(y), i.cmp(&j), "{x} {y}");
+        }
     }
     Ok(())
 }
 
 #[test]
-fn want_of_memory(rt: HostRuntime) {
-    let error = Error::from(OutOfMemory);
-    assert!(rt; matches!(error, Error::OutOfMemory));
+fn operator_on_lists(rt: HostRuntime) -> Result<(), Fail> {
+    let alloc = rt.alloc();
+    let none: [&str; 0] = [];
+    let plus = ListOperator::Concatenate;
+    let slash = ListOperator::Join;
+    for (lhs, operator, rhs, wanted) in [
+        (none.as_slice(), plus, none.as_slice(), "[]"),
+        (
+            ["a", "b"].as_slice(),
+            plus,
+            ["c", "d"].as_slice(),
+            "[\"ac\", \"bd\"]",
+        ),
+        (
+            ["a"].as_slice(),
+            plus,
+            ["b", "c", "d"].as_slice(),
+            "[\"ab\", \"ac\", \"ad\"]",
+        ),
+        (
+            ["a", "b", "c"].as_slice(),
+            plus,
+            ["d"].as_slice(),
+            "[\"ad\", \"bd\", \"cd\"]",
+        ),
+        (["a"].as_slice(), slash, ["b"].as_slice(), "\"a/b\""),
+        (
+            ["a", "b"].as_slice(),
+            slash,
+            ["c", "d"].as_slice(),
+            "[\"a/c\", \"b/d\"]",
+        ),
+        (
+            ["a", "b"].as_slice(),
+            slash,
+            ["c"].as_slice(),
+            "[\"a/c\", \"b/c\"]",
+        ),
+    ] {
+        let lhs = value(alloc, lhs)?;
+        let rhs = value(alloc, rhs)?;
+        let applied = lhs.apply(alloc, &rhs, operator, token("+"))?;
+        assert_eq!(rt; format!(in alloc; "{applied}")?.as_str(), wanted);
+    }
+    for (lhs, rhs) in [
+        (none.as_slice(), ["a"].as_slice()),
+        (none.as_slice(), ["a", "b"].as_slice()),
+        (["a"].as_slice(), none.as_slice()),
+        (["a", "b"].as_slice(), none.as_slice()),
+        (["a", "b"].as_slice(), ["c", "d", "e"].as_slice()),
+    ] {
+        let left = value(alloc, lhs)?;
+        let right = value(alloc, rhs)?;
+        let refused = left.apply(alloc, &right, slash, token("/"));
+        assert!(rt; holds_both(&refused, &left, &right), "{left} {right}");
+    }
+    Ok(())
+}
+
+// Whether it is a refusal of `/` with these lists.
+fn holds_both(refused: &Result<Value, Error>, left: &Value, right: &Value) -> bool {
+    match refused {
+        Err(
+            Error::ListOperation {
+                lhs,
+                operator,
+                rhs,
+                token: at,
+            },
+        ) => { lhs == left && rhs == right && *operator == ListOperator::Join && *at == token("/") }
+        _ => false,
+    }
+}
+
+#[test]
+fn word_lists(rt: HostRuntime) -> Result<(), Fail> {
+    let alloc = rt.alloc();
+    let numbers = [1, 2, 3, 4];
+    for (n, or, and, or_ticked, and_ticked) in [
+        (0, "", "", "", ""),
+        (1, "1", "1", "`1`", "`1`"),
+        (2, "1 or 2", "1 and 2", "`1` or `2`", "`1` and `2`"),
+        (
+            3,
+            "1, 2, or 3",
+            "1, 2, and 3",
+            "`1`, `2`, or `3`",
+            "`1`, `2`, and `3`",
+        ),
+        (
+            4,
+            "1, 2, 3, or 4",
+            "1, 2, 3, and 4",
+            "`1`, `2`, `3`, or `4`",
+            "`1`, `2`, `3`, and `4`",
+        ),
+    ] {
+        let some = &numbers[..n];
+        let list = List::or(alloc, some)?;
+        assert_eq!(rt; format!(in alloc; "{list}")?.as_str(), or);
+        let list = List::and(alloc, some)?;
+        assert_eq!(rt; format!(in alloc; "{list}")?.as_str(), and);
+        let list = List::or_ticked(alloc, some)?;
+        assert_eq!(rt; format!(in alloc; "{list}")?.as_str(), or_ticked);
+        let list = List::and_ticked(alloc, some)?;
+        assert_eq!(rt; format!(in alloc; "{list}")?.as_str(), and_ticked);
+    }
+    Ok(())
+}
+
+// Positional words as one text: the overrides, each in parentheses, the directory in brackets, the arguments in quotes.
+fn told(alloc: Global, words: &[&str]) -> Result<String, Fail> {
+    let positional = Positional::from_values(alloc, words.iter().copied())?;
+    let mut text = String::new(alloc);
+    for (key, value) in &positional.overrides {
+        text.push_str(&format!(in alloc; "({key}={value})")?)?;
+    }
+    if let Some(directory) = &positional.search_directory {
+        text.push_str(&format!(in alloc; "[{directory}]")?)?;
+    }
+    for argument in &positional.arguments {
+        text.push_str(&format!(in alloc; "'{argument}'")?)?;
+    }
+    Ok(text)
+}
+
+#[test]
+fn positional_words(rt: HostRuntime) -> Result<(), Fail> {
+    let alloc = rt.alloc();
+    let none: [&str; 0] = [];
+    for (words, wanted) in [
+        (none.as_slice(), ""),
+        (["foo", "bar"].as_slice(), "'foo''bar'"),
+        (["foo=bar", "bar=foo"].as_slice(), "(foo=bar)(bar=foo)"),
+        (
+            ["the-dir/", "baz", "bzzd"].as_slice(),
+            "[the-dir/]'baz''bzzd'",
+        ),
+        (
+            ["foo=bar", "bar=foo", "baz", "bzzd"].as_slice(),
+            "(foo=bar)(bar=foo)'baz''bzzd'",
+        ),
+        (
+            ["foo=bar", "bar=foo", "the-dir/"].as_slice(),
+            "(foo=bar)(bar=foo)[the-dir/]",
+        ),
+        (
+            ["foo=bar", "bar=foo", ".", "garnor"].as_slice(),
+            "(foo=bar)(bar=foo)[.]'garnor'",
+        ),
+        (
+            ["foo=bar", "bar=foo", "..", "garnor"].as_slice(),
+            "(foo=bar)(bar=foo)[..]'garnor'",
+        ),
+        (
+            ["foo=bar", "bar=foo", "/", "garnor"].as_slice(),
+            "(foo=bar)(bar=foo)[/]'garnor'",
+        ),
+        (
+            ["foo=bar", "bar=foo", "baz", "bzzd", "bar/"].as_slice(),
+            "(foo=bar)(bar=foo)'baz''bzzd''bar/'",
+        ),
+        (["..", "a=b"].as_slice(), "[..]'a=b'"),
+        (["a", "a=b"].as_slice(), "'a''a=b'"),
+        (["=x", ".", "=y"].as_slice(), "(=x)[.]'=y'"),
+        (["./x=1", "a/b", "c=d"].as_slice(), "(./x=1)[a/]'b''c=d'"),
+        (["a/b=c"].as_slice(), "(a/b=c)"),
+        (["a=b=c", "x/y/z"].as_slice(), "(a=b=c)[x/y/]'z'"),
+        (["...", "."].as_slice(), "'...''.'"),
+    ] {
+        assert_eq!(rt; told(alloc, words)?.as_str(), wanted);
+    }
+    Ok(())
+}
+
+#[test]
+fn override_is_cut_at_its_first_equals_sign(rt: HostRuntime) -> Result<(), Fail> {
+    let alloc = rt.alloc();
+    let positional = Positional::from_values(alloc, ["a=b=c"])?;
+    assert_eq!(rt; positional.overrides.len(), 1);
+    let (key, value) = &positional.overrides[0];
+    assert_eq!(rt; key.as_str(), "a");
+    assert_eq!(rt; value.as_str(), "b=c");
+    Ok(())
+}
+
+#[test]
+fn words_that_mean_the_same(rt: HostRuntime) -> Result<(), Fail> {
+    let alloc = rt.alloc();
+    let one = Positional::from_values(alloc, ["a/b", "c"])?;
+    let other = Positional::from_values(alloc, ["a/", "b", "c"])?;
+    let third = Positional::from_values(alloc, ["a/", "c"])?;
+    assert!(rt; one == other);
+    assert!(rt; one != third);
+    Ok(())
+}
+
+#[test]
+fn names_and_numbers(rt: HostRuntime) -> Result<(), Fail> {
+    let alloc = rt.alloc();
+    let pairs = [
+        (name("n"), Number::new(1)),
+        (name("m"), Number::new(3)),
+        (name("n"), Number::new(2)),
+    ];
+    let parameters = [parameter("x", 5), parameter("y", 6), parameter("x", 7)];
+    let from_pairs = ExpressionContext::from_pairs(alloc, &pairs)?;
+    let from_parameters = ExpressionContext::from_parameters(alloc, &parameters)?;
+    let empty = ExpressionContext::new(alloc);
+    for (name, number) in [("n", Some(2)), ("m", Some(3)), ("x", None), ("", None)] {
+        assert_eq!(rt; from_pairs.lookup(name), number.map(Number::new), "{name}");
+        assert_eq!(rt; empty.lookup(name), None, "{name}");
+    }
+    for (name, number) in [("x", Some(7)), ("y", Some(6)), ("n", None)] {
+        assert_eq!(rt;
+            from_parameters.lookup(name),
+            number.map(Number::new),
+            "{name}"
+        );
+    }
+    Ok(())
+}
+
+fn parameter(lexeme: &str, number: u64) -> Parameter<'_> {
+    Parameter {
+        default: None,
+        export: false,
+        flag: false,
+        kind: ParameterKind::Singular,
+        multiple: false,
+        name: name(lexeme),
+        number: Number::new(number),
+        value: None,
+    }
+}
+
+#[test]
+fn root_binds_constants(rt: HostRuntime) -> Result<(), Fail> {
+    let alloc = rt.alloc();
+    let root = Scope::root(alloc, &[("HEX", "0123"), ("RED", "\u{1b}[31m")])?;
+    assert!(rt; root.parent().is_none());
+    let mut told = String::new(alloc);
+    for binding in root.bindings() {
+        let name = binding.name;
+        let value = &binding.value;
+        told.push_str(&format!(in alloc; "{name}={value};")?)?;
+        assert!(rt; binding.prelude && !binding.eager && !binding.export && !binding.private);
+        assert_eq!(rt; binding.name.token.path, "PRELUDE");
+        assert_eq!(rt; binding.file_depth, 0);
+    }
+    assert_eq!(rt; told.as_str(), "HEX=\"0123\";RED=\"\u{1b}[31m\";");
+    assert_eq!(rt;
+        root.binding(Number::new(1)).map(|b| b.name.lexeme()),
+        Some("RED")
+    );
+    assert!(rt; root.value(Number::new(2)).is_none());
+    Ok(())
+}
+
+// The value of a number in a scope, joined.
+fn told_value(alloc: Global, scope: &Scope, number: u64) -> Result<String, OutOfMemory> {
+    match scope.value(Number::new(number)) {
+        Some(value) => value.join(alloc),
+        None => Ok(String::from_str(alloc, "not bound")?),
+    }
+}
+
+#[test]
+fn child_binds_its_own(rt: HostRuntime) -> Result<(), Fail> {
+    let alloc = rt.alloc();
+    let mut parent = Scope::root(alloc, &[])?;
+    parent.bind(binding(alloc, "x", 2, value(alloc, &["two"])?))?;
+    parent.bind(binding(alloc, "y", 1, value(alloc, &["one"])?))?;
+    let mut child = parent.child(alloc)?;
+    assert_eq!(rt; child.value(Number::new(1)), parent.value(Number::new(1)));
+    child.bind(binding(alloc, "z", 3, value(alloc, &["first"])?))?;
+    child.bind(binding(alloc, "y", 1, value(alloc, &["own"])?))?;
+    child.bind(binding(alloc, "z", 3, value(alloc, &["three"])?))?;
+    for (number, in_child, in_parent) in [
+        (1, "own", "one"),
+        (2, "two", "two"),
+        (3, "three", "not bound"),
+        (4, "not bound", "not bound"),
+    ] {
+        assert_eq!(rt;
+            told_value(alloc, &child, number)?.as_str(),
+            in_child,
+            "{number}"
+        );
+        assert_eq!(rt;
+            told_value(alloc, &parent, number)?.as_str(),
+            in_parent,
+            "{number}"
+        );
+    }
+    let mut own = String::new(alloc);
+    for binding in child.bindings() {
+        own.push_str(&binding.value.join(alloc)?)?;
+        own.push(' ')?;
+    }
+    for binding in child.frame().bindings() {
+        own.push_str(binding.name.lexeme())?;
+    }
+    assert_eq!(rt; own.as_str(), "own three yz");
+    let frames = child.parent().map(|outer| outer.len());
+    assert_eq!(rt; frames, Some(1));
+    assert!(rt; child.frame().binding(Number::new(2)).is_none());
+    Ok(())
+}
+
+#[test]
+fn context_of_const_errors(rt: HostRuntime) {
+    for error in [
+        ConstError::Backtick(token("`x`")),
+        ConstError::FunctionCall(name("`x`")),
+        ConstError::Variable(name("`x`")),
+    ] {
+        assert_eq!(rt; error.context(), token("`x`"));
+    }
 }

@@ -1,10 +1,16 @@
 // Values: lists of texts.
 
-ghost use Rattle.std.specs.Prelude.{◌≡◌, List, ℕ, [], ◌∷◌, ◌++◌, IfOk, OnOk, map, string_bytes, length};
+ghost use Rattle.std.specs.Prelude.{◌≡◌, List, ℕ, [], ◌∷◌, ◌++◌, ◌==◌, IfOk, OnOk, OnErr, map, string_bytes, length, codes, if◌then◌else◌, String};
+ghost use Rattle.std.specs.declared.alloc.Global.{Global};
+ghost use Rattle.std.specs.Fmt.{WritesOnOk};
+ghost use Rattle.std.specs.Iterator.Adapters.{IterYieldsInOrder};
+ghost use Rattle.std.specs.Slice.Iter.{iter_rest};
 ghost use Rattle.just_syntax.specs.View.{token_view};
 ghost use Rattle.just_value.specs.Applied.{combined, paired};
+ghost use Rattle.just_value.specs.Items.{Ends, Gives};
 ghost use Rattle.just_value.specs.Outcome.{UnlessStopped};
-ghost use Rattle.just_value.specs.Value.{is_truthy};
+ghost use Rattle.just_value.specs.Shown.{quoted};
+ghost use Rattle.just_value.specs.Value.{from_condition, is_truthy, joined};
 ghost use Rattle.just_value.specs.View.{ended};
 
 use crate::element::Element;
@@ -13,10 +19,12 @@ use just_syntax::list_operator::ListOperator;
 use just_syntax::out_of_memory::OutOfMemory;
 use just_syntax::token::Token;
 use std::alloc::Global;
-use std::fmt;
+use std::cmp::Ordering;
+use std::fmt::Display;
 use std::marker::Model;
+use std::{fmt, slice, vec};
 
-/// A list of texts.
+/// A list of texts. A call that is refused memory answers `OutOfMemory`, and changes nothing.
 #[derive(Debug, Drop)]
 pub struct Value {
     elements: Vec<String>,
@@ -40,13 +48,43 @@ impl Value {
         }
     }
 
+    /// The one element `true` where the condition holds, else no element.
+    pub fn from_bool(alloc: Global, condition: bool) -> Result<Value, OutOfMemory>
+        ensures { IfOk result (λ v. v ≡ from_condition condition) }
+    {
+        if condition {
+            Value::from_text(alloc, "true")
+        } else {
+            Ok(Value::new(alloc))
+        }
+    }
+
+    /// These elements, which are moved. It takes no memory, and the value keeps the allocator of `elements`.
+    pub fn from_elements(elements: Vec<String>) -> Value
+        ensures { result ≡ map string_bytes elements.items }
+    {
+        Value { elements }
+    }
+
+    /// The texts that an iterator gives until it ends, in their order. The texts are moved.
+    pub fn from_iterator<I: IntoIterator<Item = String>>(
+        alloc: Global,
+        elements: I,
+    ) -> Result<Value, OutOfMemory>
+        requires { Ends I.into_iter_gives I.IntoIter.can_next I.IntoIter.remaining elements }
+        ensures { IfOk result (λ v. (texts : List _) × Gives I.into_iter_gives I.IntoIter.next_gives elements texts × (v ≡ map string_bytes texts)) }
+    {
+        let elements = elements.into_iter().collect(alloc)?;
+        Ok(Value::from_elements(elements))
+    }
+
     /// The one element `text`.
     pub fn from_string(alloc: Global, text: String) -> Result<Value, OutOfMemory>
         ensures { IfOk result (λ v. v ≡ string_bytes text ∷ []) }
     {
         let mut elements = Vec::new(alloc);
         elements.push(text)?;
-        Ok(Value { elements })
+        Ok(Value::from_elements(elements))
     }
 
     /// The one element `text`.
@@ -62,14 +100,44 @@ impl Value {
         ensures { IfOk result (λ v. v ≡ self.now) }
     {
         let elements = copies(alloc, &self.elements)?;
-        Ok(Value { elements })
+        Ok(Value::from_elements(elements))
     }
 
     /// The texts, in their order.
     pub fn elements(&self) -> &[String]
         ensures { map string_bytes result.now ≡ self.now }
     {
-        &self.elements
+        self.elements.as_slice()
+    }
+
+    /// The texts, in their order. They are moved.
+    pub fn into_elements(self) -> Vec<String>
+        ensures { map string_bytes result.items ≡ self }
+    {
+        let Value { elements: texts } = self;
+        texts
+    }
+
+    /// Goes over the texts, in their order.
+    pub fn iter(&self) -> slice::Iter<'_, String>
+        ensures rest { map string_bytes (iter_rest result) ≡ self.now }
+        ensures runs { IterYieldsInOrder (String Global) }
+    {
+        self.elements.iter()
+    }
+
+    /// How many elements there are.
+    pub fn len(&self) -> usize
+        ensures { result ≡ length self.now }
+    {
+        self.elements.len()
+    }
+
+    /// Whether there is no element.
+    pub fn is_empty(&self) -> bool
+        ensures { result ≡ (length self.now == 0) }
+    {
+        self.elements.is_empty()
     }
 
     /// Whether there is an element.
@@ -77,6 +145,25 @@ impl Value {
         ensures { result ≡ is_truthy self.now }
     {
         !self.elements.is_empty()
+    }
+
+    /// Puts a text behind the elements. For want of memory the value stays as it was.
+    pub fn push(&mut self, element: &str) -> Result<(), OutOfMemory>
+        ensures ok { OnOk result (self.new ≡ self.old ++ element.now ∷ []) }
+        ensures err { OnErr result (self.new ≡ self.old) }
+    {
+        let alloc = *self.elements.allocator();
+        let text = String::from_str(alloc, element)?;
+        self.elements.push(text)?;
+        Ok(())
+    }
+
+    /// The elements in one text, with one space between them.
+    pub fn join(&self, alloc: Global) -> Result<String, OutOfMemory>
+        ensures { IfOk result (λ text. string_bytes text ≡ joined self.now) }
+    {
+        let text = self.elements.join(alloc, " ")?;
+        Ok(text)
     }
 
     /// The elements of both, put together one by one with the operator's separator between. One element goes
@@ -100,15 +187,15 @@ impl Value {
         match (a.len(), b.len()) {
             (1, 1..) => {
                 let elements = after(alloc, &a[0], separator, b)?;
-                Ok(Value { elements })
+                Ok(Value::from_elements(elements))
             }
             (1.., 1) => {
                 let elements = before(alloc, a, separator, &b[0])?;
-                Ok(Value { elements })
+                Ok(Value::from_elements(elements))
             }
             (m, n) if m == n => {
                 let elements = in_pairs(alloc, a, separator, b)?;
-                Ok(Value { elements })
+                Ok(Value::from_elements(elements))
             }
             _ => Err(Error::ListOperation {
                 lhs: self.try_clone(alloc)?,
@@ -120,27 +207,121 @@ impl Value {
     }
 }
 
-#[cfg(test)]
-impl Value {
-    // These texts.
-    pub(crate) fn from_elements(elements: Vec<String>) -> Value {
-        Value { elements }
+impl fmt::Display for Value {
+    ghost use Rattle.std.specs.Prelude.{Some};
+    ghost use Rattle.just_value.specs.Shown.{shown};
+
+    ghost output = { λ v. Some (shown v) };
+
+    fn fmt<W: fmt::Write>(&self, f: &mut fmt::Formatter<W>) -> fmt::Result {
+        let elements = self.elements();
+        if elements.len() == 1 {
+            return Element(&elements[0]).fmt(f);
+        }
+        f.write_str("[")?;
+        for i in 0..elements.len() {
+            write_element(f, i == 0, &elements[i])?;
+        }
+        f.write_str("]")
     }
 }
 
-impl fmt::Display for Value {
-    fn fmt<W: fmt::Write>(&self, f: &mut fmt::Formatter<W>) -> fmt::Result {
-        if let [text] = self.elements.as_slice() {
-            return Element(text).fmt(f);
-        }
-        f.write_str("[")?;
-        let mut separator = "";
-        for text in &self.elements {
-            f.write_str(separator)?;
-            Element(text).fmt(f)?;
-            separator = ", ";
-        }
-        f.write_str("]")
+// A quoted text, behind a comma if it is not the first.
+fn write_element<W: fmt::Write>(f: &mut fmt::Formatter<W>, first: bool, text: &str) -> fmt::Result
+    ensures { WritesOnOk W.write_str_gives f.old result ((if first then [] else codes ", ") ++ quoted text.now) f.new }
+{
+    if !first {
+        f.write_str(", ")?;
+    }
+    Element(text).fmt(f)
+}
+
+impl PartialEq for Value {
+    ghost use Rattle.std.specs.Cmp.{partial_equiv_from_equiv};
+    ghost use Rattle.std.specs.Cmp.Lexicographic.{lists_equiv, nat_list_eq_equiv};
+    ghost use Rattle.just_value.specs.Value.{is_same};
+
+    ghost eq = { is_same };
+
+    ghost laws = { partial_equiv_from_equiv (lists_equiv nat_list_eq_equiv) };
+
+    fn eq(&self, other: &Value) -> bool {
+        self.elements == other.elements
+    }
+}
+
+impl Eq for Value {
+    ghost use Rattle.std.specs.Cmp.Lexicographic.{lists_equiv, nat_list_eq_equiv};
+
+    ghost laws = { lists_equiv nat_list_eq_equiv };
+}
+
+impl PartialOrd for Value {
+    ghost use Rattle.std.specs.Prelude.{Some, refl};
+    ghost use Rattle.std.specs.Cmp.{partial_order_from_agreeing_total};
+    ghost use Rattle.std.specs.Cmp.Lexicographic.{lists_total, lists_ties, nat_list_cmp_total, texts_ties, slice_cmp};
+    ghost use Rattle.std.specs.Ordering.{nat_cmp};
+    ghost use Rattle.just_value.specs.Value.{value_cmp};
+
+    ghost partial_cmp = { λ x y. Some (value_cmp x y) };
+
+    ghost laws = { partial_order_from_agreeing_total value_cmp (lists_total nat_list_cmp_total) (λ x y. refl) (lists_ties (slice_cmp nat_cmp) texts_ties) };
+
+    fn partial_cmp(&self, other: &Value) -> Option<Ordering> {
+        Some(self.cmp(other))
+    }
+}
+
+impl Ord for Value {
+    ghost use Rattle.std.specs.Prelude.{refl};
+    ghost use Rattle.std.specs.Cmp.Lexicographic.{lists_total, lists_ties, nat_list_cmp_total, texts_ties, slice_cmp};
+    ghost use Rattle.std.specs.Ordering.{nat_cmp};
+    ghost use Rattle.just_value.specs.Value.{value_cmp};
+
+    ghost cmp = { value_cmp };
+
+    ghost total = { lists_total nat_list_cmp_total };
+
+    ghost matches_partial_cmp = { λ x y. refl };
+
+    ghost matches_eq = { lists_ties (slice_cmp nat_cmp) texts_ties };
+
+    fn cmp(&self, other: &Value) -> Ordering {
+        self.elements.cmp(&other.elements)
+    }
+}
+
+impl<'a> IntoIterator for &'a Value {
+    ghost use Rattle.std.specs.Prelude.{◌≡◌, map, string_bytes, String};
+    ghost use Rattle.std.specs.Iterator.Adapters.{IterYieldsInOrder};
+    ghost use Rattle.std.specs.Slice.Iter.{iter_rest};
+    ghost use Rattle.std.specs.declared.alloc.Global.{Global};
+
+    type Item = &'a String;
+
+    type IntoIter = slice::Iter<'a, String>;
+
+    ghost into_iter_gives = { λ v r. (map string_bytes (iter_rest r) ≡ v.now) × IterYieldsInOrder (String Global) };
+
+    fn into_iter(self) -> slice::Iter<'a, String> {
+        self.iter()
+    }
+}
+
+impl IntoIterator for Value {
+    ghost use Rattle.std.specs.Prelude.{◌≡◌, map, string_bytes, String};
+    ghost use Rattle.std.specs.Iterator.Runs.{EveryRun, ItemsAre};
+    ghost use Rattle.std.specs.Vec.Iter.{into_iter_items, into_iter_steps};
+    ghost use Rattle.std.specs.declared.alloc.Global.{Global};
+
+    type Item = String;
+
+    type IntoIter = vec::IntoIter<String>;
+
+    ghost into_iter_gives = { λ v r. (map string_bytes (into_iter_items r) ≡ v) × EveryRun (into_iter_steps {X = String Global} {Z = Global}) (λ p. ItemsAre p (into_iter_items p.from)) };
+
+    fn into_iter(self) -> vec::IntoIter<String> {
+        self.into_elements().into_iter()
     }
 }
 

@@ -1,0 +1,8 @@
+-- Texts in backticks.
+use Rattle.std.specs.Prelude.{Option, Some, codes}
+use Rattle.std.specs.Fmt.{◌++?◌}
+use Rattle.just_syntax.specs.Plain.{Text}
+
+-- a backtick, the text, a backtick, if there is a text
+abbrev pub ticked : Option Text → Option Text
+ticked text = Some (codes "`") ++? text ++? Some (codes "`")

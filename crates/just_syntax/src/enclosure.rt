@@ -1,0 +1,32 @@
+// Values that are shown in backticks.
+
+ghost use Rattle.std.specs.Prelude.{◌≡◌};
+ghost use Rattle.just_syntax.specs.View.{enclosed};
+
+use std::fmt;
+
+/// A value that is shown in backticks.
+#[derive(Debug, Drop)]
+pub struct Enclosure<T> {
+    value: T,
+}
+
+impl<T> Enclosure<T> {
+    /// The value, shown in backticks.
+    pub fn tick(value: T) -> Enclosure<T>
+        ensures { enclosed result ≡ value }
+    {
+        Enclosure { value }
+    }
+}
+
+impl<T: fmt::Display> fmt::Display for Enclosure<T> {
+    ghost use Rattle.just_syntax.specs.Enclosure.{ticked};
+
+    ghost output = { λ enclosure. ticked (T.output enclosure.value) };
+
+    fn fmt<W: fmt::Write>(&self, f: &mut fmt::Formatter<W>) -> fmt::Result {
+        let value = &self.value;
+        write!(f, "`{value}`")
+    }
+}

@@ -1,0 +1,24 @@
+// How many arguments a parameter takes.
+
+ghost use Rattle.std.specs.Prelude.{◌≡◌};
+ghost use Rattle.just_syntax.specs.ParameterKind.{is_variadic};
+
+/// How many arguments a parameter takes.
+#[derive(Clone, Copy, Debug, PartialEq, Eq)]
+pub enum ParameterKind {
+    /// `name`: one.
+    Singular,
+    /// `+name`: one or more.
+    Plus,
+    /// `*name`: any number.
+    Star,
+}
+
+impl ParameterKind {
+    /// Whether it takes more than one argument.
+    pub fn is_variadic(self) -> bool
+        ensures { result ≡ is_variadic self }
+    {
+        matches!(self, ParameterKind::Plus | ParameterKind::Star)
+    }
+}

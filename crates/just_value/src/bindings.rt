@@ -1,0 +1,39 @@
+// The bindings of a frame, one after another.
+
+use crate::binding::Binding;
+use just_syntax::number::Number;
+use std::collections::btree_map::Values;
+
+/// Goes over the bindings of a frame, each once, by rising number.
+#[derive(Drop)]
+pub struct Bindings<'frame, 'src> {
+    values: Values<'frame, Number, Binding<'src>>,
+}
+
+impl<'frame, 'src> Bindings<'frame, 'src> {
+    ghost use Rattle.std.specs.Prelude.{◌≡◌};
+    ghost use Rattle.just_value.specs.View.{bindings_left};
+
+    // The bindings that are still to come.
+    pub(crate) fn new(values: Values<'frame, Number, Binding<'src>>) -> Bindings<'frame, 'src>
+        ensures { bindings_left result ≡ values.entry }
+    {
+        Bindings { values }
+    }
+}
+
+impl<'frame, 'src> Iterator for Bindings<'frame, 'src> {
+    ghost use Rattle.std.specs.Prelude.{length};
+    ghost use Rattle.std.specs.Iterator.{at_most};
+    ghost use Rattle.just_value.specs.View.{bindings_left, bindings_steps};
+
+    type Item = &'frame Binding<'src>;
+
+    ghost next_gives = { bindings_steps };
+
+    ghost remaining = { λ s. at_most (length (bindings_left s)) };
+
+    fn next(&mut self) -> Option<&'frame Binding<'src>> {
+        self.values.next()
+    }
+}

@@ -1,0 +1,138 @@
+// Lists of words in a sentence.
+
+ghost use Rattle.std.specs.Prelude.{◌≡◌, List, IfOk, map, codes, ◌<◌, ◌++◌};
+ghost use Rattle.just_syntax.specs.View.{enclosed};
+ghost use Rattle.just_value.specs.Items.{Ends, Gives};
+ghost use Rattle.just_value.specs.Listed.{before};
+ghost use Rattle.just_value.specs.View.{conjunction_of, items_of};
+
+use just_syntax::enclosure::Enclosure;
+use just_syntax::out_of_memory::OutOfMemory;
+use std::alloc::Global;
+use std::fmt;
+use std::fmt::Display;
+
+/// Items in a sentence: nothing, `a`, `a or b`, `a, b, or c`.
+#[derive(Drop)]
+pub struct List<T> {
+    conjunction: &'static str,
+    items: Vec<T>,
+}
+
+impl<T> List<T> {
+    // These items, with this word before the last.
+    fn of(conjunction: &'static str, items: Vec<T>) -> List<T>
+        ensures word { conjunction_of result ≡ conjunction.entry.now }
+        ensures items { items_of result ≡ items.items }
+    {
+        List { conjunction, items }
+    }
+}
+
+impl<T: Drop> List<T> {
+    /// The items that an iterator gives until it ends, with `or` before the last.
+    pub fn or<I: IntoIterator<Item = T>>(alloc: Global, items: I) -> Result<List<T>, OutOfMemory>
+        requires { Ends I.into_iter_gives I.IntoIter.can_next I.IntoIter.remaining items }
+        ensures conjunction { IfOk result (λ list. conjunction_of list ≡ codes "or") }
+        ensures items { IfOk result (λ list. Gives I.into_iter_gives I.IntoIter.next_gives items (items_of list)) }
+    {
+        Ok(List::of("or", gathered(alloc, items)?))
+    }
+
+    /// The items that an iterator gives until it ends, with `and` before the last.
+    pub fn and<I: IntoIterator<Item = T>>(alloc: Global, items: I) -> Result<List<T>, OutOfMemory>
+        requires { Ends I.into_iter_gives I.IntoIter.can_next I.IntoIter.remaining items }
+        ensures conjunction { IfOk result (λ list. conjunction_of list ≡ codes "and") }
+        ensures items { IfOk result (λ list. Gives I.into_iter_gives I.IntoIter.next_gives items (items_of list)) }
+    {
+        Ok(List::of("and", gathered(alloc, items)?))
+    }
+
+    /// The items that an iterator gives until it ends, each in backticks, with `or` before the last.
+    pub fn or_ticked<I: IntoIterator<Item = T>>(
+        alloc: Global,
+        items: I,
+    ) -> Result<List<Enclosure<T>>, OutOfMemory>
+        requires { Ends I.into_iter_gives I.IntoIter.can_next I.IntoIter.remaining items }
+        ensures conjunction { IfOk result (λ list. conjunction_of list ≡ codes "or") }
+        ensures items { IfOk result (λ list. Gives I.into_iter_gives I.IntoIter.next_gives items (map enclosed (items_of list))) }
+    {
+        Ok(List::of("or", ticked(alloc, items)?))
+    }
+
+    /// The items that an iterator gives until it ends, each in backticks, with `and` before the last.
+    pub fn and_ticked<I: IntoIterator<Item = T>>(
+        alloc: Global,
+        items: I,
+    ) -> Result<List<Enclosure<T>>, OutOfMemory>
+        requires { Ends I.into_iter_gives I.IntoIter.can_next I.IntoIter.remaining items }
+        ensures conjunction { IfOk result (λ list. conjunction_of list ≡ codes "and") }
+        ensures items { IfOk result (λ list. Gives I.into_iter_gives I.IntoIter.next_gives items (map enclosed (items_of list))) }
+    {
+        Ok(List::of("and", ticked(alloc, items)?))
+    }
+}
+
+// The items that an iterator gives until it ends.
+fn gathered<T: Drop, I: IntoIterator<Item = T>>(
+    alloc: Global,
+    items: I,
+) -> Result<Vec<T>, OutOfMemory>
+    requires { Ends I.into_iter_gives I.IntoIter.can_next I.IntoIter.remaining items }
+    ensures { IfOk result (λ gathered. Gives I.into_iter_gives I.IntoIter.next_gives items gathered.items) }
+{
+    let gathered = items.into_iter().collect(alloc)?;
+    Ok(gathered)
+}
+
+// The items that an iterator gives until it ends, each in backticks.
+fn ticked<T: Drop, I: IntoIterator<Item = T>>(
+    alloc: Global,
+    items: I,
+) -> Result<Vec<Enclosure<T>>, OutOfMemory>
+    requires { Ends I.into_iter_gives I.IntoIter.can_next I.IntoIter.remaining items }
+    ensures { IfOk result (λ ticked. Gives I.into_iter_gives I.IntoIter.next_gives items (map enclosed ticked.items)) }
+{
+    let mut ticked = Vec::new(alloc);
+    for item in items {
+        ticked.push(Enclosure::tick(item))?;
+    }
+    Ok(ticked)
+}
+
+// What stands before the word at a place, in three parts.
+fn parts_before(
+    conjunction: &'static str,
+    count: usize,
+    at: usize,
+) -> (&'static str, &'static str, &'static str)
+    requires { at < count }
+    ensures { (result.0.now ++ result.1.now) ++ result.2.now ≡ before conjunction.entry.now count at }
+{
+    if at == 0 {
+        ("", "", "")
+    } else if count == 2 {
+        (" ", conjunction, " ")
+    } else if at + 1 == count {
+        (", ", conjunction, " ")
+    } else {
+        (", ", "", "")
+    }
+}
+
+impl<T: Display> Display for List<T> {
+    ghost use Rattle.std.specs.Prelude.{option_map};
+    ghost use Rattle.just_value.specs.Listed.{listed, outputs};
+
+    ghost output = { λ list. option_map (listed list.conjunction.now) (outputs T.output list.items.items) };
+
+    fn fmt<W: fmt::Write>(&self, f: &mut fmt::Formatter<W>) -> fmt::Result {
+        let items = self.items.as_slice();
+        for i in 0..items.len() {
+            let (mark, word, gap) = parts_before(self.conjunction, items.len(), i);
+            let item = &items[i];
+            write!(f, "{mark}{word}{gap}{item}")?;
+        }
+        Ok(())
+    }
+}

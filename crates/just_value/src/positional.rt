@@ -1,0 +1,93 @@
+// Positional words of a command line.
+
+ghost use Rattle.std.specs.Prelude.{◌≡◌, ◌++◌, [], ◌∷◌, List, None, IfOk, OnOk, map, string_bytes, codes};
+ghost use Rattle.just_value.specs.Items.{Ends, Gives};
+ghost use Rattle.just_value.specs.Positional.{positional, override_of, with_override, with_word};
+ghost use Rattle.just_value.specs.View.{positional_view};
+
+use just_syntax::out_of_memory::OutOfMemory;
+use std::alloc::Global;
+
+/// What the words of a command line mean that are no flags, options or subcommands.
+///
+/// Words with `=` come first and are overrides. Behind them may come a search directory: `.`, `..`, or a word with
+/// a `/`, of which what stands behind the last `/` is the first argument. All else is arguments.
+#[derive(Debug, Drop, PartialEq, Eq)]
+pub struct Positional {
+    pub arguments: Vec<String>,
+    /// What stands before and behind the first `=`.
+    pub overrides: Vec<(String, String)>,
+    /// `.`, `..`, or a text that ends with `/`.
+    pub search_directory: Option<String>,
+}
+
+impl Positional {
+    /// What the words mean that an iterator gives until it ends.
+    pub fn from_values<'values, I: IntoIterator<Item = &'values str>>(
+        alloc: Global,
+        values: I,
+    ) -> Result<Positional, OutOfMemory>
+        requires { Ends I.into_iter_gives I.IntoIter.can_next I.IntoIter.remaining values }
+        ensures { IfOk result (λ p. (words : List _) × Gives I.into_iter_gives I.IntoIter.next_gives values words × (positional_view p ≡ positional (map (λ word. word.now) words))) }
+    {
+        let mut positional = Positional {
+            arguments: Vec::new(alloc),
+            overrides: Vec::new(alloc),
+            search_directory: None,
+        };
+        for value in values {
+            positional.add(alloc, value)?;
+        }
+        Ok(positional)
+    }
+
+    // One more word.
+    fn add(&mut self, alloc: Global, word: &str) -> Result<(), OutOfMemory>
+        ensures { OnOk result (positional_view self.new ≡ with_word (positional_view self.old) word.now) }
+    {
+        if self.search_directory.is_some() || !self.arguments.is_empty() {
+            self.arguments.push(String::from_str(alloc, word)?)?;
+            return Ok(());
+        }
+        match word.split_once('=') {
+            Some((name, value)) => {
+                let name = String::from_str(alloc, name)?;
+                let value = String::from_str(alloc, value)?;
+                self.overrides.push((name, value))?;
+                Ok(())
+            }
+            None => self.add_behind_overrides(alloc, word),
+        }
+    }
+
+    // The first word behind the overrides.
+    fn add_behind_overrides(&mut self, alloc: Global, word: &str) -> Result<(), OutOfMemory>
+        requires no_directory { (positional_view self.old).search_directory ≡ None }
+        requires no_argument { (positional_view self.old).arguments ≡ [] }
+        ensures { OnOk result (positional_view self.new ≡ with_override (positional_view self.old) word.now None) }
+    {
+        if word == "." || word == ".." {
+            self.search_directory = Some(String::from_str(alloc, word)?);
+            return Ok(());
+        }
+        match word.rsplit_once('/') {
+            Some((front, tail)) => {
+                self.search_directory = Some(directory(alloc, front)?);
+                if !tail.is_empty() {
+                    self.arguments.push(String::from_str(alloc, tail)?)?;
+                }
+            }
+            None => self.arguments.push(String::from_str(alloc, word)?)?,
+        }
+        Ok(())
+    }
+}
+
+// A text with a slash behind it.
+fn directory(alloc: Global, front: &str) -> Result<String, OutOfMemory>
+    ensures { IfOk result (λ text. string_bytes text ≡ front.now ++ codes "/") }
+{
+    let mut text = String::from_str(alloc, front)?;
+    text.push('/')?;
+    Ok(text)
+}
