@@ -12,6 +12,9 @@ LARGEST_CASE = 1_000_000
 STACK = 8 * 1024 * 1024
 TRIES = 3
 
+# A deeper tower is not tried: `join` copies its text at each level.
+MOST_LEVELS = 60_000
+
 
 class Run:
     """What one run of the program gave: status, output and seconds."""
@@ -71,10 +74,52 @@ def commands_with_replies(n):
     return lines, questions + "".join(f'a{i} = "r{i}"\n' for i in range(n))
 
 
+def commands_under_always(n):
+    """n assignments of one command, which is always answered."""
+    lines = []
+    for i in range(n):
+        lines += ["cmd c", f"assign a{i}"]
+    lines += ["always y", "run"]
+    return lines, '? command "c"\n' * n + "".join(f'a{i} = "y"\n' for i in range(n))
+
+
+def overrides(n):
+    """n overrides, and n assignments of commands that are not asked for."""
+    lines = []
+    for i in range(n):
+        lines += ["cmd c", f"assign a{i}", f"override a{i} o"]
+    lines.append("run")
+    return lines, "".join(f'a{i} = "o"\n' for i in range(n))
+
+
+def dotenv_lines(n):
+    """n entries of the dotenv map."""
+    return [f"dotenv a{i} t" for i in range(n)] + ["run"], ""
+
+
+def order_of_names(n):
+    """n assignments, and an order that names them backwards."""
+    lines = []
+    for i in range(n):
+        lines += ["str x", f"assign a{i}"]
+    lines += ["order " + " ".join(f"a{i}" for i in reversed(range(n))), "run"]
+    return lines, "".join(f'a{i} = "x"\n' for i in range(n))
+
+
+def always_lines(n):
+    """n lines for one command, of which the last counts, and one question."""
+    return ["cmd c", "assign a"] + ["always y"] * n + ["run"], '? command "c"\na = "y"\n'
+
+
 FAMILIES = [
     (chain_of_additions, 2_500),
     (assignments_in_a_row, 4_000),
     (commands_with_replies, 3_000),
+    (commands_under_always, 4_000),
+    (overrides, 3_000),
+    (dotenv_lines, 4_000),
+    (order_of_names, 4_000),
+    (always_lines, 8_000),
 ]
 
 
@@ -115,6 +160,19 @@ def to_the_right(depth, word):
     return ["str x"] * (depth + 1) + [word] * depth
 
 
+def on_itself(depth, lines, word):
+    """A tower of forms with one part, or with others that are pushed before or behind it."""
+    return ["str x"] + (lines + [word]) * depth
+
+
+def condition_to_the_left(depth, word):
+    return on_itself(depth, ["str x", "str x"], word)
+
+
+def single(depth, word):
+    return on_itself(depth, [], word)
+
+
 def evaluated(lines):
     return lines + ["assign a", "run"]
 
@@ -130,12 +188,20 @@ def ends_by_itself(program, name, lines):
         return True
     if run.status < 0 and -run.status in (signal.SIGSEGV, signal.SIGBUS, signal.SIGABRT):
         return False
+    if run.status == 2 and name.startswith("assert "):
+        return True
     sys.exit(f"{name}: status {run.status}")
+
+
+def most_levels(lines_of):
+    """How many levels a case may hold. `join` and `add` give longer texts, and `cat` longer lists, with each."""
+    size = len("\n".join(lines_of(1_000))) / 1_000
+    return min(int((LARGEST_CASE - 100) / size), MOST_LEVELS)
 
 
 def deepest(program, name, lines_of):
     """The depth of the deepest tower that ends by itself, and whether a case could hold a deeper one."""
-    good, bad = 0, (LARGEST_CASE - 100) // len("str x\nand\n") + 1
+    good, bad = 0, most_levels(lines_of) + 1
     if ends_by_itself(program, name, lines_of(bad - 1)):
         return bad - 1, False
     while bad - good > 1:
@@ -147,15 +213,29 @@ def deepest(program, name, lines_of):
     return good, True
 
 
+TOWERS = [
+    ("and", to_the_left),
+    ("and", to_the_right),
+    ("add", to_the_left),
+    ("if", condition_to_the_left),
+    ("list 1", single),
+    ("group", single),
+    ("not", single),
+    ("join", to_the_left),
+    ("cat", to_the_left),
+    ("assert", single),
+    ("eq", to_the_left),
+]
+
+
 def measure_depth(program):
     print(f"depth: how many operators may nest on a stack of {STACK} bytes")
     for use in [evaluated, only_dropped]:
-        for tower in [to_the_left, to_the_right]:
-            for word in ["and", "or", "add"]:
-                name = f"{word} {tower.__name__}, {use.__name__}"
-                depth, is_bounded = deepest(program, name, lambda n: use(tower(n, word)))
-                level = f"{STACK // (depth + 1)} bytes a level" if is_bounded else "as many as a case holds"
-                print(f"{name}: {depth} ({level})")
+        for word, tower in TOWERS:
+            name = f"{word} {tower.__name__}, {use.__name__}"
+            depth, is_bounded = deepest(program, name, lambda n: use(tower(n, word)))
+            level = f"{STACK // (depth + 1)} bytes a level" if is_bounded else "as many as a case holds"
+            print(f"{name}: {depth} ({level})")
 
 
 # --- memory ---
@@ -196,6 +276,9 @@ void *realloc(void *block, size_t size)
 CASES = {
     "stored": "cmd one\ncmd two\nand\nassign a\nreply\nreply x\nrun\n",
     "every line": "# all\n\nstr a\nassign a\nvar a\nstr b\nadd\ncmd c\nor\nexport b\noverride o 1\nreply x\nfail 7\nrun\n",
+    "settings": "str x\nassign a\ncmd c\nalways y\nassign b\ndotenv N t\nonly a b\norder b a\nlists\nlimit 5\nrun\n",
+    "forms": "str a\nstr b\nlist 2\ngroup\nstr c\ncat\nnot\nstr d\nstr e\nif\nassign x\nstr a\nroot\nassign y\nrun\n",
+    "assertion": "str a\nstr a\nne\nassert\nassign x\nrun\n",
     "refused": "cmd one\nassign a\nfail 3\nrun\n",
     "unevaluated": "var x\nassign a\nrun\n",
     "bad line": "str a\nassign a\nadd\n",

@@ -38,7 +38,7 @@ whole_step true b n bytes pieces none whole = absurd (omega (arith, none))
 whole_step false b n bytes pieces none whole = ap (onto_first b) (whole (omega (arith, none)))
 
 -- bytes with no newline are one piece
-slice_split-whole : (bytes : List ℕ) → length bytes ≤ position_or_len (λ b. eqb b 10) bytes → slice_split (λ b. eqb b 10) bytes ≡ bytes ∷ []
+pub slice_split-whole : (bytes : List ℕ) → length bytes ≤ position_or_len (λ b. eqb b 10) bytes → slice_split (λ b. eqb b 10) bytes ≡ bytes ∷ []
 slice_split-whole [] none = refl
 slice_split-whole (b ∷ bytes) none =
     whole_step (eqb b 10) b (position_or_len (λ b. eqb b 10) bytes) bytes (slice_split (λ b. eqb b 10) bytes) none (slice_split-whole bytes)

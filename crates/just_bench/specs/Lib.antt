@@ -1,3 +1,4 @@
+pub mod Case
 pub mod Line
 pub mod Numbering
 pub mod Recorded

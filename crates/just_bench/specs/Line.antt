@@ -1,11 +1,13 @@
 -- What a line of a case says.
-use Rattle.std.specs.Prelude.{ℕ, Bool, true, false, List, [], ◌∷◌, ◌++◌, ◌==◌, length, Option, Some, None, if◌then◌else◌, codes}
+use Rattle.std.specs.Prelude.{ℕ, zero, suc, Bool, true, false, List, [], ◌∷◌, ◌++◌, ◌==◌, length, Option, Some, None, if◌then◌else◌, codes}
 use Rattle.std.specs.List.{slice_split}
 use Rattle.std.specs.Str.{bytes_eq, is_utf8}
 use Rattle.just_syntax.specs.Plain.{Text}
-use Rattle.just_bench.specs.declared.line.BinaryOperator.{BinaryOperator}
-use Rattle.just_bench.specs.declared.line.BinaryOperator.TheVariants.{Add, And, Or}
-use Rattle.just_bench.specs.Rest.{is_name, number, word_of, rest_of}
+use Rattle.just_bench.specs.declared.operator.UnaryOperator.{UnaryOperator}
+use Rattle.just_bench.specs.declared.operator.UnaryOperator.TheVariants.{Root, Not, Group, Assert}
+use Rattle.just_bench.specs.declared.operator.BinaryOperator.{BinaryOperator}
+use Rattle.just_bench.specs.declared.operator.BinaryOperator.TheVariants.{Add, Join, Cat, And, Or, Equal, NotEqual, Match, Mismatch, AssertMessage, When}
+use Rattle.just_bench.specs.Rest.{is_name, names, number, word_of, rest_of}
 
 -- a line; literals and commands have their texts, and the lexemes that stand for these
 pub data Line : Type 0 where
@@ -14,21 +16,51 @@ pub data Line : Type 0 where
   Literal : Text → Text → Line
   Command : Text → Text → Line
   Variable : Text → Line
+  Unary : UnaryOperator → Line
   Binary : BinaryOperator → Line
+  If : Line
+  ListOf : ℕ → Line
   Assign : Text → Bool → Line
   Override : Text → Text → Line
+  Dotenv : Text → Text → Line
+  Order : Text → Line
+  Only : Text → Line
   Reply : Text → Line
   Fail : ℕ → Line
+  Always : Text → Line
+  Lists : Line
+  Dry : Line
+  Limit : ℕ → Line
   Run : Line
+
+-- a line whose word has nothing behind it, and which puts expressions together
+abbrev pub operator_line : Text → Line
+operator_line word =
+    if bytes_eq word (codes "root") then Unary Root else
+    if bytes_eq word (codes "not") then Unary Not else
+    if bytes_eq word (codes "group") then Unary Group else
+    if bytes_eq word (codes "assert") then Unary Assert else
+    if bytes_eq word (codes "add") then Binary Add else
+    if bytes_eq word (codes "join") then Binary Join else
+    if bytes_eq word (codes "cat") then Binary Cat else
+    if bytes_eq word (codes "and") then Binary And else
+    if bytes_eq word (codes "or") then Binary Or else
+    if bytes_eq word (codes "eq") then Binary Equal else
+    if bytes_eq word (codes "ne") then Binary NotEqual else
+    if bytes_eq word (codes "match") then Binary Match else
+    if bytes_eq word (codes "mismatch") then Binary Mismatch else
+    if bytes_eq word (codes "assertm") then Binary AssertMessage else
+    if bytes_eq word (codes "when") then Binary When else
+    Bad
 
 -- a line whose word has nothing behind it
 abbrev pub bare_line : Text → Line
 bare_line word =
-    if bytes_eq word (codes "add") then Binary Add else
-    if bytes_eq word (codes "and") then Binary And else
-    if bytes_eq word (codes "or") then Binary Or else
+    if bytes_eq word (codes "if") then If else
+    if bytes_eq word (codes "lists") then Lists else
+    if bytes_eq word (codes "dry") then Dry else
     if bytes_eq word (codes "run") then Run else
-    Bad
+    operator_line word
 
 -- a line that has a name, or is bad without one
 abbrev pub named : Text → Line → Line
@@ -39,19 +71,40 @@ abbrev pub numbered : Option ℕ → (ℕ → Line) → Line
 numbered None line = Bad
 numbered (Some n) line = line n
 
+-- a line that has names, or is bad if one is none
+abbrev pub listed : Option (List Text) → Line → Line
+listed None line = Bad
+listed (Some names) line = line
+
+-- 0 is no limit
+abbrev pub limit : ℕ → Line
+limit zero = Bad
+limit (suc n) = Limit (suc n)
+
+-- a line that has no literal, no command and no list of names, by its word and what stands behind it
+abbrev pub simple_line : Text → Text → Line
+simple_line word rest =
+    if bytes_eq word (codes "var") then named rest (Variable rest) else
+    if bytes_eq word (codes "assign") then named rest (Assign rest false) else
+    if bytes_eq word (codes "export") then named rest (Assign rest true) else
+    if bytes_eq word (codes "list") then numbered (number rest) ListOf else
+    if bytes_eq word (codes "override") then named (word_of rest) (Override (word_of rest) (rest_of rest)) else
+    if bytes_eq word (codes "dotenv") then named (word_of rest) (Dotenv (word_of rest) (rest_of rest)) else
+    if bytes_eq word (codes "reply") then Reply rest else
+    if bytes_eq word (codes "fail") then numbered (number rest) Fail else
+    if bytes_eq word (codes "always") then Always rest else
+    if bytes_eq word (codes "limit") then numbered (number rest) limit else
+    if length rest == 0 then bare_line word else
+    Bad
+
 -- a line by its word and what stands behind it
 abbrev pub line_of_word : Text → Text → Line
 line_of_word word rest =
     if bytes_eq word (codes "str") then Literal rest (codes "'" ++ rest ++ codes "'") else
     if bytes_eq word (codes "cmd") then Command rest (codes "`" ++ rest ++ codes "`") else
-    if bytes_eq word (codes "var") then named rest (Variable rest) else
-    if bytes_eq word (codes "assign") then named rest (Assign rest false) else
-    if bytes_eq word (codes "export") then named rest (Assign rest true) else
-    if bytes_eq word (codes "override") then named (word_of rest) (Override (word_of rest) (rest_of rest)) else
-    if bytes_eq word (codes "reply") then Reply rest else
-    if bytes_eq word (codes "fail") then numbered (number rest) Fail else
-    if length rest == 0 then bare_line word else
-    Bad
+    if bytes_eq word (codes "order") then listed (names rest) (Order rest) else
+    if bytes_eq word (codes "only") then listed (names rest) (Only rest) else
+    simple_line word rest
 
 -- it is empty, or it begins with `#`
 abbrev pub is_skipped : Text → Bool

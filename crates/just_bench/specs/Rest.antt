@@ -1,6 +1,7 @@
 -- What stands behind the word of a line.
-use Rattle.std.specs.Prelude.{ℕ, ◌+◌, ◌-◌, ◌*◌, Bool, false, [], ◌∷◌, ◌&&◌, ◌||◌, ◌==◌, nat_le, length, Option, Some, None, if◌then◌else◌}
-use Rattle.std.specs.List.{list_all, before_first, after_first}
+use Rattle.std.specs.Prelude.{List, ℕ, ◌+◌, ◌-◌, ◌*◌, Bool, false, [], ◌∷◌, ◌&&◌, ◌||◌, ◌==◌, nat_le, length, Option, Some, None, if◌then◌else◌}
+use Rattle.std.specs.List.{list_all, before_first, after_first, slice_split}
+use Rattle.std.specs.Option.{option_map}
 use Rattle.just_syntax.specs.Plain.{Text}
 
 abbrev pub is_between : ℕ → ℕ → ℕ → Bool
@@ -38,3 +39,16 @@ word_of text = before_first (λ byte. byte == 32) text
 -- what stands behind the first space of a text
 abbrev pub rest_of : Text → Text
 rest_of text = after_first (λ byte. byte == 32) text
+
+-- the pieces between spaces
+abbrev pub pieces : Text → List Text
+pieces text = slice_split (λ byte. byte == 32) text
+
+-- the pieces, if each is a name
+abbrev pub if_names : List Text → Option (List Text)
+if_names [] = Some []
+if_names (piece ∷ pieces) = if is_name piece then option_map (λ names. piece ∷ names) (if_names pieces) else None
+
+-- the names that stand in a text with a space between two, if there is nothing else
+abbrev pub names : Text → Option (List Text)
+names text = if length text == 0 then Some [] else if_names (pieces text)

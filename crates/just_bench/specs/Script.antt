@@ -1,9 +1,57 @@
 -- How a script answers.
-use Rattle.std.specs.Prelude.{◌≡◌, ◌⊎◌, List, [], ◌∷◌, codes}
-use Rattle.just_value.specs.Refusal.{Message, NoMemory}
-use Rattle.just_host.specs.Question.{Answer, Failed}
+use Rattle.std.specs.Prelude.{◌≡◌, ℕ, Bool, false, List, [], ◌∷◌, Option, Some, None, if◌then◌else◌, codes}
+use Rattle.std.specs.Str.{bytes_eq}
+use Rattle.just_syntax.specs.Plain.{Text}
+use Rattle.just_value.specs.Refusal.{Message}
+use Rattle.just_host.specs.Question.{Blind, CommandOf, TextOf, ExistsAt, NumberOf, Answer, Replied, Failed, Absent, Found, Numbered, UnlessNoMemory}
 
--- A command is answered with the next reply, which is then gone, and where none is left with the fault `no reply`, or with want of memory for its text.
-abbrev pub AnswersByScript : List Answer → Answer → List Answer → Type 0
-AnswersByScript [] answer new = ((answer ≡ Failed (Message (codes "no reply"))) ⊎ (answer ≡ Failed NoMemory)) × (new ≡ [])
-AnswersByScript (reply ∷ replies) answer new = (answer ≡ reply) × (new ≡ replies)
+-- commands with the texts that they are always answered with, and the answers that are still to come
+pub record Script : Type 0 where
+  pub always : List (Text × Text)
+  pub replies : List Answer
+  pub texts : List Answer
+  pub exists : List Bool
+  pub numbers : List ℕ
+
+-- the text of the last pair with a command, and what was found before where there is none
+abbrev pub text_after : Option Text → Text → List (Text × Text) → Option Text
+text_after found command [] = found
+text_after found command (pair ∷ pairs) = text_after (if bytes_eq pair.0 command then Some pair.1 else found) command pairs
+
+-- the text of the last pair with a command
+abbrev pub text_for : Text → List (Text × Text) → Option Text
+text_for command pairs = text_after None command pairs
+
+-- the first of some answers, and another one where there is none
+abbrev pub first_or : {A : Type 0} → A → List A → A
+first_or other [] = other
+first_or other (answer ∷ answers) = answer
+
+-- the answers behind the first
+abbrev pub behind_first : {A : Type 0} → List A → List A
+behind_first [] = []
+behind_first (answer ∷ answers) = answers
+
+-- The next reply is the answer; where none is left, that is the fault `no reply`, or want of memory for its text.
+abbrev pub AnswersNext : List Answer → Answer → Type 0
+AnswersNext [] answer = UnlessNoMemory answer (Failed (Message (codes "no reply")))
+AnswersNext (reply ∷ replies) answer = answer ≡ reply
+
+-- The same script with other replies to come.
+abbrev pub with_replies : Script → List Answer → Script
+with_replies old replies = record { always = old.always; replies = replies; texts = old.texts; exists = old.exists; numbers = old.numbers }
+
+-- A command that is always answered gets its text, or want of memory for it, and the script stays as it is; any other takes the next reply.
+abbrev pub AnswersCommand : Option Text → Script → Answer → Script → Type 0
+AnswersCommand (Some text) old answer new = UnlessNoMemory answer (Replied text) × (new ≡ old)
+AnswersCommand None old answer new = AnswersNext old.replies answer × (new ≡ with_replies old (behind_first old.replies))
+
+-- Each other kind of question takes the next answer of its own, and `Absent`, false or 0 where none is left.
+abbrev pub AnswersByScript : Script → Blind → Answer → Script → Type 0
+AnswersByScript old (CommandOf c) answer new = AnswersCommand (text_for c.command old.always) old answer new
+AnswersByScript old (TextOf q) answer new =
+    (answer ≡ first_or Absent old.texts) × (new ≡ record { always = old.always; replies = old.replies; texts = behind_first old.texts; exists = old.exists; numbers = old.numbers })
+AnswersByScript old (ExistsAt path) answer new =
+    (answer ≡ Found (first_or false old.exists)) × (new ≡ record { always = old.always; replies = old.replies; texts = old.texts; exists = behind_first old.exists; numbers = old.numbers })
+AnswersByScript old (NumberOf q) answer new =
+    (answer ≡ Numbered (first_or 0 old.numbers)) × (new ≡ record { always = old.always; replies = old.replies; texts = old.texts; exists = old.exists; numbers = behind_first old.numbers })

@@ -8,7 +8,6 @@ use just_syntax::assignment::Assignment;
 use just_syntax::name::Name;
 use just_syntax::out_of_memory::OutOfMemory;
 use just_syntax::table::Table;
-use just_value::value::Value;
 use std::alloc::Global;
 
 // The file that a case counts as, and the directory that it lies in.
@@ -16,18 +15,21 @@ const JUSTFILE: &str = "/work/justfile";
 
 const DIRECTORY: &str = "/work";
 
-/// The module of a case, which sets nothing and has no function.
+/// The module of a case, which sets nothing but lists and has no function.
 pub(crate) fn case_module<'src>(
     alloc: Global,
     assignments: Table<Assignment<'src>>,
     evaluation_order: Vec<Name<'src>>,
+    lists: bool,
 ) -> Result<Justfile<'src>, OutOfMemory> {
+    let mut settings = Settings::new(alloc);
+    settings.lists = lists;
     Ok(Justfile {
         assignments,
         evaluation_order,
         functions: Table::new(alloc),
         module_path: String::new(alloc),
-        settings: default_settings(alloc),
+        settings,
         source: String::from_str(alloc, JUSTFILE)?,
         submodule: false,
         unexports: Vec::new(alloc),
@@ -36,9 +38,9 @@ pub(crate) fn case_module<'src>(
 }
 
 /// How the program counts as called.
-pub(crate) fn case_config(alloc: Global) -> Result<Config, OutOfMemory> {
+pub(crate) fn case_config(alloc: Global, dry_run: bool) -> Result<Config, OutOfMemory> {
     Ok(Config {
-        dry_run: false,
+        dry_run,
         invocation_directory: String::from_str(alloc, DIRECTORY)?,
         jobs: None,
         quiet: false,
@@ -54,38 +56,4 @@ pub(crate) fn case_search(alloc: Global) -> Result<Search, OutOfMemory> {
         justfile: String::from_str(alloc, JUSTFILE)?,
         working_directory: String::from_str(alloc, DIRECTORY)?,
     })
-}
-
-/// Settings of a module that sets nothing. They take no memory.
-pub(crate) fn default_settings(alloc: Global) -> Settings {
-    Settings {
-        allow_duplicate_recipes: false,
-        allow_duplicate_variables: false,
-        default_list: false,
-        default_script: false,
-        dotenv_command: Value::new(alloc),
-        dotenv_filename: Value::new(alloc),
-        dotenv_load: false,
-        dotenv_override: false,
-        dotenv_path: Value::new(alloc),
-        dotenv_required: false,
-        export: false,
-        fallback: false,
-        guards: false,
-        ignore_comments: false,
-        indentation: None,
-        lazy: false,
-        lists: false,
-        no_cd: false,
-        no_exit_message: false,
-        positional_arguments: false,
-        quiet: false,
-        script_interpreter: None,
-        shell: None,
-        tempdir: None,
-        unstable: false,
-        windows_powershell: false,
-        windows_shell: None,
-        working_directory: None,
-    }
 }

@@ -1,11 +1,12 @@
 // The lines of a case, each read by itself.
 
-ghost use Rattle.std.specs.Prelude.{◌≡◌, ◌==◌, IfOk, codes, map, position};
+ghost use Rattle.std.specs.Prelude.{◌≡◌, ◌==◌, IfOk, codes, if◌then◌else◌, length, map, position};
 ghost use Rattle.std.specs.List.{after_first, before_first};
-ghost use Rattle.just_bench.specs.Line.{bare_line, is_skipped, line_of, line_of_text, line_of_word, lines_of};
+ghost use Rattle.just_bench.specs.Line.{Assign, Bad, bare_line, is_skipped, line_of, line_of_text, line_of_word, lines_of, named, operator_line, simple_line};
 ghost use Rattle.just_bench.specs.View.{line_view};
 
-use crate::rest::{is_name, parse_number, split_word};
+use crate::operator::{BinaryOperator, UnaryOperator};
+use crate::rest::{is_name, parse_names, parse_number, split_word};
 use just_syntax::out_of_memory::OutOfMemory;
 use std::alloc::Global;
 use std::str;
@@ -23,29 +24,38 @@ pub(crate) enum Line<'case> {
     Command { text: &'case str, lexeme: String },
     /// `var N`: a variable is pushed.
     Variable { name: &'case str },
+    /// The expression on top becomes a part of another.
+    Unary(UnaryOperator),
     /// The two expressions on top are put together.
     Binary(BinaryOperator),
+    /// `if`: a condition, a consequence and an otherwise are put together.
+    If,
+    /// `list K`: so many expressions become a list.
+    List { count: u16 },
     /// `assign N` or `export N`: the expression on top is assigned.
     Assign { name: &'case str, export: bool },
     /// `override N T`: a variable's value is given from outside.
     Override { name: &'case str, text: &'case str },
+    /// `dotenv N T`: a variable of the dotenv map.
+    Dotenv { name: &'case str, text: &'case str },
+    /// `order N ..`: the order of evaluation.
+    Order { names: &'case str },
+    /// `only N ..`: the variables that are referenced.
+    Only { names: &'case str },
     /// `reply T`: the next command gives a text.
     Reply { text: &'case str },
     /// `fail K`: the next command ends with a status.
     Fail { code: u16 },
+    /// `always T`: the last command gives a text, whenever it comes.
+    Always { text: &'case str },
+    /// `lists`: lists are on.
+    Lists,
+    /// `dry`: commands are shown, and none is run.
+    Dry,
+    /// `limit K`: how many calls may be pending, and one more.
+    Limit { limit: u16 },
     /// `run`: the assignments are evaluated.
     Run,
-}
-
-/// What puts two expressions together.
-#[derive(Clone, Copy, Debug, PartialEq, Eq)]
-pub(crate) enum BinaryOperator {
-    /// `add`: a concatenation.
-    Add,
-    /// `and`
-    And,
-    /// `or`
-    Or,
 }
 
 /// The lines of a case. Each ends with a newline, which the last may lack.
@@ -113,26 +123,83 @@ fn parse_word<'case>(
             text: rest,
             lexeme: format!(in alloc; "`{rest}`")?,
         },
-        "var" if is_name(rest) => Line::Variable { name: rest },
-        "assign" if is_name(rest) => Line::Assign {
-            name: rest,
-            export: false,
+        "order" => match parse_names(alloc, rest)? {
+            Some(_) => Line::Order { names: rest },
+            None => Line::Bad,
         },
-        "export" if is_name(rest) => Line::Assign {
-            name: rest,
-            export: true,
+        "only" => match parse_names(alloc, rest)? {
+            Some(_) => Line::Only { names: rest },
+            None => Line::Bad,
         },
+        _ => simple_line(word, rest),
+    })
+}
+
+// A line that has no literal, no command and no list of names.
+fn simple_line<'case>(word: &str, rest: &'case str) -> Line<'case>
+    ensures { line_view result ≡ simple_line word.now rest.now }
+{
+    match word {
+        "var" => variable_line(rest),
+        "assign" => assign_line(rest, false),
+        "export" => assign_line(rest, true),
+        "list" => list_line(rest),
         "override" => override_line(rest),
+        "dotenv" => dotenv_line(rest),
         "reply" => Line::Reply { text: rest },
         "fail" => fail_line(rest),
-        _ if rest.is_empty() => bare_line(word),
-        _ => Line::Bad,
-    })
+        "always" => Line::Always { text: rest },
+        "limit" => limit_line(rest),
+        _ => closed_line(word, rest),
+    }
+}
+
+// A line that is bad if anything stands behind its word.
+fn closed_line<'case>(word: &str, rest: &str) -> Line<'case>
+    ensures { line_view result ≡ (if length rest.now == 0 then bare_line word.now else Bad) }
+{
+    if rest.is_empty() {
+        bare_line(word)
+    } else {
+        Line::Bad
+    }
+}
+
+// `var` with what stands behind it.
+fn variable_line(rest: &str) -> Line<'_>
+    ensures { line_view result ≡ simple_line (codes "var") rest.now }
+{
+    if is_name(rest) {
+        Line::Variable { name: rest }
+    } else {
+        Line::Bad
+    }
+}
+
+// `assign`, or `export`, with what stands behind it.
+fn assign_line(rest: &str, export: bool) -> Line<'_>
+    ensures { line_view result ≡ named rest.now (Assign rest.now export) }
+{
+    if is_name(rest) {
+        Line::Assign { name: rest, export }
+    } else {
+        Line::Bad
+    }
+}
+
+// `list` with what stands behind it.
+fn list_line(rest: &str) -> Line<'_>
+    ensures { line_view result ≡ simple_line (codes "list") rest.now }
+{
+    match parse_number(rest) {
+        Some(count) => Line::List { count },
+        None => Line::Bad,
+    }
 }
 
 // `override` with what stands behind it.
 fn override_line(rest: &str) -> Line<'_>
-    ensures { line_view result ≡ line_of_word (codes "override") rest.now }
+    ensures { line_view result ≡ simple_line (codes "override") rest.now }
 {
     let (name, text) = split_word(rest);
     if is_name(name) {
@@ -142,9 +209,31 @@ fn override_line(rest: &str) -> Line<'_>
     }
 }
 
+// `dotenv` with what stands behind it.
+fn dotenv_line(rest: &str) -> Line<'_>
+    ensures { line_view result ≡ simple_line (codes "dotenv") rest.now }
+{
+    let (name, text) = split_word(rest);
+    if is_name(name) {
+        Line::Dotenv { name, text }
+    } else {
+        Line::Bad
+    }
+}
+
+// `limit` with what stands behind it.
+fn limit_line(rest: &str) -> Line<'_>
+    ensures { line_view result ≡ simple_line (codes "limit") rest.now }
+{
+    match parse_number(rest) {
+        None | Some(0) => Line::Bad,
+        Some(limit) => Line::Limit { limit },
+    }
+}
+
 // `fail` with what stands behind it.
-fn fail_line(rest: &str) -> Line<'static>
-    ensures { line_view result ≡ line_of_word (codes "fail") rest.now }
+fn fail_line(rest: &str) -> Line<'_>
+    ensures { line_view result ≡ simple_line (codes "fail") rest.now }
 {
     match parse_number(rest) {
         Some(code) => Line::Fail { code },
@@ -153,14 +242,38 @@ fn fail_line(rest: &str) -> Line<'static>
 }
 
 // A line whose word has nothing behind it.
-fn bare_line(word: &str) -> Line<'static>
+fn bare_line<'case>(word: &str) -> Line<'case>
     ensures { line_view result ≡ bare_line word.now }
 {
     match word {
+        "if" => Line::If,
+        "lists" => Line::Lists,
+        "dry" => Line::Dry,
+        "run" => Line::Run,
+        _ => operator_line(word),
+    }
+}
+
+// A line that puts the expressions on top together.
+fn operator_line<'case>(word: &str) -> Line<'case>
+    ensures { line_view result ≡ operator_line word.now }
+{
+    match word {
+        "root" => Line::Unary(UnaryOperator::Root),
+        "not" => Line::Unary(UnaryOperator::Not),
+        "group" => Line::Unary(UnaryOperator::Group),
+        "assert" => Line::Unary(UnaryOperator::Assert),
         "add" => Line::Binary(BinaryOperator::Add),
+        "join" => Line::Binary(BinaryOperator::Join),
+        "cat" => Line::Binary(BinaryOperator::Cat),
         "and" => Line::Binary(BinaryOperator::And),
         "or" => Line::Binary(BinaryOperator::Or),
-        "run" => Line::Run,
+        "eq" => Line::Binary(BinaryOperator::Equal),
+        "ne" => Line::Binary(BinaryOperator::NotEqual),
+        "match" => Line::Binary(BinaryOperator::Match),
+        "mismatch" => Line::Binary(BinaryOperator::Mismatch),
+        "assertm" => Line::Binary(BinaryOperator::AssertMessage),
+        "when" => Line::Binary(BinaryOperator::When),
         _ => Line::Bad,
     }
 }

@@ -1,25 +1,46 @@
 // What is printed of a run.
 
-use crate::recording_host::RecordedCommand;
+use crate::recorded_question::{RecordedQuestion, TextKind};
+use just_host::directory_kind::DirectoryKind;
 use just_host::fault::fault_text;
+use just_host::number_question::NumberQuestion;
 use just_syntax::out_of_memory::OutOfMemory;
 use just_value::element::Element;
 use just_value::error::Error;
 use just_value::scope::Scope;
 use std::alloc::Global;
 
-/// Adds the questions, each on a line: `? command`, the quoted command and the quoted arguments.
+/// Adds the questions, each on a line: `?`, the kind, and what is asked for, its texts quoted.
 pub(crate) fn print_questions(
     text: &mut String,
-    questions: &[RecordedCommand],
+    questions: &[RecordedQuestion],
 ) -> Result<(), OutOfMemory> {
     for question in questions {
-        let command = Element(&question.command);
-        write!(text, "? command {command}")?;
-        if let Some(arguments) = &question.arguments {
-            print_arguments(text, arguments)?;
-        }
+        print_question(text, question)?;
         text.push('\n')?;
+    }
+    Ok(())
+}
+
+// Adds a question.
+fn print_question(text: &mut String, question: &RecordedQuestion) -> Result<(), OutOfMemory> {
+    match question {
+        RecordedQuestion::Command { command, arguments } => {
+            let command = Element(command);
+            write!(text, "? command {command}")?;
+            if let Some(arguments) = arguments {
+                print_arguments(text, arguments)?;
+            }
+        }
+        RecordedQuestion::Text { kind, text: about } => print_text_question(text, *kind, about)?,
+        RecordedQuestion::Exists(path) => {
+            let path = Element(path);
+            write!(text, "? exists {path}")?;
+        }
+        RecordedQuestion::Number(NumberQuestion::ProcessId) => {
+            text.push_str("? number process_id")?;
+        }
+        RecordedQuestion::Number(NumberQuestion::Cpus) => text.push_str("? number cpus")?,
     }
     Ok(())
 }
@@ -31,6 +52,40 @@ fn print_arguments(text: &mut String, arguments: &[String]) -> Result<(), OutOfM
         write!(text, " {argument}")?;
     }
     Ok(())
+}
+
+// Adds a question for a text, which is about a variable, a path or a name.
+fn print_text_question(text: &mut String, kind: TextKind, about: &str) -> Result<(), OutOfMemory> {
+    let about = Element(about);
+    match kind {
+        TextKind::Variable => write!(text, "? variable {about}")?,
+        TextKind::Directory(directory) => {
+            let directory = directory_word(directory);
+            write!(text, "? directory {directory}")?;
+        }
+        TextKind::Canonicalize => write!(text, "? canonicalize {about}")?,
+        TextKind::Read => write!(text, "? read {about}")?,
+        TextKind::Which => write!(text, "? which {about}")?,
+        TextKind::Executable => text.push_str("? executable")?,
+        TextKind::Arch => text.push_str("? arch")?,
+        TextKind::Os => text.push_str("? os")?,
+        TextKind::OsFamily => text.push_str("? os_family")?,
+    }
+    Ok(())
+}
+
+// What a directory is called.
+fn directory_word(directory: DirectoryKind) -> &'static str {
+    match directory {
+        DirectoryKind::Cache => "cache",
+        DirectoryKind::Config => "config",
+        DirectoryKind::ConfigLocal => "local config",
+        DirectoryKind::Data => "data",
+        DirectoryKind::DataLocal => "local data",
+        DirectoryKind::Executable => "executable",
+        DirectoryKind::Home => "home",
+        DirectoryKind::Runtime => "runtime",
+    }
 }
 
 /// Adds a scope's own bindings by rising number, each on a line: the name and the value.
@@ -49,60 +104,42 @@ pub(crate) fn print_refusal(
     text: &mut String,
     error: &Error,
 ) -> Result<(), OutOfMemory> {
-    text.push_str("refused ")?;
     match error {
+        Error::Assert { message, .. } => print_said(text, "1 Assert", message)?,
         Error::Backtick { output_error, .. } => {
             let fault = fault_text(alloc, output_error)?;
-            let fault = Element(&fault);
-            write!(text, "2 Backtick {fault}")?;
+            print_said(text, "2 Backtick", &fault)?;
         }
-        Error::Const(_) => text.push_str("3 Const")?,
-        Error::LeftOutRegex { .. } => text.push_str("8 LeftOutRegex")?,
+        Error::Check { message, .. } => print_said(text, "13 Check", message)?,
+        Error::Const(_) => writeln!(text, "refused 3 Const")?,
+        Error::EmptyListArgument { parameter, recipe } => {
+            writeln!(text, "refused 4 EmptyListArgument {parameter} {recipe}")?;
+        }
+        Error::FunctionCall { function, message } => {
+            let message = Element(message);
+            writeln!(text, "refused 5 FunctionCall {function} {message}")?;
+        }
+        Error::Internal { message, .. } => print_said(text, "6 Internal", message)?,
+        Error::LeftOut { function } => writeln!(text, "refused 7 LeftOut {function}")?,
+        Error::LeftOutRegex { .. } => writeln!(text, "refused 8 LeftOutRegex")?,
         Error::ListInStringContext { value, .. } => {
-            write!(text, "9 ListInStringContext {value}")?;
+            writeln!(text, "refused 9 ListInStringContext {value}")?;
         }
         Error::ListOperation {
             lhs,
             operator,
             rhs,
             ..
-        } => write!(text, "10 ListOperation {lhs} {operator} {rhs}")?,
-        Error::OutOfMemory => text.push_str("12 OutOfMemory")?,
-        _ => print_named_refusal(text, error)?,
+        } => writeln!(text, "refused 10 ListOperation {lhs} {operator} {rhs}")?,
+        Error::RecursionLimit { last } => writeln!(text, "refused 11 RecursionLimit {last}")?,
+        Error::OutOfMemory => writeln!(text, "refused 12 OutOfMemory")?,
     }
-    text.push('\n')?;
     Ok(())
 }
 
-// Adds what is said of a refusal that has a message or a name.
-fn print_named_refusal(text: &mut String, error: &Error) -> Result<(), OutOfMemory> {
-    match error {
-        Error::Assert { message, .. } => print_message(text, "1 Assert", message),
-        Error::Check { message, .. } => print_message(text, "13 Check", message),
-        Error::EmptyListArgument { parameter, recipe } => {
-            write!(text, "4 EmptyListArgument {parameter} {recipe}")?;
-            Ok(())
-        }
-        Error::FunctionCall { function, message } => {
-            write!(text, "5 FunctionCall {function}")?;
-            print_message(text, "", message)
-        }
-        Error::Internal { message, .. } => print_message(text, "6 Internal", message),
-        Error::LeftOut { function } => {
-            write!(text, "7 LeftOut {function}")?;
-            Ok(())
-        }
-        Error::RecursionLimit { last } => {
-            write!(text, "11 RecursionLimit {last}")?;
-            Ok(())
-        }
-        _ => Ok(()),
-    }
-}
-
-// Adds a text and a quoted message.
-fn print_message(text: &mut String, head: &str, message: &str) -> Result<(), OutOfMemory> {
-    let message = Element(message);
-    write!(text, "{head} {message}")?;
+// Adds a line on a refusal with this number and name, of which a text is said.
+fn print_said(text: &mut String, refusal: &str, said: &str) -> Result<(), OutOfMemory> {
+    let said = Element(said);
+    writeln!(text, "refused {refusal} {said}")?;
     Ok(())
 }

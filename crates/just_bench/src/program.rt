@@ -12,13 +12,10 @@ use crate::scripted_host::ScriptedHost;
 use crate::stream::{StreamError, read_case, write_text};
 use just_eval::evaluator::Evaluator;
 use just_syntax::out_of_memory::OutOfMemory;
+use just_value::error::CommandFault;
 use just_value::scope::Scope;
 use std::alloc::Global;
-use std::collections::BTreeMap;
 use std::io::{Read, Write};
-
-// How many calls may be pending, and one more.
-const RECURSION_LIMIT: usize = 100;
 
 /// Reads a case, evaluates it, prints its answer, and gives the exit status: 0 for bindings, 2 for a refusal, 1
 /// for a case that is bad or too long, a read or a write that failed, or want of memory outside the evaluation.
@@ -74,22 +71,34 @@ pub(crate) fn evaluate_in<'src>(
 ) -> Result<u8, OutOfMemory>
     ensures { IfOk result (λ status. status ≤ 2) }
 {
-    let module = case_module(alloc, case.assignments, case.evaluation_order)?;
-    let config = case_config(alloc)?;
+    let Case {
+        assignments,
+        evaluation_order,
+        overrides,
+        references,
+        dotenv,
+        always,
+        replies,
+        lists,
+        dry_run,
+        recursion_limit,
+    } = case;
+    let module = case_module(alloc, assignments, evaluation_order, lists)?;
+    let config = case_config(alloc, dry_run)?;
     let search = case_search(alloc)?;
-    let dotenv = BTreeMap::new(alloc);
-    let mut host = RecordingHost::new(alloc, ScriptedHost::new(case.replies));
+    let script = case_script(alloc, always, replies);
+    let mut host = RecordingHost::new(alloc, script);
     let outcome = Evaluator::evaluate_assignments(
         alloc,
         &mut host,
         &config,
         &dotenv,
         &module,
-        &case.overrides,
+        &overrides,
         parent,
         &search,
-        RECURSION_LIMIT,
-        None,
+        recursion_limit.max(1),
+        references.as_ref(),
     );
     print_questions(text, host.questions())?;
     match outcome {
@@ -102,4 +111,19 @@ pub(crate) fn evaluate_in<'src>(
             Ok(2)
         }
     }
+}
+
+// A host that answers commands as a case says, and has no answer to any other question.
+fn case_script(
+    alloc: Global,
+    always: Vec<(String, String)>,
+    replies: Vec<Result<String, CommandFault>>,
+) -> ScriptedHost {
+    ScriptedHost::new(
+        always,
+        replies,
+        Vec::new(alloc),
+        Vec::new(alloc),
+        Vec::new(alloc),
+    )
 }

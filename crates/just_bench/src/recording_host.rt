@@ -1,44 +1,23 @@
 // A host that keeps what it is asked.
 
-ghost use Rattle.std.specs.Prelude.{◌≡◌, IfOk, OnErr, OnOk, [], ◌∷◌, ◌++◌, map, string_bytes};
-ghost use Rattle.just_host.specs.View.{question_view};
-ghost use Rattle.just_bench.specs.Recorded.{recorded};
+ghost use Rattle.std.specs.Prelude.{◌≡◌, OnErr, OnOk, [], ◌∷◌, ◌++◌, map};
 ghost use Rattle.just_bench.specs.View.{recorded_view, records_view};
 
+use crate::recorded_question::RecordedQuestion;
 use just_host::command_question::CommandQuestion;
 use just_host::host::Host;
+use just_host::number_question::NumberQuestion;
+use just_host::text_answer::TextAnswer;
+use just_host::text_question::TextQuestion;
 use just_syntax::out_of_memory::OutOfMemory;
 use just_value::error::CommandFault;
 use std::alloc::Global;
-
-/// A command that was asked for, and its arguments.
-#[derive(Drop)]
-pub(crate) struct RecordedCommand {
-    pub(crate) command: String,
-    pub(crate) arguments: Option<Vec<String>>,
-}
-
-impl RecordedCommand {
-    // What is kept of a question.
-    fn of(alloc: Global, question: &CommandQuestion) -> Result<RecordedCommand, OutOfMemory>
-        ensures { IfOk result (λ r. recorded_view r ≡ recorded (question_view question.now).blind) }
-    {
-        let arguments = match question.arguments {
-            Some(arguments) => Some(copies(alloc, arguments)?),
-            None => None,
-        };
-        Ok(RecordedCommand {
-            command: String::from_str(alloc, question.command)?,
-            arguments,
-        })
-    }
-}
 
 /// A host that keeps of each question what is printed of it, and then asks another host.
 #[derive(Drop)]
 pub(crate) struct RecordingHost<H> {
     host: H,
-    questions: Vec<RecordedCommand>,
+    questions: Vec<RecordedQuestion>,
 }
 
 impl<H> RecordingHost<H> {
@@ -54,20 +33,19 @@ impl<H> RecordingHost<H> {
     }
 
     /// The questions so far, in their order.
-    pub(crate) fn questions(&self) -> &[RecordedCommand]
+    pub(crate) fn questions(&self) -> &[RecordedQuestion]
         ensures { map recorded_view result.now ≡ records_view self.now }
     {
         &self.questions
     }
 
-    // Keeps a question behind the others. For want of memory nothing is kept.
-    fn record(&mut self, alloc: Global, question: &CommandQuestion) -> Result<(), OutOfMemory>
+    // Keeps a question behind the others. For want of memory it is not kept.
+    fn keep(&mut self, question: RecordedQuestion) -> Result<(), OutOfMemory>
         ensures host { self.new.host ≡ self.old.host }
-        ensures ok { OnOk result (records_view self.new ≡ records_view self.old ++ recorded (question_view question.now).blind ∷ []) }
+        ensures ok { OnOk result (records_view self.new ≡ records_view self.old ++ recorded_view question ∷ []) }
         ensures err { OnErr result (records_view self.new ≡ records_view self.old) }
     {
-        let recorded = RecordedCommand::of(alloc, question)?;
-        self.questions.push(recorded)?;
+        self.questions.push(question)?;
         Ok(())
     }
 }
@@ -83,20 +61,33 @@ impl<H: Host> Host for RecordingHost<H> {
         alloc: Global,
         question: &CommandQuestion,
     ) -> Result<String, CommandFault> {
-        match self.record(alloc, question) {
+        let Ok(recorded) = RecordedQuestion::of_command(alloc, question) else {
+            return Err(CommandFault::OutOfMemory);
+        };
+        match self.keep(recorded) {
             Ok(()) => self.host.command(alloc, question),
             Err(_) => Err(CommandFault::OutOfMemory),
         }
     }
-}
 
-// The texts once more.
-fn copies(alloc: Global, texts: &[String]) -> Result<Vec<String>, OutOfMemory>
-    ensures { IfOk result (λ copies. map string_bytes copies.items ≡ map string_bytes texts.now) }
-{
-    let mut all = Vec::with_capacity(alloc, texts.len())?;
-    for text in texts {
-        all.push(String::from_str(alloc, text)?)?;
+    fn text(&mut self, alloc: Global, question: TextQuestion) -> TextAnswer {
+        let Ok(recorded) = RecordedQuestion::of_text(alloc, question) else {
+            return TextAnswer::OutOfMemory;
+        };
+        match self.keep(recorded) {
+            Ok(()) => self.host.text(alloc, question),
+            Err(_) => TextAnswer::OutOfMemory,
+        }
     }
-    Ok(all)
+
+    fn exists(&mut self, alloc: Global, path: &str) -> Result<bool, OutOfMemory> {
+        let copy = String::from_str(alloc, path)?;
+        self.keep(RecordedQuestion::Exists(copy))?;
+        self.host.exists(alloc, path)
+    }
+
+    fn number(&mut self, alloc: Global, question: NumberQuestion) -> Result<u64, OutOfMemory> {
+        self.keep(RecordedQuestion::Number(question))?;
+        self.host.number(alloc, question)
+    }
 }

@@ -1,8 +1,12 @@
 // What stands behind the word of a line.
 
-ghost use Rattle.std.specs.Prelude.{◌≡◌};
+ghost use Rattle.std.specs.Prelude.{◌≡◌, ◌∷◌, ◌++◌, [], Some, None, IfOk, map};
 ghost use Rattle.std.specs.List.{list_all};
-ghost use Rattle.just_bench.specs.Rest.{is_name, is_name_part, is_name_start, number, rest_of, word_of};
+ghost use Rattle.std.specs.Option.{option_map};
+ghost use Rattle.just_bench.specs.Rest.{if_names, is_name, is_name_part, is_name_start, names, number, pieces, rest_of, word_of};
+
+use just_syntax::out_of_memory::OutOfMemory;
+use std::alloc::Global;
 
 /// The greatest number that a case may hold.
 pub(crate) const LARGEST: u16 = 1000;
@@ -69,4 +73,40 @@ pub(crate) fn split_word(text: &str) -> (&str, &str)
     ensures rest { result.1.now ≡ rest_of text.now }
 {
     text.split_once(' ').unwrap_or((text, ""))
+}
+
+/// The names that stand in a text with a space between two, if there is nothing else. The empty text has none.
+pub(crate) fn parse_names<'case>(
+    alloc: Global,
+    text: &'case str,
+) -> Result<Option<Vec<&'case str>>, OutOfMemory>
+    ensures { IfOk result (λ found. option_map (λ list. map (λ name. name.now) list.items) found ≡ names text.now) }
+{
+    if text.is_empty() {
+        return Ok(Some(Vec::new(alloc)));
+    }
+    parse_pieces(alloc, text)
+}
+
+// The pieces between spaces, if each is a name.
+fn parse_pieces<'case>(
+    alloc: Global,
+    text: &'case str,
+) -> Result<Option<Vec<&'case str>>, OutOfMemory>
+    ensures { IfOk result (λ found. option_map (λ list. map (λ name. name.now) list.items) found ≡ if_names (pieces text.now)) }
+{
+    let mut names = Vec::new(alloc);
+    let mut rest = text;
+    while let Some((name, after)) = rest.split_once(' ') {
+        if !is_name(name) {
+            return Ok(None);
+        }
+        names.push(name)?;
+        rest = after;
+    }
+    if !is_name(rest) {
+        return Ok(None);
+    }
+    names.push(rest)?;
+    Ok(Some(names))
 }

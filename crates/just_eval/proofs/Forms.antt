@@ -1,15 +1,15 @@
 -- What runs of the forms come to.
-use Rattle.std.proofs.Common.{◌≡◌, ℕ, true, false, [], ◌∷◌, ◌++◌, refl, ap, subst, Option, Some, None}
+use Rattle.std.proofs.Common.{◌≡◌, ℕ, true, false, [], ◌∷◌, ◌++◌, refl, ap, inl, inr, Option, Some, None}
 use Rattle.just_syntax.specs.Plain.{Text, Token}
 use Rattle.just_value.specs.Value.{Value, Names}
-use Rattle.just_value.specs.Refusal.{Internal}
-use Rattle.just_value.specs.Outcome.{Outcome, Gave, Refused, UnlessStopped}
+use Rattle.just_value.specs.Refusal.{Internal, Fault, Code, Message, NoMemory}
+use Rattle.just_value.specs.Outcome.{Outcome, Gave, Refused, Stopped, UnlessStopped}
 use Rattle.just_host.specs.Fixed.{Fixed}
-use Rattle.just_host.specs.Question.{Question, Answer, command_question}
-use Rattle.just_host.specs.Interaction.{Runs}
+use Rattle.just_host.specs.Question.{Question, Answer, Failed, command_question}
+use Rattle.just_host.specs.Interaction.{Asked, done, ask, AsksOnce, Runs}
 use Rattle.just_eval.specs.Messages.{unevaluated_text}
-use Rattle.just_eval.specs.Meaning.{Situation, variable, command, answered}
-use Rattle.just_eval.proofs.Runs.{runs_done, runs_gives, runs_note, runs_ask, runs_when, runs_else}
+use Rattle.just_eval.specs.Meaning.{Situation, variable, command, answered, faulted}
+use Rattle.just_eval.proofs.Runs.{runs_done, runs_gives, runs_note, runs_when, runs_else}
 
 module _ {S : Type 0} {step : S → Question → Answer → S → Type 0} where
   -- a variable that has a value
@@ -24,6 +24,16 @@ module _ {S : Type 0} {step : S → Question → Answer → S → Type 0} where
   pub runs_dry : {h : S} (f : Fixed) (s : Situation) (text : Text) (t : Token) (v : Value) → f.config.dry_run ≡ true → v ≡ ((96 ∷ text) ++ 96 ∷ []) ∷ [] → Runs step h (command f s text t) (Gave v) h
   runs_dry f s text t v d e = runs_note (runs_when _ _ _ d (runs_done _ _ (ap Gave e)))
 
+  -- a question that is asked once, or not for want of memory
+  runs_once : {A : Type 0} {h m : S} (q : Question) (a : Answer) (next : Answer → Outcome A) (o : Outcome A) → AsksOnce step h q a m → UnlessStopped o (next a) → (a ≡ Failed NoMemory → o ≡ Stopped) → Runs step h (ask q (λ b. done (next b))) o m
+  runs_once q a next o (inl taken) given stops = record { events = Asked q a ∷ []; path = (refl, given); chain = (_, taken, refl) }
+  runs_once q a next o (inr unasked) given stops = record { events = []; path = stops unasked.0; chain = unasked.1 }
+
   -- a command expression that asks
-  pub runs_asked : {h m : S} (f : Fixed) (s : Situation) (text : Text) (t : Token) (q : Question) (a : Answer) (o : Outcome Value) → f.config.dry_run ≡ false → q ≡ command_question f s.environment s.shown text None → step h q a m → UnlessStopped o (answered t a) → Runs step h (command f s text t) o m
-  runs_asked {h = h} {m = m} f s text t q a o d is asked u = runs_note (runs_else _ _ _ d (runs_ask _ _ a (subst (λ p. step h p a m) is asked) (runs_done _ o u)))
+  pub runs_asked : {h m : S} (f : Fixed) (s : Situation) (text : Text) (t : Token) (a : Answer) (o : Outcome Value) → f.config.dry_run ≡ false → AsksOnce step h (command_question f s.environment s.shown text None) a m → UnlessStopped o (answered t a) → (a ≡ Failed NoMemory → o ≡ Stopped) → Runs step h (command f s text t) o m
+  runs_asked f s text t a o d asked u stops = runs_note (runs_else _ _ _ d (runs_once _ a (answered t) o asked u stops))
+
+pub without_memory : (t : Token) (f : Fault) → Failed f ≡ Failed NoMemory → faulted t f ≡ Stopped
+without_memory t (Code n) e = absurd (cc)
+without_memory t (Message text) e = absurd (cc)
+without_memory t NoMemory e = refl

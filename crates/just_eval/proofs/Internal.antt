@@ -1,23 +1,24 @@
 -- A resolved module meets no refusal that is Internal.
-use Rattle.std.proofs.Common.{◌≡◌, ⊎_elim, inl, inr, ◌⊎◌, ℕ, Bool, true, false, cond, List, [], ◌∷◌, map, Option, Some, None, refl, sym, ap, ◌∙◌, subst}
+use Rattle.std.proofs.Common.{◌≡◌, ⊎_elim, inl, inr, ◌⊎◌, ℕ, Bool, true, false, cond, List, [], ◌∷◌, ◌++◌, map, Option, Some, None, refl, sym, ap, ◌∙◌, subst}
 use Rattle.std.specs.Str.{bytes_eq}
-use Rattle.just_syntax.specs.Plain.{Text, Token, Assignment, Expr, And, Backtick, Concatenation, Or, StringLiteral, Variable}
+use Rattle.just_syntax.specs.Plain.{Text, Token, Assignment, Expr, And, Assert, AssertOnly, Backtick, Comparison, Concatenation, Conditional, ConditionalOnly, FormatString, Group, Join, JoinOnly, ListOf, ListConcatenation, Not, Or, StringLiteral, Variable, Exprs, Nil, Cons, Pieces, NoPiece, Piece}
+use Rattle.just_syntax.specs.Printed.{printed}
 use Rattle.just_syntax.specs.Keyed.{value_at}
 use Rattle.just_syntax.specs.declared.list_operator.ListOperator.{ListOperator}
-use Rattle.just_syntax.specs.declared.list_operator.ListOperator.TheVariants.{Concatenate}
+use Rattle.just_syntax.specs.declared.list_operator.ListOperator.TheVariants as operators
 use Rattle.just_syntax.specs.ListOperator.{separator}
-use Rattle.just_value.specs.Value.{Value, is_truthy}
+use Rattle.just_value.specs.Value.{Value, is_truthy, joined}
 use Rattle.just_value.specs.Frames.{Bound, Frame, Frames, innermost, value_of}
 use Rattle.just_value.specs.Applied.{applied, value_or_lists}
 use Rattle.just_value.specs.Refusal.{Code, Message, NoMemory}
 use Rattle.just_value.specs.Outcome.{Outcome, Gave, Refused, Stopped, UnlessStopped}
 use Rattle.just_value.proofs.Values.{value_innermost}
 use Rattle.just_host.specs.Question.{Answer, Replied, Failed}
-use Rattle.just_host.specs.Interaction.{Event, Asked, Noted, Read, Tree, done, ask, note, bind, Path}
-use Rattle.just_eval.specs.Meaning.{Context, Situation, Deeper, answered, eval, named, when}
-use Rattle.just_eval.specs.Reaches.{Stands}
+use Rattle.just_host.specs.Interaction.{Event, Asked, Noted, Note, Read, Tree, done, ask, note, bind, gives, Path}
+use Rattle.just_eval.specs.Meaning.{Context, Situation, Deeper, answered, assertion, combination, eval, eval_all, eval_pieces, is_regex, named, when}
+use Rattle.just_eval.specs.Reaches.{Stands, StandsIn, StandsInPieces}
 use Rattle.just_eval.specs.Module.{Module, Closing, Block, Run, Finished, Stops, Unknown, Passes, Skips, Binds, Breaks, Halts, assigned, assignment_at, bound_of, or_override, situation_at}
-use Rattle.just_eval.specs.Resolved.{IsNumbered, AllNumbered, IsOneOf, IsBound, AreAssignments, AreInOrder, with_taken, IsResolved, IsNotInternal}
+use Rattle.just_eval.specs.Resolved.{IsNumbered, AreNumbered, AreNumberedPieces, AllNumbered, IsOneOf, IsBound, AreAssignments, AreInOrder, with_taken, IsResolved, IsNotInternal}
 use Rattle.just_eval.proofs.Bound.{HasValue, has_put, has_still, has_under}
 
 -- ---- trees
@@ -61,6 +62,7 @@ answered_not t (Replied text) = tt
 answered_not t (Failed (Code n)) = λ none. none
 answered_not t (Failed (Message text)) = λ none. none
 answered_not t (Failed NoMemory) = tt
+answered_not t _ = tt
 
 lists_not : (o : Option Value) (xs : Value) (k : ListOperator) (ys : Value) (t : Token) → IsNotInternal (value_or_lists o xs k ys t)
 lists_not (Some v) xs k ys t = tt
@@ -69,20 +71,52 @@ lists_not None xs k ys t = λ none. none
 named_not : (t : Token) (o : Option Value) (v : Value) → o ≡ Some v → IsNotInternal (named t o)
 named_not t o v e = subst (λ x. IsNotInternal (named t x)) (sym e) tt
 
+both_never : (o : ListOperator) (l r : Tree Value) (t : Token) → IsNeverInternal l → IsNeverInternal r → IsNeverInternal (combination o l t r)
+both_never o l r t h k = bind_never l _ h (λ v. bind_never r _ k (λ w. lists_not (applied (separator o) v w) v o w t))
+
+assertion_never : (lists : Bool) (t : Token) (e : Tree Value) (m : Tree Text) → IsNeverInternal e → IsNeverInternal m → IsNeverInternal (assertion lists t e m)
+assertion_never lists t e m h k = bind_never e _ h (λ v. when_never (is_truthy v) _ _ tt (bind_never m _ k (λ text none. none)))
+
 module _ (c : Context) (d : Deeper) (s : Situation) where
-  -- what is numbered, and reads only what has a value
-  eval_never : (e : Expr) → IsNumbered e → ((n : ℕ) → Stands e (Read n) → (v : Value) × (s.names n ≡ Some v)) → IsNeverInternal (eval c d s e)
-  eval_never (And l r) h has =
-      bind_never (eval c d s l) _ (eval_never l h.0 (λ n x. has n (inl x))) (λ v. when_never (is_truthy v) _ _ (eval_never r h.1 (λ n x. has n (inr x))) tt)
-  eval_never (Backtick text t) h has = when_never c.fixed.config.dry_run _ _ tt (λ a. answered_not t a)
-  eval_never (Concatenation l t r) h has =
-      bind_never (eval c d s l) _ (eval_never l h.0 (λ n x. has n (inl x)))
-      (λ v. bind_never (eval c d s r) _ (eval_never r h.1 (λ n x. has n (inr x))) (λ w. lists_not (applied (separator Concatenate) v w) v Concatenate w t))
-  eval_never (Or l r) h has =
-      bind_never (eval c d s l) _ (eval_never l h.0 (λ n x. has n (inl x))) (λ v. when_never (is_truthy v) _ _ tt (eval_never r h.1 (λ n x. has n (inr x))))
-  eval_never (StringLiteral literal) h has = tt
-  eval_never (Variable t None) h has = absurd h
-  eval_never (Variable t (Some n)) h has = let v = has n refl in named_not t (s.names n) v.0 v.1
+  abbrev Has : (Note → Type 0) → Type 0
+  Has stands = (n : ℕ) → stands (Read n) → (v : Value) × (s.names n ≡ Some v)
+
+  mutual
+    -- what is numbered, and reads only what has a value
+    eval_never : (e : Expr) → IsNumbered e → Has (Stands e) → IsNeverInternal (eval c d s e)
+    eval_never (And l r) h has = bind_never (eval c d s l) _ (eval_never l h.0 (λ n x. has n (inl x))) (λ v. when_never (is_truthy v) _ _ (eval_never r h.1 (λ n x. has n (inr x))) tt)
+    eval_never (Assert e m t) h has =
+        assertion_never s.lists t (eval c d s e) (bind (eval c d s m) (λ w. gives (joined w))) (eval_never e h.0 (λ n x. has n (inl x)))
+        (bind_never (eval c d s m) _ (eval_never m h.1 (λ n x. has n (inr x))) (λ w. tt))
+    eval_never (AssertOnly e t) h has = assertion_never s.lists t (eval c d s e) (gives ((96 ∷ printed e) ++ 96 ∷ [])) (eval_never e h has) tt
+    eval_never (Backtick text t) h has = when_never c.fixed.config.dry_run _ _ tt (λ a. answered_not t a)
+    eval_never (Comparison l o r t) h has =
+        when_never (is_regex o) _ _ (λ none. none)
+        (bind_never (eval c d s l) _ (eval_never l h.0 (λ n x. has n (inl x))) (λ v. bind_never (eval c d s r) _ (eval_never r h.1 (λ n x. has n (inr x))) (λ w. tt)))
+    eval_never (Concatenation l t r) h has = both_never operators.Concatenate (eval c d s l) (eval c d s r) t (eval_never l h.0 (λ n x. has n (inl x))) (eval_never r h.1 (λ n x. has n (inr x)))
+    eval_never (Conditional e a b) h has =
+        bind_never (eval c d s e) _ (eval_never e h.0 (λ n x. has n (inl x)))
+        (λ v. when_never (is_truthy v) _ _ (eval_never a h.1 (λ n x. has n (inr (inl x)))) (eval_never b h.2 (λ n x. has n (inr (inr x)))))
+    eval_never (ConditionalOnly e a) h has = bind_never (eval c d s e) _ (eval_never e h.0 (λ n x. has n (inl x))) (λ v. when_never (is_truthy v) _ _ (eval_never a h.1 (λ n x. has n (inr x))) tt)
+    eval_never (FormatString start pieces) h has = bind_never (eval_pieces c d s pieces) _ (pieces_never pieces h has) (λ text. tt)
+    eval_never (Group e) h has = eval_never e h has
+    eval_never (Join l t r) h has = both_never operators.Join (eval c d s l) (eval c d s r) t (eval_never l h.0 (λ n x. has n (inl x))) (eval_never r h.1 (λ n x. has n (inr x)))
+    eval_never (JoinOnly t r) h has = both_never operators.Join (gives ([] ∷ [])) (eval c d s r) t tt (eval_never r h has)
+    eval_never (ListOf es t) h has = bind_never (eval_all c d s es) _ (all_never es h has) (λ vs. tt)
+    eval_never (ListConcatenation l t r) h has = bind_never (eval c d s l) _ (eval_never l h.0 (λ n x. has n (inl x))) (λ v. bind_never (eval c d s r) _ (eval_never r h.1 (λ n x. has n (inr x))) (λ w. tt))
+    eval_never (Not e) h has = bind_never (eval c d s e) _ (eval_never e h has) (λ v. tt)
+    eval_never (Or l r) h has = bind_never (eval c d s l) _ (eval_never l h.0 (λ n x. has n (inl x))) (λ v. when_never (is_truthy v) _ _ tt (eval_never r h.1 (λ n x. has n (inr x))))
+    eval_never (StringLiteral literal) h has = tt
+    eval_never (Variable t None) h has = absurd h
+    eval_never (Variable t (Some n)) h has = let v = has n refl in named_not t (s.names n) v.0 v.1
+
+    all_never : (es : Exprs) → AreNumbered es → Has (StandsIn es) → IsNeverInternal (eval_all c d s es)
+    all_never Nil h has = tt
+    all_never (Cons e es) h has = bind_never (eval c d s e) _ (eval_never e h.0 (λ n x. has n (inl x))) (λ v. bind_never (eval_all c d s es) _ (all_never es h.1 (λ n x. has n (inr x))) (λ vs. tt))
+
+    pieces_never : (pieces : Pieces) → AreNumberedPieces pieces → Has (StandsInPieces pieces) → IsNeverInternal (eval_pieces c d s pieces)
+    pieces_never NoPiece h has = tt
+    pieces_never (Piece e literal pieces) h has = bind_never (eval c d s e) _ (eval_never e h.0 (λ n x. has n (inl x))) (λ v. bind_never (eval_pieces c d s pieces) _ (pieces_never pieces h.1 (λ n x. has n (inr x))) (λ text. tt))
 
 -- ---- runs
 

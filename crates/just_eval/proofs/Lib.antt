@@ -1,4 +1,5 @@
 pub mod Runs
+pub mod Rows
 pub mod Forms
 pub mod Tables
 pub mod Module

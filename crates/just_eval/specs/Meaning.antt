@@ -1,8 +1,14 @@
 -- What an expression means: what is asked for its value, in order, and the value. One line a form.
-use Rattle.std.specs.Prelude.{ℕ, Bool, true, false, List, [], ◌∷◌, ◌++◌, Option, Some, None}
-use Rattle.just_syntax.specs.Plain.{Text, Token, Expr, And, Backtick, Concatenation, Or, StringLiteral, Variable, Function}
-use Rattle.just_syntax.specs.declared.list_operator.ListOperator.TheVariants.{Concatenate}
-use Rattle.just_value.specs.Value.{Value, Names, is_truthy}
+use Rattle.std.specs.Prelude.{ℕ, Bool, true, false, not, List, [], ◌∷◌, ◌++◌, Option, Some, None, if◌then◌else◌}
+use Rattle.std.specs.List.{flat_map}
+use Rattle.just_syntax.specs.Plain.{Text, Token, Literal, Expr, And, Assert, AssertOnly, Backtick, Comparison, Concatenation, Conditional, ConditionalOnly, FormatString, Group, Join, JoinOnly, ListOf, ListConcatenation, Not, Or, StringLiteral, Variable, Exprs, Nil, Cons, Pieces, NoPiece, Piece, Function}
+use Rattle.just_syntax.specs.declared.conditional_operator.ConditionalOperator.{ConditionalOperator}
+use Rattle.just_syntax.specs.declared.conditional_operator.ConditionalOperator.TheVariants.{Inequality, RegexMatch, RegexMismatch}
+use Rattle.just_syntax.specs.declared.list_operator.ListOperator.{ListOperator}
+use Rattle.just_syntax.specs.declared.list_operator.ListOperator.TheVariants as operators
+use Rattle.just_syntax.specs.Printed.{printed}
+use Rattle.just_syntax.specs.Unindented.{unindented}
+use Rattle.just_value.specs.Value.{Value, Names, is_truthy, is_same, from_condition, joined}
 use Rattle.just_value.specs.Frames.{Frames}
 use Rattle.just_value.specs.Applied.{combined}
 use Rattle.just_value.specs.Refusal as refusal
@@ -58,6 +64,8 @@ faulted t NoMemory = Stopped
 abbrev pub answered : Token → Answer → Outcome Value
 answered t (Replied text) = Gave (text ∷ [])
 answered t (Failed f) = faulted t f
+-- no host answers a command in another way
+answered t _ = Stopped
 
 -- a command expression: its text in backticks in a dry run, else what the host answers
 abbrev pub command : Fixed → Situation → Text → Token → Tree Value
@@ -75,14 +83,99 @@ conjunction l r = bind l (λ v. when (is_truthy v) r (gives []))
 abbrev pub disjunction : Tree Value → Tree Value → Tree Value
 disjunction l r = bind l (λ v. when (is_truthy v) (gives v) r)
 
--- both values, put together
-abbrev pub concatenation : Tree Value → Token → Tree Value → Tree Value
-concatenation l t r = bind l (λ v. bind r (λ w. done (combined v Concatenate w t)))
+-- the one branch or the other, by the truth of the condition
+abbrev pub choice : Tree Value → Tree Value → Tree Value → Tree Value
+choice condition consequence otherwise = bind condition (λ v. when (is_truthy v) consequence otherwise)
 
-abbrev pub eval : Context → Deeper → Situation → Expr → Tree Value
-eval c d s (And l r) = conjunction (eval c d s l) (eval c d s r)
-eval c d s (Backtick text t) = command c.fixed s text t
-eval c d s (Concatenation l t r) = concatenation (eval c d s l) t (eval c d s r)
-eval c d s (Or l r) = disjunction (eval c d s l) (eval c d s r)
-eval c d s (StringLiteral literal) = gives (literal.cooked ∷ [])
-eval c d s (Variable t number) = variable t number s.names
+-- both values, put together
+abbrev pub combination : ListOperator → Tree Value → Token → Tree Value → Tree Value
+combination o l t r = bind l (λ v. bind r (λ w. done (combined v o w t)))
+
+-- the elements of both
+abbrev pub succession : Tree Value → Tree Value → Tree Value
+succession l r = bind l (λ v. bind r (λ w. gives (v ++ w)))
+
+-- one text if there is no element, else none
+abbrev pub negation : Tree Value → Tree Value
+negation e = bind e (λ v. gives (from_condition (not (is_truthy v))))
+
+abbrev pub is_regex : ConditionalOperator → Bool
+is_regex RegexMatch = true
+is_regex RegexMismatch = true
+is_regex _ = false
+
+abbrev pub compared : ConditionalOperator → Value → Value → Value
+compared Inequality v w = from_condition (not (is_same v w))
+compared _ v w = from_condition (is_same v w)
+
+-- whether two values are the same or differ; a regular expression is refused before its operands
+abbrev pub comparison : ConditionalOperator → Token → Tree Value → Tree Value → Tree Value
+comparison o t l r = when (is_regex o) (refuses (refusal.LeftOutRegex t)) (bind l (λ v. bind r (λ w. gives (compared o v w))))
+
+-- what an assertion that holds gives: the condition's value with lists, one empty text without
+abbrev pub asserted : Bool → Value → Value
+asserted true v = v
+asserted false v = [] ∷ []
+
+-- a condition that is to be truthy, else a refusal with the message
+abbrev pub assertion : Bool → Token → Tree Value → Tree Text → Tree Value
+assertion lists t condition message = bind condition (λ v. when (is_truthy v) (gives (asserted lists v)) (bind message (λ text. refuses (refusal.Assert text t))))
+
+abbrev pub unindented_if : Bool → Text → Text
+unindented_if indented text = if indented then unindented text else text
+
+-- a format string's text: its start and what is behind it, unindented if the start is indented
+abbrev pub formatted : Literal → Text → Text
+formatted start text = unindented_if start.indented (start.cooked ++ text)
+
+-- the elements of all, in their order
+abbrev pub flatten : List Value → Value
+flatten vs = flat_map (λ v. v) vs
+
+abbrev mutual
+  pub eval : Context → Deeper → Situation → Expr → Tree Value
+  eval c d s (And l r) = conjunction (eval c d s l) (eval c d s r)
+  eval c d s (Assert e m t) = assertion s.lists t (eval c d s e) (bind (eval c d s m) (λ w. gives (joined w)))
+  eval c d s (AssertOnly e t) = assertion s.lists t (eval c d s e) (gives ((96 ∷ printed e) ++ 96 ∷ []))
+  eval c d s (Backtick text t) = command c.fixed s text t
+  eval c d s (Comparison l o r t) = comparison o t (eval c d s l) (eval c d s r)
+  eval c d s (Concatenation l t r) = combination operators.Concatenate (eval c d s l) t (eval c d s r)
+  eval c d s (Conditional e a b) = choice (eval c d s e) (eval c d s a) (eval c d s b)
+  eval c d s (ConditionalOnly e a) = choice (eval c d s e) (eval c d s a) (gives [])
+  eval c d s (FormatString start pieces) = bind (eval_pieces c d s pieces) (λ text. gives (formatted start text ∷ []))
+  eval c d s (Group e) = eval c d s e
+  eval c d s (Join l t r) = combination operators.Join (eval c d s l) t (eval c d s r)
+  eval c d s (JoinOnly t r) = combination operators.Join (gives ([] ∷ [])) t (eval c d s r)
+  eval c d s (ListOf es t) = bind (eval_all c d s es) (λ vs. gives (flatten vs))
+  eval c d s (ListConcatenation l t r) = succession (eval c d s l) (eval c d s r)
+  eval c d s (Not e) = negation (eval c d s e)
+  eval c d s (Or l r) = disjunction (eval c d s l) (eval c d s r)
+  eval c d s (StringLiteral literal) = gives (literal.cooked ∷ [])
+  eval c d s (Variable t number) = variable t number s.names
+
+  -- the values of all, in their order
+  pub eval_all : Context → Deeper → Situation → Exprs → Tree (List Value)
+  eval_all c d s Nil = gives []
+  eval_all c d s (Cons e es) = bind (eval c d s e) (λ v. bind (eval_all c d s es) (λ vs. gives (v ∷ vs)))
+
+  -- each interpolation joined, and the text behind it
+  pub eval_pieces : Context → Deeper → Situation → Pieces → Tree Text
+  eval_pieces c d s NoPiece = gives []
+  eval_pieces c d s (Piece e literal pieces) = bind (eval c d s e) (λ v. bind (eval_pieces c d s pieces) (λ text. gives ((joined v ++ literal.cooked) ++ text)))
+
+-- ---- parts that may be left out
+
+-- the branch, or no element
+abbrev pub branch : Context → Deeper → Situation → Option Expr → Tree Value
+branch c d s None = gives []
+branch c d s (Some e) = eval c d s e
+
+-- the left side, or one empty text
+abbrev pub left_side : Context → Deeper → Situation → Option Expr → Tree Value
+left_side c d s None = gives ([] ∷ [])
+left_side c d s (Some e) = eval c d s e
+
+-- the message joined, or the printed condition in backticks
+abbrev pub assertion_text : Context → Deeper → Situation → Expr → Option Expr → Tree Text
+assertion_text c d s condition None = gives ((96 ∷ printed condition) ++ 96 ∷ [])
+assertion_text c d s condition (Some e) = bind (eval c d s e) (λ w. gives (joined w))

@@ -1,6 +1,6 @@
 -- What an expression reaches: what stands in it, and in the bodies of the functions that it calls.
 use Rattle.std.specs.Prelude.{◌≡◌, ◌⊎◌, ℕ, List, [], ◌∷◌, Option, Some, None}
-use Rattle.just_syntax.specs.Plain.{Text, Token, Function, Expr, And, Backtick, Concatenation, Or, StringLiteral, Variable}
+use Rattle.just_syntax.specs.Plain.{Text, Token, Function, Expr, And, Assert, AssertOnly, Backtick, Comparison, Concatenation, Conditional, ConditionalOnly, FormatString, Group, Join, JoinOnly, ListOf, ListConcatenation, Not, Or, StringLiteral, Variable, Exprs, Nil, Cons, Pieces, NoPiece, Piece}
 use Rattle.just_syntax.specs.Keyed.{value_at}
 use Rattle.just_host.specs.Interaction.{Note, Read, Entered, Command}
 
@@ -12,13 +12,34 @@ IsReadOf None x = ⊥
 IsReadOf (Some n) x = Read n ≡ x
 
 -- the variables, calls and commands that stand in an expression
-abbrev pub Stands : Expr → Note → Type 0
-Stands (And l r) x = Stands l x ⊎ Stands r x
-Stands (Backtick text t) x = Command t ≡ x
-Stands (Concatenation l t r) x = Stands l x ⊎ Stands r x
-Stands (Or l r) x = Stands l x ⊎ Stands r x
-Stands (StringLiteral literal) x = ⊥
-Stands (Variable t number) x = IsReadOf number x
+abbrev mutual
+  pub Stands : Expr → Note → Type 0
+  Stands (And l r) x = Stands l x ⊎ Stands r x
+  Stands (Assert e m t) x = Stands e x ⊎ Stands m x
+  Stands (AssertOnly e t) x = Stands e x
+  Stands (Backtick text t) x = Command t ≡ x
+  Stands (Comparison l o r t) x = Stands l x ⊎ Stands r x
+  Stands (Concatenation l t r) x = Stands l x ⊎ Stands r x
+  Stands (Conditional e a b) x = Stands e x ⊎ Stands a x ⊎ Stands b x
+  Stands (ConditionalOnly e a) x = Stands e x ⊎ Stands a x
+  Stands (FormatString start pieces) x = StandsInPieces pieces x
+  Stands (Group e) x = Stands e x
+  Stands (Join l t r) x = Stands l x ⊎ Stands r x
+  Stands (JoinOnly t r) x = Stands r x
+  Stands (ListOf es t) x = StandsIn es x
+  Stands (ListConcatenation l t r) x = Stands l x ⊎ Stands r x
+  Stands (Not e) x = Stands e x
+  Stands (Or l r) x = Stands l x ⊎ Stands r x
+  Stands (StringLiteral literal) x = ⊥
+  Stands (Variable t number) x = IsReadOf number x
+
+  pub StandsIn : Exprs → Note → Type 0
+  StandsIn Nil x = ⊥
+  StandsIn (Cons e es) x = Stands e x ⊎ StandsIn es x
+
+  pub StandsInPieces : Pieces → Note → Type 0
+  StandsInPieces NoPiece x = ⊥
+  StandsInPieces (Piece e literal pieces) x = Stands e x ⊎ StandsInPieces pieces x
 
 -- a number is one of these parameters'
 abbrev pub IsAmong : List (Token × ℕ) → ℕ → Type 0

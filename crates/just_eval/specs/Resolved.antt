@@ -1,6 +1,6 @@
 -- When a module is resolved.
 use Rattle.std.specs.Prelude.{◌≡◌, ◌⊎◌, ℕ, true, List, [], ◌∷◌, ◌++◌, map, Option, Some, None, if◌then◌else◌}
-use Rattle.just_syntax.specs.Plain.{Token, Expr, And, Backtick, Concatenation, Or, StringLiteral, Variable, Assignment, Function}
+use Rattle.just_syntax.specs.Plain.{Token, Assignment, Function, Expr, And, Assert, AssertOnly, Backtick, Comparison, Concatenation, Conditional, ConditionalOnly, FormatString, Group, Join, JoinOnly, ListOf, ListConcatenation, Not, Or, StringLiteral, Variable, Exprs, Nil, Cons, Pieces, NoPiece, Piece}
 use Rattle.just_value.specs.Value.{Value}
 use Rattle.just_value.specs.Frames.{Frames, value_in}
 use Rattle.just_value.specs.Refusal.{Refusal, Internal}
@@ -9,14 +9,35 @@ use Rattle.just_eval.specs.Reaches.{Reads}
 use Rattle.just_eval.specs.Module.{Module, assignment_at}
 
 -- each variable of an expression has a number
-abbrev pub IsNumbered : Expr → Type 0
-IsNumbered (And l r) = IsNumbered l × IsNumbered r
-IsNumbered (Backtick text t) = Unit {0}
-IsNumbered (Concatenation l t r) = IsNumbered l × IsNumbered r
-IsNumbered (Or l r) = IsNumbered l × IsNumbered r
-IsNumbered (StringLiteral literal) = Unit {0}
-IsNumbered (Variable t None) = ⊥
-IsNumbered (Variable t (Some n)) = Unit {0}
+abbrev mutual
+  pub IsNumbered : Expr → Type 0
+  IsNumbered (And l r) = IsNumbered l × IsNumbered r
+  IsNumbered (Assert e m t) = IsNumbered e × IsNumbered m
+  IsNumbered (AssertOnly e t) = IsNumbered e
+  IsNumbered (Backtick text t) = Unit {0}
+  IsNumbered (Comparison l o r t) = IsNumbered l × IsNumbered r
+  IsNumbered (Concatenation l t r) = IsNumbered l × IsNumbered r
+  IsNumbered (Conditional e a b) = IsNumbered e × IsNumbered a × IsNumbered b
+  IsNumbered (ConditionalOnly e a) = IsNumbered e × IsNumbered a
+  IsNumbered (FormatString start pieces) = AreNumberedPieces pieces
+  IsNumbered (Group e) = IsNumbered e
+  IsNumbered (Join l t r) = IsNumbered l × IsNumbered r
+  IsNumbered (JoinOnly t r) = IsNumbered r
+  IsNumbered (ListOf es t) = AreNumbered es
+  IsNumbered (ListConcatenation l t r) = IsNumbered l × IsNumbered r
+  IsNumbered (Not e) = IsNumbered e
+  IsNumbered (Or l r) = IsNumbered l × IsNumbered r
+  IsNumbered (StringLiteral literal) = Unit {0}
+  IsNumbered (Variable t None) = ⊥
+  IsNumbered (Variable t (Some n)) = Unit {0}
+
+  pub AreNumbered : Exprs → Type 0
+  AreNumbered Nil = Unit {0}
+  AreNumbered (Cons e es) = IsNumbered e × AreNumbered es
+
+  pub AreNumberedPieces : Pieces → Type 0
+  AreNumberedPieces NoPiece = Unit {0}
+  AreNumberedPieces (Piece e literal pieces) = IsNumbered e × AreNumberedPieces pieces
 
 abbrev pub AllNumbered : List Expr → Type 0
 AllNumbered [] = Unit {0}

@@ -1,21 +1,22 @@
 // Evaluates expressions, in the order of their parts.
 
 ghost use Rattle.std.specs.Prelude.{IfOk, [], map, string_bytes, ◌++◌, ◌-◌, ◌<◌, ◌≡◌, ◌∷◌};
-ghost use Rattle.std.specs.Option.{is_some};
-ghost use Rattle.just_syntax.specs.View.{assignment_view, name_view, token_view, view};
+ghost use Rattle.std.specs.Option.{is_some, option_map};
+ghost use Rattle.just_syntax.specs.View.{assignment_view, literal_view, name_view, piece_views, token_view, view, views};
+ghost use Rattle.just_syntax.specs.declared.list_operator.ListOperator.TheVariants.{Concatenate, Join};
 ghost use Rattle.just_value.specs.View.{bound_view, ended, fault_view, frames_view, refusal};
 ghost use Rattle.just_value.specs.Frames.{innermost};
 ghost use Rattle.just_value.specs.Outcome.{without_value};
-ghost use Rattle.just_host.specs.Interaction.{GoesByAnswers, Runs};
+ghost use Rattle.just_host.specs.Interaction.{GoesByAnswers, Runs, bind, gives};
 ghost use Rattle.just_host.specs.View.{fixed_view};
 ghost use Rattle.just_eval.specs.Closings.{chained};
-ghost use Rattle.just_eval.specs.Meaning.{command, concatenation, conjunction, disjunction, eval, faulted, variable};
+ghost use Rattle.just_eval.specs.Meaning.{assertion, assertion_text, branch, choice, combination, command, comparison, conjunction, disjunction, eval, eval_all, eval_pieces, faulted, flatten, formatted, left_side, negation, succession, variable};
 ghost use Rattle.just_eval.specs.Module.{Ran, bound_of, by_chain, lexically, or_override, situation_at};
 ghost use Rattle.just_eval.specs.Resolved.{IsResolved, IsNotInternal};
 ghost use Rattle.just_eval.specs.View.{IsAtStart, context_view, is_referenced_in, module_view, override_of, run_of, situation};
 
-use crate::message;
-use just_host::command_question::CommandQuestion;
+use crate::{form, message};
+use just_host::ask::ask_command;
 use just_host::config::Config;
 use just_host::execution_context::ExecutionContext;
 use just_host::host::Host;
@@ -23,11 +24,13 @@ use just_host::justfile::Justfile;
 use just_host::search::Search;
 use just_syntax::assignment::Assignment;
 use just_syntax::attribute_set::AttributeSet;
+use just_syntax::conditional_operator::ConditionalOperator;
 use just_syntax::expression::Expression;
 use just_syntax::list_operator::ListOperator;
 use just_syntax::name::Name;
 use just_syntax::number::Number;
 use just_syntax::out_of_memory::OutOfMemory;
+use just_syntax::string_literal::StringLiteral;
 use just_syntax::token::Token;
 use just_value::binding::Binding;
 use just_value::error::{CommandFault, Error};
@@ -206,18 +209,49 @@ impl<'src, 'run> Evaluator<'src, 'run> {
         host: &mut H,
         expression: &Expression<'src>,
     ) -> Result<Value, Error<'src>>
-        ensures { let c = context_view self.now.context in
-            let value = eval c (chained c (self.now.context.recursion_limit - 1)) (situation self.now) in
+        ensures { let c = context_view self.now.context in let d = chained c (self.now.context.recursion_limit - 1) in let value = eval c d (situation self.now) in
             Runs H.step host.old (value (view expression.now)) (ended (λ v. v) result) host.new }
     {
         match expression {
             Expression::And { lhs, rhs } => self.evaluate_and(alloc, host, lhs, rhs),
+            Expression::Assert {
+                condition,
+                message,
+                name,
+            } => self.evaluate_assert(alloc, host, condition, message.as_deref(), *name),
             Expression::Backtick { contents, token } => {
                 self.evaluate_backtick(alloc, host, contents, *token)
             }
+            Expression::Comparison {
+                lhs,
+                operator,
+                rhs,
+                token,
+            } => self.evaluate_comparison(alloc, host, lhs, *operator, rhs, *token),
             Expression::Concatenation { lhs, operator, rhs } => {
                 self.evaluate_concatenation(alloc, host, lhs, *operator, rhs)
             }
+            Expression::Conditional {
+                condition,
+                consequence,
+                otherwise,
+            } => {
+                self.evaluate_conditional(alloc, host, condition, consequence, otherwise.as_deref())
+            }
+            Expression::FormatString { start, expressions } => {
+                self.evaluate_format_string(alloc, host, start, expressions)
+            }
+            Expression::Group { contents } => self.evaluate_value(alloc, host, contents),
+            Expression::Join { lhs, operator, rhs } => {
+                self.evaluate_join(alloc, host, lhs.as_deref(), *operator, rhs)
+            }
+            Expression::List { elements, token: _ } => self.evaluate_list(alloc, host, elements),
+            Expression::ListConcatenation {
+                lhs,
+                operator: _,
+                rhs,
+            } => self.evaluate_list_concatenation(alloc, host, lhs, rhs),
+            Expression::Not { operand } => self.evaluate_not(alloc, host, operand),
             Expression::Or { lhs, rhs } => self.evaluate_or(alloc, host, lhs, rhs),
             Expression::StringLiteral { string_literal } => {
                 Ok(Value::from_text(alloc, &string_literal.cooked)?)
@@ -238,8 +272,7 @@ impl<'src, 'run> Evaluator<'src, 'run> {
         lhs: &Expression<'src>,
         rhs: &Expression<'src>,
     ) -> Result<Value, Error<'src>>
-        ensures { let c = context_view self.now.context in
-            let value = eval c (chained c (self.now.context.recursion_limit - 1)) (situation self.now) in
+        ensures { let c = context_view self.now.context in let d = chained c (self.now.context.recursion_limit - 1) in let value = eval c d (situation self.now) in
             Runs H.step host.old (conjunction (value (view lhs.now)) (value (view rhs.now))) (ended (λ v. v) result) host.new }
     {
         let value = self.evaluate_value(alloc, host, lhs)?;
@@ -260,8 +293,7 @@ impl<'src, 'run> Evaluator<'src, 'run> {
         lhs: &Expression<'src>,
         rhs: &Expression<'src>,
     ) -> Result<Value, Error<'src>>
-        ensures { let c = context_view self.now.context in
-            let value = eval c (chained c (self.now.context.recursion_limit - 1)) (situation self.now) in
+        ensures { let c = context_view self.now.context in let d = chained c (self.now.context.recursion_limit - 1) in let value = eval c d (situation self.now) in
             Runs H.step host.old (disjunction (value (view lhs.now)) (value (view rhs.now))) (ended (λ v. v) result) host.new }
     {
         let value = self.evaluate_value(alloc, host, lhs)?;
@@ -269,6 +301,69 @@ impl<'src, 'run> Evaluator<'src, 'run> {
             Ok(value)
         } else {
             self.evaluate_value(alloc, host, rhs)
+        }
+    }
+
+    // The value of `!operand`.
+    #[cycle(evaluate)]
+    #[inline(never)]
+    fn evaluate_not<H: Host>(
+        &self,
+        alloc: Global,
+        host: &mut H,
+        operand: &Expression<'src>,
+    ) -> Result<Value, Error<'src>>
+        ensures { let c = context_view self.now.context in let d = chained c (self.now.context.recursion_limit - 1) in let value = eval c d (situation self.now) in
+            Runs H.step host.old (negation (value (view operand.now))) (ended (λ v. v) result) host.new }
+    {
+        let value = self.evaluate_value(alloc, host, operand)?;
+        Ok(Value::from_bool(alloc, !value.is_truthy())?)
+    }
+
+    // The value of a comparison.
+    #[cycle(evaluate)]
+    #[inline(never)]
+    fn evaluate_comparison<H: Host>(
+        &self,
+        alloc: Global,
+        host: &mut H,
+        lhs: &Expression<'src>,
+        operator: ConditionalOperator,
+        rhs: &Expression<'src>,
+        token: Token<'src>,
+    ) -> Result<Value, Error<'src>>
+        ensures { let c = context_view self.now.context in let d = chained c (self.now.context.recursion_limit - 1) in let value = eval c d (situation self.now) in
+            Runs H.step host.old (comparison operator (token_view token.entry) (value (view lhs.now)) (value (view rhs.now))) (ended (λ v. v) result) host.new }
+    {
+        if form::is_regex(operator) {
+            return Err(Error::LeftOutRegex { token });
+        }
+        let left = self.evaluate_value(alloc, host, lhs)?;
+        let right = self.evaluate_value(alloc, host, rhs)?;
+        Ok(Value::from_bool(alloc, form::compares(operator, &left, &right))?)
+    }
+
+    // The value of a conditional.
+    #[cycle(evaluate)]
+    #[inline(never)]
+    fn evaluate_conditional<H: Host>(
+        &self,
+        alloc: Global,
+        host: &mut H,
+        condition: &Expression<'src>,
+        consequence: &Expression<'src>,
+        otherwise: Option<&Expression<'src>>,
+    ) -> Result<Value, Error<'src>>
+        ensures { let c = context_view self.now.context in let d = chained c (self.now.context.recursion_limit - 1) in let value = eval c d (situation self.now) in
+            Runs H.step host.old (choice (value (view condition.now)) (value (view consequence.now)) (branch c d (situation self.now) (option_map (λ e. view e.now) otherwise.entry))) (ended (λ v. v) result) host.new }
+    {
+        let value = self.evaluate_value(alloc, host, condition)?;
+        if value.is_truthy() {
+            return self.evaluate_value(alloc, host, consequence);
+        }
+        match otherwise {
+            Some(otherwise) => self.evaluate_value(alloc, host, otherwise),
+            None => Ok(Value::new(alloc)),
         }
     }
 
@@ -283,16 +378,158 @@ impl<'src, 'run> Evaluator<'src, 'run> {
         operator: Token<'src>,
         rhs: &Expression<'src>,
     ) -> Result<Value, Error<'src>>
-        ensures { let c = context_view self.now.context in
-            let value = eval c (chained c (self.now.context.recursion_limit - 1)) (situation self.now) in
-            Runs H.step host.old (concatenation (value (view lhs.now)) (token_view operator.entry) (value (view rhs.now))) (ended (λ v. v) result) host.new }
+        ensures { let c = context_view self.now.context in let d = chained c (self.now.context.recursion_limit - 1) in let value = eval c d (situation self.now) in
+            Runs H.step host.old (combination Concatenate (value (view lhs.now)) (token_view operator.entry) (value (view rhs.now))) (ended (λ v. v) result) host.new }
     {
         let left = self.evaluate_value(alloc, host, lhs)?;
         let right = self.evaluate_value(alloc, host, rhs)?;
         left.apply(alloc, &right, ListOperator::Concatenate, operator)
     }
 
+    // The value of `lhs / rhs`, the left side being one empty text where there is none.
+    #[cycle(evaluate)]
+    #[inline(never)]
+    fn evaluate_join<H: Host>(
+        &self,
+        alloc: Global,
+        host: &mut H,
+        lhs: Option<&Expression<'src>>,
+        operator: Token<'src>,
+        rhs: &Expression<'src>,
+    ) -> Result<Value, Error<'src>>
+        ensures { let c = context_view self.now.context in let d = chained c (self.now.context.recursion_limit - 1) in let value = eval c d (situation self.now) in
+            Runs H.step host.old (combination Join (left_side c d (situation self.now) (option_map (λ e. view e.now) lhs.entry)) (token_view operator.entry) (value (view rhs.now))) (ended (λ v. v) result) host.new }
+    {
+        let left = self.left_value(alloc, host, lhs)?;
+        let right = self.evaluate_value(alloc, host, rhs)?;
+        left.apply(alloc, &right, ListOperator::Join, operator)
+    }
+
+    // The value of a left side, one empty text where there is none.
+    #[cycle(evaluate)]
+    fn left_value<H: Host>(
+        &self,
+        alloc: Global,
+        host: &mut H,
+        lhs: Option<&Expression<'src>>,
+    ) -> Result<Value, Error<'src>>
+        ensures { let c = context_view self.now.context in let d = chained c (self.now.context.recursion_limit - 1) in
+            Runs H.step host.old (left_side c d (situation self.now) (option_map (λ e. view e.now) lhs.entry)) (ended (λ v. v) result) host.new }
+    {
+        match lhs {
+            Some(lhs) => self.evaluate_value(alloc, host, lhs),
+            None => Ok(form::empty_text(alloc)?),
+        }
+    }
+
+    // The value of `lhs ++ rhs`.
+    #[cycle(evaluate)]
+    #[inline(never)]
+    fn evaluate_list_concatenation<H: Host>(
+        &self,
+        alloc: Global,
+        host: &mut H,
+        lhs: &Expression<'src>,
+        rhs: &Expression<'src>,
+    ) -> Result<Value, Error<'src>>
+        ensures { let c = context_view self.now.context in let d = chained c (self.now.context.recursion_limit - 1) in let value = eval c d (situation self.now) in
+            Runs H.step host.old (succession (value (view lhs.now)) (value (view rhs.now))) (ended (λ v. v) result) host.new }
+    {
+        let left = self.evaluate_value(alloc, host, lhs)?;
+        let right = self.evaluate_value(alloc, host, rhs)?;
+        Ok(form::extended(left, right)?)
+    }
+
+    // The value of an assertion.
+    #[cycle(evaluate)]
+    #[inline(never)]
+    fn evaluate_assert<H: Host>(
+        &self,
+        alloc: Global,
+        host: &mut H,
+        condition: &Expression<'src>,
+        message: Option<&Expression<'src>>,
+        name: Name<'src>,
+    ) -> Result<Value, Error<'src>>
+        ensures { let c = context_view self.now.context in let d = chained c (self.now.context.recursion_limit - 1) in let value = eval c d (situation self.now) in
+            Runs H.step host.old (assertion (situation self.now).lists (name_view name.entry) (value (view condition.now)) (assertion_text c d (situation self.now) (view condition.now) (option_map (λ e. view e.now) message.entry))) (ended (λ v. v) result) host.new }
+    {
+        let value = self.evaluate_value(alloc, host, condition)?;
+        if value.is_truthy() {
+            let lists = self.context.module.settings.lists;
+            return Ok(form::asserted(alloc, lists, value)?);
+        }
+        let message = self.assertion_message(alloc, host, condition, message)?;
+        Err(Error::Assert { message, name })
+    }
+
+    // What an assertion that fails says: its message joined, or its condition in backticks.
+    #[cycle(evaluate)]
+    #[inline(never)]
+    fn assertion_message<H: Host>(
+        &self,
+        alloc: Global,
+        host: &mut H,
+        condition: &Expression<'src>,
+        message: Option<&Expression<'src>>,
+    ) -> Result<String, Error<'src>>
+        ensures { let c = context_view self.now.context in let d = chained c (self.now.context.recursion_limit - 1) in let value = eval c d (situation self.now) in
+            Runs H.step host.old (assertion_text c d (situation self.now) (view condition.now) (option_map (λ e. view e.now) message.entry)) (ended string_bytes result) host.new }
+    {
+        match message {
+            Some(message) => {
+                let value = self.evaluate_value(alloc, host, message)?;
+                Ok(value.join(alloc)?)
+            }
+            None => Ok(format!(in alloc; "`{condition}`")?),
+        }
+    }
+
+    // The value of a list: the elements of all.
+    #[cycle(evaluate)]
+    #[inline(never)]
+    fn evaluate_list<H: Host>(
+        &self,
+        alloc: Global,
+        host: &mut H,
+        elements: &[Expression<'src>],
+    ) -> Result<Value, Error<'src>>
+        ensures { let c = context_view self.now.context in let d = chained c (self.now.context.recursion_limit - 1) in let value = eval c d (situation self.now) in
+            Runs H.step host.old (bind (eval_all c d (situation self.now) (views elements.now)) (λ vs. gives (flatten vs))) (ended (λ v. v) result) host.new }
+    {
+        let mut all = Value::new(alloc);
+        for element in elements {
+            let value = self.evaluate_value(alloc, host, element)?;
+            all = form::extended(all, value)?;
+        }
+        Ok(all)
+    }
+
+    // The value of a format string.
+    #[cycle(evaluate)]
+    #[inline(never)]
+    fn evaluate_format_string<H: Host>(
+        &self,
+        alloc: Global,
+        host: &mut H,
+        start: &StringLiteral<'src>,
+        expressions: &[(Expression<'src>, StringLiteral<'src>)],
+    ) -> Result<Value, Error<'src>>
+        ensures { let c = context_view self.now.context in let d = chained c (self.now.context.recursion_limit - 1) in let value = eval c d (situation self.now) in
+            Runs H.step host.old (bind (eval_pieces c d (situation self.now) (piece_views expressions.now)) (λ text. gives (formatted (literal_view start.now) text ∷ []))) (ended (λ v. v) result) host.new }
+    {
+        let mut text = String::from_str(alloc, &start.cooked)?;
+        for (expression, literal) in expressions {
+            let value = self.evaluate_value(alloc, host, expression)?;
+            text.push_str(&value.join(alloc)?)?;
+            text.push_str(&literal.cooked)?;
+        }
+        let text = form::formatted(alloc, start.indented, text)?;
+        Ok(Value::from_string(alloc, text)?)
+    }
+
     // The value of a variable. The host is not asked.
+    #[inline(never)]
     fn evaluate_variable<H: Host>(
         &self,
         alloc: Global,
@@ -322,6 +559,7 @@ impl<'src, 'run> Evaluator<'src, 'run> {
     }
 
     // The value of a command expression: what the host answers, or in a dry run its text in backticks.
+    #[inline(never)]
     fn evaluate_backtick<H: Host>(
         &self,
         alloc: Global,
@@ -335,19 +573,15 @@ impl<'src, 'run> Evaluator<'src, 'run> {
             let text = in_backticks(alloc, contents)?;
             return Ok(Value::from_string(alloc, text)?);
         }
-        let working_directory = self.context.working_directory(alloc)?;
-        let question = CommandQuestion {
-            command: contents,
-            arguments: None,
-            env: &self.env,
-            scope: &self.scope,
-            config: self.context.config,
-            dotenv: self.context.dotenv,
-            settings: &self.context.module.settings,
-            unexports: &self.context.module.unexports,
-            working_directory: &working_directory,
-        };
-        match host.command(alloc, &question) {
+        match ask_command(
+            alloc,
+            host,
+            &self.context,
+            &self.env,
+            &self.scope,
+            contents,
+            None,
+        ) {
             Ok(text) => Ok(Value::from_string(alloc, text)?),
             Err(fault) => Err(backtick_error(token, fault)),
         }

@@ -2,4 +2,5 @@
 #![tactic(auto)]
 
 pub mod evaluator;
+mod form;
 mod message;

@@ -1,9 +1,9 @@
 -- What is asked of a host, as a tree: a question has a branch for each answer.
-use Rattle.std.specs.Prelude.{◌≡◌, ℕ, List, [], ◌∷◌}
+use Rattle.std.specs.Prelude.{◌≡◌, ℕ, List, [], ◌∷◌, ◌⊎◌}
 use Rattle.just_syntax.specs.Plain.{Text, Token}
-use Rattle.just_value.specs.Refusal.{Refusal}
+use Rattle.just_value.specs.Refusal.{Refusal, NoMemory}
 use Rattle.just_value.specs.Outcome.{Outcome, Gave, Refused, Stopped, UnlessStopped}
-use Rattle.just_host.specs.Question.{Question, Answer}
+use Rattle.just_host.specs.Question.{Question, Answer, Failed}
 
 -- what evaluation reaches: a variable is read, a call is entered, a command stands there, also in a dry run
 pub data Note : Type 0 where
@@ -61,3 +61,7 @@ pub record Runs {S A : Type 0} (step : S → Question → Answer → S → Type 
 pub record GoesByAnswers {S : Type 0} (step : S → Question → Answer → S → Type 0) (old new : S) : Type 0 where
   pub events : List Event
   pub chain : Chain step old events new
+
+-- The question and its answer lead the host from old to new; or memory was refused before it was asked, and the answer says so.
+abbrev pub AsksOnce : {S : Type 0} → (S → Question → Answer → S → Type 0) → S → Question → Answer → S → Type 0
+AsksOnce step old q a new = step old q a new ⊎ ((a ≡ Failed NoMemory) × (old ≡ new))

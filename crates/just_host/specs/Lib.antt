@@ -5,3 +5,4 @@ pub mod Fixed
 pub mod Question
 pub mod Interaction
 pub mod View
+pub mod MapHost

@@ -1,8 +1,10 @@
 -- What a host is asked, and what it may answer.
-use Rattle.std.specs.Prelude.{List, Option}
+use Rattle.std.specs.Prelude.{◌≡◌, ℕ, Bool, List, [], Option, ◌⊎◌}
 use Rattle.just_syntax.specs.Plain.{Text}
 use Rattle.just_value.specs.Frames.{Frames}
-use Rattle.just_value.specs.Refusal.{Fault}
+use Rattle.just_value.specs.Refusal.{Fault, NoMemory}
+use Rattle.just_host.specs.declared.directory_kind.DirectoryKind.{DirectoryKind}
+use Rattle.just_host.specs.declared.number_question.NumberQuestion.{NumberQuestion}
 use Rattle.just_host.specs.Settings.{Config, Settings}
 use Rattle.just_host.specs.Fixed.{Fixed, working_directory}
 
@@ -17,18 +19,43 @@ pub record BlindCommand : Type 0 where
   pub unexports : List Text
   pub working_directory : Text
 
+-- A question that a text answers. `Which` has a name and a directory.
+pub data TextQuestion : Type 0 where
+  Variable : Text → TextQuestion
+  Directory : DirectoryKind → TextQuestion
+  Canonicalize : Text → TextQuestion
+  Read : Text → TextQuestion
+  Which : Text → Text → TextQuestion
+  Executable : TextQuestion
+  Arch : TextQuestion
+  Os : TextQuestion
+  OsFamily : TextQuestion
+
 -- a question, but for the frames that it shows
 pub data Blind : Type 0 where
   CommandOf : BlindCommand → Blind
+  TextOf : TextQuestion → Blind
+  ExistsAt : Text → Blind
+  NumberOf : NumberQuestion → Blind
 
 -- a question, and the frames that it shows, innermost first
 pub record Question : Type 0 where
   pub blind : Blind
   pub shown : Frames
 
+-- An answer: a text; why there is none, want of memory too; that there is nothing; what is no text, in a readable form;
+-- whether something is there; a number.
 pub data Answer : Type 0 where
   Replied : Text → Answer
   Failed : Fault → Answer
+  Absent : Answer
+  NotText : Text → Answer
+  Found : Bool → Answer
+  Numbered : ℕ → Answer
+
+-- the answer is the one that is wanted, or want of memory
+abbrev pub UnlessNoMemory : Answer → Answer → Type 0
+UnlessNoMemory a wanted = (a ≡ wanted) ⊎ (a ≡ Failed NoMemory)
 
 -- a command in a context, with this environment and these arguments, and these frames shown
 abbrev pub command_question : Fixed → List (Text × Text) → Frames → Text → Option (List Text) → Question
@@ -45,3 +72,7 @@ command_question f environment shown command arguments = record {
   });
   shown = shown;
 }
+
+-- any other question shows no frames
+abbrev pub frameless : Blind → Question
+frameless q = record { blind = q; shown = [] }

@@ -1,5 +1,5 @@
 -- How the program was called, and what a module sets.
-use Rattle.std.specs.Prelude.{ℕ, Bool, List, Option}
+use Rattle.std.specs.Prelude.{ℕ, Bool, false, List, [], ◌∷◌, Option, Some, None, unwrap_or, codes}
 use Rattle.just_syntax.specs.Plain.{Text, Interpreter}
 use Rattle.just_syntax.specs.declared.indentation.Indentation.{Indentation}
 use Rattle.just_value.specs.Value.{Value}
@@ -42,3 +42,51 @@ pub record Settings : Type 0 where
   pub windows_powershell : Bool
   pub windows_shell : Option Interpreter
   pub working_directory : Option Text
+
+-- what a module sets that sets nothing
+abbrev pub unset : Settings
+unset = record {
+  allow_duplicate_recipes = false;
+  allow_duplicate_variables = false;
+  default_list = false;
+  default_script = false;
+  dotenv_command = [];
+  dotenv_filename = [];
+  dotenv_load = false;
+  dotenv_override = false;
+  dotenv_path = [];
+  dotenv_required = false;
+  export = false;
+  fallback = false;
+  guards = false;
+  ignore_comments = false;
+  indentation = None;
+  lazy = false;
+  lists = false;
+  no_cd = false;
+  no_exit_message = false;
+  positional_arguments = false;
+  quiet = false;
+  script_interpreter = None;
+  shell = None;
+  tempdir = None;
+  unstable = false;
+  windows_powershell = false;
+  windows_shell = None;
+  working_directory = None;
+}
+
+abbrev pub default_shell : Text
+default_shell = codes "sh"
+
+abbrev pub default_shell_arguments : List Text
+default_shell_arguments = codes "-cu" ∷ []
+
+-- The command and the arguments that the program was called with, the one that is missing being the default; where it
+-- was called with neither, the shell that the module sets; else the default one.
+abbrev pub chosen : Option Text → Option (List Text) → Option Interpreter → Interpreter
+chosen None None (Some shell) = shell
+chosen command arguments _ = record { command = unwrap_or command default_shell; arguments = unwrap_or arguments default_shell_arguments }
+
+abbrev pub shell_of : Settings → Config → Interpreter
+shell_of s c = chosen c.shell c.shell_args s.shell

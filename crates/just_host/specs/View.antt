@@ -1,19 +1,28 @@
 -- What contexts, questions and answers are as plain data.
-use Rattle.std.specs.Prelude.{List, map, string_bytes, Result, Ok, Err}
+use Rattle.std.specs.Prelude.{ℕ, Bool, List, map, string_bytes, Result, Ok, Err, Vec}
+use Rattle.std.specs.Borrow.{Bor}
 use Rattle.std.specs.Option.{option_map}
 use Rattle.std.specs.BTreeMap.{BTreeMap}
 use Rattle.std.specs.declared.string.String.{String}
-use Rattle.just_syntax.specs.Plain.{Text}
+use Rattle.just_syntax.specs.Plain.{Text, Interpreter}
+use Rattle.just_syntax.specs.declared.out_of_memory.OutOfMemory.{OutOfMemory}
 use Rattle.just_syntax.specs.View.{interpreter_view}
+use Rattle.just_value.specs.Refusal.{Message, NoMemory}
 use Rattle.just_value.specs.View.{frames_view, fault_view}
 use Rattle.just_value.specs.declared.error.CommandFault.{CommandFault}
 use Rattle.just_host.specs.declared.config.Config.{Config}
 use Rattle.just_host.specs.declared.settings.Settings.{Settings}
 use Rattle.just_host.specs.declared.execution_context.ExecutionContext.{ExecutionContext}
 use Rattle.just_host.specs.declared.command_question.CommandQuestion.{CommandQuestion}
+use Rattle.just_host.specs.declared.number_question.NumberQuestion.{NumberQuestion}
+use Rattle.just_host.specs.declared.text_answer.TextAnswer.{TextAnswer}
+use Rattle.just_host.specs.declared.text_answer.TextAnswer.TheVariants as answers
+use Rattle.just_host.specs.declared.text_question.TextQuestion.{TextQuestion}
+use Rattle.just_host.specs.declared.text_question.TextQuestion.TheVariants as texts
 use Rattle.just_host.specs.Settings as plain
+use Rattle.just_host.specs.Question as questions
 use Rattle.just_host.specs.Fixed.{Fixed}
-use Rattle.just_host.specs.Question.{Question, CommandOf, Answer, Replied, Failed}
+use Rattle.just_host.specs.Question.{Question, CommandOf, TextOf, ExistsAt, NumberOf, frameless, Answer, Replied, Failed, Absent, NotText, Found, Numbered}
 
 -- a map of texts: its pairs, by rising key
 abbrev pub pairs_view : {A B : Type 0} → BTreeMap (String A) (String B) → List (Text × Text)
@@ -21,6 +30,10 @@ pairs_view m = map (λ e. (string_bytes e.0, string_bytes e.1)) m.entries
 
 abbrev pub config_view : Config → plain.Config
 config_view c = record { dry_run = c.dry_run; invocation_directory = string_bytes c.invocation_directory; jobs = c.jobs; quiet = c.quiet; shell = option_map string_bytes c.shell; shell_args = option_map (λ words. map string_bytes words.items) c.shell_args; shell_command = c.shell_command }
+
+-- a shell and its arguments, lent
+abbrev pub shell_view : {A : Type 0} → Bor Text × Vec (Bor Text) A → Interpreter
+shell_view shell = record { command = shell.0.now; arguments = map (λ word. word.now) shell.1.items }
 
 abbrev pub settings_view : Settings → plain.Settings
 settings_view s = record {
@@ -87,3 +100,41 @@ question_view q = record {
 abbrev pub replied : {A : Type 0} → Result (String A) CommandFault → Answer
 replied (Ok text) = Replied (string_bytes text)
 replied (Err fault) = Failed (fault_view fault)
+
+abbrev pub text_question_view : TextQuestion → questions.TextQuestion
+text_question_view (texts.Variable key) = questions.Variable key.now
+text_question_view (texts.Directory kind) = questions.Directory kind
+text_question_view (texts.Canonicalize path) = questions.Canonicalize path.now
+text_question_view (texts.Read path) = questions.Read path.now
+text_question_view (texts.Which name directory) = questions.Which name.now directory.now
+text_question_view texts.Executable = questions.Executable
+text_question_view texts.Arch = questions.Arch
+text_question_view texts.Os = questions.Os
+text_question_view texts.OsFamily = questions.OsFamily
+
+abbrev pub text_question : TextQuestion → Question
+text_question q = frameless (TextOf (text_question_view q))
+
+abbrev pub text_replied : TextAnswer → Answer
+text_replied (answers.Text text) = Replied (string_bytes text)
+text_replied answers.Absent = Absent
+text_replied (answers.NotText text) = NotText (string_bytes text)
+text_replied (answers.Fault text) = Failed (Message (string_bytes text))
+text_replied answers.OutOfMemory = Failed NoMemory
+
+-- whether something stands at a path
+abbrev pub existence_question : Text → Question
+existence_question path = frameless (ExistsAt path)
+
+-- whether it is there, or want of memory, as an answer
+abbrev pub found : Result Bool OutOfMemory → Answer
+found (Ok there) = Found there
+found (Err e) = Failed NoMemory
+
+abbrev pub number_question : NumberQuestion → Question
+number_question q = frameless (NumberOf q)
+
+-- a number, or want of memory, as an answer
+abbrev pub numbered : Result ℕ OutOfMemory → Answer
+numbered (Ok n) = Numbered n
+numbered (Err e) = Failed NoMemory

@@ -1,20 +1,37 @@
 // Whoever answers the questions of evaluation.
 
-ghost use Rattle.just_host.specs.Question.{Question, Answer};
-ghost use Rattle.just_host.specs.View.{question_view, replied};
+ghost use Rattle.just_host.specs.Question.{Answer, Question};
+ghost use Rattle.just_host.specs.View.{existence_question, found, number_question, numbered, question_view, replied, text_question, text_replied};
 
 use crate::command_question::CommandQuestion;
+use crate::number_question::NumberQuestion;
+use crate::text_answer::TextAnswer;
+use crate::text_question::TextQuestion;
+use just_syntax::out_of_memory::OutOfMemory;
 use just_value::error::CommandFault;
 use std::alloc::Global;
 
 /// Whoever answers the questions of evaluation.
 ///
 /// `step` tells which answers a host may give: from a state, a question may get an answer and leave the host
-/// in another state. It sees plain texts and numbers, and of a question's scope its frames, innermost first.
+/// in another state. It sees plain texts and numbers, and of a command's scope its frames, innermost first.
+/// Each call is one step. A host that has no memory for an answer says so by the answer.
 pub trait Host {
     ghost step: { Self → Question → Answer → Self → Type 0 };
 
     /// Runs a command and gives what it wrote, which is taken as it stands, or why there is no text.
     fn command(&mut self, alloc: Global, question: &CommandQuestion) -> Result<String, CommandFault>
         ensures { step self.old (question_view question.now) (replied result) self.new };
+
+    /// Gives the text that a question is for, or why there is none.
+    fn text(&mut self, alloc: Global, question: TextQuestion) -> TextAnswer
+        ensures { step self.old (text_question question.entry) (text_replied result) self.new };
+
+    /// Tells whether something stands at a path. What cannot be found out is not there.
+    fn exists(&mut self, alloc: Global, path: &str) -> Result<bool, OutOfMemory>
+        ensures { step self.old (existence_question path.now) (found result) self.new };
+
+    /// Gives the number that a question is for.
+    fn number(&mut self, alloc: Global, question: NumberQuestion) -> Result<u64, OutOfMemory>
+        ensures { step self.old (number_question question) (numbered result) self.new };
 }

@@ -1,5 +1,7 @@
 // Modules.
 
+ghost use Rattle.std.specs.Prelude.{◌≡◌};
+
 use crate::settings::Settings;
 use just_syntax::assignment::Assignment;
 use just_syntax::function_definition::FunctionDefinition;
@@ -22,4 +24,13 @@ pub struct Justfile<'src> {
     /// The variables of the environment that commands do not see.
     pub unexports: Vec<String>,
     pub working_directory: String,
+}
+
+impl Justfile<'_> {
+    /// Whether it is a module within another.
+    pub fn is_submodule(&self) -> bool
+        ensures { result ≡ self.now.submodule }
+    {
+        self.submodule
+    }
 }

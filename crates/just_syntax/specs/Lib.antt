@@ -4,4 +4,6 @@ pub mod ParameterKind
 pub mod StringContext
 pub mod Enclosure
 pub mod Keyed
+pub mod Printed
+pub mod Unindented
 pub mod View

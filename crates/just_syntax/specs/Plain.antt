@@ -1,5 +1,6 @@
 -- Plain syntax: texts are their bytes, and nothing has a place in memory.
 use Rattle.std.specs.Prelude.{ℕ, Bool, List, Option}
+use Rattle.just_syntax.specs.declared.conditional_operator.ConditionalOperator.{ConditionalOperator}
 use Rattle.just_syntax.specs.declared.parameter_kind.ParameterKind.{ParameterKind}
 
 abbrev pub Text : Type 0
@@ -19,13 +20,39 @@ pub record Literal : Type 0 where
   pub indented : Bool
 
 -- An expression. A name is its token.
-pub data Expr : Type 0 where
-  And : Expr → Expr → Expr
-  Backtick : Text → Token → Expr
-  Concatenation : Expr → Token → Expr → Expr
-  Or : Expr → Expr → Expr
-  StringLiteral : Literal → Expr
-  Variable : Token → Option ℕ → Expr
+mutual
+  pub data Expr : Type 0 where
+    And : Expr → Expr → Expr
+    Assert : Expr → Expr → Token → Expr
+    -- without a message
+    AssertOnly : Expr → Token → Expr
+    Backtick : Text → Token → Expr
+    Comparison : Expr → ConditionalOperator → Expr → Token → Expr
+    Concatenation : Expr → Token → Expr → Expr
+    Conditional : Expr → Expr → Expr → Expr
+    -- without the other branch
+    ConditionalOnly : Expr → Expr → Expr
+    FormatString : Literal → Pieces → Expr
+    Group : Expr → Expr
+    Join : Expr → Token → Expr → Expr
+    -- without a left side
+    JoinOnly : Token → Expr → Expr
+    ListOf : Exprs → Token → Expr
+    ListConcatenation : Expr → Token → Expr → Expr
+    Not : Expr → Expr
+    Or : Expr → Expr → Expr
+    StringLiteral : Literal → Expr
+    Variable : Token → Option ℕ → Expr
+
+  -- expressions, one after another
+  pub data Exprs : Type 0 where
+    Nil : Exprs
+    Cons : Expr → Exprs → Exprs
+
+  -- interpolations, each with the text behind it
+  pub data Pieces : Type 0 where
+    NoPiece : Pieces
+    Piece : Expr → Literal → Pieces → Pieces
 
 -- a variable, and the expression that gives its value
 pub record Assignment : Type 0 where

@@ -1,7 +1,7 @@
 // Commands with their first arguments.
 
 /// A command and the arguments that come before all others.
-#[derive(Debug, Drop)]
+#[derive(Debug, Drop, PartialEq, Eq)]
 pub struct Interpreter<T> {
     pub arguments: Vec<T>,
     pub command: T,

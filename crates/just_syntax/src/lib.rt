@@ -4,6 +4,7 @@
 pub mod assignment;
 pub mod attribute;
 pub mod attribute_set;
+pub mod conditional_operator;
 pub mod enclosure;
 pub mod expression;
 pub mod function_definition;
@@ -17,9 +18,11 @@ pub mod numerator;
 pub mod out_of_memory;
 pub mod parameter;
 pub mod parameter_kind;
+mod printed;
 pub mod string_context;
 pub mod string_literal;
 pub mod table;
 #[cfg(test)]
 mod tests;
 pub mod token;
+pub mod unindent;

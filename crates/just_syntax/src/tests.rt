@@ -10,6 +10,7 @@ use crate::parameter_kind::ParameterKind;
 use crate::string_context::StringContext;
 use crate::table::Table;
 use crate::token::Token;
+use crate::unindent::unindent;
 use std::test::Fail;
 
 #[derive(Drop)]
@@ -122,6 +123,24 @@ fn enclosures_and_parameter_kinds(rt: HostRuntime) -> Result<(), Fail> {
         (ParameterKind::Star, true),
     ] {
         assert_eq!(rt; kind.is_variadic(), variadic);
+    }
+    Ok(())
+}
+
+#[test]
+fn unindented(rt: HostRuntime) -> Result<(), Fail> {
+    let alloc = rt.alloc();
+    for (text, expected) in [
+        ("", ""),
+        ("  a", "a"),
+        ("a\n  b", "a\n  b"),
+        ("\n  a\n    b\n", "a\n  b\n"),
+        ("\n  a\n  ", "a\n"),
+        ("\t a\n\t b", "a\nb"),
+        ("  a\n   \n  b\n", "a\n\nb\n"),
+    ] {
+        let unindented = unindent(alloc, text)?;
+        assert_eq!(rt; unindented.as_str(), expected, "{text}");
     }
     Ok(())
 }

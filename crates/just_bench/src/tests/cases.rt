@@ -107,7 +107,23 @@ fn bad_lines(rt: HostRuntime) {
         ("runs", "bad line 1\n"),
         ("run\r", "bad line 1\n"),
         (" run", "bad line 1\n"),
-        ("list 0\nrun", "bad line 1\n"),
+        ("call f 0\nrun", "bad line 1\n"),
+        ("const", "bad line 1\n"),
+        ("list 0\nrun", "bad line 2\n"),
+        ("str a\nlist 2", "bad line 2\n"),
+        ("list 1001", "bad line 1\n"),
+        ("str a\nstr b\nif", "bad line 3\n"),
+        ("group", "bad line 1\n"),
+        ("str a\nassertm", "bad line 2\n"),
+        ("always x\nrun", "bad line 1\n"),
+        ("limit 0", "bad line 1\n"),
+        ("limit 1001", "bad line 1\n"),
+        ("limit", "bad line 1\n"),
+        ("lists x", "bad line 1\n"),
+        ("dotenv\nrun", "bad line 1\n"),
+        ("order a  b", "bad line 1\n"),
+        ("order a ", "bad line 1\n"),
+        ("only 1", "bad line 1\n"),
     ] {
         answers(&rt, rt.alloc(), case.as_bytes(), answer, 1);
     }
@@ -159,4 +175,96 @@ fn stored_case_cut(rt: HostRuntime) -> Result<(), Fail> {
         1,
     );
     Ok(())
+}
+
+const ORDERED: &str =
+    "str x\nassign a\ncmd c\nalways y\nassign b\nvar a\nvar b\nadd\nassign d\norder b a d\n";
+
+// Orders, references, answers that stay, dry runs, and lines of which the last counts.
+#[test]
+fn settings_of_a_run(rt: HostRuntime) -> Result<(), Fail> {
+    let alloc = rt.alloc();
+    for (tail, answer) in [
+        ("", "? command \"c\"\na = \"x\"\nb = \"y\"\nd = \"xy\"\n"),
+        ("only a\n", "a = \"x\"\n"),
+        ("only a b d\nonly a\n", "a = \"x\"\n"),
+        ("only\n", ""),
+        ("order\n", ""),
+        ("order d\norder b a d\nonly a\n", "a = \"x\"\n"),
+        (
+            "dotenv N t\ndotenv N\nlimit 1\nlimit 1000\nonly a\n",
+            "a = \"x\"\n",
+        ),
+    ] {
+        let case = format!(in alloc; "{ORDERED}{tail}run\n")?;
+        answers(&rt, alloc, case.as_bytes(), answer, 0);
+    }
+    answers(
+        &rt,
+        alloc,
+        b"cmd ls\nassign a\ndry\nrun",
+        "a = \"`ls`\"\n",
+        0,
+    );
+    answers(
+        &rt,
+        alloc,
+        b"str x\nassign a\norder z\nrun",
+        "refused 6 Internal \"unknown assignment `z`\"\n",
+        2,
+    );
+    Ok(())
+}
+
+// The forms of expressions.
+#[test]
+fn forms(rt: HostRuntime) {
+    for (case, answer) in [
+        (
+            "str a\nstr a\neq\nstr y\ncmd boom\nif\nassign a\nrun",
+            "a = \"y\"\n",
+        ),
+        ("str a\nassert\nassign x\nrun", "x = \"\"\n"),
+        ("str a\nassert\nassign x\nlists\nrun", "x = \"a\"\n"),
+        ("list 0\nnot\nassign x\nrun", "x = \"true\"\n"),
+        ("str a\nroot\nroot\nassign x\nrun", "x = \"//a\"\n"),
+        ("str a\nstr b\njoin\nassign x\nrun", "x = \"a/b\"\n"),
+        ("str a\ngroup\nassign x\nrun", "x = \"a\"\n"),
+        ("str a\nstr b\ncat\nassign x\nrun", "x = [\"a\", \"b\"]\n"),
+        (
+            "str a\nstr b\nlist 2\nassign x\nrun",
+            "x = [\"a\", \"b\"]\n",
+        ),
+    ] {
+        answers(&rt, rt.alloc(), case.as_bytes(), answer, 0);
+    }
+}
+
+// Forms that are refused.
+#[test]
+fn refused_forms(rt: HostRuntime) {
+    for (case, answer) in [
+        (
+            "str a\nstr b\neq\nstr c\nwhen\nstr d\nadd\nassign a\nrun",
+            "refused 10 ListOperation [] + \"d\"\n",
+        ),
+        (
+            "str a\nstr a\nne\nassert\nassign x\nrun",
+            "refused 1 Assert \"`'a' != 'a'`\"\n",
+        ),
+        (
+            "str a\nstr b\neq\ncmd m\nassertm\nassign x\nreply no\nrun",
+            "? command \"m\"\nrefused 1 Assert \"no\"\n",
+        ),
+        (
+            "str a\ncmd q\nmatch\nassign x\nrun",
+            "refused 8 LeftOutRegex\n",
+        ),
+        (
+            "str a\ncmd q\nmismatch\nassign x\nrun",
+            "refused 8 LeftOutRegex\n",
+        ),
+    ] {
+        answers(&rt, rt.alloc(), case.as_bytes(), answer, 2);
+    }
 }

@@ -3,21 +3,30 @@
 use crate::case::{Case, build};
 use crate::context::{case_config, case_module, case_search};
 use crate::line::parse_lines;
+use crate::print::print_bindings;
 use crate::program::evaluate_in;
+use crate::token::{name, token};
 use just_eval::evaluator::Evaluator;
 use just_host::command_question::CommandQuestion;
 use just_host::host::Host;
+use just_host::number_question::NumberQuestion;
+use just_host::text_answer::TextAnswer;
+use just_host::text_question::TextQuestion;
+use just_syntax::assignment::Assignment;
 use just_syntax::attribute_set::AttributeSet;
+use just_syntax::expression::Expression;
 use just_syntax::name::Name;
 use just_syntax::number::Number;
 use just_syntax::out_of_memory::OutOfMemory;
+use just_syntax::string_literal::StringLiteral;
+use just_syntax::table::Table;
 use just_syntax::token::Token;
 use just_value::binding::Binding;
 use just_value::error::CommandFault;
 use just_value::scope::Scope;
 use just_value::value::Value;
 use std::alloc::Global;
-use std::collections::BTreeMap;
+use std::collections::{BTreeMap, HashMap};
 use std::process::Abort;
 use std::test::Fail;
 
@@ -39,6 +48,21 @@ impl Host for CountingHost {
     ) -> Result<String, CommandFault> {
         self.asked = self.asked.saturating_add(1);
         Ok(String::new(alloc))
+    }
+
+    fn text(&mut self, _alloc: Global, _question: TextQuestion) -> TextAnswer {
+        self.asked = self.asked.saturating_add(1);
+        TextAnswer::Absent
+    }
+
+    fn exists(&mut self, _alloc: Global, _path: &str) -> Result<bool, OutOfMemory> {
+        self.asked = self.asked.saturating_add(1);
+        Ok(false)
+    }
+
+    fn number(&mut self, _alloc: Global, _question: NumberQuestion) -> Result<u64, OutOfMemory> {
+        self.asked = self.asked.saturating_add(1);
+        Ok(0)
     }
 }
 
@@ -136,8 +160,8 @@ fn keeps_the_outer_value<'src>(
     case: Case<'src>,
     parent: &Scope<'src, '_>,
 ) -> Result<(), Fail> {
-    let module = case_module(alloc, case.assignments, case.evaluation_order)?;
-    let config = case_config(alloc)?;
+    let module = case_module(alloc, case.assignments, case.evaluation_order, false)?;
+    let config = case_config(alloc, false)?;
     let search = case_search(alloc)?;
     let dotenv = BTreeMap::new(alloc);
     let mut host = CountingHost { asked: 0 };
@@ -160,5 +184,92 @@ fn keeps_the_outer_value<'src>(
     assert_eq!(rt; scope.bindings().count(), 0);
     let value = scope.value(Number::new(0)).ok_or("no value")?;
     assert_eq!(rt; format!(in alloc; "{value}")?.as_str(), "\"o\"");
+    Ok(())
+}
+
+// A literal, as it is written between apostrophes.
+fn literal(
+    alloc: Global,
+    text: &str,
+    lexeme: &'static str,
+) -> Result<StringLiteral<'static>, Fail> {
+    Ok(StringLiteral {
+        cooked: String::from_str(alloc, text)?,
+        lexeme,
+        indented: false,
+    })
+}
+
+// The format string of start `<`, the list of `a` and `b`, and the text `>` behind it.
+fn format_string(alloc: Global) -> Result<Expression<'static>, Fail> {
+    let elements = vec![in alloc;
+        Expression::StringLiteral {
+            string_literal: literal(alloc, "a", "'a'")?
+        },
+        Expression::StringLiteral {
+            string_literal: literal(alloc, "b", "'b'")?
+        },
+    ]?;
+    let list = Expression::List {
+        elements,
+        token: token("["),
+    };
+    let expressions = vec![in alloc; (list, literal(alloc, ">", "}}>'")?)]?;
+    Ok(Expression::FormatString {
+        start: literal(alloc, "<", "f'<{{")?,
+        expressions,
+    })
+}
+
+// A table of `x`, whose number is 1, with an expression.
+fn one_assignment(
+    alloc: Global,
+    value: Expression<'static>,
+) -> Result<Table<Assignment<'static>>, Fail> {
+    let mut assignments = Table::new(alloc);
+    assignments.insert(Assignment {
+        eager: false,
+        export: false,
+        name: name("x"),
+        number: Number::new(1),
+        private: false,
+        value,
+    })?;
+    Ok(assignments)
+}
+
+#[test]
+fn format_strings(rt: HostRuntime) -> Result<(), Fail> {
+    let alloc = rt.alloc();
+    let assignments = one_assignment(alloc, format_string(alloc)?)?;
+    let parent = Scope::root(alloc, &[])?;
+    prints(&rt, alloc, assignments, &parent, "x = \"<a b>\"\n")
+}
+
+// The assignments of a module of `x` ask nothing, and these bindings are printed of them.
+fn prints<'src>(
+    rt: &impl Abort,
+    alloc: Global,
+    assignments: Table<Assignment<'src>>,
+    parent: &Scope<'src, '_>,
+    bindings: &str,
+) -> Result<(), Fail> {
+    let order = vec![in alloc; name("x")]?;
+    let module = case_module(alloc, assignments, order, false)?;
+    let config = case_config(alloc, false)?;
+    let search = case_search(alloc)?;
+    let dotenv = BTreeMap::new(alloc);
+    let overrides = HashMap::new(alloc);
+    let mut host = CountingHost { asked: 0 };
+    let outcome = Evaluator::evaluate_assignments(
+        alloc, &mut host, &config, &dotenv, &module, &overrides, parent, &search, 100, None,
+    );
+    assert_eq!(rt; host.asked, 0);
+    let Ok(scope) = outcome else {
+        return Err("a refusal")?;
+    };
+    let mut text = String::new(alloc);
+    print_bindings(&mut text, &scope)?;
+    assert_eq!(rt; text.as_str(), bindings);
     Ok(())
 }

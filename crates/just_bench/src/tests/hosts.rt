@@ -1,13 +1,17 @@
 // Hosts that answer by a script, and hosts that record.
 
-use crate::context::{case_config, default_settings};
+use crate::context::case_config;
 use crate::print::print_questions;
 use crate::recording_host::RecordingHost;
 use crate::scripted_host::ScriptedHost;
 use just_host::command_question::CommandQuestion;
 use just_host::config::Config;
+use just_host::directory_kind::DirectoryKind;
 use just_host::host::Host;
+use just_host::number_question::NumberQuestion;
 use just_host::settings::Settings;
+use just_host::text_answer::TextAnswer;
+use just_host::text_question::TextQuestion;
 use just_syntax::out_of_memory::OutOfMemory;
 use just_value::error::CommandFault;
 use just_value::scope::Scope;
@@ -26,9 +30,9 @@ struct Asking {
 impl Asking {
     fn new(alloc: Global) -> Result<Asking, OutOfMemory> {
         Ok(Asking {
-            config: case_config(alloc)?,
+            config: case_config(alloc, false)?,
             env: BTreeMap::new(alloc),
-            settings: default_settings(alloc),
+            settings: Settings::new(alloc),
         })
     }
 
@@ -56,12 +60,31 @@ impl Asking {
     }
 }
 
-// A script of a text and a status.
+// A script of a text and a status, two commands that are always answered, and some other answers.
 fn script(alloc: Global) -> Result<ScriptedHost, Fail> {
     let mut replies = Vec::new(alloc);
     replies.push(Ok(String::from_str(alloc, "x")?))?;
     replies.push(Err(CommandFault::Code(3)))?;
-    Ok(ScriptedHost::new(replies))
+    let always = vec![in alloc;
+        (
+            String::from_str(alloc, "ls")?,
+            String::from_str(alloc, "old")?
+        ),
+        (
+            String::from_str(alloc, "pwd")?,
+            String::from_str(alloc, "/work")?
+        ),
+        (
+            String::from_str(alloc, "ls")?,
+            String::from_str(alloc, "new")?
+        ),
+    ]?;
+    let mut texts = Vec::new(alloc);
+    texts.push(TextAnswer::Text(String::from_str(alloc, "t")?))?;
+    texts.push(TextAnswer::OutOfMemory)?;
+    let exists = vec![in alloc; true]?;
+    let numbers = vec![in alloc; 7u64]?;
+    Ok(ScriptedHost::new(always, replies, texts, exists, numbers))
 }
 
 #[test]
@@ -70,15 +93,68 @@ fn script_in_order(rt: HostRuntime) -> Result<(), Fail> {
     let scope = Scope::root(alloc, &[])?;
     let asking = Asking::new(alloc)?;
     let mut host = script(alloc)?;
-    for expected in [
-        "Ok(\"x\")",
-        "Err(Code(3))",
-        "Err(Fault(\"no reply\"))",
-        "Err(Fault(\"no reply\"))",
+    for (command, expected) in [
+        ("c", "Ok(\"x\")"),
+        ("ls", "Ok(\"new\")"),
+        ("c", "Err(Code(3))"),
+        ("pwd", "Ok(\"/work\")"),
+        ("c", "Err(Fault(\"no reply\"))"),
+        ("c", "Err(Fault(\"no reply\"))"),
+        ("ls", "Ok(\"new\")"),
     ] {
-        let answer = asking.ask(alloc, &mut host, &scope, "c", None);
+        let answer = asking.ask(alloc, &mut host, &scope, command, None);
         assert_eq!(rt; format!(in alloc; "{answer:?}")?.as_str(), expected);
     }
+    Ok(())
+}
+
+#[test]
+fn other_answers_in_order(rt: HostRuntime) -> Result<(), Fail> {
+    let alloc = rt.alloc();
+    let mut host = script(alloc)?;
+    for expected in ["Text(\"t\")", "OutOfMemory", "Absent", "Absent"] {
+        let answer = host.text(alloc, TextQuestion::Os);
+        assert_eq!(rt; format!(in alloc; "{answer:?}")?.as_str(), expected);
+    }
+    for expected in [true, false, false] {
+        assert_eq!(rt; host.exists(alloc, "p")?, expected);
+    }
+    for expected in [7, 0, 0] {
+        assert_eq!(rt; host.number(alloc, NumberQuestion::Cpus)?, expected);
+    }
+    Ok(())
+}
+
+#[test]
+fn prints_each_kind_of_question(rt: HostRuntime) -> Result<(), Fail> {
+    let alloc = rt.alloc();
+    let mut host = RecordingHost::new(alloc, script(alloc)?);
+    for question in [
+        TextQuestion::Variable("K\t"),
+        TextQuestion::Directory(DirectoryKind::ConfigLocal),
+        TextQuestion::Directory(DirectoryKind::Home),
+        TextQuestion::Canonicalize("c"),
+        TextQuestion::Read("r"),
+        TextQuestion::Which {
+            name: "n",
+            working_directory: "/work",
+        },
+        TextQuestion::Executable,
+        TextQuestion::Arch,
+        TextQuestion::Os,
+        TextQuestion::OsFamily,
+    ] {
+        host.text(alloc, question);
+    }
+    host.exists(alloc, "p")?;
+    host.number(alloc, NumberQuestion::ProcessId)?;
+    host.number(alloc, NumberQuestion::Cpus)?;
+    let mut text = String::new(alloc);
+    print_questions(&mut text, host.questions())?;
+    assert_eq!(rt;
+        text.as_str(),
+        "? variable \"K\\t\"\n? directory local config\n? directory home\n? canonicalize \"c\"\n? read \"r\"\n? which \"n\"\n? executable\n? arch\n? os\n? os_family\n? exists \"p\"\n? number process_id\n? number cpus\n"
+    );
     Ok(())
 }
 

@@ -1,10 +1,16 @@
-use Rattle.std.proofs.Common.{◌≡◌, true, false}
+use Rattle.std.proofs.Common.{◌≡◌, ◌∙◌, ◌++◌, ◌∷◌, [], true, false, not, ap, sym, refl, string_bytes}
+use Rattle.std.proofs.lemmas.List.{append_assoc, append-nil, drop_all}
 use Rattle.std.proofs.lemmas.Result.{err_from_is_err_and}
-use Rattle.just_value.specs.Value.{is_truthy}
-use Rattle.just_eval.proofs.Runs.{runs_done, runs_else, runs_exit, runs_gives, runs_on, runs_when}
+use Rattle.just_syntax.specs.View.{literal_view}
+use Rattle.just_value.specs.Value.{from_condition, is_truthy, joined}
+use Rattle.just_value.specs.Outcome.{Gave, Stopped}
+use Rattle.just_eval.specs.Meaning.{flatten, formatted, is_regex, unindented_if}
+use Rattle.just_eval.specs.View.{situation}
+use Rattle.just_eval.proofs.Rows.{behind_same, format_string_is, list_is, pieces_end, pieces_next, pieces_stop, runs_made, values_end, values_next, values_stop}
+use Rattle.just_eval.proofs.Runs.{runs_done, runs_else, runs_exit, runs_gives, runs_on, runs_stopped, runs_when}
 use Rattle.just_eval.proofs.evaluator.Evaluator.+evaluate.Goals as goal
 
--- ---- `lhs && rhs`
+-- ---- `lhs && rhs`, `lhs || rhs`
 
 pub evaluate_and-returns-in_err-value : goal.evaluate_and-returns-in_err-value
 evaluate_and-returns-in_err-value g t c =
@@ -21,8 +27,6 @@ evaluate_and-returns g t c =
     let none : is_truthy c.in_ok-value.value ≡ false = cc in
     rw c.new.ensures (runs_on _ _ c.in_ok-value.ensures (runs_else _ _ _ none (runs_gives _)))
 
--- ---- `lhs || rhs`
-
 pub evaluate_or-returns-in_err-value : goal.evaluate_or-returns-in_err-value
 evaluate_or-returns-in_err-value g t c =
     let p = err_from_is_err_and c.from_residual.result c.from_residual.ensures.1 in
@@ -38,7 +42,70 @@ evaluate_or-returns g t c =
     let none : is_truthy c.in_ok-value.value ≡ false = cc in
     runs_on _ _ c.in_ok-value.ensures (runs_else _ _ _ none c.evaluate_value-else-is_truthy.ensures)
 
--- ---- `lhs + rhs`
+-- ---- `!operand`
+
+pub evaluate_not-returns-in_err-value : goal.evaluate_not-returns-in_err-value
+evaluate_not-returns-in_err-value g t c =
+    let p = err_from_is_err_and c.from_residual.result c.from_residual.ensures.1 in
+    runs_exit _ _ _ _ _ _ p.1 p.2 c.in_err-value.ensures
+
+pub evaluate_not-returns-in_err-from_bool : goal.evaluate_not-returns-in_err-from_bool
+evaluate_not-returns-in_err-from_bool g t c =
+    let p = err_from_is_err_and c.from_residual-in_err-from_bool.result c.from_residual-in_err-from_bool.ensures.1 in
+    rw (p.1, p.2) (runs_on _ _ c.in_ok-value.ensures (runs_stopped _))
+
+pub evaluate_not-returns : goal.evaluate_not-returns
+evaluate_not-returns g t c =
+    runs_on _ _ c.in_ok-value.ensures (runs_done _ _ (ap Gave (c.in_ok-from_bool.ensures ∙ ap (λ b. from_condition (not b)) c.is_truthy.ensures)))
+
+-- ---- comparisons
+
+pub evaluate_comparison-returns-in_err-left : goal.evaluate_comparison-returns-in_err-left
+evaluate_comparison-returns-in_err-left g t c =
+    let p = err_from_is_err_and c.from_residual.result c.from_residual.ensures.1 in
+    let plain : is_regex c.args.operator ≡ false = cc in
+    runs_else _ _ _ plain (runs_exit _ _ _ _ _ _ p.1 p.2 c.in_err-left.ensures)
+
+pub evaluate_comparison-returns-in_err-right : goal.evaluate_comparison-returns-in_err-right
+evaluate_comparison-returns-in_err-right g t c =
+    let p = err_from_is_err_and c.from_residual-in_err-right.result c.from_residual-in_err-right.ensures.1 in
+    let plain : is_regex c.args.operator ≡ false = cc in
+    runs_else _ _ _ plain (runs_on _ _ c.in_ok-left.ensures (runs_exit _ _ _ _ _ _ p.1 p.2 c.in_err-right.ensures))
+
+pub evaluate_comparison-returns-in_err-from_bool : goal.evaluate_comparison-returns-in_err-from_bool
+evaluate_comparison-returns-in_err-from_bool g t c =
+    let p = err_from_is_err_and c.from_residual-in_err-from_bool.result c.from_residual-in_err-from_bool.ensures.1 in
+    let plain : is_regex c.args.operator ≡ false = cc in
+    rw (p.1, p.2) (runs_else _ _ _ plain (runs_on _ _ c.in_ok-left.ensures (runs_on _ _ c.in_ok-right.ensures (runs_stopped _))))
+
+pub evaluate_comparison-returns : goal.evaluate_comparison-returns
+evaluate_comparison-returns g t c =
+    let plain : is_regex c.args.operator ≡ false = cc in
+    runs_else _ _ _ plain (runs_on _ _ c.in_ok-left.ensures (runs_on _ _ c.in_ok-right.ensures (runs_done _ _ (ap Gave (c.in_ok-from_bool.ensures ∙ c.compares.ensures)))))
+
+-- ---- conditionals
+
+pub evaluate_conditional-returns-in_err-value : goal.evaluate_conditional-returns-in_err-value
+evaluate_conditional-returns-in_err-value g t c =
+    let p = err_from_is_err_and c.from_residual.result c.from_residual.ensures.1 in
+    runs_exit _ _ _ _ _ _ p.1 p.2 c.in_err-value.ensures
+
+pub evaluate_conditional-returns-then-is_truthy : goal.evaluate_conditional-returns-then-is_truthy
+evaluate_conditional-returns-then-is_truthy g t c =
+    let some : is_truthy c.in_ok-value.value ≡ true = cc in
+    runs_on _ _ c.in_ok-value.ensures (runs_when _ _ _ some c.evaluate_value-then-is_truthy.ensures)
+
+pub evaluate_conditional-returns-in-Some : goal.evaluate_conditional-returns-in-Some
+evaluate_conditional-returns-in-Some g t c =
+    let none : is_truthy c.in_ok-value.value ≡ false = cc in
+    rw c.in-Some.is (runs_on _ _ c.in_ok-value.ensures (runs_else _ _ _ none c.evaluate_value-in-Some.ensures))
+
+pub evaluate_conditional-returns : goal.evaluate_conditional-returns
+evaluate_conditional-returns g t c =
+    let none : is_truthy c.in_ok-value.value ≡ false = cc in
+    rw (c.in-None.is, c.new.ensures) (runs_on _ _ c.in_ok-value.ensures (runs_else _ _ _ none (runs_gives _)))
+
+-- ---- two values put together
 
 pub evaluate_concatenation-returns-in_err-left : goal.evaluate_concatenation-returns-in_err-left
 evaluate_concatenation-returns-in_err-left g t c =
@@ -51,4 +118,174 @@ evaluate_concatenation-returns-in_err-right g t c =
     runs_on _ _ c.in_ok-left.ensures (runs_exit _ _ _ _ _ _ p.1 p.2 c.in_err-right.ensures)
 
 pub evaluate_concatenation-returns : goal.evaluate_concatenation-returns
-evaluate_concatenation-returns g t c = runs_on _ _ c.in_ok-left.ensures (runs_on _ _ c.in_ok-right.ensures (runs_done _ _ c.apply.ensures))
+evaluate_concatenation-returns g t c =
+    runs_on _ _ c.in_ok-left.ensures (runs_on _ _ c.in_ok-right.ensures (runs_done _ _ c.apply.ensures))
+
+pub evaluate_join-returns-in_err-left : goal.evaluate_join-returns-in_err-left
+evaluate_join-returns-in_err-left g t c =
+    let p = err_from_is_err_and c.from_residual.result c.from_residual.ensures.1 in
+    runs_exit _ _ _ _ _ _ p.1 p.2 c.in_err-left.ensures
+
+pub evaluate_join-returns-in_err-right : goal.evaluate_join-returns-in_err-right
+evaluate_join-returns-in_err-right g t c =
+    let p = err_from_is_err_and c.from_residual-in_err-right.result c.from_residual-in_err-right.ensures.1 in
+    runs_on _ _ c.in_ok-left.ensures (runs_exit _ _ _ _ _ _ p.1 p.2 c.in_err-right.ensures)
+
+pub evaluate_join-returns : goal.evaluate_join-returns
+evaluate_join-returns g t c =
+    runs_on _ _ c.in_ok-left.ensures (runs_on _ _ c.in_ok-right.ensures (runs_done _ _ c.apply.ensures))
+
+pub evaluate_list_concatenation-returns-in_err-left : goal.evaluate_list_concatenation-returns-in_err-left
+evaluate_list_concatenation-returns-in_err-left g t c =
+    let p = err_from_is_err_and c.from_residual.result c.from_residual.ensures.1 in
+    runs_exit _ _ _ _ _ _ p.1 p.2 c.in_err-left.ensures
+
+pub evaluate_list_concatenation-returns-in_err-right : goal.evaluate_list_concatenation-returns-in_err-right
+evaluate_list_concatenation-returns-in_err-right g t c =
+    let p = err_from_is_err_and c.from_residual-in_err-right.result c.from_residual-in_err-right.ensures.1 in
+    runs_on _ _ c.in_ok-left.ensures (runs_exit _ _ _ _ _ _ p.1 p.2 c.in_err-right.ensures)
+
+pub evaluate_list_concatenation-returns-in_err-extended : goal.evaluate_list_concatenation-returns-in_err-extended
+evaluate_list_concatenation-returns-in_err-extended g t c =
+    let p = err_from_is_err_and c.from_residual-in_err-extended.result c.from_residual-in_err-extended.ensures.1 in
+    rw (p.1, p.2) (runs_on _ _ c.in_ok-left.ensures (runs_on _ _ c.in_ok-right.ensures (runs_stopped _)))
+
+pub evaluate_list_concatenation-returns : goal.evaluate_list_concatenation-returns
+evaluate_list_concatenation-returns g t c =
+    runs_on _ _ c.in_ok-left.ensures (runs_on _ _ c.in_ok-right.ensures (runs_done _ _ (ap Gave c.in_ok-extended.ensures)))
+
+-- ---- assertions
+
+pub evaluate_assert-returns-in_err-value : goal.evaluate_assert-returns-in_err-value
+evaluate_assert-returns-in_err-value g t c =
+    let p = err_from_is_err_and c.from_residual.result c.from_residual.ensures.1 in
+    runs_exit _ _ _ _ _ _ p.1 p.2 c.in_err-value.ensures
+
+pub evaluate_assert-returns-in_err-asserted : goal.evaluate_assert-returns-in_err-asserted
+evaluate_assert-returns-in_err-asserted g t c =
+    let p = err_from_is_err_and c.from_residual-in_err-asserted.result c.from_residual-in_err-asserted.ensures.1 in
+    rw (p.1, p.2) (runs_on _ _ c.in_ok-value.ensures (runs_stopped _))
+
+pub evaluate_assert-returns-then-is_truthy : goal.evaluate_assert-returns-then-is_truthy
+evaluate_assert-returns-then-is_truthy g t c =
+    let some : is_truthy c.in_ok-value.value ≡ true = cc in
+    runs_on _ _ c.in_ok-value.ensures (runs_when _ _ _ some (runs_done _ _ (ap Gave c.in_ok-asserted.ensures)))
+
+pub evaluate_assert-returns-in_err-message : goal.evaluate_assert-returns-in_err-message
+evaluate_assert-returns-in_err-message g t c =
+    let p = err_from_is_err_and c.from_residual-in_err-message.result c.from_residual-in_err-message.ensures.1 in
+    let none : is_truthy c.in_ok-value.value ≡ false = cc in
+    runs_on _ _ c.in_ok-value.ensures (runs_else _ _ _ none (runs_exit _ _ _ _ _ _ p.1 p.2 c.in_err-message.ensures))
+
+pub evaluate_assert-returns : goal.evaluate_assert-returns
+evaluate_assert-returns g t c =
+    let none : is_truthy c.in_ok-value.value ≡ false = cc in
+    runs_on _ _ c.in_ok-value.ensures (runs_else _ _ _ none (runs_on _ _ c.in_ok-message.ensures (runs_done _ _ refl)))
+
+pub assertion_message-returns-in_err-value-in-Some : goal.assertion_message-returns-in_err-value-in-Some
+assertion_message-returns-in_err-value-in-Some g t c =
+    let p = err_from_is_err_and c.from_residual.result c.from_residual.ensures.1 in
+    rw c.in-Some.is (runs_exit _ _ _ _ _ _ p.1 p.2 c.in_err-value-in-Some.ensures)
+
+pub assertion_message-returns-in_err-join-in-Some : goal.assertion_message-returns-in_err-join-in-Some
+assertion_message-returns-in_err-join-in-Some g t c =
+    let p = err_from_is_err_and c.from_residual-in_err-join-in-Some.result c.from_residual-in_err-join-in-Some.ensures.1 in
+    rw (p.1, p.2, c.in-Some.is) (runs_on _ _ c.in_ok-value-in-Some.ensures (runs_stopped _))
+
+pub assertion_message-returns-in_ok-join-in-Some : goal.assertion_message-returns-in_ok-join-in-Some
+assertion_message-returns-in_ok-join-in-Some g t c =
+    rw c.in-Some.is (runs_on _ _ c.in_ok-value-in-Some.ensures (runs_done _ _ (ap Gave c.in_ok-join-in-Some.ensures)))
+
+-- ---- lists
+
+pub evaluate_value-returns-in-List : goal.evaluate_value-returns-in-List
+evaluate_value-returns-in-List g t c =
+    rw (c.in-List.is, list_is, ← c.deref-in-List.ensures.value) c.evaluate_list.ensures
+
+pub evaluate_list-loop-element-init : goal.evaluate_list-loop-element-init
+evaluate_list-loop-element-init g t c =
+    λ o new r. rw c.new-all.ensures (runs_made _ flatten o r)
+
+pub evaluate_list-returns-in_err-value : goal.evaluate_list-returns-in_err-value
+evaluate_list-returns-in_err-value g t c =
+    let p = err_from_is_err_and c.from_residual.result c.from_residual.ensures.1 in
+    rw (p.1, p.2) (values_end _ _ (situation c.args.self.now) _ _ _ _ c.args.elements.now c.loop-element.element-index c.element-item.result c.loop-element-test.true c.element-item.is c.loop-element.invariant _ c.in_err-value.ensures)
+
+pub evaluate_list-returns-in_err-all : goal.evaluate_list-returns-in_err-all
+evaluate_list-returns-in_err-all g t c =
+    let p = err_from_is_err_and c.from_residual-in_err-all.result c.from_residual-in_err-all.ensures.1 in
+    rw (p.1, p.2) (values_stop _ _ (situation c.args.self.now) _ _ _ _ c.args.elements.now c.loop-element.element-index c.element-item.result c.loop-element-test.true c.element-item.is c.loop-element.invariant _ c.in_ok-value.ensures)
+
+pub evaluate_list-loop-element-preserved : goal.evaluate_list-loop-element-preserved
+evaluate_list-loop-element-preserved g t c =
+    λ o new r. rw c.in_ok-all.ensures
+    (rw (← behind_same (λ vs. c.loop-element.all ++ (c.in_ok-value.value ++ flatten vs)) (λ vs. (c.loop-element.all ++ c.in_ok-value.value) ++ flatten vs) (λ vs. sym (append_assoc c.loop-element.all c.in_ok-value.value (flatten vs))) o)
+    (values_next _ _ (situation c.args.self.now) _ _ _ _ c.args.elements.now c.loop-element.element-index c.element-item.result c.loop-element-test.true c.element-item.is c.loop-element.invariant _ c.in_ok-value.ensures o new r))
+
+pub evaluate_list-returns : goal.evaluate_list-returns
+evaluate_list-returns g t c =
+    rw (← append-nil c.loop-element.all)
+    (c.loop-element.invariant (Gave []) c.loop-element.host (rw (drop_all c.loop-element.element-index c.args.elements.now c.loop-element-test.false) (runs_gives [])))
+
+-- ---- format strings
+
+pub evaluate_value-returns-in-FormatString : goal.evaluate_value-returns-in-FormatString
+evaluate_value-returns-in-FormatString g t c =
+    rw (c.in-FormatString.is, format_string_is, ← c.deref-in-FormatString.ensures.value) c.evaluate_format_string.ensures
+
+pub evaluate_format_string-returns-in_err-text : goal.evaluate_format_string-returns-in_err-text
+evaluate_format_string-returns-in_err-text g t c =
+    let p = err_from_is_err_and c.from_residual.result c.from_residual.ensures.1 in
+    rw (p.1, p.2) (runs_stopped _)
+
+pub evaluate_format_string-loop-expression-init : goal.evaluate_format_string-loop-expression-init
+evaluate_format_string-loop-expression-init g t c =
+    ([], c.in_ok-text.ensures.ok ∙ c.deref.ensures ∙ sym (append-nil _), λ o new r. runs_made _ (λ text. formatted (literal_view c.args.start.now) text ∷ []) o r)
+
+pub evaluate_format_string-returns-in_err-value : goal.evaluate_format_string-returns-in_err-value
+evaluate_format_string-returns-in_err-value g t c =
+    let p = err_from_is_err_and c.from_residual-in_err-value.result c.from_residual-in_err-value.ensures.1 in
+    rw (p.1, p.2) (pieces_end _ _ (situation c.args.self.now) _ _ _ _ c.args.expressions.now c.loop-expression.expression-index c.loop-expression-item.result c.loop-expression-test.true c.loop-expression-item.is c.loop-expression.invariant.2 _ c.in_err-value.ensures)
+
+pub evaluate_format_string-returns-in_err-join : goal.evaluate_format_string-returns-in_err-join
+evaluate_format_string-returns-in_err-join g t c =
+    let p = err_from_is_err_and c.from_residual-in_err-join.result c.from_residual-in_err-join.ensures.1 in
+    rw (p.1, p.2) (pieces_stop _ _ (situation c.args.self.now) _ _ _ _ c.args.expressions.now c.loop-expression.expression-index c.loop-expression-item.result c.loop-expression-test.true c.loop-expression-item.is c.loop-expression.invariant.2 _ c.in_ok-value.ensures)
+
+pub evaluate_format_string-returns-in_err-push_str : goal.evaluate_format_string-returns-in_err-push_str
+evaluate_format_string-returns-in_err-push_str g t c =
+    let p = err_from_is_err_and c.from_residual-in_err-push_str.result c.from_residual-in_err-push_str.ensures.1 in
+    rw (p.1, p.2) (pieces_stop _ _ (situation c.args.self.now) _ _ _ _ c.args.expressions.now c.loop-expression.expression-index c.loop-expression-item.result c.loop-expression-test.true c.loop-expression-item.is c.loop-expression.invariant.2 _ c.in_ok-value.ensures)
+
+pub evaluate_format_string-returns-in_err-push_str-2 : goal.evaluate_format_string-returns-in_err-push_str-2
+evaluate_format_string-returns-in_err-push_str-2 g t c =
+    let p = err_from_is_err_and c.from_residual-in_err-push_str-2.result c.from_residual-in_err-push_str-2.ensures.1 in
+    rw (p.1, p.2) (pieces_stop _ _ (situation c.args.self.now) _ _ _ _ c.args.expressions.now c.loop-expression.expression-index c.loop-expression-item.result c.loop-expression-test.true c.loop-expression-item.is c.loop-expression.invariant.2 _ c.in_ok-value.ensures)
+
+pub evaluate_format_string-loop-expression-preserved : goal.evaluate_format_string-loop-expression-preserved
+evaluate_format_string-loop-expression-preserved g t c =
+    let made = c.loop-expression.invariant.0 in
+    let text = joined c.in_ok-value.value ++ string_bytes c.loop-expression-item.result.1.cooked in (
+      made ++ text,
+      rw (c.in_ok-push_str-2.ensures.bytes, c.in_ok-push_str.ensures.bytes, c.loop-expression.invariant.1, c.deref-in-loop-expression.ensures, c.deref-in-loop-expression-2.ensures, c.in_ok-join.ensures) (simp append_assoc),
+      λ o new r.
+          rw (← behind_same (λ rest. formatted (literal_view c.args.start.now) (made ++ (text ++ rest)) ∷ []) (λ rest. formatted (literal_view c.args.start.now) ((made ++ text) ++ rest) ∷ []) (λ rest. ap (λ t. formatted (literal_view c.args.start.now) t ∷ []) (sym (append_assoc made text rest))) o)
+          (pieces_next _ _ (situation c.args.self.now) _ _ _ _ c.args.expressions.now c.loop-expression.expression-index c.loop-expression-item.result c.loop-expression-test.true c.loop-expression-item.is c.loop-expression.invariant.2 _ c.in_ok-value.ensures o new r),
+    )
+
+pub evaluate_format_string-returns-in_err-text-2 : goal.evaluate_format_string-returns-in_err-text-2
+evaluate_format_string-returns-in_err-text-2 g t c =
+    let p = err_from_is_err_and c.from_residual-in_err-text-2.result c.from_residual-in_err-text-2.ensures.1 in
+    rw (p.1, p.2) (c.loop-expression.invariant.2 Stopped _ (runs_stopped _))
+
+pub evaluate_format_string-returns-in_err-from_string : goal.evaluate_format_string-returns-in_err-from_string
+evaluate_format_string-returns-in_err-from_string g t c =
+    let p = err_from_is_err_and c.from_residual-in_err-from_string.result c.from_residual-in_err-from_string.ensures.1 in
+    rw (p.1, p.2) (c.loop-expression.invariant.2 Stopped _ (runs_stopped _))
+
+pub evaluate_format_string-returns : goal.evaluate_format_string-returns
+evaluate_format_string-returns g t c =
+    let made = c.loop-expression.invariant.0 in
+    let all = ap (λ m. formatted (literal_view c.args.start.now) m ∷ []) (append-nil made) ∙ ap (λ text. unindented_if c.args.start.now.indented text ∷ []) (sym c.loop-expression.invariant.1) in
+    rw (c.in_ok-from_string.ensures, c.in_ok-text-2.ensures, ← all)
+    (c.loop-expression.invariant.2 (Gave []) c.loop-expression.host (rw (drop_all c.loop-expression.expression-index c.args.expressions.now c.loop-expression-test.false) (runs_gives [])))

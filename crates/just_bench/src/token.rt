@@ -1,0 +1,46 @@
+// The tokens of a case.
+
+ghost use Rattle.std.specs.Prelude.{◌≡◌, IfOk, map};
+ghost use Rattle.just_syntax.specs.View.{name_view, token_view};
+ghost use Rattle.just_bench.specs.Case.{token_of};
+
+use just_syntax::name::Name;
+use just_syntax::out_of_memory::OutOfMemory;
+use just_syntax::token::Token;
+use std::alloc::Global;
+
+/// A token of a case: all of them stand at the start of one file.
+pub(crate) fn token(lexeme: &str) -> Token<'_>
+    ensures { token_view result ≡ token_of lexeme.now }
+{
+    Token {
+        column: 0,
+        line: 0,
+        offset: 0,
+        lexeme,
+        path: "justfile",
+    }
+}
+
+/// A name of a case.
+pub(crate) fn name(lexeme: &str) -> Name<'_>
+    ensures { name_view result ≡ token_of lexeme.now }
+{
+    Name {
+        token: token(lexeme),
+    }
+}
+
+/// Names of a case, in their order.
+pub(crate) fn names<'src>(
+    alloc: Global,
+    lexemes: &[&'src str],
+) -> Result<Vec<Name<'src>>, OutOfMemory>
+    ensures { IfOk result (λ names. map name_view names.items ≡ map token_of (map (λ lexeme. lexeme.now) lexemes.now)) }
+{
+    let mut names = Vec::with_capacity(alloc, lexemes.len())?;
+    for lexeme in lexemes {
+        names.push(name(lexeme))?;
+    }
+    Ok(names)
+}

@@ -1,0 +1,142 @@
+-- Expressions whose parts are no boxes, and values one after another.
+use Rattle.std.proofs.Common.{◌≡◌, ℕ, suc, ◌+◌, ◌<◌, List, [], ◌∷◌, ◌++◌, length, get_or, drop, add-one, drop-cons, refl, ap, sym, ◌∙◌, subst, rules, Option, Some, None, Box, Global}
+use Rattle.std.specs.Option.{option_map}
+use Rattle.just_syntax.specs.declared.expression.Expression.{Expression, Row_of-Expression, end_of-Expression, more_of-Expression, items-the_row-Expression, Row_of-Expression-FormatString-1-2, items-the_row-Expression-FormatString-1-2, end_of-Expression-FormatString-1-2, more_of-Expression-FormatString-1-2}
+use Rattle.just_syntax.specs.declared.expression.Expression.TheViews.{the_lemmas}
+use Rattle.just_syntax.specs.declared.expression.Expression.TheViews as expressions
+use Rattle.just_syntax.specs.declared.string_literal.StringLiteral.{StringLiteral as Written}
+use Rattle.just_syntax.specs.Plain.{Text, Cons, Piece, ListOf, FormatString}
+use Rattle.just_syntax.specs.View.{name_view, token_view, literal_view, view, views, row_view, piece_views, pieces_view}
+use Rattle.just_syntax.specs.declared.list_operator.ListOperator.TheVariants.{Join}
+use Rattle.just_value.specs.Value.{Value, joined}
+use Rattle.just_value.specs.Refusal.{Refusal}
+use Rattle.just_value.specs.Outcome.{Outcome, Gave, Refused, Stopped, without_value}
+use Rattle.just_host.specs.Question.{Question, Answer}
+use Rattle.just_host.specs.Interaction.{Tree, bind, gives, Runs}
+use Rattle.just_eval.specs.Meaning.{Context, Situation, Deeper, assertion, branch, choice, combination, eval, eval_all, eval_pieces, flatten, formatted, left_side, assertion_text}
+use Rattle.just_eval.proofs.Runs.{runs_on, runs_ends, runs_stopped, runs_gives, path_refused, path_stopped}
+
+row_items : {n : _} (row : Row_of-Expression n) → row_view row ≡ views (items-the_row-Expression n row)
+row_items end_of-Expression = refl
+row_items (more_of-Expression e rest) = ap (Cons (view e)) (row_items rest)
+
+piece_items : {n : _} (row : Row_of-Expression-FormatString-1-2 n) → pieces_view row ≡ piece_views (items-the_row-Expression-FormatString-1-2 n row)
+piece_items end_of-Expression-FormatString-1-2 = refl
+piece_items (more_of-Expression-FormatString-1-2 e literal rest) = ap (Piece (view e) (literal_view literal)) (piece_items rest)
+
+view_list : (es : _) (t : _) → view (expressions.List es t) ≡ ListOf (views es.items) (token_view t)
+view_list es t = search (rules, the_lemmas, row_items)
+
+view_format_string : (start : _) (es : _) → view (expressions.FormatString start es) ≡ FormatString (literal_view start) (piece_views es.items)
+view_format_string start es = search (rules, the_lemmas, piece_items)
+
+-- what is left begins with the item
+views_front : (es : List Expression) (i : ℕ) (e : Expression) → i < length es → e ≡ get_or es i e → views (drop i es) ≡ Cons (view e) (views (drop (i + 1) es))
+views_front es i e h is = ap views (drop-cons es i e h) ∙ ap (λ x. Cons (view x) (views (drop (suc i) es))) (sym is) ∙ ap (λ j. Cons (view e) (views (drop j es))) (sym (add-one i))
+
+pieces_front : (ps : List (Expression × Written)) (i : ℕ) (p : Expression × Written) → i < length ps → p ≡ get_or ps i p → piece_views (drop i ps) ≡ Piece (view p.0) (literal_view p.1) (piece_views (drop (i + 1) ps))
+pieces_front ps i p h is = ap piece_views (drop-cons ps i p h) ∙ ap (λ x. Piece (view x.0) (literal_view x.1) (piece_views (drop (suc i) ps))) (sym is) ∙ ap (λ j. Piece (view p.0) (literal_view p.1) (piece_views (drop j ps))) (sym (add-one i))
+
+module _ (c : Context) (d : Deeper) (s : Situation) where
+  pub list_is : (es : _) (t : _) → eval c d s (view (expressions.List es t)) ≡ bind (eval_all c d s (views es.items)) (λ vs. gives (flatten vs))
+  list_is es t = ap (eval c d s) (view_list es t)
+
+  pub format_string_is : (start : _) (es : _) → eval c d s (view (expressions.FormatString start es)) ≡ bind (eval_pieces c d s (piece_views es.items)) (λ text. gives (formatted (literal_view start) text ∷ []))
+  format_string_is start es = ap (eval c d s) (view_format_string start es)
+
+  pub assert_is : (e : Box Expression Global) (m : Option (Box Expression Global)) (name : _) → eval c d s (view (expressions.Assert e m name)) ≡ assertion s.lists (name_view name) (eval c d s (view e.value)) (assertion_text c d s (view e.value) (option_map (λ b. view b.value) m))
+  assert_is e None name = refl
+  assert_is e (Some m) name = refl
+
+  pub conditional_is : (e a : Box Expression Global) (b : Option (Box Expression Global)) → eval c d s (view (expressions.Conditional e a b)) ≡ choice (eval c d s (view e.value)) (eval c d s (view a.value)) (branch c d s (option_map (λ b. view b.value) b))
+  conditional_is e a None = refl
+  conditional_is e a (Some b) = refl
+
+  pub join_is : (l : Option (Box Expression Global)) (t : _) (r : Box Expression Global) → eval c d s (view (expressions.Join l t r)) ≡ combination Join (left_side c d s (option_map (λ b. view b.value) l)) (token_view t) (eval c d s (view r.value))
+  join_is None t r = refl
+  join_is (Some l) t r = refl
+
+-- ---- values, one after another
+
+-- what is done so far is f, and the rest is put behind it
+abbrev pub behind : {A B : Type 0} → (A → B) → Outcome A → Outcome B
+behind f (Gave a) = Gave (f a)
+behind f (Refused r) = Refused r
+behind f Stopped = Stopped
+
+behind_ended : {A B : Type 0} (f : A → B) (e : Option Refusal) → behind f (without_value e) ≡ without_value e
+behind_ended f (Some r) = refl
+behind_ended f None = refl
+
+pub behind_same : {A B : Type 0} (f g : A → B) → ((a : A) → f a ≡ g a) → (o : Outcome A) → behind f o ≡ behind g o
+behind_same f g h (Gave a) = ap Gave (h a)
+behind_same f g h (Refused r) = refl
+behind_same f g h Stopped = refl
+
+module _ {S : Type 0} {step : S → Question → Answer → S → Type 0} where
+  -- what is made of a value
+  pub runs_made : {A B : Type 0} {old new : S} (t : Tree A) (f : A → B) (o : Outcome A) → Runs step old t o new → Runs step old (bind t (λ a. gives (f a))) (behind f o) new
+  runs_made t f (Gave a) r = runs_on t (λ a. gives (f a)) r (runs_gives (f a))
+  runs_made t f (Refused s) r = record { events = r.events; path = path_refused t (λ a. gives (f a)) r.events s r.path; chain = r.chain }
+  runs_made t f Stopped r = record { events = r.events; path = path_stopped t (λ a. gives (f a)) r.events r.path; chain = r.chain }
+
+  -- a value, and then the rest, of which f makes one
+  runs_more : {A B : Type 0} {old mid new : S} (first : Tree Value) (rest : Tree A) (v : Value) (f : Value → A → B) (o : Outcome A) → Runs step old first (Gave v) mid → Runs step mid rest o new
+      → Runs step old (bind first (λ v. bind rest (λ a. gives (f v a)))) (behind (f v) o) new
+  runs_more first rest v f (Gave a) r q = runs_on first _ r (runs_on rest (λ a. gives (f v a)) q (runs_gives (f v a)))
+  runs_more first rest v f (Refused s) r q = runs_on first _ r (record { events = q.events; path = path_refused rest (λ a. gives (f v a)) q.events s q.path; chain = q.chain })
+  runs_more first rest v f Stopped r q = runs_on first _ r (record { events = q.events; path = path_stopped rest (λ a. gives (f v a)) q.events q.path; chain = q.chain })
+
+  module _ (c : Context) (d : Deeper) (s : Situation) {B : Type 0} (whole : Tree B) (start here : S) where
+    -- the values of a list: made so far, and what is left
+    module _ (finish : List Value → B) (es : List Expression) (i : ℕ) (e : Expression) (fits : i < length es) (is : e ≡ get_or es i e)
+        (rest : (o : Outcome (List Value)) (new : S) → Runs step here (eval_all c d s (views (drop i es))) o new → Runs step start whole (behind finish o) new) where
+      front : eval_all c d s (views (drop i es)) ≡ bind (eval c d s (view e)) (λ v. bind (eval_all c d s (views (drop (i + 1) es))) (λ vs. gives (v ∷ vs)))
+      front = ap (eval_all c d s) (views_front es i e fits is)
+
+      twice : (v : Value) (o : Outcome (List Value)) → behind finish (behind (λ vs. v ∷ vs) o) ≡ behind (λ vs. finish (v ∷ vs)) o
+      twice v (Gave vs) = refl
+      twice v (Refused r) = refl
+      twice v Stopped = refl
+
+      pub values_next : {mid : S} (v : Value) → Runs step here (eval c d s (view e)) (Gave v) mid →
+          (o : Outcome (List Value)) (new : S) → Runs step mid (eval_all c d s (views (drop (i + 1) es))) o new → Runs step start whole (behind (λ vs. finish (v ∷ vs)) o) new
+      values_next v r o new q =
+          subst (λ x. Runs step start whole x new) (twice v o)
+          (rest (behind (λ vs. v ∷ vs) o) new (subst (λ t. Runs step here t (behind (λ vs. v ∷ vs) o) new) (sym front) (runs_more _ _ v (λ v vs. v ∷ vs) o r q)))
+
+      -- an expression that ends it
+      pub values_end : {new : S} (err : Option Refusal) → Runs step here (eval c d s (view e)) (without_value err) new → Runs step start whole (without_value err) new
+      values_end {new = new} err r =
+          subst (λ x. Runs step start whole x new) (behind_ended finish err)
+          (rest (without_value err) new (subst (λ t. Runs step here t (without_value err) new) (sym front) (runs_ends _ _ err r)))
+
+      -- memory runs out after a value
+      pub values_stop : {new : S} (v : Value) → Runs step here (eval c d s (view e)) (Gave v) new → Runs step start whole Stopped new
+      values_stop {new = new} v r = rest Stopped new (subst (λ t. Runs step here t Stopped new) (sym front) (runs_on _ _ r (runs_stopped _)))
+
+    -- the interpolations of a format string: what is made so far, and what is left
+    module _ (finish : Text → B) (ps : List (Expression × Written)) (i : ℕ) (p : Expression × Written) (fits : i < length ps) (is : p ≡ get_or ps i p)
+        (rest : (o : Outcome Text) (new : S) → Runs step here (eval_pieces c d s (piece_views (drop i ps))) o new → Runs step start whole (behind finish o) new) where
+      front' : eval_pieces c d s (piece_views (drop i ps)) ≡ bind (eval c d s (view p.0)) (λ v. bind (eval_pieces c d s (piece_views (drop (i + 1) ps))) (λ text. gives ((joined v ++ (literal_view p.1).cooked) ++ text)))
+      front' = ap (eval_pieces c d s) (pieces_front ps i p fits is)
+
+      twice' : (v : Value) (o : Outcome Text) → behind finish (behind (λ text. (joined v ++ (literal_view p.1).cooked) ++ text) o) ≡ behind (λ text. finish ((joined v ++ (literal_view p.1).cooked) ++ text)) o
+      twice' v (Gave text) = refl
+      twice' v (Refused r) = refl
+      twice' v Stopped = refl
+
+      pub pieces_next : {mid : S} (v : Value) → Runs step here (eval c d s (view p.0)) (Gave v) mid →
+          (o : Outcome Text) (new : S) → Runs step mid (eval_pieces c d s (piece_views (drop (i + 1) ps))) o new → Runs step start whole (behind (λ text. finish ((joined v ++ (literal_view p.1).cooked) ++ text)) o) new
+      pieces_next v r o new q =
+          subst (λ x. Runs step start whole x new) (twice' v o)
+          (rest (behind (λ text. (joined v ++ (literal_view p.1).cooked) ++ text) o) new
+          (subst (λ t. Runs step here t (behind (λ text. (joined v ++ (literal_view p.1).cooked) ++ text) o) new) (sym front') (runs_more _ _ v (λ v text. (joined v ++ (literal_view p.1).cooked) ++ text) o r q)))
+
+      pub pieces_end : {new : S} (err : Option Refusal) → Runs step here (eval c d s (view p.0)) (without_value err) new → Runs step start whole (without_value err) new
+      pieces_end {new = new} err r =
+          subst (λ x. Runs step start whole x new) (behind_ended finish err)
+          (rest (without_value err) new (subst (λ t. Runs step here t (without_value err) new) (sym front') (runs_ends _ _ err r)))
+
+      pub pieces_stop : {new : S} (v : Value) → Runs step here (eval c d s (view p.0)) (Gave v) new → Runs step start whole Stopped new
+      pieces_stop {new = new} v r = rest Stopped new (subst (λ t. Runs step here t Stopped new) (sym front') (runs_on _ _ r (runs_stopped _)))

@@ -1,0 +1,67 @@
+// What forms make of the values of their parts.
+
+ghost use Rattle.std.specs.Prelude.{IfOk, [], string_bytes, ◌++◌, ◌∷◌, ◌≡◌};
+ghost use Rattle.just_value.specs.Value.{from_condition};
+ghost use Rattle.just_eval.specs.Meaning.{asserted, compared, is_regex, unindented_if};
+
+use just_syntax::conditional_operator::ConditionalOperator;
+use just_syntax::out_of_memory::OutOfMemory;
+use just_syntax::unindent::unindent;
+use just_value::value::Value;
+use std::alloc::Global;
+
+// The elements of both. Those of the second are moved behind those of the first.
+pub(crate) fn extended(first: Value, second: Value) -> Result<Value, OutOfMemory>
+    ensures { IfOk result (λ v. v ≡ first ++ second) }
+{
+    let mut elements = first.into_elements();
+    let mut others = second.into_elements();
+    elements.append(&mut others)?;
+    Ok(Value::from_elements(elements))
+}
+
+// Whether an operator takes a regular expression.
+pub(crate) fn is_regex(operator: ConditionalOperator) -> bool
+    ensures { result ≡ is_regex operator }
+{
+    match operator {
+        ConditionalOperator::RegexMatch | ConditionalOperator::RegexMismatch => true,
+        ConditionalOperator::Equality | ConditionalOperator::Inequality => false,
+    }
+}
+
+// Whether two values are the same, or differ, as the operator asks.
+pub(crate) fn compares(operator: ConditionalOperator, left: &Value, right: &Value) -> bool
+    ensures { from_condition result ≡ compared operator left.now right.now }
+{
+    match operator {
+        ConditionalOperator::Inequality => *left != *right,
+        _ => *left == *right,
+    }
+}
+
+// What an assertion that holds gives: the condition's value with lists, one empty text without.
+pub(crate) fn asserted(alloc: Global, lists: bool, value: Value) -> Result<Value, OutOfMemory>
+    ensures { IfOk result (λ v. v ≡ asserted lists value) }
+{
+    if lists { Ok(value) } else { empty_text(alloc) }
+}
+
+// One empty text. It is made out of line, so that its frame is no part of a form's.
+#[inline(never)]
+pub(crate) fn empty_text(alloc: Global) -> Result<Value, OutOfMemory>
+    ensures { IfOk result (λ v. v ≡ [] ∷ []) }
+{
+    Value::from_text(alloc, "")
+}
+
+// A format string's text, unindented if its start is.
+pub(crate) fn formatted(alloc: Global, indented: bool, text: String) -> Result<String, OutOfMemory>
+    ensures { IfOk result (λ t. string_bytes t ≡ unindented_if indented (string_bytes text)) }
+{
+    if indented {
+        unindent(alloc, &text)
+    } else {
+        Ok(text)
+    }
+}

@@ -1,0 +1,52 @@
+// Commands asked for in a context.
+
+ghost use Rattle.std.specs.Prelude.{◌≡◌, map, string_bytes, false};
+ghost use Rattle.std.specs.Option.{option_map};
+ghost use Rattle.just_value.specs.View.{frames_view};
+ghost use Rattle.just_host.specs.Interaction.{AsksOnce};
+ghost use Rattle.just_host.specs.Question.{command_question};
+ghost use Rattle.just_host.specs.View.{fixed_view, pairs_view, replied};
+
+use crate::command_question::CommandQuestion;
+use crate::execution_context::ExecutionContext;
+use crate::host::Host;
+use just_value::error::CommandFault;
+use just_value::scope::Scope;
+use std::alloc::Global;
+use std::collections::BTreeMap;
+
+/// Asks a host to run a command in a context, with a recipe's environment, the variables that can be seen, and
+/// the arguments behind the command, where it takes some. The text is what the host answered, as it stands.
+///
+/// # Errors
+///
+/// The host's fault, or want of memory; where memory is refused before the host is asked, it is not asked.
+pub fn ask_command<'src, 'run, H: Host>(
+    alloc: Global,
+    host: &mut H,
+    context: &ExecutionContext<'src, 'run>,
+    env: &BTreeMap<String, String>,
+    scope: &Scope<'src, 'run>,
+    command: &str,
+    arguments: Option<&[String]>,
+) -> Result<String, CommandFault>
+    requires commands_run { context.now.config.now.dry_run ≡ false }
+    ensures asked { let question = command_question (fixed_view context.now) (pairs_view env.now) (frames_view scope.now) command.now (option_map (λ words. map string_bytes words.now) arguments.entry) in
+        AsksOnce H.step host.old question (replied result) host.new }
+{
+    let Ok(working_directory) = context.working_directory(alloc) else {
+        return Err(CommandFault::OutOfMemory);
+    };
+    let question = CommandQuestion {
+        command,
+        arguments,
+        env,
+        scope,
+        config: context.config,
+        dotenv: context.dotenv,
+        settings: &context.module.settings,
+        unexports: &context.module.unexports,
+        working_directory: &working_directory,
+    };
+    host.command(alloc, &question)
+}

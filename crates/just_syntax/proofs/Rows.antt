@@ -1,0 +1,51 @@
+-- Expressions whose parts are no boxes.
+use Rattle.std.proofs.Common.{◌≡◌, ℕ, suc, List, [], ◌++◌, ◌+◌, ◌<◌, length, get_or, drop, add-one, drop-cons, codes, refl, ap, sym, ◌∙◌, rules, Option, Some, None, Box, Global}
+use Rattle.std.specs.Option.{option_map}
+use Rattle.just_syntax.specs.declared.expression.Expression.{Expression, Row_of-Expression, end_of-Expression, more_of-Expression, items-the_row-Expression, Row_of-Expression-FormatString-1-2, items-the_row-Expression-FormatString-1-2, end_of-Expression-FormatString-1-2, more_of-Expression-FormatString-1-2}
+use Rattle.just_syntax.specs.declared.expression.Expression.TheViews.{the_lemmas}
+use Rattle.just_syntax.specs.declared.expression.Expression.TheViews as expressions
+use Rattle.just_syntax.specs.Plain.{Cons, Piece, ListOf, FormatString}
+use Rattle.just_syntax.specs.declared.string_literal.StringLiteral.{StringLiteral as Written}
+use Rattle.just_syntax.specs.Printed.{printed, printed_row, printed_pieces}
+use Rattle.just_syntax.specs.View.{assertion, conditional, join, name_view, token_view, literal_view, view, views, row_view, piece_views, pieces_view}
+
+row_items : {n : _} (row : Row_of-Expression n) → row_view row ≡ views (items-the_row-Expression n row)
+row_items end_of-Expression = refl
+row_items (more_of-Expression e rest) = ap (Cons (view e)) (row_items rest)
+
+view_list : (es : _) (t : _) → view (expressions.List es t) ≡ ListOf (views es.items) (token_view t)
+view_list es t = search (rules, the_lemmas, row_items)
+
+pub view_assert : (e : Box Expression Global) (m : Option (Box Expression Global)) (name : _) → view (expressions.Assert e m name) ≡ assertion (view e.value) (option_map (λ b. view b.value) m) (name_view name)
+view_assert e None name = refl
+view_assert e (Some m) name = refl
+
+pub view_conditional : (e a : Box Expression Global) (b : Option (Box Expression Global)) → view (expressions.Conditional e a b) ≡ conditional (view e.value) (view a.value) (option_map (λ b. view b.value) b)
+view_conditional e a None = refl
+view_conditional e a (Some b) = refl
+
+pub view_join : (l : Option (Box Expression Global)) (t : _) (r : Box Expression Global) → view (expressions.Join l t r) ≡ join (option_map (λ b. view b.value) l) (token_view t) (view r.value)
+view_join None t r = refl
+view_join (Some l) t r = refl
+
+piece_items : {n : _} (row : Row_of-Expression-FormatString-1-2 n) → pieces_view row ≡ piece_views (items-the_row-Expression-FormatString-1-2 n row)
+piece_items end_of-Expression-FormatString-1-2 = refl
+piece_items (more_of-Expression-FormatString-1-2 e literal rest) = ap (Piece (view e) (literal_view literal)) (piece_items rest)
+
+view_format_string : (start : _) (es : _) → view (expressions.FormatString start es) ≡ FormatString (literal_view start) (piece_views es.items)
+view_format_string start es = search (rules, the_lemmas, piece_items)
+
+-- ---- printed
+
+pub printed_list : (es : _) (t : _) → printed (view (expressions.List es t)) ≡ (codes "[" ++ printed_row [] (views es.items)) ++ codes "]"
+printed_list es t = ap printed (view_list es t)
+
+pub printed_format_string : (start : _) (es : _) → printed (view (expressions.FormatString start es)) ≡ start.lexeme.now ++ printed_pieces (piece_views es.items)
+printed_format_string start es = ap printed (view_format_string start es)
+
+-- what is left begins with the item
+pub views_front : (es : List Expression) (i : ℕ) (e : Expression) → i < length es → e ≡ get_or es i e → views (drop i es) ≡ Cons (view e) (views (drop (i + 1) es))
+views_front es i e h is = ap views (drop-cons es i e h) ∙ ap (λ x. Cons (view x) (views (drop (suc i) es))) (sym is) ∙ ap (λ j. Cons (view e) (views (drop j es))) (sym (add-one i))
+
+pub pieces_front : (ps : List (Expression × Written)) (i : ℕ) (p : Expression × Written) → i < length ps → p ≡ get_or ps i p → piece_views (drop i ps) ≡ Piece (view p.0) (literal_view p.1) (piece_views (drop (i + 1) ps))
+pieces_front ps i p h is = ap piece_views (drop-cons ps i p h) ∙ ap (λ x. Piece (view x.0) (literal_view x.1) (piece_views (drop (suc i) ps))) (sym is) ∙ ap (λ j. Piece (view p.0) (literal_view p.1) (piece_views (drop j ps))) (sym (add-one i))

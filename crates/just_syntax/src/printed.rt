@@ -1,0 +1,197 @@
+// How expressions are printed.
+
+ghost use Rattle.std.specs.Prelude.{Some, [], map, ◌++◌, codes};
+ghost use Rattle.std.specs.Option.{option_map};
+ghost use Rattle.std.specs.Fmt.{DisplaysOnOk};
+ghost use Rattle.just_syntax.specs.Printed.{between, printed, printed_assertion, printed_conditional, printed_join, printed_pieces, printed_row};
+ghost use Rattle.just_syntax.specs.View.{piece_views, view, views};
+
+use crate::expression::Expression;
+use crate::string_literal::StringLiteral;
+use std::fmt;
+
+// Prints an expression.
+#[cycle(print)]
+pub(crate) fn print<W: fmt::Write>(
+    expression: &Expression,
+    f: &mut fmt::Formatter<W>,
+) -> fmt::Result
+    ensures { DisplaysOnOk W.write_str_gives f.old result (Some (printed (view expression.now))) f.new }
+{
+    match expression {
+        Expression::And { lhs, rhs } => print_between(lhs, "&&", rhs, f),
+        Expression::Assert {
+            condition,
+            message,
+            name: _,
+        } => print_assert(condition, message.as_deref(), f),
+        Expression::Backtick { contents: _, token } => f.write_str(token.lexeme),
+        Expression::Comparison {
+            lhs,
+            operator,
+            rhs,
+            token: _,
+        } => print_between(lhs, operator.text(), rhs, f),
+        Expression::Concatenation {
+            lhs,
+            operator: _,
+            rhs,
+        } => print_between(lhs, "+", rhs, f),
+        Expression::Conditional {
+            condition,
+            consequence,
+            otherwise,
+        } => print_conditional(condition, consequence, otherwise.as_deref(), f),
+        Expression::FormatString { start, expressions } => {
+            print_format_string(start, expressions, f)
+        }
+        Expression::Group { contents } => print_group(contents, f),
+        Expression::Join {
+            lhs,
+            operator: _,
+            rhs,
+        } => print_join(lhs.as_deref(), rhs, f),
+        Expression::List { elements, token: _ } => print_list(elements, f),
+        Expression::ListConcatenation {
+            lhs,
+            operator: _,
+            rhs,
+        } => print_between(lhs, "++", rhs, f),
+        Expression::Not { operand } => {
+            f.write_str("!")?;
+            print(operand, f)
+        }
+        Expression::Or { lhs, rhs } => print_between(lhs, "||", rhs, f),
+        Expression::StringLiteral { string_literal } => f.write_str(string_literal.lexeme),
+        Expression::Variable { name, number: _ } => f.write_str(name.lexeme()),
+    }
+}
+
+// Prints two expressions with an operator between them.
+#[cycle(print)]
+fn print_between<W: fmt::Write>(
+    lhs: &Expression,
+    operator: &str,
+    rhs: &Expression,
+    f: &mut fmt::Formatter<W>,
+) -> fmt::Result
+    ensures { DisplaysOnOk W.write_str_gives f.old result (Some (between (printed (view lhs.now)) operator.now (printed (view rhs.now)))) f.new }
+{
+    print(lhs, f)?;
+    f.write_str(" ")?;
+    f.write_str(operator)?;
+    f.write_str(" ")?;
+    print(rhs, f)
+}
+
+// Prints an expression behind a text.
+#[cycle(print)]
+fn print_behind<W: fmt::Write>(
+    text: &str,
+    expression: &Expression,
+    f: &mut fmt::Formatter<W>,
+) -> fmt::Result
+    ensures { DisplaysOnOk W.write_str_gives f.old result (Some (text.now ++ printed (view expression.now))) f.new }
+{
+    f.write_str(text)?;
+    print(expression, f)
+}
+
+// Prints an assertion.
+#[cycle(print)]
+fn print_assert<W: fmt::Write>(
+    condition: &Expression,
+    message: Option<&Expression>,
+    f: &mut fmt::Formatter<W>,
+) -> fmt::Result
+    ensures { DisplaysOnOk W.write_str_gives f.old result (Some (printed_assertion (printed (view condition.now)) (option_map (λ e. printed (view e.now)) message.entry))) f.new }
+{
+    f.write_str("assert(")?;
+    print(condition, f)?;
+    if let Some(message) = message {
+        f.write_str(", ")?;
+        print(message, f)?;
+    }
+    f.write_str(")")
+}
+
+// Prints a conditional.
+#[cycle(print)]
+fn print_conditional<W: fmt::Write>(
+    condition: &Expression,
+    consequence: &Expression,
+    otherwise: Option<&Expression>,
+    f: &mut fmt::Formatter<W>,
+) -> fmt::Result
+    ensures { DisplaysOnOk W.write_str_gives f.old result (Some (printed_conditional (printed (view condition.now)) (printed (view consequence.now)) (option_map (λ e. printed (view e.now)) otherwise.entry))) f.new }
+{
+    print_behind("if ", condition, f)?;
+    print_behind(" { ", consequence, f)?;
+    match otherwise {
+        Some(otherwise) => {
+            print_behind(" } else { ", otherwise, f)?;
+            f.write_str(" }")
+        }
+        None => f.write_str(" }"),
+    }
+}
+
+// Prints a group.
+#[cycle(print)]
+fn print_group<W: fmt::Write>(contents: &Expression, f: &mut fmt::Formatter<W>) -> fmt::Result
+    ensures { DisplaysOnOk W.write_str_gives f.old result (Some ((codes "(" ++ printed (view contents.now)) ++ codes ")")) f.new }
+{
+    f.write_str("(")?;
+    print(contents, f)?;
+    f.write_str(")")
+}
+
+// Prints a join, whose left side may be left out.
+#[cycle(print)]
+fn print_join<W: fmt::Write>(
+    lhs: Option<&Expression>,
+    rhs: &Expression,
+    f: &mut fmt::Formatter<W>,
+) -> fmt::Result
+    ensures { DisplaysOnOk W.write_str_gives f.old result (Some (printed_join (option_map (λ e. printed (view e.now)) lhs.entry) (printed (view rhs.now)))) f.new }
+{
+    match lhs {
+        Some(lhs) => print_between(lhs, "/", rhs, f),
+        None => {
+            f.write_str("/ ")?;
+            print(rhs, f)
+        }
+    }
+}
+
+// Prints a list.
+#[cycle(print)]
+fn print_list<W: fmt::Write>(elements: &[Expression], f: &mut fmt::Formatter<W>) -> fmt::Result
+    ensures { DisplaysOnOk W.write_str_gives f.old result (Some ((codes "[" ++ printed_row [] (views elements.now)) ++ codes "]")) f.new }
+{
+    f.write_str("[")?;
+    let mut separator = "";
+    for element in elements {
+        f.write_str(separator)?;
+        print(element, f)?;
+        separator = ", ";
+    }
+    f.write_str("]")
+}
+
+// Prints a format string.
+#[cycle(print)]
+fn print_format_string<W: fmt::Write>(
+    start: &StringLiteral,
+    expressions: &[(Expression, StringLiteral)],
+    f: &mut fmt::Formatter<W>,
+) -> fmt::Result
+    ensures { DisplaysOnOk W.write_str_gives f.old result (Some (start.now.lexeme.now ++ printed_pieces (piece_views expressions.now))) f.new }
+{
+    f.write_str(start.lexeme)?;
+    for (expression, literal) in expressions {
+        print(expression, f)?;
+        f.write_str(literal.lexeme)?;
+    }
+    Ok(())
+}
