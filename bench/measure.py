@@ -40,7 +40,7 @@ def peak_memory(program, case, stack):
     """The most memory that a run takes, in KiB, as GNU time tells it: a child of ours would count our own."""
     with tempfile.NamedTemporaryFile("r") as told:
         Run(["/usr/bin/time", "-o", told.name, "-f", "%M", program], case, stack)
-        return int(told.read())
+        return int(told.read().split()[-1])
 
 
 # --- growth ---
@@ -111,6 +111,27 @@ def always_lines(n):
     return ["cmd c", "assign a"] + ["always y"] * n + ["run"], '? command "c"\na = "y"\n'
 
 
+def recursion(n):
+    """A function that calls itself, until n calls are pending."""
+    return ["call f 0", "fun f", "call f 0", "assign a", f"limit {n}", "run"], "refused 11 RecursionLimit f\n"
+
+
+def functions_in_a_row(n):
+    """n functions, each of which calls the next."""
+    lines = ["str x", "fun f0"]
+    for i in range(1, n):
+        lines += [f"call f{i - 1} 0", f"fun f{i}"]
+    return lines + [f"call f{n - 1} 0", "assign a", "limit 1000", "run"], 'a = "x"\n'
+
+
+def calls_of_one_function(n):
+    """n assignments, each of which calls one function."""
+    lines = ["var p", "fun f p"]
+    for i in range(n):
+        lines += ["str x", "call f 1", f"assign a{i}"]
+    return lines + ["run"], "".join(f'a{i} = "x"\n' for i in range(n))
+
+
 FAMILIES = [
     (chain_of_additions, 2_500),
     (assignments_in_a_row, 4_000),
@@ -120,6 +141,9 @@ FAMILIES = [
     (dotenv_lines, 4_000),
     (order_of_names, 4_000),
     (always_lines, 8_000),
+    (recursion, 112),
+    (functions_in_a_row, 112),
+    (calls_of_one_function, 3_000),
 ]
 
 
@@ -140,10 +164,11 @@ def measure_growth(program):
 
 def measured(program, name, case, answer):
     """Seconds and KiB of a case with a known answer, on a stack of any size."""
+    status = 2 if answer.startswith(b"refused") else 0
     seconds = []
     for _ in range(TRIES):
         run = Run([program], case, resource.RLIM_INFINITY)
-        if run.status != 0 or run.output != answer:
+        if run.status != status or run.output != answer:
             sys.exit(f"{name}: status {run.status}, or a wrong answer")
         seconds.append(run.seconds)
     return min(seconds), peak_memory(program, case, resource.RLIM_INFINITY)
@@ -182,13 +207,18 @@ def only_dropped(lines):
     return lines + ["assign a", "override a 5", "run"]
 
 
+def called_a_thousand_times(lines):
+    """The tower is the body of a function that calls itself at its innermost place, up to the limit."""
+    return ["call f 0"] + lines[1:] + ["fun f", "call f 0", "assign a", "limit 1000", "run"]
+
+
 def ends_by_itself(program, name, lines):
     run = Run([program], ("\n".join(lines) + "\n").encode(), STACK)
     if run.status == 0:
         return True
     if run.status < 0 and -run.status in (signal.SIGSEGV, signal.SIGBUS, signal.SIGABRT):
         return False
-    if run.status == 2 and name.startswith("assert "):
+    if run.status == 2 and (name.startswith("assert ") or run.output == b"refused 11 RecursionLimit f\n"):
         return True
     sys.exit(f"{name}: status {run.status}")
 
@@ -230,11 +260,13 @@ TOWERS = [
 
 def measure_depth(program):
     print(f"depth: how many operators may nest on a stack of {STACK} bytes")
-    for use in [evaluated, only_dropped]:
+    for use in [evaluated, only_dropped, called_a_thousand_times]:
         for word, tower in TOWERS:
             name = f"{word} {tower.__name__}, {use.__name__}"
             depth, is_bounded = deepest(program, name, lambda n: use(tower(n, word)))
             level = f"{STACK // (depth + 1)} bytes a level" if is_bounded else "as many as a case holds"
+            if use is called_a_thousand_times:
+                level = f"{STACK // 1000} bytes a call"
             print(f"{name}: {depth} ({level})")
 
 
@@ -281,6 +313,8 @@ CASES = {
     "assertion": "str a\nstr a\nne\nassert\nassign x\nrun\n",
     "refused": "cmd one\nassign a\nfail 3\nrun\n",
     "unevaluated": "var x\nassign a\nrun\n",
+    "calls": "var n\ncmd c\nadd\nfun f n\nstr x\ncall f 1\nassign a\nstr y\ncall f 1\nassign b\nreply r\nreply s\nrun\n",
+    "limit": "call f 0\nfun f\ncall f 0\nassign a\nlimit 3\nrun\n",
     "bad line": "str a\nassign a\nadd\n",
 }
 

@@ -20,7 +20,9 @@ pub data Line : Type 0 where
   Binary : BinaryOperator → Line
   If : Line
   ListOf : ℕ → Line
+  Call : Text → ℕ → Line
   Assign : Text → Bool → Line
+  Function : Text → Line
   Override : Text → Text → Line
   Dotenv : Text → Text → Line
   Order : Text → Line
@@ -76,6 +78,12 @@ abbrev pub listed : Option (List Text) → Line → Line
 listed None line = Bad
 listed (Some names) line = line
 
+-- a line that has a name, and more of them or none
+abbrev pub led : Option (List Text) → Line → Line
+led None line = Bad
+led (Some []) line = Bad
+led (Some (name ∷ names)) line = line
+
 -- 0 is no limit
 abbrev pub limit : ℕ → Line
 limit zero = Bad
@@ -88,6 +96,7 @@ simple_line word rest =
     if bytes_eq word (codes "assign") then named rest (Assign rest false) else
     if bytes_eq word (codes "export") then named rest (Assign rest true) else
     if bytes_eq word (codes "list") then numbered (number rest) ListOf else
+    if bytes_eq word (codes "call") then named (word_of rest) (numbered (number (rest_of rest)) (Call (word_of rest))) else
     if bytes_eq word (codes "override") then named (word_of rest) (Override (word_of rest) (rest_of rest)) else
     if bytes_eq word (codes "dotenv") then named (word_of rest) (Dotenv (word_of rest) (rest_of rest)) else
     if bytes_eq word (codes "reply") then Reply rest else
@@ -102,6 +111,7 @@ abbrev pub line_of_word : Text → Text → Line
 line_of_word word rest =
     if bytes_eq word (codes "str") then Literal rest (codes "'" ++ rest ++ codes "'") else
     if bytes_eq word (codes "cmd") then Command rest (codes "`" ++ rest ++ codes "`") else
+    if bytes_eq word (codes "fun") then led (names rest) (Function rest) else
     if bytes_eq word (codes "order") then listed (names rest) (Order rest) else
     if bytes_eq word (codes "only") then listed (names rest) (Only rest) else
     simple_line word rest

@@ -16,6 +16,7 @@ use crate::rest::parse_names;
 use crate::stack::Stack;
 use crate::token;
 use just_syntax::assignment::Assignment;
+use just_syntax::function_definition::FunctionDefinition;
 use just_syntax::name::Name;
 use just_syntax::number::Number;
 use just_syntax::out_of_memory::OutOfMemory;
@@ -85,7 +86,9 @@ impl<'src> Builder<'src> {
             Line::Binary(operator) => self.stack.binary(alloc, *operator),
             Line::If => self.stack.conditional(alloc),
             Line::List { count } => self.stack.list(usize::from(*count)),
+            Line::Call { name, count } => self.stack.call(name, usize::from(*count)),
             Line::Assign { name, export } => self.assign(name, *export),
+            Line::Function { names } => self.function(alloc, names),
             _ => self.set(alloc, line),
         }
     }
@@ -154,6 +157,37 @@ impl<'src> Builder<'src> {
         Ok(())
     }
 
+    // Defines a function, of which there is none of this name, with the expression on top as its body.
+    fn function(&mut self, alloc: Global, text: &'src str) -> Result<(), LineError> {
+        let Some(names) = parse_names(alloc, text)? else {
+            return Err(LineError::Bad);
+        };
+        let Some((name, parameters)) = names.split_first() else {
+            return Err(LineError::Bad);
+        };
+        let body = self.stack.pop()?;
+        if self.case.functions.get(*name).is_some() {
+            return Err(LineError::Bad);
+        }
+        let numbers = self.numbers(alloc, parameters)?;
+        let parameters = token::parameters(alloc, parameters, &numbers)?;
+        self.case.functions.insert(FunctionDefinition {
+            body,
+            name: token::name(*name),
+            parameters,
+        })?;
+        Ok(())
+    }
+
+    // The numbers of these names.
+    fn numbers(&mut self, alloc: Global, names: &[&'src str]) -> Result<Vec<Number>, LineError> {
+        let mut numbers = Vec::with_capacity(alloc, names.len())?;
+        for name in names {
+            numbers.push(self.numbering.number_of(name)?)?;
+        }
+        Ok(numbers)
+    }
+
     // Gives a variable's value from outside.
     fn override_with(
         &mut self,
@@ -193,10 +227,7 @@ impl<'src> Builder<'src> {
         let Some(names) = parse_names(alloc, text)? else {
             return Err(LineError::Bad);
         };
-        let mut numbers = Vec::with_capacity(alloc, names.len())?;
-        for name in names {
-            numbers.push(self.numbering.number_of(name)?)?;
-        }
+        let numbers = self.numbers(alloc, &names)?;
         self.case.references = Some(set_of(alloc, &numbers)?);
         Ok(())
     }

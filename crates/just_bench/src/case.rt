@@ -4,6 +4,7 @@ use crate::builder::Builder;
 use crate::line::Line;
 use crate::line_error::LineError;
 use just_syntax::assignment::Assignment;
+use just_syntax::function_definition::FunctionDefinition;
 use just_syntax::name::Name;
 use just_syntax::number::Number;
 use just_syntax::table::Table;
@@ -20,6 +21,7 @@ pub(crate) struct Case<'src> {
     pub(crate) assignments: Table<Assignment<'src>>,
     /// The names of assignments, in the order in which they are evaluated.
     pub(crate) evaluation_order: Vec<Name<'src>>,
+    pub(crate) functions: Table<FunctionDefinition<'src>>,
     pub(crate) overrides: HashMap<Number, String>,
     /// The numbers of the variables that are referenced, where they are told.
     pub(crate) references: Option<HashSet<Number>>,
@@ -40,6 +42,7 @@ impl<'src> Case<'src> {
         Case {
             assignments: Table::new(alloc),
             evaluation_order: Vec::new(alloc),
+            functions: Table::new(alloc),
             overrides: HashMap::new(alloc),
             references: None,
             dotenv: BTreeMap::new(alloc),

@@ -5,6 +5,7 @@ use just_host::justfile::Justfile;
 use just_host::search::Search;
 use just_host::settings::Settings;
 use just_syntax::assignment::Assignment;
+use just_syntax::function_definition::FunctionDefinition;
 use just_syntax::name::Name;
 use just_syntax::out_of_memory::OutOfMemory;
 use just_syntax::table::Table;
@@ -15,11 +16,12 @@ const JUSTFILE: &str = "/work/justfile";
 
 const DIRECTORY: &str = "/work";
 
-/// The module of a case, which sets nothing but lists and has no function.
+/// The module of a case, which sets nothing but lists.
 pub(crate) fn case_module<'src>(
     alloc: Global,
     assignments: Table<Assignment<'src>>,
     evaluation_order: Vec<Name<'src>>,
+    functions: Table<FunctionDefinition<'src>>,
     lists: bool,
 ) -> Result<Justfile<'src>, OutOfMemory> {
     let mut settings = Settings::new(alloc);
@@ -27,7 +29,7 @@ pub(crate) fn case_module<'src>(
     Ok(Justfile {
         assignments,
         evaluation_order,
-        functions: Table::new(alloc),
+        functions,
         module_path: String::new(alloc),
         settings,
         source: String::from_str(alloc, JUSTFILE)?,

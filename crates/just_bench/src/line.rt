@@ -1,8 +1,8 @@
 // The lines of a case, each read by itself.
 
-ghost use Rattle.std.specs.Prelude.{◌≡◌, ◌==◌, IfOk, codes, if◌then◌else◌, length, map, position};
+ghost use Rattle.std.specs.Prelude.{◌≡◌, ◌==◌, Some, IfOk, codes, if◌then◌else◌, length, map, position};
 ghost use Rattle.std.specs.List.{after_first, before_first};
-ghost use Rattle.just_bench.specs.Line.{Assign, Bad, bare_line, is_skipped, line_of, line_of_text, line_of_word, lines_of, named, operator_line, simple_line};
+ghost use Rattle.just_bench.specs.Line.{Assign, Bad, Function, bare_line, is_skipped, led, line_of, line_of_text, line_of_word, lines_of, named, operator_line, simple_line};
 ghost use Rattle.just_bench.specs.View.{line_view};
 
 use crate::operator::{BinaryOperator, UnaryOperator};
@@ -32,8 +32,12 @@ pub(crate) enum Line<'case> {
     If,
     /// `list K`: so many expressions become a list.
     List { count: u16 },
+    /// `call N K`: so many expressions become the arguments of a call.
+    Call { name: &'case str, count: u16 },
     /// `assign N` or `export N`: the expression on top is assigned.
     Assign { name: &'case str, export: bool },
+    /// `fun N P ..`: the expression on top is a function's body.
+    Function { names: &'case str },
     /// `override N T`: a variable's value is given from outside.
     Override { name: &'case str, text: &'case str },
     /// `dotenv N T`: a variable of the dotenv map.
@@ -123,6 +127,10 @@ fn parse_word<'case>(
             text: rest,
             lexeme: format!(in alloc; "`{rest}`")?,
         },
+        "fun" => match parse_names(alloc, rest)? {
+            Some(names) => function_line(rest, &names),
+            None => Line::Bad,
+        },
         "order" => match parse_names(alloc, rest)? {
             Some(_) => Line::Order { names: rest },
             None => Line::Bad,
@@ -135,6 +143,17 @@ fn parse_word<'case>(
     })
 }
 
+// `fun` with what stands behind it, which is these names.
+fn function_line<'case>(rest: &'case str, names: &[&str]) -> Line<'case>
+    ensures { line_view result ≡ led (Some (map (λ name. name.now) names.now)) (Function rest.now) }
+{
+    if names.is_empty() {
+        Line::Bad
+    } else {
+        Line::Function { names: rest }
+    }
+}
+
 // A line that has no literal, no command and no list of names.
 fn simple_line<'case>(word: &str, rest: &'case str) -> Line<'case>
     ensures { line_view result ≡ simple_line word.now rest.now }
@@ -144,6 +163,7 @@ fn simple_line<'case>(word: &str, rest: &'case str) -> Line<'case>
         "assign" => assign_line(rest, false),
         "export" => assign_line(rest, true),
         "list" => list_line(rest),
+        "call" => call_line(rest),
         "override" => override_line(rest),
         "dotenv" => dotenv_line(rest),
         "reply" => Line::Reply { text: rest },
@@ -194,6 +214,17 @@ fn list_line(rest: &str) -> Line<'_>
     match parse_number(rest) {
         Some(count) => Line::List { count },
         None => Line::Bad,
+    }
+}
+
+// `call` with what stands behind it.
+fn call_line(rest: &str) -> Line<'_>
+    ensures { line_view result ≡ simple_line (codes "call") rest.now }
+{
+    let (name, count) = split_word(rest);
+    match parse_number(count) {
+        Some(count) if is_name(name) => Line::Call { name, count },
+        _ => Line::Bad,
     }
 }
 

@@ -11,8 +11,9 @@ use crate::recording_host::RecordingHost;
 use crate::scripted_host::ScriptedHost;
 use crate::stream::{StreamError, read_case, write_text};
 use just_eval::evaluator::Evaluator;
+use just_resolution::resolved::resolved;
 use just_syntax::out_of_memory::OutOfMemory;
-use just_value::error::CommandFault;
+use just_value::error::{CommandFault, Error};
 use just_value::scope::Scope;
 use std::alloc::Global;
 use std::io::{Read, Write};
@@ -74,6 +75,7 @@ pub(crate) fn evaluate_in<'src>(
     let Case {
         assignments,
         evaluation_order,
+        functions,
         overrides,
         references,
         dotenv,
@@ -83,11 +85,14 @@ pub(crate) fn evaluate_in<'src>(
         dry_run,
         recursion_limit,
     } = case;
-    let module = case_module(alloc, assignments, evaluation_order, lists)?;
+    let module = case_module(alloc, assignments, evaluation_order, functions, lists)?;
     let config = case_config(alloc, dry_run)?;
     let search = case_search(alloc)?;
     let script = case_script(alloc, always, replies);
     let mut host = RecordingHost::new(alloc, script);
+    if !resolved(alloc, &module, parent, references.as_ref())? {
+        text.push_str("unresolved\n")?;
+    }
     let outcome = Evaluator::evaluate_assignments(
         alloc,
         &mut host,
@@ -101,13 +106,24 @@ pub(crate) fn evaluate_in<'src>(
         references.as_ref(),
     );
     print_questions(text, host.questions())?;
+    print_outcome(alloc, text, &outcome)
+}
+
+// Adds the bindings or the refusal, and gives the exit status.
+fn print_outcome<'src>(
+    alloc: Global,
+    text: &mut String,
+    outcome: &Result<Scope<'src, '_>, Error<'src>>,
+) -> Result<u8, OutOfMemory>
+    ensures { IfOk result (λ status. status ≤ 2) }
+{
     match outcome {
         Ok(scope) => {
-            print_bindings(text, &scope)?;
+            print_bindings(text, scope)?;
             Ok(0)
         }
         Err(error) => {
-            print_refusal(alloc, text, &error)?;
+            print_refusal(alloc, text, error)?;
             Ok(2)
         }
     }

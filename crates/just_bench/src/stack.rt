@@ -115,14 +115,26 @@ impl<'src> Stack<'src> {
 
     /// Makes a list of so many expressions.
     pub(crate) fn list(&mut self, count: usize) -> Result<(), LineError> {
-        if self.expressions.len() < count {
-            return Err(LineError::Bad);
-        }
-        let elements = self.expressions.split_off(self.expressions.len() - count)?;
+        let elements = self.pop_several(count)?;
         self.push(Expression::List {
             elements,
             token: token("["),
         })
+    }
+
+    /// Makes a call, with so many expressions as its arguments.
+    pub(crate) fn call(&mut self, lexeme: &'src str, count: usize) -> Result<(), LineError> {
+        let arguments = self.pop_several(count)?;
+        let name = name(lexeme);
+        self.push(Expression::Call { arguments, name })
+    }
+
+    // Takes so many expressions from the top, in the order in which they were pushed.
+    fn pop_several(&mut self, count: usize) -> Result<Vec<Expression<'src>>, LineError> {
+        if self.expressions.len() < count {
+            return Err(LineError::Bad);
+        }
+        Ok(self.expressions.split_off(self.expressions.len() - count)?)
     }
 
     // Pushes an expression.

@@ -3,5 +3,6 @@
 mod cases;
 mod evaluations;
 mod fakes;
+mod functions;
 mod hosts;
 mod streams;

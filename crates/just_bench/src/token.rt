@@ -5,6 +5,7 @@ ghost use Rattle.just_syntax.specs.View.{name_view, token_view};
 ghost use Rattle.just_bench.specs.Case.{token_of};
 
 use just_syntax::name::Name;
+use just_syntax::number::Number;
 use just_syntax::out_of_memory::OutOfMemory;
 use just_syntax::token::Token;
 use std::alloc::Global;
@@ -43,4 +44,22 @@ pub(crate) fn names<'src>(
         names.push(name(lexeme))?;
     }
     Ok(names)
+}
+
+/// Parameters of a case: names, each with its number.
+pub(crate) fn parameters<'src>(
+    alloc: Global,
+    lexemes: &[&'src str],
+    numbers: &[Number],
+) -> Result<Vec<(Name<'src>, Number)>, OutOfMemory> {
+    let mut parameters = Vec::with_capacity(alloc, lexemes.len())?;
+    for (lexeme, number) in lexemes.iter().zip(numbers) {
+        parameters.extend_from_slice(&[parameter(lexeme, *number)])?;
+    }
+    Ok(parameters)
+}
+
+// A parameter of a case.
+fn parameter(lexeme: &str, number: Number) -> (Name<'_>, Number) {
+    (name(lexeme), number)
 }

@@ -7,8 +7,8 @@ use Rattle.just_value.specs.Outcome.{Outcome, Gave, Refused, Stopped, UnlessStop
 use Rattle.just_host.specs.Fixed.{Fixed}
 use Rattle.just_host.specs.Question.{Question, Answer, Failed, command_question}
 use Rattle.just_host.specs.Interaction.{Asked, done, ask, AsksOnce, Runs}
-use Rattle.just_eval.specs.Messages.{unevaluated_text}
-use Rattle.just_eval.specs.Meaning.{Situation, variable, command, answered, faulted}
+use Rattle.just_meaning.specs.Messages.{unevaluated_text}
+use Rattle.just_meaning.specs.Meaning.{Situation, variable, command, answered, faulted}
 use Rattle.just_eval.proofs.Runs.{runs_done, runs_gives, runs_note, runs_when, runs_else}
 
 module _ {S : Type 0} {step : S → Question → Answer → S → Type 0} where

@@ -1,8 +1,8 @@
 pub mod Runs
 pub mod Rows
 pub mod Forms
+pub mod Calls
+pub mod Measure
 pub mod Tables
 pub mod Module
-pub mod Lexical
-pub mod Bound
-pub mod Internal
+pub mod InFront

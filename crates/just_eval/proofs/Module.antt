@@ -10,8 +10,11 @@ use Rattle.just_value.specs.Outcome.{Outcome, Gave, Refused, Stopped, without_va
 use Rattle.just_value.specs.View.{ended, refusal}
 use Rattle.just_host.specs.Question.{Question, Answer}
 use Rattle.just_host.specs.Interaction.{Chain, GoesByAnswers, Runs}
-use Rattle.just_eval.specs.Messages.{unknown_assignment_text}
-use Rattle.just_eval.specs.Module.{Module, Closing, Block, IsTaken, Run, Finished, Stops, Unknown, Passes, Skips, Binds, Breaks, Halts, Ran, assigned, assignment_at, bound_of, events_of}
+use Rattle.just_resolution.specs.Assignments.{assignment_at}
+use Rattle.just_resolution.specs.Resolved.{IsResolved}
+use Rattle.just_meaning.specs.Messages.{unknown_assignment_text}
+use Rattle.just_meaning.specs.Module.{Module, Closing, Block, IsTaken, Run, Finished, Stops, Unknown, Passes, Skips, Binds, Breaks, Halts, Ran, assigned, bound_of, by_chain, events_of, lexically}
+use Rattle.just_meaning.proofs.Lexical.{pending_calls_do_not_matter}
 use Rattle.just_eval.proofs.Runs.{chain_append, path_cut}
 
 module _ {closing : Closing} {m : Module} where
@@ -77,14 +80,14 @@ module _ {S : Type 0} {step : S → Question → Answer → S → Type 0} {closi
   -- ---- one name
 
   module _ (frames : Frames) (t : Token) where
-    pub ran_unknown : {h : S} (text : Text) → assignment_at m t.lexeme ≡ None → text ≡ unknown_assignment_text t.lexeme → Ran step h closing m frames (t ∷ []) (Refused (Internal text t)) h
+    pub ran_unknown : {h : S} (text : Text) → assignment_at m.assignments t.lexeme ≡ None → text ≡ unknown_assignment_text t.lexeme → Ran step h closing m frames (t ∷ []) (Refused (Internal text t)) h
     ran_unknown text f is = rw is (record { blocks = []; run = Unknown f; chain = refl })
 
-    module _ (a : Assignment) (found : assignment_at m t.lexeme ≡ Some a) where
-      pub ran_passes : {h : S} → m.referenced a.number ≡ false → Ran step h closing m frames (t ∷ []) (Gave frames) h
+    module _ (a : Assignment) (found : assignment_at m.assignments t.lexeme ≡ Some a) where
+      pub ran_passes : {h : S} → m.assignments.referenced a.number ≡ false → Ran step h closing m frames (t ∷ []) (Gave frames) h
       ran_passes e = record { blocks = []; run = Passes a found e Finished; chain = refl }
 
-      pub ran_skips : {h : S} (b : Bound) → m.referenced a.number ≡ true → innermost a.number frames ≡ Some b → Ran step h closing m frames (t ∷ []) (Gave frames) h
+      pub ran_skips : {h : S} (b : Bound) → m.assignments.referenced a.number ≡ true → innermost a.number frames ≡ Some b → Ran step h closing m frames (t ∷ []) (Gave frames) h
       ran_skips b e f = record { blocks = []; run = Skips a b found e f Finished; chain = refl }
 
     module _ (a : Assignment) (taken : IsTaken m frames t a) where
@@ -125,3 +128,8 @@ module _ {S : Type 0} {step : S → Question → Answer → S → Type 0} {closi
 
     pub ran_last : {old new : S} {frames : Frames} (e : Option Refusal) → Ran step old closing m frames (seen (get_or items i d) ∷ []) (without_value e) new → Ran step old closing m frames (map seen (drop i items)) (without_value e) new
     ran_last {old = old} {new = new} {frames = frames} e r = subst (λ left. Ran step old closing m frames left (without_value e) new) (sym (front seen items i d fits)) (ran_ends (map seen (drop (i + 1) items)) e r)
+
+-- a run of a resolved module by the chain of frames is one by the lexical rules
+pub ran_lexical : {S : Type 0} {step : S → Question → Answer → S → Type 0} {old new : S} (m : Module) (outer : Frames) (o : Outcome Frames) → IsResolved m.context.functions m.assignments outer
+    → Ran step old by_chain m ([] ∷ outer) m.assignments.order o new → Ran step old lexically m ([] ∷ outer) m.assignments.order o new
+ran_lexical m outer o resolved r = record { blocks = r.blocks; run = pending_calls_do_not_matter m outer r.blocks o resolved r.run; chain = r.chain }

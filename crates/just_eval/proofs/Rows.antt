@@ -1,19 +1,18 @@
 -- Expressions whose parts are no boxes, and values one after another.
-use Rattle.std.proofs.Common.{◌≡◌, ℕ, suc, ◌+◌, ◌<◌, List, [], ◌∷◌, ◌++◌, length, get_or, drop, add-one, drop-cons, refl, ap, sym, ◌∙◌, subst, rules, Option, Some, None, Box, Global}
-use Rattle.std.specs.Option.{option_map}
+use Rattle.std.proofs.Common.{◌≡◌, ℕ, suc, ◌+◌, ◌<◌, List, [], ◌∷◌, ◌++◌, length, get_or, drop, add-one, drop-cons, refl, ap, sym, ◌∙◌, subst, rules, Option, Some, None}
 use Rattle.just_syntax.specs.declared.expression.Expression.{Expression, Row_of-Expression, end_of-Expression, more_of-Expression, items-the_row-Expression, Row_of-Expression-FormatString-1-2, items-the_row-Expression-FormatString-1-2, end_of-Expression-FormatString-1-2, more_of-Expression-FormatString-1-2}
 use Rattle.just_syntax.specs.declared.expression.Expression.TheViews.{the_lemmas}
 use Rattle.just_syntax.specs.declared.expression.Expression.TheViews as expressions
 use Rattle.just_syntax.specs.declared.string_literal.StringLiteral.{StringLiteral as Written}
-use Rattle.just_syntax.specs.Plain.{Text, Cons, Piece, ListOf, FormatString}
+use Rattle.just_syntax.specs.Plain.{Text, Call, Cons, Piece, ListOf, FormatString, count}
 use Rattle.just_syntax.specs.View.{name_view, token_view, literal_view, view, views, row_view, piece_views, pieces_view}
-use Rattle.just_syntax.specs.declared.list_operator.ListOperator.TheVariants.{Join}
 use Rattle.just_value.specs.Value.{Value, joined}
 use Rattle.just_value.specs.Refusal.{Refusal}
 use Rattle.just_value.specs.Outcome.{Outcome, Gave, Refused, Stopped, without_value}
 use Rattle.just_host.specs.Question.{Question, Answer}
-use Rattle.just_host.specs.Interaction.{Tree, bind, gives, Runs}
-use Rattle.just_eval.specs.Meaning.{Context, Situation, Deeper, assertion, branch, choice, combination, eval, eval_all, eval_pieces, flatten, formatted, left_side, assertion_text}
+use Rattle.just_host.specs.Interaction.{Entered, Tree, note, bind, gives, Runs}
+use Rattle.just_resolution.specs.Reaches.{function_at}
+use Rattle.just_meaning.specs.Meaning.{Context, Situation, Deeper, called, eval, eval_all, eval_pieces, flatten, formatted}
 use Rattle.just_eval.proofs.Runs.{runs_on, runs_ends, runs_stopped, runs_gives, path_refused, path_stopped}
 
 row_items : {n : _} (row : Row_of-Expression n) → row_view row ≡ views (items-the_row-Expression n row)
@@ -26,6 +25,13 @@ piece_items (more_of-Expression-FormatString-1-2 e literal rest) = ap (Piece (vi
 
 view_list : (es : _) (t : _) → view (expressions.List es t) ≡ ListOf (views es.items) (token_view t)
 view_list es t = search (rules, the_lemmas, row_items)
+
+view_call : (es : _) (name : _) → view (expressions.Call es name) ≡ Call (name_view name) (views es.items)
+view_call es name = search (rules, the_lemmas, row_items)
+
+count_views : (es : List Expression) → count (views es) ≡ length es
+count_views [] = refl
+count_views (e ∷ es) = ap suc (count_views es)
 
 view_format_string : (start : _) (es : _) → view (expressions.FormatString start es) ≡ FormatString (literal_view start) (piece_views es.items)
 view_format_string start es = search (rules, the_lemmas, piece_items)
@@ -41,20 +47,14 @@ module _ (c : Context) (d : Deeper) (s : Situation) where
   pub list_is : (es : _) (t : _) → eval c d s (view (expressions.List es t)) ≡ bind (eval_all c d s (views es.items)) (λ vs. gives (flatten vs))
   list_is es t = ap (eval c d s) (view_list es t)
 
+  pub call_is : (es : _) (name : _) → eval c d s (view (expressions.Call es name))
+      ≡ note (Entered (name_view name).lexeme) (called (name_view name) (function_at c.functions (name_view name).lexeme) d s (length es.items) (eval_all c d s (views es.items)))
+  call_is es name =
+      ap (eval c d s) (view_call es name)
+      ∙ ap (λ n. note (Entered (name_view name).lexeme) (called (name_view name) (function_at c.functions (name_view name).lexeme) d s n (eval_all c d s (views es.items)))) (count_views es.items)
+
   pub format_string_is : (start : _) (es : _) → eval c d s (view (expressions.FormatString start es)) ≡ bind (eval_pieces c d s (piece_views es.items)) (λ text. gives (formatted (literal_view start) text ∷ []))
   format_string_is start es = ap (eval c d s) (view_format_string start es)
-
-  pub assert_is : (e : Box Expression Global) (m : Option (Box Expression Global)) (name : _) → eval c d s (view (expressions.Assert e m name)) ≡ assertion s.lists (name_view name) (eval c d s (view e.value)) (assertion_text c d s (view e.value) (option_map (λ b. view b.value) m))
-  assert_is e None name = refl
-  assert_is e (Some m) name = refl
-
-  pub conditional_is : (e a : Box Expression Global) (b : Option (Box Expression Global)) → eval c d s (view (expressions.Conditional e a b)) ≡ choice (eval c d s (view e.value)) (eval c d s (view a.value)) (branch c d s (option_map (λ b. view b.value) b))
-  conditional_is e a None = refl
-  conditional_is e a (Some b) = refl
-
-  pub join_is : (l : Option (Box Expression Global)) (t : _) (r : Box Expression Global) → eval c d s (view (expressions.Join l t r)) ≡ combination Join (left_side c d s (option_map (λ b. view b.value) l)) (token_view t) (eval c d s (view r.value))
-  join_is None t r = refl
-  join_is (Some l) t r = refl
 
 -- ---- values, one after another
 
@@ -72,6 +72,11 @@ pub behind_same : {A B : Type 0} (f g : A → B) → ((a : A) → f a ≡ g a) �
 behind_same f g h (Gave a) = ap Gave (h a)
 behind_same f g h (Refused r) = refl
 behind_same f g h Stopped = refl
+
+pub behind_nothing : {A : Type 0} (o : Outcome (List A)) → behind (λ vs. [] ++ vs) o ≡ o
+behind_nothing (Gave a) = refl
+behind_nothing (Refused r) = refl
+behind_nothing Stopped = refl
 
 module _ {S : Type 0} {step : S → Question → Answer → S → Type 0} where
   -- what is made of a value

@@ -6,12 +6,17 @@ use Rattle.just_value.specs.Outcome.{Outcome, Gave, Refused, Stopped, UnlessStop
 use Rattle.just_value.specs.View.{refusal, ended}
 use Rattle.just_host.specs.Question.{Question, Answer}
 use Rattle.just_host.specs.Interaction.{Note, Event, Asked, Noted, Tree, done, ask, note, bind, gives, Path, Chain, Runs}
-use Rattle.just_eval.specs.Meaning.{when}
+use Rattle.just_meaning.specs.Meaning.{when}
 
 pub just_so : {A : Type 0} (o w : Outcome A) → o ≡ w → UnlessStopped o w
 just_so (Gave a) w e = e
 just_so (Refused r) w e = e
 just_so Stopped w e = tt
+
+-- an option is not both
+pub not_both : {A B : Type 0} (a : A) (o : Option A) → o ≡ Some a → o ≡ None → B
+not_both a None e f = absurd (cc)
+not_both a (Some b) e f = absurd (cc)
 
 -- every tree may be stopped
 pub stops : {A : Type 0} (t : Tree A) → Path t [] Stopped

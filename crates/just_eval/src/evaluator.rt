@@ -1,20 +1,24 @@
 // Evaluates expressions, in the order of their parts.
 
-ghost use Rattle.std.specs.Prelude.{IfOk, [], map, string_bytes, ◌++◌, ◌-◌, ◌<◌, ◌≡◌, ◌∷◌};
+ghost use Rattle.std.specs.Prelude.{IfOk, [], length, map, string_bytes, ◌-◌, ◌<◌, ◌≡◌, ◌∷◌};
 ghost use Rattle.std.specs.Option.{is_some, option_map};
 ghost use Rattle.just_syntax.specs.View.{assignment_view, literal_view, name_view, piece_views, token_view, view, views};
 ghost use Rattle.just_syntax.specs.declared.list_operator.ListOperator.TheVariants.{Concatenate, Join};
 ghost use Rattle.just_value.specs.View.{bound_view, ended, fault_view, frames_view, refusal};
 ghost use Rattle.just_value.specs.Frames.{innermost};
-ghost use Rattle.just_value.specs.Outcome.{without_value};
+ghost use Rattle.just_value.specs.Outcome.{Gave, UnlessStopped, without_value};
 ghost use Rattle.just_host.specs.Interaction.{GoesByAnswers, Runs, bind, gives};
 ghost use Rattle.just_host.specs.View.{fixed_view};
-ghost use Rattle.just_eval.specs.Closings.{chained};
-ghost use Rattle.just_eval.specs.Meaning.{assertion, assertion_text, branch, choice, combination, command, comparison, conjunction, disjunction, eval, eval_all, eval_pieces, faulted, flatten, formatted, left_side, negation, succession, variable};
-ghost use Rattle.just_eval.specs.Module.{Ran, bound_of, by_chain, lexically, or_override, situation_at};
-ghost use Rattle.just_eval.specs.Resolved.{IsResolved, IsNotInternal};
-ghost use Rattle.just_eval.specs.View.{IsAtStart, context_view, is_referenced_in, module_view, override_of, run_of, situation};
+ghost use Rattle.just_resolution.specs.Reaches.{function_at};
+ghost use Rattle.just_resolution.specs.Resolved.{IsResolved};
+ghost use Rattle.just_resolution.specs.View.{is_referenced_in};
+ghost use Rattle.just_meaning.specs.Closings.{chained};
+ghost use Rattle.just_meaning.specs.Meaning.{assertion, assertion_text, branch, called, choice, combination, command, comparison, conjunction, disjunction, eval, eval_all, eval_pieces, faulted, flatten, formatted, negation, succession, variable};
+ghost use Rattle.just_meaning.specs.Module.{Ran, bound_of, by_chain, lexically, or_override, situation_at};
+ghost use Rattle.just_meaning.specs.Internal.{IsNotInternal};
+ghost use Rattle.just_eval.specs.View.{IsAtStart, calls_left, context_view, module_view, override_of, run_of, situation};
 
+use crate::parameters::called_scope;
 use crate::{form, message};
 use just_host::ask::ask_command;
 use just_host::config::Config;
@@ -29,7 +33,6 @@ use just_syntax::expression::Expression;
 use just_syntax::list_operator::ListOperator;
 use just_syntax::name::Name;
 use just_syntax::number::Number;
-use just_syntax::out_of_memory::OutOfMemory;
 use just_syntax::string_literal::StringLiteral;
 use just_syntax::token::Token;
 use just_value::binding::Binding;
@@ -44,6 +47,9 @@ use std::collections::{BTreeMap, HashMap, HashSet};
 pub struct Evaluator<'src, 'run> {
     context: ExecutionContext<'src, 'run>,
     env: BTreeMap<String, String>,
+    is_dependency: bool,
+    recipe: Option<Name<'src>>,
+    recursion_depth: usize,
     scope: Scope<'src, 'run>,
 }
 
@@ -76,9 +82,9 @@ impl<'src, 'run> Evaluator<'src, 'run> {
         // On a resolved module the lexical rules give the scope or the refusal, by the questions that they ask.
         ensures headline { let m = run_of config.entry dotenv.entry «module».entry overrides.entry parent.entry search.entry recursion_limit variable_references.entry in
             let outer = frames_view parent.entry.now in
-            IsResolved m outer → Ran H.step host.old lexically m ([] ∷ outer) m.order (ended frames_view result) host.new }
+            IsResolved m.context.functions m.assignments outer → Ran H.step host.old lexically m ([] ∷ outer) m.assignments.order (ended frames_view result) host.new }
         ensures never_internal { let m = run_of config.entry dotenv.entry «module».entry overrides.entry parent.entry search.entry recursion_limit variable_references.entry in
-            IsResolved m (frames_view parent.entry.now) → IsNotInternal (ended frames_view result) }
+            IsResolved m.context.functions m.assignments (frames_view parent.entry.now) → IsNotInternal (ended frames_view result) }
 
         // On any module nothing but answered questions leads the host on.
         ensures answered { GoesByAnswers H.step host.old host.new }
@@ -109,11 +115,15 @@ impl<'src, 'run> Evaluator<'src, 'run> {
         references: Option<&HashSet<Number>>,
         names: &[Name<'src>],
     ) -> Result<Scope<'src, 'run>, Error<'src>>
+        requires room { 0 < context.recursion_limit }
         ensures { Ran H.step host.old by_chain (module_view context.entry references.entry) ([] ∷ frames_view context.entry.scope.now) (map name_view names.entry.now) (ended frames_view result) host.new }
     {
         let mut evaluator = Evaluator {
             context,
             env: BTreeMap::new(alloc),
+            is_dependency: false,
+            recipe: None,
+            recursion_depth: 0,
             scope: context.scope.child(alloc)?,
         };
         for name in names {
@@ -122,6 +132,9 @@ impl<'src, 'run> Evaluator<'src, 'run> {
         let Evaluator {
             context: _,
             env: _,
+            is_dependency: _,
+            recipe: _,
+            recursion_depth: _,
             scope,
         } = evaluator;
         Ok(scope)
@@ -200,8 +213,8 @@ impl<'src, 'run> Evaluator<'src, 'run> {
         }
     }
 
-    // The value of an expression. The arms that evaluate further are functions of their own, so that the
-    // frame of this one stays small: expressions may nest as deep as the stack has room.
+    // The value of an expression. Each form is a function of its own, so that the frame of this one stays small:
+    // expressions may nest as deep as the stack has room.
     #[cycle(evaluate)]
     fn evaluate_value<H: Host>(
         &self,
@@ -209,7 +222,8 @@ impl<'src, 'run> Evaluator<'src, 'run> {
         host: &mut H,
         expression: &Expression<'src>,
     ) -> Result<Value, Error<'src>>
-        ensures { let c = context_view self.now.context in let d = chained c (self.now.context.recursion_limit - 1) in let value = eval c d (situation self.now) in
+        requires below { self.now.recursion_depth < self.now.context.recursion_limit }
+        ensures { let c = context_view self.now.context in let d = chained c (calls_left self.now) in let value = eval c d (situation self.now) in
             Runs H.step host.old (value (view expression.now)) (ended (λ v. v) result) host.new }
     {
         match expression {
@@ -218,18 +232,21 @@ impl<'src, 'run> Evaluator<'src, 'run> {
                 condition,
                 message,
                 name,
-            } => self.evaluate_assert(alloc, host, condition, message.as_deref(), *name),
+            } => self.evaluate_assert(alloc, host, condition, message.as_deref(), name),
             Expression::Backtick { contents, token } => {
-                self.evaluate_backtick(alloc, host, contents, *token)
+                self.evaluate_backtick(alloc, host, contents, token)
+            }
+            Expression::Call { arguments, name } => {
+                self.evaluate_call(alloc, host, name, arguments)
             }
             Expression::Comparison {
                 lhs,
                 operator,
                 rhs,
                 token,
-            } => self.evaluate_comparison(alloc, host, lhs, *operator, rhs, *token),
+            } => self.evaluate_comparison(alloc, host, lhs, *operator, rhs, token),
             Expression::Concatenation { lhs, operator, rhs } => {
-                self.evaluate_concatenation(alloc, host, lhs, *operator, rhs)
+                self.evaluate_concatenation(alloc, host, lhs, operator, rhs)
             }
             Expression::Conditional {
                 condition,
@@ -241,10 +258,11 @@ impl<'src, 'run> Evaluator<'src, 'run> {
             Expression::FormatString { start, expressions } => {
                 self.evaluate_format_string(alloc, host, start, expressions)
             }
-            Expression::Group { contents } => self.evaluate_value(alloc, host, contents),
-            Expression::Join { lhs, operator, rhs } => {
-                self.evaluate_join(alloc, host, lhs.as_deref(), *operator, rhs)
-            }
+            Expression::Group { contents } => self.evaluate_group(alloc, host, contents),
+            Expression::Join { lhs, operator, rhs } => match lhs {
+                Some(lhs) => self.evaluate_join(alloc, host, lhs, operator, rhs),
+                None => self.evaluate_root(alloc, host, operator, rhs),
+            },
             Expression::List { elements, token: _ } => self.evaluate_list(alloc, host, elements),
             Expression::ListConcatenation {
                 lhs,
@@ -254,12 +272,28 @@ impl<'src, 'run> Evaluator<'src, 'run> {
             Expression::Not { operand } => self.evaluate_not(alloc, host, operand),
             Expression::Or { lhs, rhs } => self.evaluate_or(alloc, host, lhs, rhs),
             Expression::StringLiteral { string_literal } => {
-                Ok(Value::from_text(alloc, &string_literal.cooked)?)
+                evaluate_string_literal(alloc, string_literal)
             }
             Expression::Variable { name, number } => {
-                self.evaluate_variable(alloc, host, *name, *number)
+                self.evaluate_variable(alloc, host, name, *number)
             }
         }
+    }
+
+    // The value of `(contents)`.
+    #[cycle(evaluate)]
+    #[inline(never)]
+    fn evaluate_group<H: Host>(
+        &self,
+        alloc: Global,
+        host: &mut H,
+        contents: &Expression<'src>,
+    ) -> Result<Value, Error<'src>>
+        requires below { self.now.recursion_depth < self.now.context.recursion_limit }
+        ensures { let c = context_view self.now.context in let d = chained c (calls_left self.now) in let value = eval c d (situation self.now) in
+            Runs H.step host.old (value (view contents.now)) (ended (λ v. v) result) host.new }
+    {
+        self.evaluate_value(alloc, host, contents)
     }
 
     // The value of `lhs && rhs`.
@@ -272,7 +306,8 @@ impl<'src, 'run> Evaluator<'src, 'run> {
         lhs: &Expression<'src>,
         rhs: &Expression<'src>,
     ) -> Result<Value, Error<'src>>
-        ensures { let c = context_view self.now.context in let d = chained c (self.now.context.recursion_limit - 1) in let value = eval c d (situation self.now) in
+        requires below { self.now.recursion_depth < self.now.context.recursion_limit }
+        ensures { let c = context_view self.now.context in let d = chained c (calls_left self.now) in let value = eval c d (situation self.now) in
             Runs H.step host.old (conjunction (value (view lhs.now)) (value (view rhs.now))) (ended (λ v. v) result) host.new }
     {
         let value = self.evaluate_value(alloc, host, lhs)?;
@@ -293,7 +328,8 @@ impl<'src, 'run> Evaluator<'src, 'run> {
         lhs: &Expression<'src>,
         rhs: &Expression<'src>,
     ) -> Result<Value, Error<'src>>
-        ensures { let c = context_view self.now.context in let d = chained c (self.now.context.recursion_limit - 1) in let value = eval c d (situation self.now) in
+        requires below { self.now.recursion_depth < self.now.context.recursion_limit }
+        ensures { let c = context_view self.now.context in let d = chained c (calls_left self.now) in let value = eval c d (situation self.now) in
             Runs H.step host.old (disjunction (value (view lhs.now)) (value (view rhs.now))) (ended (λ v. v) result) host.new }
     {
         let value = self.evaluate_value(alloc, host, lhs)?;
@@ -313,7 +349,8 @@ impl<'src, 'run> Evaluator<'src, 'run> {
         host: &mut H,
         operand: &Expression<'src>,
     ) -> Result<Value, Error<'src>>
-        ensures { let c = context_view self.now.context in let d = chained c (self.now.context.recursion_limit - 1) in let value = eval c d (situation self.now) in
+        requires below { self.now.recursion_depth < self.now.context.recursion_limit }
+        ensures { let c = context_view self.now.context in let d = chained c (calls_left self.now) in let value = eval c d (situation self.now) in
             Runs H.step host.old (negation (value (view operand.now))) (ended (λ v. v) result) host.new }
     {
         let value = self.evaluate_value(alloc, host, operand)?;
@@ -330,13 +367,14 @@ impl<'src, 'run> Evaluator<'src, 'run> {
         lhs: &Expression<'src>,
         operator: ConditionalOperator,
         rhs: &Expression<'src>,
-        token: Token<'src>,
+        token: &Token<'src>,
     ) -> Result<Value, Error<'src>>
-        ensures { let c = context_view self.now.context in let d = chained c (self.now.context.recursion_limit - 1) in let value = eval c d (situation self.now) in
-            Runs H.step host.old (comparison operator (token_view token.entry) (value (view lhs.now)) (value (view rhs.now))) (ended (λ v. v) result) host.new }
+        requires below { self.now.recursion_depth < self.now.context.recursion_limit }
+        ensures { let c = context_view self.now.context in let d = chained c (calls_left self.now) in let value = eval c d (situation self.now) in
+            Runs H.step host.old (comparison operator (token_view token.now) (value (view lhs.now)) (value (view rhs.now))) (ended (λ v. v) result) host.new }
     {
         if form::is_regex(operator) {
-            return Err(Error::LeftOutRegex { token });
+            return Err(Error::LeftOutRegex { token: *token });
         }
         let left = self.evaluate_value(alloc, host, lhs)?;
         let right = self.evaluate_value(alloc, host, rhs)?;
@@ -354,15 +392,18 @@ impl<'src, 'run> Evaluator<'src, 'run> {
         consequence: &Expression<'src>,
         otherwise: Option<&Expression<'src>>,
     ) -> Result<Value, Error<'src>>
-        ensures { let c = context_view self.now.context in let d = chained c (self.now.context.recursion_limit - 1) in let value = eval c d (situation self.now) in
+        requires below { self.now.recursion_depth < self.now.context.recursion_limit }
+        ensures { let c = context_view self.now.context in let d = chained c (calls_left self.now) in let value = eval c d (situation self.now) in
             Runs H.step host.old (choice (value (view condition.now)) (value (view consequence.now)) (branch c d (situation self.now) (option_map (λ e. view e.now) otherwise.entry))) (ended (λ v. v) result) host.new }
     {
         let value = self.evaluate_value(alloc, host, condition)?;
-        if value.is_truthy() {
-            return self.evaluate_value(alloc, host, consequence);
-        }
-        match otherwise {
-            Some(otherwise) => self.evaluate_value(alloc, host, otherwise),
+        let taken = if value.is_truthy() {
+            Some(consequence)
+        } else {
+            otherwise
+        };
+        match taken {
+            Some(taken) => self.evaluate_value(alloc, host, taken),
             None => Ok(Value::new(alloc)),
         }
     }
@@ -375,51 +416,55 @@ impl<'src, 'run> Evaluator<'src, 'run> {
         alloc: Global,
         host: &mut H,
         lhs: &Expression<'src>,
-        operator: Token<'src>,
+        operator: &Token<'src>,
         rhs: &Expression<'src>,
     ) -> Result<Value, Error<'src>>
-        ensures { let c = context_view self.now.context in let d = chained c (self.now.context.recursion_limit - 1) in let value = eval c d (situation self.now) in
-            Runs H.step host.old (combination Concatenate (value (view lhs.now)) (token_view operator.entry) (value (view rhs.now))) (ended (λ v. v) result) host.new }
+        requires below { self.now.recursion_depth < self.now.context.recursion_limit }
+        ensures { let c = context_view self.now.context in let d = chained c (calls_left self.now) in let value = eval c d (situation self.now) in
+            Runs H.step host.old (combination Concatenate (value (view lhs.now)) (token_view operator.now) (value (view rhs.now))) (ended (λ v. v) result) host.new }
     {
         let left = self.evaluate_value(alloc, host, lhs)?;
         let right = self.evaluate_value(alloc, host, rhs)?;
-        left.apply(alloc, &right, ListOperator::Concatenate, operator)
+        left.apply(alloc, &right, ListOperator::Concatenate, *operator)
     }
 
-    // The value of `lhs / rhs`, the left side being one empty text where there is none.
+    // The value of `lhs / rhs`.
     #[cycle(evaluate)]
     #[inline(never)]
     fn evaluate_join<H: Host>(
         &self,
         alloc: Global,
         host: &mut H,
-        lhs: Option<&Expression<'src>>,
-        operator: Token<'src>,
+        lhs: &Expression<'src>,
+        operator: &Token<'src>,
         rhs: &Expression<'src>,
     ) -> Result<Value, Error<'src>>
-        ensures { let c = context_view self.now.context in let d = chained c (self.now.context.recursion_limit - 1) in let value = eval c d (situation self.now) in
-            Runs H.step host.old (combination Join (left_side c d (situation self.now) (option_map (λ e. view e.now) lhs.entry)) (token_view operator.entry) (value (view rhs.now))) (ended (λ v. v) result) host.new }
+        requires below { self.now.recursion_depth < self.now.context.recursion_limit }
+        ensures { let c = context_view self.now.context in let d = chained c (calls_left self.now) in let value = eval c d (situation self.now) in
+            Runs H.step host.old (combination Join (value (view lhs.now)) (token_view operator.now) (value (view rhs.now))) (ended (λ v. v) result) host.new }
     {
-        let left = self.left_value(alloc, host, lhs)?;
+        let left = self.evaluate_value(alloc, host, lhs)?;
         let right = self.evaluate_value(alloc, host, rhs)?;
-        left.apply(alloc, &right, ListOperator::Join, operator)
+        left.apply(alloc, &right, ListOperator::Join, *operator)
     }
 
-    // The value of a left side, one empty text where there is none.
+    // The value of `/ rhs`, whose left side is one empty text.
     #[cycle(evaluate)]
-    fn left_value<H: Host>(
+    #[inline(never)]
+    fn evaluate_root<H: Host>(
         &self,
         alloc: Global,
         host: &mut H,
-        lhs: Option<&Expression<'src>>,
+        operator: &Token<'src>,
+        rhs: &Expression<'src>,
     ) -> Result<Value, Error<'src>>
-        ensures { let c = context_view self.now.context in let d = chained c (self.now.context.recursion_limit - 1) in
-            Runs H.step host.old (left_side c d (situation self.now) (option_map (λ e. view e.now) lhs.entry)) (ended (λ v. v) result) host.new }
+        requires below { self.now.recursion_depth < self.now.context.recursion_limit }
+        ensures { let c = context_view self.now.context in let d = chained c (calls_left self.now) in let value = eval c d (situation self.now) in
+            Runs H.step host.old (combination Join (gives ([] ∷ [])) (token_view operator.now) (value (view rhs.now))) (ended (λ v. v) result) host.new }
     {
-        match lhs {
-            Some(lhs) => self.evaluate_value(alloc, host, lhs),
-            None => Ok(form::empty_text(alloc)?),
-        }
+        let right = self.evaluate_value(alloc, host, rhs)?;
+        let left = form::empty_text(alloc)?;
+        left.apply(alloc, &right, ListOperator::Join, *operator)
     }
 
     // The value of `lhs ++ rhs`.
@@ -432,7 +477,8 @@ impl<'src, 'run> Evaluator<'src, 'run> {
         lhs: &Expression<'src>,
         rhs: &Expression<'src>,
     ) -> Result<Value, Error<'src>>
-        ensures { let c = context_view self.now.context in let d = chained c (self.now.context.recursion_limit - 1) in let value = eval c d (situation self.now) in
+        requires below { self.now.recursion_depth < self.now.context.recursion_limit }
+        ensures { let c = context_view self.now.context in let d = chained c (calls_left self.now) in let value = eval c d (situation self.now) in
             Runs H.step host.old (succession (value (view lhs.now)) (value (view rhs.now))) (ended (λ v. v) result) host.new }
     {
         let left = self.evaluate_value(alloc, host, lhs)?;
@@ -449,10 +495,11 @@ impl<'src, 'run> Evaluator<'src, 'run> {
         host: &mut H,
         condition: &Expression<'src>,
         message: Option<&Expression<'src>>,
-        name: Name<'src>,
+        name: &Name<'src>,
     ) -> Result<Value, Error<'src>>
-        ensures { let c = context_view self.now.context in let d = chained c (self.now.context.recursion_limit - 1) in let value = eval c d (situation self.now) in
-            Runs H.step host.old (assertion (situation self.now).lists (name_view name.entry) (value (view condition.now)) (assertion_text c d (situation self.now) (view condition.now) (option_map (λ e. view e.now) message.entry))) (ended (λ v. v) result) host.new }
+        requires below { self.now.recursion_depth < self.now.context.recursion_limit }
+        ensures { let c = context_view self.now.context in let d = chained c (calls_left self.now) in let value = eval c d (situation self.now) in
+            Runs H.step host.old (assertion (situation self.now).lists (name_view name.now) (value (view condition.now)) (assertion_text c d (situation self.now) (view condition.now) (option_map (λ e. view e.now) message.entry))) (ended (λ v. v) result) host.new }
     {
         let value = self.evaluate_value(alloc, host, condition)?;
         if value.is_truthy() {
@@ -460,7 +507,10 @@ impl<'src, 'run> Evaluator<'src, 'run> {
             return Ok(form::asserted(alloc, lists, value)?);
         }
         let message = self.assertion_message(alloc, host, condition, message)?;
-        Err(Error::Assert { message, name })
+        Err(Error::Assert {
+            message,
+            name: *name,
+        })
     }
 
     // What an assertion that fails says: its message joined, or its condition in backticks.
@@ -473,7 +523,8 @@ impl<'src, 'run> Evaluator<'src, 'run> {
         condition: &Expression<'src>,
         message: Option<&Expression<'src>>,
     ) -> Result<String, Error<'src>>
-        ensures { let c = context_view self.now.context in let d = chained c (self.now.context.recursion_limit - 1) in let value = eval c d (situation self.now) in
+        requires below { self.now.recursion_depth < self.now.context.recursion_limit }
+        ensures { let c = context_view self.now.context in let d = chained c (calls_left self.now) in let value = eval c d (situation self.now) in
             Runs H.step host.old (assertion_text c d (situation self.now) (view condition.now) (option_map (λ e. view e.now) message.entry)) (ended string_bytes result) host.new }
     {
         match message {
@@ -494,7 +545,8 @@ impl<'src, 'run> Evaluator<'src, 'run> {
         host: &mut H,
         elements: &[Expression<'src>],
     ) -> Result<Value, Error<'src>>
-        ensures { let c = context_view self.now.context in let d = chained c (self.now.context.recursion_limit - 1) in let value = eval c d (situation self.now) in
+        requires below { self.now.recursion_depth < self.now.context.recursion_limit }
+        ensures { let c = context_view self.now.context in let d = chained c (calls_left self.now) in let value = eval c d (situation self.now) in
             Runs H.step host.old (bind (eval_all c d (situation self.now) (views elements.now)) (λ vs. gives (flatten vs))) (ended (λ v. v) result) host.new }
     {
         let mut all = Value::new(alloc);
@@ -515,7 +567,8 @@ impl<'src, 'run> Evaluator<'src, 'run> {
         start: &StringLiteral<'src>,
         expressions: &[(Expression<'src>, StringLiteral<'src>)],
     ) -> Result<Value, Error<'src>>
-        ensures { let c = context_view self.now.context in let d = chained c (self.now.context.recursion_limit - 1) in let value = eval c d (situation self.now) in
+        requires below { self.now.recursion_depth < self.now.context.recursion_limit }
+        ensures { let c = context_view self.now.context in let d = chained c (calls_left self.now) in let value = eval c d (situation self.now) in
             Runs H.step host.old (bind (eval_pieces c d (situation self.now) (piece_views expressions.now)) (λ text. gives (formatted (literal_view start.now) text ∷ []))) (ended (λ v. v) result) host.new }
     {
         let mut text = String::from_str(alloc, &start.cooked)?;
@@ -528,16 +581,99 @@ impl<'src, 'run> Evaluator<'src, 'run> {
         Ok(Value::from_string(alloc, text)?)
     }
 
+    // The value of a call.
+    #[cycle(evaluate)]
+    #[inline(never)]
+    fn evaluate_call<H: Host>(
+        &self,
+        alloc: Global,
+        host: &mut H,
+        name: &Name<'src>,
+        arguments: &[Expression<'src>],
+    ) -> Result<Value, Error<'src>>
+        requires below { self.now.recursion_depth < self.now.context.recursion_limit }
+        ensures { let c = context_view self.now.context in let d = chained c (calls_left self.now) in let t = name_view name.now in
+            Runs H.step host.old (called t (function_at c.functions t.lexeme) d (situation self.now) (length arguments.now) (eval_all c d (situation self.now) (views arguments.now))) (ended (λ v. v) result) host.new }
+    {
+        let Some(function) = self.context.module.functions.get(name.lexeme()) else {
+            let message = message::unknown_function(alloc, name.lexeme())?;
+            return Err(Error::Internal {
+                message,
+                token: name.token,
+            });
+        };
+        let recursion_limit = self.recursion_limit();
+        let recursion_depth = self.recursion_depth() + 1;
+        if recursion_depth == recursion_limit {
+            return Err(Error::RecursionLimit {
+                last: function.name,
+            });
+        }
+        if arguments.len() != function.parameters.len() {
+            let message = message::miscounted(alloc, name.lexeme())?;
+            return Err(Error::Internal {
+                message,
+                token: name.token,
+            });
+        }
+        let values = self.evaluate_arguments(alloc, host, arguments)?;
+        let scope = called_scope(alloc, &function.parameters, values, &self.scope)?;
+        let evaluator = Evaluator {
+            context: self.context,
+            env: BTreeMap::new(alloc),
+            is_dependency: self.is_dependency,
+            recipe: self.recipe,
+            recursion_depth,
+            scope,
+        };
+        evaluator.evaluate_value(alloc, host, &function.body)
+    }
+
+    // The values of a call's arguments.
+    #[cycle(evaluate)]
+    #[inline(never)]
+    fn evaluate_arguments<H: Host>(
+        &self,
+        alloc: Global,
+        host: &mut H,
+        arguments: &[Expression<'src>],
+    ) -> Result<Vec<Value>, Error<'src>>
+        requires below { self.now.recursion_depth < self.now.context.recursion_limit }
+        ensures count { IfOk result (λ values. length values.items ≡ length arguments.now) }
+        ensures runs { let c = context_view self.now.context in let d = chained c (calls_left self.now) in
+            Runs H.step host.old (eval_all c d (situation self.now) (views arguments.now)) (ended (λ values. values.items) result) host.new }
+    {
+        let mut values = Vec::with_capacity(alloc, arguments.len())?;
+        for argument in arguments {
+            values.push(self.evaluate_value(alloc, host, argument)?)?;
+        }
+        Ok(values)
+    }
+
+    // How many calls are pending. Read through a function, whose answer is known to fit a `usize`.
+    fn recursion_depth(&self) -> usize
+        ensures { result ≡ self.now.recursion_depth }
+    {
+        self.recursion_depth
+    }
+
+    // How many calls may be pending, and one more.
+    fn recursion_limit(&self) -> usize
+        ensures { result ≡ self.now.context.recursion_limit }
+    {
+        self.context.recursion_limit
+    }
+
     // The value of a variable. The host is not asked.
     #[inline(never)]
     fn evaluate_variable<H: Host>(
         &self,
         alloc: Global,
         host: &H,
-        name: Name<'src>,
+        name: &Name<'src>,
         number: Option<Number>,
     ) -> Result<Value, Error<'src>>
-        ensures { Runs H.step host.now (variable (name_view name.entry) number (situation self.now).names) (ended (λ v. v) result) host.now }
+        ensures { Runs H.step host.now (variable (name_view name.now) number (situation self.now).names) (ended (λ v. v) result) host.now }
     {
         let Some(number) = number else {
             let message = message::unresolved(alloc, name.lexeme())?;
@@ -565,12 +701,12 @@ impl<'src, 'run> Evaluator<'src, 'run> {
         alloc: Global,
         host: &mut H,
         contents: &str,
-        token: Token<'src>,
+        token: &Token<'src>,
     ) -> Result<Value, Error<'src>>
-        ensures { Runs H.step host.old (command (fixed_view self.now.context) (situation self.now) contents.now (token_view token.entry)) (ended (λ v. v) result) host.new }
+        ensures { Runs H.step host.old (command (fixed_view self.now.context) (situation self.now) contents.now (token_view token.now)) (ended (λ v. v) result) host.new }
     {
         if self.context.config.dry_run {
-            let text = in_backticks(alloc, contents)?;
+            let text = format!(in alloc; "`{contents}`")?;
             return Ok(Value::from_string(alloc, text)?);
         }
         match ask_command(
@@ -583,9 +719,20 @@ impl<'src, 'run> Evaluator<'src, 'run> {
             None,
         ) {
             Ok(text) => Ok(Value::from_string(alloc, text)?),
-            Err(fault) => Err(backtick_error(token, fault)),
+            Err(fault) => Err(backtick_error(*token, fault)),
         }
     }
+}
+
+// The value of a string literal.
+#[inline(never)]
+fn evaluate_string_literal<'src>(
+    alloc: Global,
+    literal: &StringLiteral<'src>,
+) -> Result<Value, Error<'src>>
+    ensures { UnlessStopped (ended (λ v. v) result) (Gave ((literal_view literal.now).cooked ∷ [])) }
+{
+    Ok(Value::from_text(alloc, &literal.cooked)?)
 }
 
 // What a command expression's fault ends with.
@@ -609,11 +756,4 @@ fn is_referenced(references: Option<&HashSet<Number>>, number: Number) -> bool
         Some(references) => references.contains(&number),
         None => true,
     }
-}
-
-// A text in backticks.
-fn in_backticks(alloc: Global, text: &str) -> Result<String, OutOfMemory>
-    ensures { IfOk result (λ s. string_bytes s ≡ (96 ∷ text.now) ++ 96 ∷ []) }
-{
-    Ok(format!(in alloc; "`{text}`")?)
 }

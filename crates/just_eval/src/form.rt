@@ -2,7 +2,7 @@
 
 ghost use Rattle.std.specs.Prelude.{IfOk, [], string_bytes, ◌++◌, ◌∷◌, ◌≡◌};
 ghost use Rattle.just_value.specs.Value.{from_condition};
-ghost use Rattle.just_eval.specs.Meaning.{asserted, compared, is_regex, unindented_if};
+ghost use Rattle.just_meaning.specs.Meaning.{asserted, compared, is_regex, unindented_if};
 
 use just_syntax::conditional_operator::ConditionalOperator;
 use just_syntax::out_of_memory::OutOfMemory;

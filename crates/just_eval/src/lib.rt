@@ -4,3 +4,6 @@
 pub mod evaluator;
 mod form;
 mod message;
+mod parameters;
+
+pub use just_meaning::laws;

@@ -1,7 +1,7 @@
 -- What stays the same while a module is evaluated.
 use Rattle.std.specs.Prelude.{Bool, List, Option, Some, None, if◌then◌else◌}
 use Rattle.just_syntax.specs.Plain.{Text}
-use Rattle.just_host.specs.Path.{joined}
+use Rattle.just_text.specs.Path.{joined}
 use Rattle.just_host.specs.Settings.{Config, Settings}
 
 -- The search's justfile and directory, and the module's settings, unexports, source, path, directory and mark.

@@ -6,7 +6,7 @@ use Rattle.std.specs.BTreeMap.{BTreeMap}
 use Rattle.std.specs.declared.string.String.{String}
 use Rattle.just_syntax.specs.Plain.{Text, Interpreter}
 use Rattle.just_syntax.specs.declared.out_of_memory.OutOfMemory.{OutOfMemory}
-use Rattle.just_syntax.specs.View.{interpreter_view}
+use Rattle.just_syntax.specs.View.{interpreter_view, name_view}
 use Rattle.just_value.specs.Refusal.{Message, NoMemory}
 use Rattle.just_value.specs.View.{frames_view, fault_view}
 use Rattle.just_value.specs.declared.error.CommandFault.{CommandFault}
@@ -14,6 +14,7 @@ use Rattle.just_host.specs.declared.config.Config.{Config}
 use Rattle.just_host.specs.declared.settings.Settings.{Settings}
 use Rattle.just_host.specs.declared.execution_context.ExecutionContext.{ExecutionContext}
 use Rattle.just_host.specs.declared.command_question.CommandQuestion.{CommandQuestion}
+use Rattle.just_host.specs.declared.function.Context as declared_function
 use Rattle.just_host.specs.declared.number_question.NumberQuestion.{NumberQuestion}
 use Rattle.just_host.specs.declared.text_answer.TextAnswer.{TextAnswer}
 use Rattle.just_host.specs.declared.text_answer.TextAnswer.TheVariants as answers
@@ -22,6 +23,7 @@ use Rattle.just_host.specs.declared.text_question.TextQuestion.TheVariants as te
 use Rattle.just_host.specs.Settings as plain
 use Rattle.just_host.specs.Question as questions
 use Rattle.just_host.specs.Fixed.{Fixed}
+use Rattle.just_host.specs.Function as functions
 use Rattle.just_host.specs.Question.{Question, CommandOf, TextOf, ExistsAt, NumberOf, frameless, Answer, Replied, Failed, Absent, NotText, Found, Numbered}
 
 -- a map of texts: its pairs, by rising key
@@ -79,6 +81,16 @@ fixed_view c = record {
   module_path = string_bytes c.module.now.module_path;
   module_directory = string_bytes c.module.now.working_directory;
   is_submodule = c.module.now.submodule;
+}
+
+-- what a built-in function is called in, but for the frames that can be seen
+abbrev pub function_context_view : declared_function.Context → functions.Context
+function_context_view c = record {
+  environment = pairs_view c.env.now;
+  fixed = fixed_view c.execution_context.now;
+  is_dependency = c.is_dependency;
+  name = name_view c.name;
+  recipe = option_map (λ name. name.token.lexeme.now) c.recipe;
 }
 
 abbrev pub question_view : CommandQuestion → Question

@@ -6,10 +6,10 @@ ghost use Rattle.just_host.specs.View.{fixed_view};
 
 use crate::config::Config;
 use crate::justfile::Justfile;
-use crate::path;
 use crate::search::Search;
 use just_syntax::number::Number;
 use just_syntax::out_of_memory::OutOfMemory;
+use just_text::path;
 use just_value::scope::Scope;
 use std::alloc::Global;
 use std::collections::{BTreeMap, HashMap};

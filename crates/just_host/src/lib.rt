@@ -11,7 +11,6 @@ pub mod function;
 pub mod host;
 pub mod justfile;
 pub mod number_question;
-pub mod path;
 pub mod search;
 pub mod settings;
 #[cfg(test)]

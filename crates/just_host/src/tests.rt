@@ -1,4 +1,4 @@
-// Paths, directories, faults, shells and hosts.
+// Directories, faults, shells and hosts.
 
 mod map_host;
 mod watched;
@@ -10,7 +10,6 @@ use crate::fault::fault_text;
 use crate::host::Host;
 use crate::justfile::Justfile;
 use crate::number_question::NumberQuestion;
-use crate::path;
 use crate::search::Search;
 use crate::settings::Settings;
 use crate::text_answer::TextAnswer;
@@ -27,27 +26,6 @@ use std::collections::{BTreeMap, HashMap};
 use std::process::Abort;
 use std::test::Fail;
 use watched::Watched;
-
-#[test]
-fn paths(rt: HostRuntime) -> Result<(), Fail> {
-    let alloc = rt.alloc();
-    for (base, path, joined) in [
-        ("a", "b", "a/b"),
-        ("a/", "b", "a/b"),
-        ("", "b", "b"),
-        ("a", "/b", "/b"),
-        ("/", "b", "/b"),
-        ("a", "", "a/"),
-        ("", "", ""),
-    ] {
-        assert_eq!(rt;
-            path::join(alloc, base, path)?.as_str(),
-            joined,
-            "{base} {path}"
-        );
-    }
-    Ok(())
-}
 
 #[test]
 fn faults(rt: HostRuntime) -> Result<(), Fail> {

@@ -4,9 +4,9 @@ use Rattle.std.specs.Option.{option_map}
 use Rattle.just_syntax.specs.declared.expression.Expression.{Expression, Row_of-Expression, end_of-Expression, more_of-Expression, items-the_row-Expression, Row_of-Expression-FormatString-1-2, items-the_row-Expression-FormatString-1-2, end_of-Expression-FormatString-1-2, more_of-Expression-FormatString-1-2}
 use Rattle.just_syntax.specs.declared.expression.Expression.TheViews.{the_lemmas}
 use Rattle.just_syntax.specs.declared.expression.Expression.TheViews as expressions
-use Rattle.just_syntax.specs.Plain.{Cons, Piece, ListOf, FormatString}
+use Rattle.just_syntax.specs.Plain.{Call, Cons, Piece, ListOf, FormatString}
 use Rattle.just_syntax.specs.declared.string_literal.StringLiteral.{StringLiteral as Written}
-use Rattle.just_syntax.specs.Printed.{printed, printed_row, printed_pieces}
+use Rattle.just_syntax.specs.Printed.{printed, printed_call, printed_row, printed_pieces}
 use Rattle.just_syntax.specs.View.{assertion, conditional, join, name_view, token_view, literal_view, view, views, row_view, piece_views, pieces_view}
 
 row_items : {n : _} (row : Row_of-Expression n) → row_view row ≡ views (items-the_row-Expression n row)
@@ -15,6 +15,9 @@ row_items (more_of-Expression e rest) = ap (Cons (view e)) (row_items rest)
 
 view_list : (es : _) (t : _) → view (expressions.List es t) ≡ ListOf (views es.items) (token_view t)
 view_list es t = search (rules, the_lemmas, row_items)
+
+view_call : (es : _) (name : _) → view (expressions.Call es name) ≡ Call (name_view name) (views es.items)
+view_call es name = search (rules, the_lemmas, row_items)
 
 pub view_assert : (e : Box Expression Global) (m : Option (Box Expression Global)) (name : _) → view (expressions.Assert e m name) ≡ assertion (view e.value) (option_map (λ b. view b.value) m) (name_view name)
 view_assert e None name = refl
@@ -36,6 +39,9 @@ view_format_string : (start : _) (es : _) → view (expressions.FormatString sta
 view_format_string start es = search (rules, the_lemmas, piece_items)
 
 -- ---- printed
+
+pub printed_call_is : (es : _) (name : _) → printed (view (expressions.Call es name)) ≡ printed_call (name_view name).lexeme (printed_row [] (views es.items))
+printed_call_is es name = ap printed (view_call es name)
 
 pub printed_list : (es : _) (t : _) → printed (view (expressions.List es t)) ≡ (codes "[" ++ printed_row [] (views es.items)) ++ codes "]"
 printed_list es t = ap printed (view_list es t)

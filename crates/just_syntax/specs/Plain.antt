@@ -1,5 +1,5 @@
 -- Plain syntax: texts are their bytes, and nothing has a place in memory.
-use Rattle.std.specs.Prelude.{ℕ, Bool, List, Option}
+use Rattle.std.specs.Prelude.{ℕ, suc, Bool, List, Option}
 use Rattle.just_syntax.specs.declared.conditional_operator.ConditionalOperator.{ConditionalOperator}
 use Rattle.just_syntax.specs.declared.parameter_kind.ParameterKind.{ParameterKind}
 
@@ -27,6 +27,7 @@ mutual
     -- without a message
     AssertOnly : Expr → Token → Expr
     Backtick : Text → Token → Expr
+    Call : Token → Exprs → Expr
     Comparison : Expr → ConditionalOperator → Expr → Token → Expr
     Concatenation : Expr → Token → Expr → Expr
     Conditional : Expr → Expr → Expr → Expr
@@ -53,6 +54,11 @@ mutual
   pub data Pieces : Type 0 where
     NoPiece : Pieces
     Piece : Expr → Literal → Pieces → Pieces
+
+-- how many expressions
+abbrev pub count : Exprs → ℕ
+count Nil = 0
+count (Cons e es) = suc (count es)
 
 -- a variable, and the expression that gives its value
 pub record Assignment : Type 0 where

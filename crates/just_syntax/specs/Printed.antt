@@ -2,7 +2,7 @@
 use Rattle.std.specs.Prelude.{[], ◌++◌, codes, Option, Some, None}
 use Rattle.just_syntax.specs.declared.conditional_operator.ConditionalOperator.{ConditionalOperator}
 use Rattle.just_syntax.specs.declared.conditional_operator.ConditionalOperator.TheVariants.{Equality, Inequality, RegexMatch, RegexMismatch}
-use Rattle.just_syntax.specs.Plain.{Text, Expr, And, Assert, AssertOnly, Backtick, Comparison, Concatenation, Conditional, ConditionalOnly, FormatString, Group, Join, JoinOnly, ListOf, ListConcatenation, Not, Or, StringLiteral, Variable, Exprs, Nil, Cons, Pieces, NoPiece, Piece}
+use Rattle.just_syntax.specs.Plain.{Text, Expr, And, Assert, AssertOnly, Backtick, Call, Comparison, Concatenation, Conditional, ConditionalOnly, FormatString, Group, Join, JoinOnly, ListOf, ListConcatenation, Not, Or, StringLiteral, Variable, Exprs, Nil, Cons, Pieces, NoPiece, Piece}
 
 -- how a comparison is written
 abbrev pub comparison_text : ConditionalOperator → Text
@@ -30,12 +30,17 @@ abbrev pub printed_join : Option Text → Text → Text
 printed_join (Some l) r = between l (codes "/") r
 printed_join None r = codes "/ " ++ r
 
+-- a call, its arguments in parentheses behind the name
+abbrev pub printed_call : Text → Text → Text
+printed_call name arguments = ((name ++ codes "(") ++ arguments) ++ codes ")"
+
 abbrev mutual
   pub printed : Expr → Text
   printed (And l r) = between (printed l) (codes "&&") (printed r)
   printed (Assert e m t) = printed_assertion (printed e) (Some (printed m))
   printed (AssertOnly e t) = printed_assertion (printed e) None
   printed (Backtick text t) = t.lexeme
+  printed (Call t es) = printed_call t.lexeme (printed_row [] es)
   printed (Comparison l o r t) = between (printed l) (comparison_text o) (printed r)
   printed (Concatenation l t r) = between (printed l) (codes "+") (printed r)
   printed (Conditional e a b) = printed_conditional (printed e) (printed a) (Some (printed b))

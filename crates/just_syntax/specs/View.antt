@@ -5,7 +5,7 @@ use Rattle.just_syntax.specs.declared.token.Token.{Token}
 use Rattle.just_syntax.specs.declared.name.Name.{Name}
 use Rattle.just_syntax.specs.declared.number.Number.{Number}
 use Rattle.just_syntax.specs.declared.string_literal.StringLiteral.{StringLiteral as Written}
-use Rattle.just_syntax.specs.declared.expression.Expression.{Expression, And', Assert', Backtick, Comparison', Concatenation', Conditional', FormatString', Group', Join', List', ListConcatenation', Not', Or', StringLiteral, Variable, Row_of-Expression, end_of-Expression, more_of-Expression, Row_of-Expression-FormatString-1-2, end_of-Expression-FormatString-1-2, more_of-Expression-FormatString-1-2, Held-Expression-Assert-1, None', Some'}
+use Rattle.just_syntax.specs.declared.expression.Expression.{Expression, And', Assert', Backtick, Call', Comparison', Concatenation', Conditional', FormatString', Group', Join', List', ListConcatenation', Not', Or', StringLiteral, Variable, Row_of-Expression, end_of-Expression, more_of-Expression, Row_of-Expression-FormatString-1-2, end_of-Expression-FormatString-1-2, more_of-Expression-FormatString-1-2, Held-Expression-Assert-1, None', Some'}
 use Rattle.just_syntax.specs.declared.assignment.Assignment.{Assignment}
 use Rattle.just_syntax.specs.declared.attribute.Attribute.{Attribute}
 use Rattle.just_syntax.specs.declared.attribute.Attribute.TheVariants.{Env, Other}
@@ -46,6 +46,7 @@ abbrev mutual
   view (And' p l q r) = plain.And (view l) (view r)
   view (Assert' p e m name) = assertion (view e) (held_view m) (name_view name)
   view (Backtick contents t) = plain.Backtick (string_bytes contents) (token_view t)
+  view (Call' shape es name) = plain.Call (name_view name) (row_view es)
   view (Comparison' p l o q r t) = plain.Comparison (view l) o (view r) (token_view t)
   view (Concatenation' p l t q r) = plain.Concatenation (view l) (token_view t) (view r)
   view (Conditional' p e q a b) = conditional (view e) (view a) (held_view b)

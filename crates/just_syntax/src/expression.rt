@@ -27,6 +27,11 @@ pub enum Expression<'src> {
         contents: String,
         token: Token<'src>,
     },
+    /// `name(arguments)`
+    Call {
+        arguments: Vec<Expression<'src>>,
+        name: Name<'src>,
+    },
     /// `lhs == rhs`, `lhs != rhs`, `lhs =~ rhs` or `lhs !~ rhs`
     Comparison {
         lhs: Box<Expression<'src>>,

@@ -3,10 +3,11 @@
 ghost use Rattle.std.specs.Prelude.{Some, [], map, ◌++◌, codes};
 ghost use Rattle.std.specs.Option.{option_map};
 ghost use Rattle.std.specs.Fmt.{DisplaysOnOk};
-ghost use Rattle.just_syntax.specs.Printed.{between, printed, printed_assertion, printed_conditional, printed_join, printed_pieces, printed_row};
-ghost use Rattle.just_syntax.specs.View.{piece_views, view, views};
+ghost use Rattle.just_syntax.specs.Printed.{between, printed, printed_assertion, printed_call, printed_conditional, printed_join, printed_pieces, printed_row};
+ghost use Rattle.just_syntax.specs.View.{name_view, piece_views, view, views};
 
 use crate::expression::Expression;
+use crate::name::Name;
 use crate::string_literal::StringLiteral;
 use std::fmt;
 
@@ -26,6 +27,7 @@ pub(crate) fn print<W: fmt::Write>(
             name: _,
         } => print_assert(condition, message.as_deref(), f),
         Expression::Backtick { contents: _, token } => f.write_str(token.lexeme),
+        Expression::Call { arguments, name } => print_call(name, arguments, f),
         Expression::Comparison {
             lhs,
             operator,
@@ -141,8 +143,7 @@ fn print_conditional<W: fmt::Write>(
 fn print_group<W: fmt::Write>(contents: &Expression, f: &mut fmt::Formatter<W>) -> fmt::Result
     ensures { DisplaysOnOk W.write_str_gives f.old result (Some ((codes "(" ++ printed (view contents.now)) ++ codes ")")) f.new }
 {
-    f.write_str("(")?;
-    print(contents, f)?;
+    print_behind("(", contents, f)?;
     f.write_str(")")
 }
 
@@ -170,13 +171,37 @@ fn print_list<W: fmt::Write>(elements: &[Expression], f: &mut fmt::Formatter<W>)
     ensures { DisplaysOnOk W.write_str_gives f.old result (Some ((codes "[" ++ printed_row [] (views elements.now)) ++ codes "]")) f.new }
 {
     f.write_str("[")?;
+    print_row(elements, f)?;
+    f.write_str("]")
+}
+
+// Prints a call.
+#[cycle(print)]
+fn print_call<W: fmt::Write>(
+    name: &Name,
+    arguments: &[Expression],
+    f: &mut fmt::Formatter<W>,
+) -> fmt::Result
+    ensures { DisplaysOnOk W.write_str_gives f.old result (Some (printed_call (name_view name.now).lexeme (printed_row [] (views arguments.now)))) f.new }
+{
+    f.write_str(name.lexeme())?;
+    f.write_str("(")?;
+    print_row(arguments, f)?;
+    f.write_str(")")
+}
+
+// Prints expressions, a comma and a space between them.
+#[cycle(print)]
+fn print_row<W: fmt::Write>(expressions: &[Expression], f: &mut fmt::Formatter<W>) -> fmt::Result
+    ensures { DisplaysOnOk W.write_str_gives f.old result (Some (printed_row [] (views expressions.now))) f.new }
+{
     let mut separator = "";
-    for element in elements {
+    for expression in expressions {
         f.write_str(separator)?;
-        print(element, f)?;
+        print(expression, f)?;
         separator = ", ";
     }
-    f.write_str("]")
+    Ok(())
 }
 
 // Prints a format string.

@@ -12,7 +12,7 @@ pub(crate) const STORED_CASE: &str = "cmd one\ncmd two\nand\nassign a\nreply\nre
 pub(crate) const STORED_ANSWER: &str = "? command \"one\"\n? command \"two\"\na = \"x\"\n";
 
 // A case has this answer and this status.
-fn answers(rt: &impl Abort, alloc: Global, case: &[u8], answer: &str, status: u8) {
+pub(crate) fn answers(rt: &impl Abort, alloc: Global, case: &[u8], answer: &str, status: u8) {
     let mut out = whole_writer(alloc);
     assert_eq!(rt;
         run(alloc, whole_reader(case), &mut out),
@@ -69,11 +69,11 @@ fn refused_runs(rt: HostRuntime) {
         ),
         (
             "var b\nassign a\nstr c\nassign b\noverride b 1\nrun",
-            "refused 6 Internal \"attempted to evaluate unevaluated variable `b`\"\n",
+            "unresolved\nrefused 6 Internal \"attempted to evaluate unevaluated variable `b`\"\n",
         ),
         (
             "var x\nassign a\nrun",
-            "refused 6 Internal \"attempted to evaluate unevaluated variable `x`\"\n",
+            "unresolved\nrefused 6 Internal \"attempted to evaluate unevaluated variable `x`\"\n",
         ),
     ] {
         answers(&rt, rt.alloc(), case.as_bytes(), answer, 2);
@@ -107,7 +107,16 @@ fn bad_lines(rt: HostRuntime) {
         ("runs", "bad line 1\n"),
         ("run\r", "bad line 1\n"),
         (" run", "bad line 1\n"),
-        ("call f 0\nrun", "bad line 1\n"),
+        ("call f 0\nrun", "bad line 2\n"),
+        ("call f", "bad line 1\n"),
+        ("call f x", "bad line 1\n"),
+        ("call f 1001", "bad line 1\n"),
+        ("call 1 0", "bad line 1\n"),
+        ("call f 1", "bad line 1\n"),
+        ("str a\nfun", "bad line 2\n"),
+        ("str a\nfun f 1", "bad line 2\n"),
+        ("fun f", "bad line 1\n"),
+        ("str a\nfun f\nstr b\nfun f n", "bad line 4\n"),
         ("const", "bad line 1\n"),
         ("list 0\nrun", "bad line 2\n"),
         ("str a\nlist 2", "bad line 2\n"),
@@ -210,7 +219,7 @@ fn settings_of_a_run(rt: HostRuntime) -> Result<(), Fail> {
         &rt,
         alloc,
         b"str x\nassign a\norder z\nrun",
-        "refused 6 Internal \"unknown assignment `z`\"\n",
+        "unresolved\nrefused 6 Internal \"unknown assignment `z`\"\n",
         2,
     );
     Ok(())

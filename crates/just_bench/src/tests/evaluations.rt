@@ -67,7 +67,10 @@ impl Host for CountingHost {
 }
 
 // A scope that binds the first name of a case, `o`, to a value.
-fn outer<'src, 'run>(alloc: Global, value: Value) -> Result<Scope<'src, 'run>, OutOfMemory> {
+pub(crate) fn outer<'src, 'run>(
+    alloc: Global,
+    value: Value,
+) -> Result<Scope<'src, 'run>, OutOfMemory> {
     let mut scope = Scope::root(alloc, &[])?;
     scope.bind(Binding {
         attributes: AttributeSet::new(alloc),
@@ -92,7 +95,7 @@ fn outer<'src, 'run>(alloc: Global, value: Value) -> Result<Scope<'src, 'run>, O
 }
 
 // In a scope that binds `o` to no element, a case has this answer and this status.
-fn answers_outside_nothing(
+pub(crate) fn answers_outside_nothing(
     rt: &impl Abort,
     alloc: Global,
     case: &str,
@@ -160,7 +163,13 @@ fn keeps_the_outer_value<'src>(
     case: Case<'src>,
     parent: &Scope<'src, '_>,
 ) -> Result<(), Fail> {
-    let module = case_module(alloc, case.assignments, case.evaluation_order, false)?;
+    let module = case_module(
+        alloc,
+        case.assignments,
+        case.evaluation_order,
+        case.functions,
+        false,
+    )?;
     let config = case_config(alloc, false)?;
     let search = case_search(alloc)?;
     let dotenv = BTreeMap::new(alloc);
@@ -255,7 +264,7 @@ fn prints<'src>(
     bindings: &str,
 ) -> Result<(), Fail> {
     let order = vec![in alloc; name("x")]?;
-    let module = case_module(alloc, assignments, order, false)?;
+    let module = case_module(alloc, assignments, order, Table::new(alloc), false)?;
     let config = case_config(alloc, false)?;
     let search = case_search(alloc)?;
     let dotenv = BTreeMap::new(alloc);

@@ -31,19 +31,25 @@ abbrev pub decreases-print_join : goal.decreases-print_join
 decreases-print_join g l = suc (suc (3 * max (size_of l.lhs) (size-Expression l.rhs.now)))
 
 abbrev pub decreases-print_group : goal.decreases-print_group
-decreases-print_group g l = suc (3 * size-Expression l.contents.now)
+decreases-print_group g l = suc (suc (3 * size-Expression l.contents.now))
 
 abbrev pub decreases-print_list : goal.decreases-print_list
-decreases-print_list g l = suc (3 * goal.size-print_list g l)
+decreases-print_list g l = suc (suc (3 * goal.size-print_list g l))
+
+abbrev pub decreases-print_call : goal.decreases-print_call
+decreases-print_call g l = suc (suc (3 * goal.size-print_call g l))
+
+abbrev pub decreases-print_row : goal.decreases-print_row
+decreases-print_row g l = suc (3 * goal.size-print_row g l)
 
 abbrev pub decreases-print_format_string : goal.decreases-print_format_string
 decreases-print_format_string g l = suc (3 * goal.size-print_format_string g l)
 
 -- what is written since the loop began, and what is left, is the whole row
-abbrev pub invariant-print_list-loop-element : goal.invariant-print_list-loop-element
-invariant-print_list-loop-element g l = record {
+abbrev pub invariant-print_row-loop-expression : goal.invariant-print_row-loop-expression
+invariant-print_row-loop-expression g l = record {
   separator : shadow (Utf8 l.separator);
-  written : IsPlainFormatter l.initial.f → (text : List ℕ) × (text ++ printed_row l.separator (views (drop l.element-index l.elements)) ≡ printed_row [] (views l.elements)) × HasWritten g.W.Write.write_str_gives l.initial.f text l.f;
+  written : IsPlainFormatter l.initial.f → (text : List ℕ) × (text ++ printed_row l.separator (views (drop l.expression-index l.expressions)) ≡ printed_row [] (views l.expressions)) × HasWritten g.W.Write.write_str_gives l.initial.f text l.f;
 }
 
 -- what is written since the loop began, and what is left, is all of the interpolations

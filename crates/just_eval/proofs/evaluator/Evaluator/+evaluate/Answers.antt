@@ -1,13 +1,21 @@
-use Rattle.std.proofs.Common.{◌≡◌, ◌∙◌, ◌++◌, ◌∷◌, [], true, false, not, ap, sym, refl, string_bytes}
-use Rattle.std.proofs.lemmas.List.{append_assoc, append-nil, drop_all}
+use Rattle.std.proofs.Common.{◌≡◌, ◌∙◌, ◌++◌, ◌∷◌, [], ◌+◌, ◌-◌, suc, true, false, not, ap, arith, length, map, None, Some, sym, refl, string_bytes}
+use Rattle.std.proofs.lemmas.Grind.{common_steps}
+use Rattle.std.proofs.lemmas.List.{append_assoc, append-nil, drop_all, length-map}
 use Rattle.std.proofs.lemmas.Result.{err_from_is_err_and}
-use Rattle.just_syntax.specs.View.{literal_view}
+use Rattle.just_syntax.specs.View.{function_view, literal_view, name_view, parameter_view, view}
 use Rattle.just_value.specs.Value.{from_condition, is_truthy, joined}
 use Rattle.just_value.specs.Outcome.{Gave, Stopped}
-use Rattle.just_eval.specs.Meaning.{flatten, formatted, is_regex, unindented_if}
-use Rattle.just_eval.specs.View.{situation}
-use Rattle.just_eval.proofs.Rows.{behind_same, format_string_is, list_is, pieces_end, pieces_next, pieces_stop, runs_made, values_end, values_next, values_stop}
-use Rattle.just_eval.proofs.Runs.{runs_done, runs_else, runs_exit, runs_gives, runs_on, runs_stopped, runs_when}
+use Rattle.just_value.specs.View.{frames_view}
+use Rattle.just_meaning.specs.Meaning.{eval, flatten, formatted, is_regex, unindented_if}
+use Rattle.just_eval.specs.View.{calls_left, context_view, situation}
+use Rattle.just_meaning.specs.Closings.{chained, with_parameters}
+use Rattle.just_meaning.specs.Messages.{miscounted_text, unknown_function_text}
+use Rattle.just_eval.proofs.Calls.{call_at_limit, call_ends, call_miscounted, call_runs, call_stopped, call_unknown, inside_is}
+use Rattle.just_eval.proofs.Measure.{one_fewer}
+use Rattle.just_eval.proofs.Tables.{found_at}
+use Rattle.just_eval.proofs.Rows.{behind_same, call_is, format_string_is, list_is, pieces_end, pieces_next, pieces_stop, runs_made, values_end, values_next, values_stop}
+use Rattle.just_eval.proofs.Runs.{not_both, runs_done, runs_else, runs_exit, runs_gives, runs_note, runs_on, runs_stopped, runs_when}
+use Rattle.just_eval.proofs.evaluator.Evaluator.+evaluate.Goals.{evaluate_conditional-then-is_truthy, evaluate_conditional-else-is_truthy}
 use Rattle.just_eval.proofs.evaluator.Evaluator.+evaluate.Goals as goal
 
 -- ---- `lhs && rhs`, `lhs || rhs`
@@ -90,20 +98,26 @@ evaluate_conditional-returns-in_err-value g t c =
     let p = err_from_is_err_and c.from_residual.result c.from_residual.ensures.1 in
     runs_exit _ _ _ _ _ _ p.1 p.2 c.in_err-value.ensures
 
-pub evaluate_conditional-returns-then-is_truthy : goal.evaluate_conditional-returns-then-is_truthy
-evaluate_conditional-returns-then-is_truthy g t c =
-    let some : is_truthy c.in_ok-value.value ≡ true = cc in
-    runs_on _ _ c.in_ok-value.ensures (runs_when _ _ _ some c.evaluate_value-then-is_truthy.ensures)
-
 pub evaluate_conditional-returns-in-Some : goal.evaluate_conditional-returns-in-Some
-evaluate_conditional-returns-in-Some g t c =
-    let none : is_truthy c.in_ok-value.value ≡ false = cc in
-    rw c.in-Some.is (runs_on _ _ c.in_ok-value.ensures (runs_else _ _ _ none c.evaluate_value-in-Some.ensures))
+evaluate_conditional-returns-in-Some g t c = elim c.if-is_truthy.branch [
+  | evaluate_conditional-then-is_truthy w ↦
+      let some : is_truthy c.in_ok-value.value ≡ true = cc in
+      let same : c.in-Some.taken ≡ c.args.consequence = cc in
+      runs_on _ _ c.in_ok-value.ensures (runs_when _ _ _ some (rw (← same) c.evaluate_value-in-Some.ensures))
+  | evaluate_conditional-else-is_truthy w ↦
+      let none : is_truthy c.in_ok-value.value ≡ false = cc in
+      let same : c.args.otherwise ≡ Some c.in-Some.taken = cc in
+      rw same (runs_on _ _ c.in_ok-value.ensures (runs_else _ _ _ none c.evaluate_value-in-Some.ensures))
+]
 
 pub evaluate_conditional-returns : goal.evaluate_conditional-returns
-evaluate_conditional-returns g t c =
-    let none : is_truthy c.in_ok-value.value ≡ false = cc in
-    rw (c.in-None.is, c.new.ensures) (runs_on _ _ c.in_ok-value.ensures (runs_else _ _ _ none (runs_gives _)))
+evaluate_conditional-returns g t c = elim c.if-is_truthy.branch [
+  | evaluate_conditional-then-is_truthy w ↦ not_both _ _ w.taken-is c.in-None.is
+  | evaluate_conditional-else-is_truthy w ↦
+      let none : is_truthy c.in_ok-value.value ≡ false = cc in
+      let same : c.args.otherwise ≡ None = cc in
+      rw (same, c.new.ensures) (runs_on _ _ c.in_ok-value.ensures (runs_else _ _ _ none (runs_gives _)))
+]
 
 -- ---- two values put together
 
@@ -289,3 +303,135 @@ evaluate_format_string-returns g t c =
     let all = ap (λ m. formatted (literal_view c.args.start.now) m ∷ []) (append-nil made) ∙ ap (λ text. unindented_if c.args.start.now.indented text ∷ []) (sym c.loop-expression.invariant.1) in
     rw (c.in_ok-from_string.ensures, c.in_ok-text-2.ensures, ← all)
     (c.loop-expression.invariant.2 (Gave []) c.loop-expression.host (rw (drop_all c.loop-expression.expression-index c.args.expressions.now c.loop-expression-test.false) (runs_gives [])))
+
+-- ---- `/ rhs`
+
+pub evaluate_root-returns-in_err-right : goal.evaluate_root-returns-in_err-right
+evaluate_root-returns-in_err-right g t c =
+    let p = err_from_is_err_and c.from_residual.result c.from_residual.ensures.1 in
+    runs_exit _ (eval (context_view c.args.self.now.context) (chained (context_view c.args.self.now.context) (calls_left c.args.self.now)) (situation c.args.self.now) (view c.args.rhs.now)) _ _ _ _ p.1 p.2 c.in_err-right.ensures
+
+pub evaluate_root-returns-in_err-left : goal.evaluate_root-returns-in_err-left
+evaluate_root-returns-in_err-left g t c =
+    let p = err_from_is_err_and c.from_residual-in_err-left.result c.from_residual-in_err-left.ensures.1 in
+    rw (p.1, p.2) (runs_on (eval (context_view c.args.self.now.context) (chained (context_view c.args.self.now.context) (calls_left c.args.self.now)) (situation c.args.self.now) (view c.args.rhs.now)) _ c.in_ok-right.ensures (runs_stopped _))
+
+pub evaluate_root-returns : goal.evaluate_root-returns
+evaluate_root-returns g t c =
+    runs_on (eval (context_view c.args.self.now.context) (chained (context_view c.args.self.now.context) (calls_left c.args.self.now)) (situation c.args.self.now) (view c.args.rhs.now)) _ c.in_ok-right.ensures
+    (runs_done _ _ (rw c.in_ok-left.ensures at c.apply.ensures))
+
+-- ---- calls
+
+pub evaluate_value-returns-in-Call : goal.evaluate_value-returns-in-Call
+evaluate_value-returns-in-Call g t c = rw (c.in-Call.is, call_is, ← c.deref-in-Call.ensures.value) (runs_note c.evaluate_call.ensures)
+
+pub evaluate_arguments-returns-in_err-evaluate_value : goal.evaluate_arguments-returns-in_err-evaluate_value
+evaluate_arguments-returns-in_err-evaluate_value g t c =
+    let p = err_from_is_err_and c.from_residual-in_err-evaluate_value.result c.from_residual-in_err-evaluate_value.ensures.1 in
+    rw (p.1, p.2) (record { count = tt; runs = values_end _ _ (situation c.args.self.now) _ _ _ _ c.args.arguments.now c.loop-argument.argument-index c.argument-item.result c.loop-argument-test.true c.argument-item.is c.loop-argument.invariant.rest _ c.in_err-evaluate_value.ensures })
+
+pub evaluate_arguments-returns-in_err-push : goal.evaluate_arguments-returns-in_err-push
+evaluate_arguments-returns-in_err-push g t c =
+    let p = err_from_is_err_and c.from_residual-in_err-push.result c.from_residual-in_err-push.ensures.1 in
+    rw (p.1, p.2) (record { count = tt; runs = values_stop _ _ (situation c.args.self.now) _ _ _ _ c.args.arguments.now c.loop-argument.argument-index c.argument-item.result c.loop-argument-test.true c.argument-item.is c.loop-argument.invariant.rest _ c.in_ok-evaluate_value.ensures })
+
+pub evaluate_arguments-returns-clause-count : goal.evaluate_arguments-returns-clause-count
+evaluate_arguments-returns-clause-count g t c =
+    let n = c.loop-argument.invariant.count in
+    omega arith
+
+pub evaluate_arguments-returns-clause-runs : goal.evaluate_arguments-returns-clause-runs
+evaluate_arguments-returns-clause-runs g t c =
+    rw (← append-nil c.loop-argument.values.items)
+    (c.loop-argument.invariant.rest (Gave []) c.loop-argument.host (rw (drop_all c.loop-argument.argument-index c.args.arguments.now c.loop-argument-test.false) (runs_gives [])))
+
+pub evaluate_call-overflow_add-recursion_depth : goal.evaluate_call-overflow_add-recursion_depth
+evaluate_call-overflow_add-recursion_depth g t c = grind arith
+
+pub evaluate_arguments-returns-in_err-values-clause-runs : goal.evaluate_arguments-returns-in_err-values-clause-runs
+evaluate_arguments-returns-in_err-values-clause-runs g t c =
+    let p = err_from_is_err_and c.from_residual.result c.from_residual.ensures.1 in
+    rw (p.1, p.2) (runs_stopped _)
+
+pub evaluate_arguments-loop-argument-preserved : goal.evaluate_arguments-loop-argument-preserved
+evaluate_arguments-loop-argument-preserved g t c =
+    let made = c.loop-argument.values.items in
+    let value = c.in_ok-evaluate_value.field-0 in
+    record {
+      count = rw c.in_ok-push.ensures.items (grind (arith, common_steps));
+      rest = λ o new r. rw c.in_ok-push.ensures.items
+          (rw (← behind_same (λ vs. made ++ (value ∷ vs)) (λ vs. (made ++ value ∷ []) ++ vs) (λ vs. sym (append_assoc made (value ∷ []) vs)) o)
+          (values_next _ _ (situation c.args.self.now) _ _ _ _ c.args.arguments.now c.loop-argument.argument-index c.argument-item.result c.loop-argument-test.true c.argument-item.is c.loop-argument.invariant.rest _ c.in_ok-evaluate_value.ensures o new r));
+    }
+
+pub evaluate_call-returns-in_err-message : goal.evaluate_call-returns-in_err-message
+evaluate_call-returns-in_err-message g t c =
+    let p = err_from_is_err_and c.from_residual.result c.from_residual.ensures.1 in
+    rw (p.1, p.2) (runs_stopped _)
+
+pub evaluate_call-returns-in_default : goal.evaluate_call-returns-in_default
+evaluate_call-returns-in_default g t c =
+    call_unknown (context_view c.args.self.now.context) (name_view c.args.name.now) _ _ _ _ _ _
+    (found_at function_view (λ f. f.name.lexeme) _ _ _ None c.in_default.ensures (ap (λ l. l.now) c.lexeme.ensures))
+    (c.in_ok-message.ensures ∙ ap (λ l. unknown_function_text l.now) c.lexeme-in_default.ensures)
+
+pub evaluate_call-returns-then-recursion_depth-recursion_limit : goal.evaluate_call-returns-then-recursion_depth-recursion_limit
+evaluate_call-returns-then-recursion_depth-recursion_limit g t c =
+    let self = c.args.self.now in
+    let function = c.in-Some.function.now in
+    let found = found_at function_view (λ f. f.name.lexeme) _ _ _ (Some function) c.in-Some.ensures (ap (λ l. l.now) c.lexeme.ensures) in
+    call_at_limit (context_view self.context) (name_view c.args.name.now) _ (function_view function) found _ (situation self) _ _ (omega arith)
+
+pub evaluate_call-returns-in_err-message-2 : goal.evaluate_call-returns-in_err-message-2
+evaluate_call-returns-in_err-message-2 g t c =
+    let p = err_from_is_err_and c.from_residual-in_err-message-2.result c.from_residual-in_err-message-2.ensures.1 in
+    rw (p.1, p.2) (runs_stopped _)
+
+pub evaluate_call-returns-then-arguments-len : goal.evaluate_call-returns-then-arguments-len
+evaluate_call-returns-then-arguments-len g t c =
+    let self = c.args.self.now in
+    let function = c.in-Some.function.now in
+    let found = found_at function_view (λ f. f.name.lexeme) _ _ _ (Some function) c.in-Some.ensures (ap (λ l. l.now) c.lexeme.ensures) in
+    let one : self.context.recursion_limit - self.recursion_depth - 1 ≡ suc (self.context.recursion_limit - (self.recursion_depth + 1) - 1) = omega arith in
+    call_miscounted (context_view self.context) (name_view c.args.name.now) _ (function_view function) found _ _ one (situation self) _ _ _
+    (λ same. c.if-arguments-len.true (omega (arith, same, length-map function.parameters.items parameter_view, function.parameters.ok.0)))
+    (c.in_ok-message-2.ensures ∙ ap (λ l. miscounted_text l.now) c.lexeme-then-arguments-len.ensures)
+
+pub evaluate_call-returns-in_err-values : goal.evaluate_call-returns-in_err-values
+evaluate_call-returns-in_err-values g t c =
+    let self = c.args.self.now in
+    let function = c.in-Some.function.now in
+    let found = found_at function_view (λ f. f.name.lexeme) _ _ _ (Some function) c.in-Some.ensures (ap (λ l. l.now) c.lexeme.ensures) in
+    let one : self.context.recursion_limit - self.recursion_depth - 1 ≡ suc (self.context.recursion_limit - (self.recursion_depth + 1) - 1) = omega arith in
+    let same : length c.args.arguments.now ≡ length (map parameter_view function.parameters.items) = omega (arith, length-map function.parameters.items parameter_view, function.parameters.ok.0) in
+    let p = err_from_is_err_and c.from_residual-in_err-values.result c.from_residual-in_err-values.ensures.1 in
+    rw (p.1, p.2) (call_ends (context_view self.context) (name_view c.args.name.now) _ (function_view function) found _ _ one (situation self) _ _ same _ c.in_err-values.ensures.runs)
+
+pub evaluate_call-returns-in_err-scope : goal.evaluate_call-returns-in_err-scope
+evaluate_call-returns-in_err-scope g t c =
+    let self = c.args.self.now in
+    let function = c.in-Some.function.now in
+    let found = found_at function_view (λ f. f.name.lexeme) _ _ _ (Some function) c.in-Some.ensures (ap (λ l. l.now) c.lexeme.ensures) in
+    let one : self.context.recursion_limit - self.recursion_depth - 1 ≡ suc (self.context.recursion_limit - (self.recursion_depth + 1) - 1) = omega arith in
+    let same : length c.args.arguments.now ≡ length (map parameter_view function.parameters.items) = omega (arith, length-map function.parameters.items parameter_view, function.parameters.ok.0) in
+    let p = err_from_is_err_and c.from_residual-in_err-scope.result c.from_residual-in_err-scope.ensures.1 in
+    rw (p.1, p.2) (call_stopped (context_view self.context) (name_view c.args.name.now) _ (function_view function) found _ _ one (situation self) _ _ same _ c.in_ok-values.ensures.runs)
+
+pub evaluate_call-evaluate_value-requires : goal.evaluate_call-evaluate_value-requires
+evaluate_call-evaluate_value-requires g t c κs within =
+    let self = c.args.self.now in
+    let h = one_fewer self.context.recursion_limit self.recursion_depth (c.recursion_depth-recursion_depth.result + 1) self.context.module.now.functions (λ f. f.name.token.lexeme.now) c.lexeme.result.now c.in-Some.function.now (sym c.in-Some.ensures) (omega arith) (omega arith) in
+    (omega (arith, h), (within, omega arith))
+
+pub evaluate_call-returns : goal.evaluate_call-returns
+evaluate_call-returns g t c =
+    let self = c.args.self.now in
+    let function = c.in-Some.function.now in
+    let found = found_at function_view (λ f. f.name.lexeme) _ _ _ (Some function) c.in-Some.ensures (ap (λ l. l.now) c.lexeme.ensures) in
+    let one : self.context.recursion_limit - self.recursion_depth - 1 ≡ suc (self.context.recursion_limit - (self.recursion_depth + 1) - 1) = rw (← c.recursion_depth-recursion_depth.ensures) (omega arith) in
+    let same : length c.args.arguments.now ≡ length (map parameter_view function.parameters.items) = omega (arith, length-map function.parameters.items parameter_view, function.parameters.ok.0) in
+    let bound : frames_view c.in_ok-scope.scope ≡ with_parameters [] (map parameter_view function.parameters.items) c.in_ok-values.values.items ∷ frames_view self.scope = rw (c.in_ok-scope.ensures, c.deref.ensures.value) refl in
+    call_runs (context_view self.context) (name_view c.args.name.now) _ (function_view function) found _ _ one (situation self) _ _ same c.in_ok-values.values.items _ _ c.in_ok-values.ensures.runs
+    (inside_is (frames_view self.scope) (frames_view c.in_ok-scope.scope) (situation self) _ (function_view function) c.in_ok-values.values.items bound refl (rw c.new.ensures.empty refl))
+    (rw c.recursion_depth-recursion_depth.ensures at c.evaluate_value.ensures)

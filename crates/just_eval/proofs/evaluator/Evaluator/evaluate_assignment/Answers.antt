@@ -3,8 +3,8 @@ use Rattle.std.proofs.lemmas.Result.{err_from_is_err_and}
 use Rattle.just_syntax.specs.View.{assignment_view, name_view}
 use Rattle.just_value.specs.Frames.{bound_in_front, innermost}
 use Rattle.just_value.specs.View.{frames_view}
-use Rattle.just_eval.specs.Messages.{unknown_assignment_text}
-use Rattle.just_eval.specs.View.{is_referenced_in}
+use Rattle.just_meaning.specs.Messages.{unknown_assignment_text}
+use Rattle.just_resolution.specs.View.{is_referenced_in}
 use Rattle.just_eval.proofs.Tables.{found_at, none_there, some_there}
 use Rattle.just_eval.proofs.Module.{ran_binds, ran_cut, ran_exit, ran_fails, ran_passes, ran_skips, ran_stops, ran_unknown}
 use Rattle.just_eval.proofs.evaluator.Evaluator.evaluate_assignment.Goals as goal

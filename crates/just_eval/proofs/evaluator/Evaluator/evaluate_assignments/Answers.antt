@@ -1,11 +1,12 @@
-use Rattle.std.proofs.Common.{[], ◌∷◌}
 use Rattle.just_value.specs.View.{frames_view}
-use Rattle.just_eval.proofs.Internal.{never_internal}
-use Rattle.just_eval.proofs.Lexical.{ran_lexical}
+use Rattle.just_meaning.proofs.Internal.{resolved_is_never_internal}
+use Rattle.just_eval.proofs.Module.{ran_lexical}
 use Rattle.just_eval.proofs.evaluator.Evaluator.evaluate_assignments.Goals as goal
 
 pub returns-clause-headline : goal.returns-clause-headline
-returns-clause-headline g c = λ resolved. ran_lexical _ ([] ∷ frames_view c.args.parent.now) _ _ (rw c.deref.ensures.value at c.run.ensures)
+returns-clause-headline g c = λ resolved. ran_lexical _ (frames_view c.args.parent.now) _ resolved (rw c.deref.ensures.value at c.run.ensures)
 
 pub returns-clause-never_internal : goal.returns-clause-never_internal
-returns-clause-never_internal g c = λ resolved. never_internal _ _ (frames_view c.args.parent.now) resolved (rw c.deref.ensures.value at c.run.ensures).run
+returns-clause-never_internal g c = λ resolved.
+    let outer = frames_view c.args.parent.now in
+    resolved_is_never_internal _ outer _ _ resolved (ran_lexical _ outer _ resolved (rw c.deref.ensures.value at c.run.ensures)).run

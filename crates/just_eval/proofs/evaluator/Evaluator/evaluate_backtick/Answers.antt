@@ -11,7 +11,7 @@ use Rattle.just_eval.proofs.evaluator.Evaluator.evaluate_backtick.Goals as goal
 
 pub returns-then-self : goal.returns-then-self
 returns-then-self g c =
-    runs_dry (fixed_view c.args.self.now.context) (situation c.args.self.now) _ _ _ c.if-self.true (c.in_ok-from_string.ensures ∙ ap (λ text. text ∷ []) c.in_ok-text.ensures)
+    runs_dry (fixed_view c.args.self.now.context) (situation c.args.self.now) _ _ _ c.if-self.true (c.in_ok-from_string.ensures ∙ ap (λ text. text ∷ []) c.in_ok-text.ensures.ok)
 
 pub returns-in_err-from_string-in-Ok : goal.returns-in_err-from_string-in-Ok
 returns-in_err-from_string-in-Ok g c =
@@ -25,4 +25,4 @@ returns-in_ok-from_string-in-Ok g c =
 pub returns-in-Err : goal.returns-in-Err
 returns-in-Err g c =
     runs_asked (fixed_view c.args.self.now.context) (situation c.args.self.now) _ _ _ _ c.if-self.false c.in-Err.ensures.asked (just_so _ _ c.backtick_error.ensures)
-    (λ none. c.backtick_error.ensures ∙ without_memory (token_view c.args.token) (fault_view c.in-Err.fault) none)
+    (λ none. c.backtick_error.ensures ∙ without_memory (token_view c.args.token.now) (fault_view c.in-Err.fault) none)

@@ -1,5 +1,5 @@
 use Rattle.std.proofs.Common.{sym, ap, ◌∙◌}
-use Rattle.just_eval.specs.Messages.{unevaluated_text}
+use Rattle.just_meaning.specs.Messages.{unevaluated_text}
 use Rattle.just_eval.proofs.Forms.{runs_found, runs_missing}
 use Rattle.just_eval.proofs.evaluator.Evaluator.evaluate_variable.Goals as goal
 

@@ -3,7 +3,7 @@ use Rattle.just_syntax.specs.View.{name_view}
 use Rattle.just_value.specs.Frames.{Frames}
 use Rattle.just_value.specs.Outcome.{Outcome}
 use Rattle.just_value.specs.View.{frames_view}
-use Rattle.just_eval.specs.Module.{Ran, by_chain}
+use Rattle.just_meaning.specs.Module.{Ran, by_chain}
 use Rattle.just_eval.specs.View.{IsAtStart, module_view}
 use Rattle.just_eval.proofs.evaluator.Evaluator.run.Given as goal
 

@@ -1,0 +1,263 @@
+// Functions that a case defines.
+
+use crate::case::{Case, build};
+use crate::context::{case_config, case_module, case_search};
+use crate::line::parse_lines;
+use crate::tests::cases::answers;
+use crate::tests::evaluations::{answers_outside_nothing, outer};
+use just_eval::evaluator::Evaluator;
+use just_host::command_question::CommandQuestion;
+use just_host::host::Host;
+use just_host::number_question::NumberQuestion;
+use just_host::text_answer::TextAnswer;
+use just_host::text_question::TextQuestion;
+use just_syntax::out_of_memory::OutOfMemory;
+use just_value::error::CommandFault;
+use just_value::frame::Frame;
+use just_value::scope::Scope;
+use just_value::value::Value;
+use std::alloc::Global;
+use std::test::Fail;
+
+#[test]
+fn calls(rt: HostRuntime) {
+    for (case, answer) in [
+        (
+            "var n\nfun f n\nstr a\ncall f 1\nassign x\nrun",
+            "x = \"a\"\n",
+        ),
+        (
+            "var n\nvar m\nadd\nfun f n m\nstr a\nstr b\ncall f 2\nassign x\nrun",
+            "x = \"ab\"\n",
+        ),
+        ("str a\nfun f\ncall f 0\nassign x\nrun", "x = \"a\"\n"),
+        (
+            "str a\nassign a\nvar a\nfun f\ncall f 0\nassign x\nrun",
+            "a = \"a\"\nx = \"a\"\n",
+        ),
+        // Of two parameters with one name the last counts.
+        (
+            "var n\nfun f n n\nstr a\nstr b\ncall f 2\nassign x\nrun",
+            "unresolved\nx = \"b\"\n",
+        ),
+        // A function and an assignment may have one name.
+        ("str a\nfun x\ncall x 0\nassign x\nrun", "x = \"a\"\n"),
+    ] {
+        answers(&rt, rt.alloc(), case.as_bytes(), answer, 0);
+    }
+}
+
+#[test]
+fn limit_one(rt: HostRuntime) {
+    answers(
+        &rt,
+        rt.alloc(),
+        b"var n\nfun f n\ncmd arg\ncall f 1\nassign a\nlimit 1\nrun",
+        "refused 11 RecursionLimit f\n",
+        2,
+    );
+}
+
+#[test]
+fn recursion(rt: HostRuntime) -> Result<(), Fail> {
+    let alloc = rt.alloc();
+    let lines =
+        "var n\nstr a\neq\nstr b\ncall f 1\nvar n\nadd\nvar n\nif\nfun f n\nstr a\ncall f 1\nassign x\n";
+    for (last, answer, status) in [
+        ("run", "x = \"ba\"\n", 0),
+        ("limit 3\nrun", "x = \"ba\"\n", 0),
+        ("limit 2\nrun", "refused 11 RecursionLimit f\n", 2),
+    ] {
+        let case = format!(in alloc; "{lines}{last}")?;
+        answers(&rt, alloc, case.as_bytes(), answer, status);
+    }
+    Ok(())
+}
+
+// A body that reads another function's parameter is not resolved, and sees its caller's all the same.
+#[test]
+fn parameter_out_of_reach(rt: HostRuntime) {
+    answers(
+        &rt,
+        rt.alloc(),
+        b"var n\nfun g\ncall g 0\nfun f n\nstr z\ncall f 1\nassign a\nrun",
+        "unresolved\na = \"z\"\n",
+        0,
+    );
+}
+
+#[test]
+fn refused_calls(rt: HostRuntime) {
+    for (case, answer) in [
+        (
+            "str a\nfun f\ncmd q\ncall f 1\nassign x\nrun",
+            "unresolved\nrefused 6 Internal \"function `f` called with a wrong number of arguments\"\n",
+        ),
+        (
+            "cmd q\ncall nope 1\nassign x\nrun",
+            "unresolved\nrefused 6 Internal \"unknown function `nope`\"\n",
+        ),
+        // The limit is looked at before the count.
+        (
+            "str a\nfun f\ncmd q\ncall f 1\nassign x\nlimit 1\nrun",
+            "unresolved\nrefused 11 RecursionLimit f\n",
+        ),
+        // Arguments are evaluated from the left, and the body after them.
+        (
+            "cmd body\nfun f n m\ncmd one\ncmd two\ncall f 2\nassign x\nreply\nreply\nfail 7\nrun",
+            "? command \"one\"\n? command \"two\"\n? command \"body\"\nrefused 2 Backtick \"process exited with status code 7\"\n",
+        ),
+        (
+            "cmd body\nfun f n m\ncmd one\ncmd two\ncall f 2\nassign x\nfail 7\nrun",
+            "? command \"one\"\nrefused 2 Backtick \"process exited with status code 7\"\n",
+        ),
+        // Functions that call each other for ever.
+        (
+            "call g 0\nfun f\ncall f 0\nfun g\ncall f 0\nassign x\nrun",
+            "refused 11 RecursionLimit g\n",
+        ),
+        // Two assignments that read each other.
+        (
+            "var b\nassign a\nvar a\nassign b\nrun",
+            "unresolved\nrefused 6 Internal \"attempted to evaluate unevaluated variable `b`\"\n",
+        ),
+    ] {
+        answers(&rt, rt.alloc(), case.as_bytes(), answer, 2);
+    }
+}
+
+// A parameter that is bound outside is not resolved.
+#[test]
+fn parameter_bound_outside(rt: HostRuntime) -> Result<(), Fail> {
+    answers_outside_nothing(
+        &rt,
+        rt.alloc(),
+        "var o\nfun f o\nstr x\ncall f 1\nassign a\nrun",
+        "unresolved\na = \"x\"\n",
+        0,
+    )
+}
+
+// Keeps what the frames that it is shown bind, and answers with an empty text.
+#[derive(Drop)]
+struct FrameHost {
+    shown: String,
+}
+
+impl Host for FrameHost {
+    ghost use Rattle.std.specs.Prelude.{⊤};
+
+    ghost step = { λ _ _ _ _. ⊤ };
+
+    fn command(
+        &mut self,
+        alloc: Global,
+        question: &CommandQuestion,
+    ) -> Result<String, CommandFault> {
+        match keep_frames(&mut self.shown, question.scope) {
+            Ok(()) => Ok(String::new(alloc)),
+            Err(OutOfMemory) => Err(CommandFault::OutOfMemory),
+        }
+    }
+
+    fn text(&mut self, _alloc: Global, _question: TextQuestion) -> TextAnswer {
+        TextAnswer::Absent
+    }
+
+    fn exists(&mut self, _alloc: Global, _path: &str) -> Result<bool, OutOfMemory> {
+        Ok(false)
+    }
+
+    fn number(&mut self, _alloc: Global, _question: NumberQuestion) -> Result<u64, OutOfMemory> {
+        Ok(0)
+    }
+}
+
+// Adds the frames, innermost first, each in parentheses.
+fn keep_frames(text: &mut String, scope: &Scope) -> Result<(), OutOfMemory> {
+    keep_frame(text, scope.frame())?;
+    let Some(outer) = scope.parent() else {
+        return Ok(());
+    };
+    for frame in outer {
+        keep_frame(text, frame)?;
+    }
+    Ok(())
+}
+
+// Adds what a frame binds.
+fn keep_frame(text: &mut String, frame: &Frame) -> Result<(), OutOfMemory> {
+    text.push('(')?;
+    for binding in frame.bindings() {
+        let name = binding.name;
+        let value = &binding.value;
+        write!(text, "{name} = {value}")?;
+    }
+    text.push(')')?;
+    Ok(())
+}
+
+// What the frames bound that a case's commands were shown, where `o` is bound outside to no element.
+fn frames_shown(alloc: Global, case: &str) -> Result<String, Fail> {
+    let lines = parse_lines(alloc, case.as_bytes())?;
+    let described = build(alloc, &lines)?;
+    let parent = outer(alloc, Value::new(alloc))?;
+    frames_shown_in(alloc, described, &parent)
+}
+
+// The same in a scope.
+fn frames_shown_in<'src>(
+    alloc: Global,
+    case: Case<'src>,
+    parent: &Scope<'src, '_>,
+) -> Result<String, Fail> {
+    let Case {
+        assignments,
+        evaluation_order,
+        functions,
+        overrides,
+        references,
+        dotenv,
+        recursion_limit,
+        ..
+    } = case;
+    let module = case_module(alloc, assignments, evaluation_order, functions, false)?;
+    let config = case_config(alloc, false)?;
+    let search = case_search(alloc)?;
+    let mut host = FrameHost {
+        shown: String::new(alloc),
+    };
+    let _ = Evaluator::evaluate_assignments(
+        alloc,
+        &mut host,
+        &config,
+        &dotenv,
+        &module,
+        &overrides,
+        parent,
+        &search,
+        recursion_limit.max(1),
+        references.as_ref(),
+    );
+    let FrameHost { shown } = host;
+    Ok(shown)
+}
+
+#[test]
+fn frames_of_pending_calls(rt: HostRuntime) -> Result<(), Fail> {
+    for (case, shown) in [
+        // The frame of the called body, of its caller, of the module, and the one outside.
+        (
+            "var o\nassign p\ncmd who\nfun g\ncall g 0\nfun f n\nstr z\ncall f 1\nassign a\nonly a\nrun",
+            "()(n = \"z\")()(o = [])",
+        ),
+        // An argument is evaluated in the frames of the caller.
+        (
+            "var o\nassign p\nvar n\nfun f n\ncmd who\ncall f 1\nassign a\nrun",
+            "(p = [])(o = [])",
+        ),
+    ] {
+        assert_eq!(rt; frames_shown(rt.alloc(), case)?.as_str(), shown, "{case}");
+    }
+    Ok(())
+}

@@ -1,0 +1,41 @@
+-- The arguments of a call.
+use Rattle.std.specs.Prelude.{◌≡◌, ℕ, ◌≤◌, ◌<◌, true, List, [], ◌∷◌, Option, Some, None, option_map, unwrap_or, length, slice_get}
+use Rattle.std.specs.Borrow.{Bor}
+use Rattle.just_syntax.specs.Plain.{Text}
+use Rattle.just_value.specs.Value.{Value}
+use Rattle.just_builtins.specs.declared.function.Function.{Function}
+use Rattle.just_builtins.specs.Shape.{fewest_arguments, most_arguments, is_text}
+
+-- the first element
+abbrev pub first : Value → Text
+first [] = []
+first (text ∷ texts) = text
+
+-- the argument at a position, from 0
+abbrev pub value_at : List Value → ℕ → Value
+value_at vs i = unwrap_or (slice_get vs i) []
+
+-- the text at a position: its one element
+abbrev pub text_at : List Value → ℕ → Text
+text_at vs i = first (value_at vs i)
+
+-- the text at a position, if there is one
+abbrev pub text_given : List Value → ℕ → Option Text
+text_given vs i = option_map first (slice_get vs i)
+
+-- the arguments of a text that may be given
+abbrev pub texts_given : Option (Bor Text) → List Value
+texts_given (Some text) = (text.now ∷ []) ∷ []
+texts_given None = []
+
+-- each argument has one element
+abbrev pub HasOneEach : List Value → Type 0
+HasOneEach vs = (i : ℕ) → i < length vs → length (value_at vs i) ≡ 1
+
+-- a function may have that many arguments
+abbrev pub IsExpected : Function → ℕ → Type 0
+IsExpected f n = (fewest_arguments f ≤ n) × (n ≤ most_arguments f)
+
+-- each argument at a text position has one element
+abbrev pub HasTexts : Function → List Value → Type 0
+HasTexts f vs = (i : ℕ) → i < length vs → is_text f i ≡ true → length (value_at vs i) ≡ 1

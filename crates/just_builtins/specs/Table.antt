@@ -1,0 +1,107 @@
+-- The built-in functions: the name of each, its shape and its tag.
+use Rattle.std.specs.Prelude.{◌≢◌, ℕ, ◌++◌, ◌-◌, List, [], ◌∷◌, Bool as Truth, Option, Some, length, take, if◌then◌else◌, codes, nat_eq, bytes_eq, find, option_map}
+use Rattle.std.specs.List.{ends_with, list_any}
+use Rattle.just_syntax.specs.Plain.{Text}
+use Rattle.just_builtins.specs.declared.function.Function.{Function}
+use Rattle.just_builtins.specs.declared.function.Function.TheVariants.{Binary, BinaryOptToValue, BinaryOptValueStrToValue, BinaryPlus, BinaryStrValue, Nullary, Ternary, Unary, UnaryMap, ValueNullary, ValueUnary}
+use Rattle.just_builtins.specs.declared.builtin.Builtin.TheVariants.{Append, Bool, Capitalize, EncodeUriComponent, Error, Extension, FileName, FileStem, InvocationDirectory, InvocationDirectoryNative, IsDependency, Join, JoinList, JustVersion, Justfile, JustfileDirectory, Len, Lowercase, ModuleDirectory, ModuleFile, ModulePath, NumJobs, ParentDirectory, Prepend, Quote, RecipeName, Replace, Show, SourceDirectory, SourceFile, Split, Trim, TrimEnd, TrimEndMatch, TrimEndMatches, TrimStart, TrimStartMatch, TrimStartMatches, Uppercase, WithoutExtension}
+
+abbrev pub table : List (Text × Function)
+table =
+    (codes "append", BinaryStrValue Append)
+    ∷ (codes "bool", ValueUnary Bool)
+    ∷ (codes "capitalize", Unary Capitalize)
+    ∷ (codes "encode_uri_component", Unary EncodeUriComponent)
+    ∷ (codes "error", Unary Error)
+    ∷ (codes "extension", Unary Extension)
+    ∷ (codes "file_name", Unary FileName)
+    ∷ (codes "file_stem", Unary FileStem)
+    ∷ (codes "invocation_directory", Nullary InvocationDirectory)
+    ∷ (codes "invocation_directory_native", Nullary InvocationDirectoryNative)
+    ∷ (codes "is_dependency", ValueNullary IsDependency)
+    ∷ (codes "join", BinaryPlus Join)
+    ∷ (codes "join_list", BinaryOptValueStrToValue JoinList)
+    ∷ (codes "just_version", Nullary JustVersion)
+    ∷ (codes "justfile", Nullary Justfile)
+    ∷ (codes "justfile_directory", Nullary JustfileDirectory)
+    ∷ (codes "len", ValueUnary Len)
+    ∷ (codes "lowercase", Unary Lowercase)
+    ∷ (codes "module_directory", Nullary ModuleDirectory)
+    ∷ (codes "module_file", Nullary ModuleFile)
+    ∷ (codes "module_path", Nullary ModulePath)
+    ∷ (codes "num_jobs", ValueNullary NumJobs)
+    ∷ (codes "parent_directory", Unary ParentDirectory)
+    ∷ (codes "prepend", BinaryStrValue Prepend)
+    ∷ (codes "quote", UnaryMap Quote)
+    ∷ (codes "recipe_name", Nullary RecipeName)
+    ∷ (codes "replace", Ternary Replace)
+    ∷ (codes "show", ValueUnary Show)
+    ∷ (codes "source_directory", Nullary SourceDirectory)
+    ∷ (codes "source_file", Nullary SourceFile)
+    ∷ (codes "split", BinaryOptToValue Split)
+    ∷ (codes "trim", Unary Trim)
+    ∷ (codes "trim_end", Unary TrimEnd)
+    ∷ (codes "trim_end_match", Binary TrimEndMatch)
+    ∷ (codes "trim_end_matches", Binary TrimEndMatches)
+    ∷ (codes "trim_start", Unary TrimStart)
+    ∷ (codes "trim_start_match", Binary TrimStartMatch)
+    ∷ (codes "trim_start_matches", Binary TrimStartMatches)
+    ∷ (codes "uppercase", Unary Uppercase)
+    ∷ (codes "without_extension", Unary WithoutExtension)
+    ∷ []
+
+-- the names of those that are left out
+abbrev pub left_out : List Text
+left_out =
+    codes "absolute_path"
+    ∷ codes "blake3"
+    ∷ codes "blake3_file"
+    ∷ codes "choose"
+    ∷ codes "clean"
+    ∷ codes "datetime"
+    ∷ codes "datetime_utc"
+    ∷ codes "kebabcase"
+    ∷ codes "lowercamelcase"
+    ∷ codes "replace_regex"
+    ∷ codes "semver_matches"
+    ∷ codes "sha256"
+    ∷ codes "sha256_file"
+    ∷ codes "shoutykebabcase"
+    ∷ codes "shoutysnakecase"
+    ∷ codes "snakecase"
+    ∷ codes "style"
+    ∷ codes "titlecase"
+    ∷ codes "uppercamelcase"
+    ∷ codes "uuid"
+    ∷ []
+
+-- the text without that many bytes at its end
+abbrev pub without_last : Text → ℕ → Text
+without_last name n = take (length name - n) name
+
+-- `_dir` at the end of a name stands for `_directory`, and `_dir_native` for `_directory_native`
+abbrev pub whole_name : Text → Text
+whole_name name =
+    if ends_with nat_eq name (codes "_dir") then without_last name 4 ++ codes "_directory"
+    else (if ends_with nat_eq name (codes "_dir_native") then without_last name 11 ++ codes "_directory_native"
+    else name)
+
+-- what stands first behind a name
+abbrev pub find_in : List (Text × Function) → Text → Option Function
+find_in entries name = option_map (λ entry. entry.1) (find (λ entry. bytes_eq entry.0 name) entries)
+
+-- whether a name is one of these
+abbrev pub is_among : List Text → Text → Truth
+is_among names name = list_any (λ other. bytes_eq other name) names
+
+-- the function that a name stands for
+unfoldable pub function_named : Text → Option Function
+function_named name = find_in table (whole_name name)
+
+-- whether a name is one of those that are left out
+unfoldable pub is_left_out : Text → Truth
+is_left_out name = is_among left_out (whole_name name)
+
+-- no name stands for the function
+abbrev pub IsUnnamed : Function → Type 0
+IsUnnamed f = (name : Text) → function_named name ≢ Some f

@@ -1,0 +1,29 @@
+// The arguments of a call.
+
+ghost use Rattle.std.specs.Prelude.{◌≡◌, ◌<◌, ◌≤◌, ◌∷◌, [], drop, length};
+ghost use Rattle.just_builtins.specs.Argument.{texts_given, value_at};
+
+use just_value::value::Value;
+
+/// The text at a position, from 0: the one element of the argument there.
+pub fn text_at(arguments: &[Value], position: usize) -> &str
+    requires there { position < length arguments.now }
+    requires text { length (value_at arguments.now position) ≡ 1 }
+    ensures { value_at arguments.now position ≡ result.now ∷ [] }
+{
+    let elements = arguments[position].elements();
+    &elements[0]
+}
+
+/// The text that is the second argument, if there is one.
+pub fn second_text(arguments: &[Value]) -> Option<&str>
+    requires few { length arguments.now ≤ 2 }
+    requires text { 1 < length arguments.now → length (value_at arguments.now 1) ≡ 1 }
+    ensures { texts_given result ≡ drop 1 arguments.now }
+{
+    if arguments.len() > 1 {
+        Some(text_at(arguments, 1))
+    } else {
+        None
+    }
+}

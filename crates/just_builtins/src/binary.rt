@@ -1,0 +1,123 @@
+// The built-in functions that take two arguments, one or two, or two and more.
+
+ghost use Rattle.std.specs.Prelude.{◌≡◌, ◌<◌, ◌∷◌, ◌++◌, [], IfOk, length, option_map, string_bytes};
+ghost use Rattle.just_host.specs.Function as function;
+ghost use Rattle.just_host.specs.View.{function_context_view};
+ghost use Rattle.just_builtins.specs.Argument.{HasOneEach, texts_given};
+ghost use Rattle.just_builtins.specs.Called.{Replies};
+ghost use Rattle.just_builtins.specs.Meaning.{all_joined, reply};
+ghost use Rattle.just_builtins.specs.declared.function.Function.TheVariants.{Binary, BinaryOptToValue, BinaryOptValueStrToValue, BinaryPlus, BinaryStrValue};
+
+use crate::argument::text_at;
+use crate::builtin::Builtin;
+use crate::call_fault::CallFault;
+use crate::words::{append, prepend};
+use just_host::function::Context;
+use just_syntax::out_of_memory::OutOfMemory;
+use just_text::{join_list, pattern, split};
+use just_value::value::Value;
+use std::alloc::Global;
+use std::path::PathBuf;
+
+/// What a built-in function answers that takes two texts.
+pub fn binary(
+    alloc: Global,
+    builtin: Builtin,
+    text: &str,
+    pattern: &str,
+) -> Result<Value, CallFault>
+    ensures { (c : function.Context) → Replies (Binary builtin) (reply builtin c ((text.now ∷ []) ∷ (pattern.now ∷ []) ∷ [])) result }
+{
+    let text = match builtin {
+        Builtin::TrimEndMatch => pattern::trim_end_match(text, pattern),
+        Builtin::TrimEndMatches => pattern::trim_end_matches(text, pattern),
+        Builtin::TrimStartMatch => pattern::trim_start_match(text, pattern),
+        Builtin::TrimStartMatches => pattern::trim_start_matches(text, pattern),
+        _ => return Err(CallFault::Internal),
+    };
+    Ok(Value::from_text(alloc, text)?)
+}
+
+/// What a built-in function answers that takes a text, and a second where it is given.
+pub fn binary_opt_to_value(
+    alloc: Global,
+    builtin: Builtin,
+    text: &str,
+    separator: Option<&str>,
+) -> Result<Value, CallFault>
+    ensures { (c : function.Context) → Replies (BinaryOptToValue builtin) (reply builtin c ((text.now ∷ []) ∷ texts_given separator.entry)) result }
+{
+    match builtin {
+        Builtin::Split => {
+            let pieces = match separator {
+                Some(separator) => split::split(alloc, text, separator)?,
+                None => split::split_whitespace(alloc, text)?,
+            };
+            Ok(Value::from_elements(pieces))
+        }
+        _ => Err(CallFault::Internal),
+    }
+}
+
+/// What a built-in function answers that takes a value, and a text where it is given.
+pub fn binary_opt_value_str_to_value(
+    alloc: Global,
+    builtin: Builtin,
+    value: &Value,
+    separator: Option<&str>,
+) -> Result<Value, CallFault>
+    ensures { (c : function.Context) → Replies (BinaryOptValueStrToValue builtin) (reply builtin c (value.now ∷ texts_given separator.entry)) result }
+{
+    match builtin {
+        Builtin::JoinList => {
+            let separator = separator.unwrap_or(" ");
+            let text = join_list::join_list(alloc, value.elements(), separator)?;
+            Ok(Value::from_string(alloc, text)?)
+        }
+        _ => Err(CallFault::Internal),
+    }
+}
+
+/// What a built-in function answers that takes two texts or more.
+pub fn binary_plus(alloc: Global, builtin: Builtin, arguments: &[Value]) -> Result<Value, CallFault>
+    requires { HasOneEach arguments.now }
+    ensures { (c : function.Context) → Replies (BinaryPlus builtin) (reply builtin c arguments.now) result }
+{
+    match builtin {
+        Builtin::Join => {
+            let path = joined(alloc, arguments)?;
+            Ok(Value::from_string(alloc, path)?)
+        }
+        _ => Err(CallFault::Internal),
+    }
+}
+
+// Paths put together from the left. The one text grows in its place.
+fn joined(alloc: Global, arguments: &[Value]) -> Result<String, OutOfMemory>
+    requires { HasOneEach arguments.now }
+    ensures { IfOk result (λ path. string_bytes path ≡ all_joined [] arguments.now) }
+{
+    let mut path = PathBuf::new(alloc);
+    for i in 0..arguments.len() {
+        path.push(text_at(arguments, i))?;
+    }
+    Ok(path.into_string())
+}
+
+/// What a built-in function answers that takes a text and a value.
+pub fn binary_str_value(
+    alloc: Global,
+    context: &Context,
+    builtin: Builtin,
+    text: &str,
+    value: &Value,
+) -> Result<Value, CallFault>
+    ensures { Replies (BinaryStrValue builtin) (reply builtin (function_context_view context.now) ((text.now ∷ []) ∷ value.now ∷ [])) result }
+{
+    let lists = context.execution_context.module.settings.lists;
+    match builtin {
+        Builtin::Append => Ok(append(alloc, lists, text, value)?),
+        Builtin::Prepend => Ok(prepend(alloc, lists, text, value)?),
+        _ => Err(CallFault::Internal),
+    }
+}

@@ -1,0 +1,209 @@
+// The built-in functions, by the shapes of their arguments.
+
+ghost use Rattle.std.specs.Prelude.{◌≡◌, Bool, Err, false, length};
+ghost use Rattle.std.specs.Range.{range_inclusive_end, range_inclusive_exhausted, range_inclusive_start};
+ghost use Rattle.just_value.specs.View.{frames_view};
+ghost use Rattle.just_host.specs.Interaction.{Runs};
+ghost use Rattle.just_host.specs.View.{function_context_view};
+ghost use Rattle.just_builtins.specs.Argument.{HasTexts, IsExpected};
+ghost use Rattle.just_builtins.specs.Called.{Replies, outcome, tree};
+ghost use Rattle.just_builtins.specs.Meaning.{reply};
+ghost use Rattle.just_builtins.specs.Shape.{builtin_of, fewest_arguments, is_text, most_arguments};
+ghost use Rattle.just_builtins.specs.Table.{IsUnnamed, function_named, is_left_out};
+ghost use Rattle.just_builtins.specs.declared.call_fault.CallFault.TheVariants.{Internal};
+
+use crate::argument::{second_text, text_at};
+use crate::binary::{
+    binary, binary_opt_to_value, binary_opt_value_str_to_value, binary_plus, binary_str_value,
+};
+use crate::builtin::Builtin;
+use crate::call_fault::CallFault;
+use crate::name::{find_function, is_among, whole_name};
+use crate::nullary::{nullary, value_nullary};
+use crate::table::{LEFT_OUT, TABLE};
+use crate::ternary::ternary;
+use crate::unary::{unary, unary_map, value_unary};
+use just_host::function::Context;
+use just_host::host::Host;
+use just_value::value::Value;
+use std::alloc::Global;
+use std::ops::RangeInclusive;
+
+/// A built-in function, and what it takes. A text is an argument of one element, a value any argument.
+#[derive(Clone, Copy, Debug, PartialEq, Eq)]
+pub enum Function {
+    /// Nothing.
+    Nullary(Builtin),
+    /// One text.
+    Unary(Builtin),
+    /// One value, each element by itself.
+    UnaryMap(Builtin),
+    /// One text or more.
+    UnaryPlus(Builtin),
+    /// One text. It gives a value.
+    UnaryToValue(Builtin),
+    /// Two texts.
+    Binary(Builtin),
+    /// A text, and a second where it is given. It gives a value.
+    BinaryOptToValue(Builtin),
+    /// A value, and a text where it is given.
+    BinaryOptValueStr(Builtin),
+    /// A value, and a text where it is given. It gives a value.
+    BinaryOptValueStrToValue(Builtin),
+    /// Two texts or more.
+    BinaryPlus(Builtin),
+    /// A text and a value.
+    BinaryStrValue(Builtin),
+    /// Two texts. It gives a value.
+    BinaryToValue(Builtin),
+    /// Three texts.
+    Ternary(Builtin),
+    /// Nothing. It gives a value.
+    ValueNullary(Builtin),
+    /// One value.
+    ValueUnary(Builtin),
+    /// Two values.
+    ValueBinary(Builtin),
+    /// A value, and a second where it is given.
+    ValueBinaryOpt(Builtin),
+}
+
+impl Function {
+    /// How few and how many arguments a call may have. It takes no memory.
+    pub fn expected_arguments(&self) -> RangeInclusive<usize>
+        ensures fewest { range_inclusive_start result ≡ fewest_arguments self.now }
+        ensures most { range_inclusive_end result ≡ most_arguments self.now }
+        ensures whole { range_inclusive_exhausted result ≡ false }
+    {
+        match self {
+            Function::Nullary(_) | Function::ValueNullary(_) => 0..=0,
+            Function::Unary(_)
+            | Function::UnaryMap(_)
+            | Function::UnaryToValue(_)
+            | Function::ValueUnary(_) => 1..=1,
+            Function::UnaryPlus(_) => 1..=usize::MAX,
+            Function::BinaryOptToValue(_)
+            | Function::BinaryOptValueStr(_)
+            | Function::BinaryOptValueStrToValue(_)
+            | Function::ValueBinaryOpt(_) => 1..=2,
+            Function::Binary(_)
+            | Function::BinaryStrValue(_)
+            | Function::BinaryToValue(_)
+            | Function::ValueBinary(_) => 2..=2,
+            Function::BinaryPlus(_) => 2..=usize::MAX,
+            Function::Ternary(_) => 3..=3,
+        }
+    }
+
+    /// Whether the argument at a position, from 0, is to have exactly one element. It takes no memory.
+    pub fn is_text(&self, position: usize) -> bool
+        ensures { result ≡ is_text self.now position }
+    {
+        match self {
+            Function::Nullary(_)
+            | Function::UnaryMap(_)
+            | Function::ValueBinary(_)
+            | Function::ValueBinaryOpt(_)
+            | Function::ValueNullary(_)
+            | Function::ValueUnary(_) => false,
+            Function::Unary(_) | Function::UnaryToValue(_) | Function::BinaryStrValue(_) => {
+                position == 0
+            }
+            Function::BinaryOptValueStr(_) | Function::BinaryOptValueStrToValue(_) => position == 1,
+            Function::Binary(_)
+            | Function::BinaryOptToValue(_)
+            | Function::BinaryPlus(_)
+            | Function::BinaryToValue(_)
+            | Function::Ternary(_)
+            | Function::UnaryPlus(_) => true,
+        }
+    }
+
+    /// Calls it with its arguments: what it asks of the host, and its value.
+    ///
+    /// # Errors
+    ///
+    /// `Message` where the function says why it gives no value; `OutOfMemory` where memory was asked for and
+    /// refused, or where the host says so; `Internal` only where no name stands for the function.
+    pub fn call<H: Host>(
+        self,
+        alloc: Global,
+        host: &mut H,
+        context: &Context,
+        arguments: &[Value],
+    ) -> Result<Value, CallFault>
+        requires count { IsExpected self (length arguments.now) }
+        requires texts { HasTexts self arguments.now }
+        ensures replied { let answer = reply (builtin_of self) (function_context_view context.now) arguments.now in
+            Runs H.step host.old (tree (frames_view context.now.scope.now) answer) (outcome result) host.new }
+        ensures internal { result ≡ Err Internal → IsUnnamed self }
+    {
+        self.answer(alloc, context, arguments)
+    }
+
+    // What it answers that asks nothing.
+    fn answer(
+        self,
+        alloc: Global,
+        context: &Context,
+        arguments: &[Value],
+    ) -> Result<Value, CallFault>
+        requires count { IsExpected self (length arguments.now) }
+        requires texts { HasTexts self arguments.now }
+        ensures { Replies self (reply (builtin_of self) (function_context_view context.now) arguments.now) result }
+    {
+        match self {
+            Function::Binary(builtin) => {
+                let pattern = text_at(arguments, 1);
+                binary(alloc, builtin, text_at(arguments, 0), pattern)
+            }
+            Function::BinaryOptToValue(builtin) => {
+                let separator = second_text(arguments);
+                binary_opt_to_value(alloc, builtin, text_at(arguments, 0), separator)
+            }
+            Function::BinaryOptValueStrToValue(builtin) => {
+                let separator = second_text(arguments);
+                binary_opt_value_str_to_value(alloc, builtin, &arguments[0], separator)
+            }
+            Function::BinaryPlus(builtin) => binary_plus(alloc, builtin, arguments),
+            Function::BinaryStrValue(builtin) => {
+                let text = text_at(arguments, 0);
+                binary_str_value(alloc, context, builtin, text, &arguments[1])
+            }
+            Function::Nullary(builtin) => nullary(alloc, context, builtin),
+            Function::Ternary(builtin) => {
+                let from = text_at(arguments, 1);
+                let to = text_at(arguments, 2);
+                ternary(alloc, builtin, text_at(arguments, 0), from, to)
+            }
+            Function::Unary(builtin) => unary(alloc, builtin, text_at(arguments, 0)),
+            Function::UnaryMap(builtin) => unary_map(alloc, builtin, &arguments[0]),
+            Function::ValueNullary(builtin) => value_nullary(alloc, context, builtin),
+            Function::ValueUnary(builtin) => { value_unary(alloc, context, builtin, &arguments[0]) }
+            Function::BinaryOptValueStr(_)
+            | Function::BinaryToValue(_)
+            | Function::UnaryPlus(_)
+            | Function::UnaryToValue(_)
+            | Function::ValueBinary(_)
+            | Function::ValueBinaryOpt(_) => Err(CallFault::Internal),
+        }
+    }
+}
+
+/// The built-in function of a name, unless it is left out. `_dir` at the end of a name stands for `_directory`,
+/// and `_dir_native` for `_directory_native`. It takes no memory.
+pub fn get(name: &str) -> Option<Function>
+    ensures { result ≡ function_named name.now }
+{
+    let (front, back) = whole_name(name);
+    find_function(&TABLE, front, back)
+}
+
+/// Whether a name is one of a built-in function that is left out. `_dir` and `_dir_native` at its end stand for
+/// what they stand for in [`get`]. It takes no memory.
+pub fn is_left_out(name: &str) -> bool
+    ensures { result ≡ is_left_out name.now }
+{
+    let (front, back) = whole_name(name);
+    is_among(&LEFT_OUT, front, back)
+}

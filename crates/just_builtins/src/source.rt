@@ -1,0 +1,68 @@
+// The files that a call stands in, and their directories.
+
+ghost use Rattle.just_host.specs.View.{function_context_view};
+ghost use Rattle.just_builtins.specs.Called.{Gives};
+ghost use Rattle.just_builtins.specs.Meaning as spec;
+ghost use Rattle.just_builtins.specs.Message.{no_parent};
+ghost use Rattle.just_builtins.specs.Reply.{Fails};
+
+use crate::call_fault::CallFault;
+use crate::{message, path};
+use just_host::function::Context;
+use just_value::value::Value;
+use std::alloc::Global;
+
+/// The directory of the root justfile.
+pub fn justfile_directory(alloc: Global, justfile: &str) -> Result<Value, CallFault>
+    ensures { Gives (spec.justfile_directory justfile.now) result }
+{
+    match path::parent(justfile) {
+        Some(directory) => Ok(Value::from_text(alloc, directory)?),
+        None => Err(CallFault::Message(message::no_justfile_directory(alloc, justfile)?)),
+    }
+}
+
+/// The directory of a path.
+pub fn directory_of(alloc: Global, path: &str) -> Result<Value, CallFault>
+    ensures { Gives (spec.with_parent path.now spec.says) result }
+{
+    match path::parent(path) {
+        Some(directory) => Ok(Value::from_text(alloc, directory)?),
+        None => no_parent(alloc, path),
+    }
+}
+
+/// The path of the file that the call stands in.
+pub fn source_file(alloc: Global, context: &Context) -> Result<Value, CallFault>
+    ensures { Gives (spec.with_source (function_context_view context.now) spec.says) result }
+{
+    let justfile = &context.execution_context.search.justfile;
+    match path::parent(justfile) {
+        Some(directory) => {
+            let file = path::join(alloc, directory, context.name.token.path)?;
+            Ok(Value::from_string(alloc, file)?)
+        }
+        None => no_parent(alloc, justfile),
+    }
+}
+
+/// The directory of the file that the call stands in.
+pub fn source_directory(alloc: Global, context: &Context) -> Result<Value, CallFault>
+    ensures { Gives (spec.with_source (function_context_view context.now) (λ file. spec.with_parent file spec.says)) result }
+{
+    let justfile = &context.execution_context.search.justfile;
+    match path::parent(justfile) {
+        Some(directory) => {
+            let file = path::join(alloc, directory, context.name.token.path)?;
+            directory_of(alloc, &file)
+        }
+        None => no_parent(alloc, justfile),
+    }
+}
+
+// That a path has no directory.
+fn no_parent(alloc: Global, path: &str) -> Result<Value, CallFault>
+    ensures { Gives (Fails (no_parent path.now)) result }
+{
+    Err(CallFault::Message(message::no_parent(alloc, path)?))
+}

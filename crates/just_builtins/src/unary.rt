@@ -1,0 +1,106 @@
+// The built-in functions that take one argument.
+
+ghost use Rattle.std.specs.Prelude.{◌≡◌, ◌∷◌, [], IfOk, map, option_map, string_bytes};
+ghost use Rattle.just_text.specs.Quote.{single_quoted};
+ghost use Rattle.just_host.specs.Function as function;
+ghost use Rattle.just_host.specs.View.{function_context_view};
+ghost use Rattle.just_builtins.specs.Called.{Gives, Replies};
+ghost use Rattle.just_builtins.specs.Meaning.{or_fails, reply, says};
+ghost use Rattle.just_builtins.specs.Message.{past_ascii};
+ghost use Rattle.just_builtins.specs.declared.function.Function.TheVariants.{Unary, UnaryMap, ValueUnary};
+
+use crate::builtin::Builtin;
+use crate::call_fault::CallFault;
+use crate::parts::{parent_directory, part, without_extension};
+use crate::truth::value_truth;
+use crate::{message, path};
+use just_host::function::Context;
+use just_syntax::out_of_memory::OutOfMemory;
+use just_text::{case, quote, uri};
+use just_value::value::Value;
+use std::alloc::Global;
+
+/// What a built-in function answers that takes a text and gives one.
+pub fn unary(alloc: Global, builtin: Builtin, text: &str) -> Result<Value, CallFault>
+    ensures { (c : function.Context) → Replies (Unary builtin) (reply builtin c ((text.now ∷ []) ∷ [])) result }
+{
+    match builtin {
+        Builtin::Capitalize => cased(alloc, case::capitalize(alloc, text)?, text),
+        Builtin::EncodeUriComponent => {
+            let escaped = uri::encode_uri_component(alloc, text)?;
+            Ok(Value::from_string(alloc, escaped)?)
+        }
+        Builtin::Error => Err(CallFault::Message(String::from_str(alloc, text)?)),
+        Builtin::Extension => part(alloc, "extension", path::extension(text), text),
+        Builtin::FileName => part(alloc, "file name", path::file_name(text), text),
+        Builtin::FileStem => part(alloc, "file stem", path::file_stem(text), text),
+        Builtin::Lowercase => cased(alloc, case::lowercase(alloc, text)?, text),
+        Builtin::ParentDirectory => parent_directory(alloc, text),
+        Builtin::Trim => Ok(Value::from_text(alloc, text.trim())?),
+        Builtin::TrimEnd => Ok(Value::from_text(alloc, text.trim_end())?),
+        Builtin::TrimStart => Ok(Value::from_text(alloc, text.trim_start())?),
+        Builtin::Uppercase => cased(alloc, case::uppercase(alloc, text)?, text),
+        Builtin::WithoutExtension => without_extension(alloc, text),
+        _ => Err(CallFault::Internal),
+    }
+}
+
+// A text in another case, or that it has none.
+fn cased(alloc: Global, changed: Option<String>, text: &str) -> Result<Value, CallFault>
+    ensures { Gives (or_fails (option_map string_bytes changed) (past_ascii text.now) says) result }
+{
+    match changed {
+        Some(changed) => Ok(Value::from_string(alloc, changed)?),
+        None => Err(CallFault::Message(message::past_ascii(alloc, text)?)),
+    }
+}
+
+/// What a built-in function answers that takes a value, each element by itself.
+pub fn unary_map(alloc: Global, builtin: Builtin, value: &Value) -> Result<Value, CallFault>
+    ensures { (c : function.Context) → Replies (UnaryMap builtin) (reply builtin c (value.now ∷ [])) result }
+{
+    match builtin {
+        Builtin::Quote => {
+            let texts = quoted(alloc, value.elements())?;
+            Ok(Value::from_elements(texts))
+        }
+        _ => Err(CallFault::Internal),
+    }
+}
+
+// Each text in quotes.
+fn quoted(alloc: Global, texts: &[String]) -> Result<Vec<String>, OutOfMemory>
+    ensures { IfOk result (λ v. map string_bytes v.items ≡ map single_quoted (map string_bytes texts.now)) }
+{
+    let mut all = Vec::with_capacity(alloc, texts.len())?;
+    for text in texts {
+        all.push(quote::quote(alloc, text)?)?;
+    }
+    Ok(all)
+}
+
+/// What a built-in function answers that takes a value.
+pub fn value_unary(
+    alloc: Global,
+    context: &Context,
+    builtin: Builtin,
+    value: &Value,
+) -> Result<Value, CallFault>
+    ensures { Replies (ValueUnary builtin) (reply builtin (function_context_view context.now) (value.now ∷ [])) result }
+{
+    match builtin {
+        Builtin::Bool => {
+            let lists = context.execution_context.module.settings.lists;
+            value_truth(alloc, lists, value)
+        }
+        Builtin::Len => {
+            let digits = value.len().to_string(alloc)?;
+            Ok(Value::from_string(alloc, digits)?)
+        }
+        Builtin::Show => {
+            let text = value.to_string(alloc)?;
+            Ok(Value::from_string(alloc, text)?)
+        }
+        _ => Err(CallFault::Internal),
+    }
+}

@@ -1,0 +1,60 @@
+// Values with each element changed.
+
+ghost use Rattle.std.specs.Prelude.{◌≡◌, ◌∷◌, ◌++◌, [], IfOk, map, string_bytes};
+ghost use Rattle.just_text.specs.Split.{words};
+ghost use Rattle.just_builtins.specs.Meaning.{each};
+ghost use Rattle.just_value.specs.Value.{joined};
+
+use just_syntax::out_of_memory::OutOfMemory;
+use just_text::{affix, join_list, split};
+use just_value::value::Value;
+use std::alloc::Global;
+
+/// The value with a text behind each element; without lists, behind each word of the joined elements, which are
+/// put together again by spaces.
+pub fn append(alloc: Global, lists: bool, suffix: &str, value: &Value) -> Result<Value, OutOfMemory>
+    ensures { IfOk result (λ v. v ≡ each lists (λ text. text ++ suffix.now) value.now) }
+{
+    if lists {
+        let texts = affix::append(alloc, suffix, value.elements())?;
+        return Ok(Value::from_elements(texts));
+    }
+    let words = words_of(alloc, value)?;
+    let texts = affix::append(alloc, suffix, &words)?;
+    spaced(alloc, &texts)
+}
+
+/// The value with a text before each element; without lists, before each word of the joined elements, which are
+/// put together again by spaces.
+pub fn prepend(
+    alloc: Global,
+    lists: bool,
+    prefix: &str,
+    value: &Value,
+) -> Result<Value, OutOfMemory>
+    ensures { IfOk result (λ v. v ≡ each lists (λ text. prefix.now ++ text) value.now) }
+{
+    if lists {
+        let texts = affix::prepend(alloc, prefix, value.elements())?;
+        return Ok(Value::from_elements(texts));
+    }
+    let words = words_of(alloc, value)?;
+    let texts = affix::prepend(alloc, prefix, &words)?;
+    spaced(alloc, &texts)
+}
+
+// The words of the joined elements.
+fn words_of(alloc: Global, value: &Value) -> Result<Vec<String>, OutOfMemory>
+    ensures { IfOk result (λ v. map string_bytes v.items ≡ words (joined value.now)) }
+{
+    let text = value.join(alloc)?;
+    split::split_whitespace(alloc, &text)
+}
+
+// One element: the texts with one space between them.
+fn spaced(alloc: Global, texts: &[String]) -> Result<Value, OutOfMemory>
+    ensures { IfOk result (λ v. v ≡ joined (map string_bytes texts.now) ∷ []) }
+{
+    let text = join_list::join_list(alloc, texts, " ")?;
+    Value::from_string(alloc, text)
+}

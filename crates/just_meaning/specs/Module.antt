@@ -1,0 +1,92 @@
+-- What a run over a module's assignments means.
+use Rattle.std.specs.Prelude.{◌≡◌, ℕ, Bool, true, false, ◌||◌, ◌-◌, List, [], ◌∷◌, ◌++◌, Option, Some, None}
+use Rattle.just_syntax.specs.Plain.{Text, Token, Assignment}
+use Rattle.just_value.specs.Value.{Value}
+use Rattle.just_value.specs.Frames.{Bound, Frames, innermost, value_in, bound_in_front}
+use Rattle.just_value.specs.Refusal.{Refusal, Internal}
+use Rattle.just_value.specs.Outcome.{Outcome, Gave, Refused, Stopped}
+use Rattle.just_host.specs.Question.{Question, Answer}
+use Rattle.just_host.specs.Interaction.{Event, Tree, gives, Path, Chain}
+use Rattle.just_resolution.specs.Assignments.{Assignments, assignment_at}
+use Rattle.just_meaning.specs.Messages.{unknown_assignment_text}
+use Rattle.just_meaning.specs.Meaning.{Context, Situation, Deeper, eval}
+use Rattle.just_meaning.specs.Closings.{lexical, chained}
+
+-- what a run is given besides its frames
+pub record Module : Type 0 where
+  pub context : Context
+  pub assignments : Assignments
+  pub limit : ℕ
+  pub overrides : ℕ → Option Text
+
+-- an assignment reads what is bound so far; a called body's frame is put on all of it
+abbrev pub situation_at : Context → Frames → Situation
+situation_at c frames = record { names = value_in frames; environment = []; recipe = None; is_dependency = false; lists = c.fixed.settings.lists; shown = frames; below = frames }
+
+-- what is bound for an assignment
+abbrev pub bound_of : Bool → Assignment → Value → Bound
+bound_of export a v = record { attributes = []; eager = a.eager; export = a.export || export; file_depth = 0; name = a.name; number = a.number; prelude = false; private = a.private; value = v }
+
+-- an override is one element; without one the expression is evaluated
+abbrev pub or_override : Option Text → Tree Value → Tree Value
+or_override (Some text) t = gives (text ∷ [])
+or_override None t = t
+
+-- what a call may still do, by the frames at its assignment
+abbrev pub Closing : Type 0
+Closing = Module → Frames → Deeper
+
+-- a body reads its own parameters and the values bound so far
+abbrev pub lexically : Closing
+lexically m frames = lexical m.context (value_in frames) (m.limit - 1)
+
+-- below its own parameters a body reads the frames that its own is put on
+abbrev pub by_chain : Closing
+by_chain m frames = chained m.context (m.limit - 1)
+
+-- the value of an assignment, from the frames so far
+abbrev pub assigned : Closing → Module → Frames → Assignment → Tree Value
+assigned closing m frames a = or_override (m.overrides a.number) (eval m.context (closing m frames) (situation_at m.context frames) a.value)
+
+-- one assignment that was evaluated: its number, its events, and how it ended
+pub record Block : Type 0 where
+  pub number : ℕ
+  pub events : List Event
+  pub outcome : Outcome Value
+
+abbrev pub events_of : List Block → List Event
+events_of [] = []
+events_of (b ∷ bs) = b.events ++ events_of bs
+
+-- the name is that of an assignment that is referenced and not bound
+pub record IsTaken (m : Module) (frames : Frames) (t : Token) (a : Assignment) : Type 0 where
+  pub found : assignment_at m.assignments t.lexeme ≡ Some a
+  pub referenced : m.assignments.referenced a.number ≡ true
+  pub unbound : innermost a.number frames ≡ None
+
+-- A run of the assignments with these names from these frames: a block for each that is evaluated, and the frames
+-- at the end. For want of memory it may be stopped at any point.
+pub data Run (closing : Closing) (m : Module) : Frames → List Token → List Block → Outcome Frames → Type 0 where
+  Finished : {frames : Frames} → Run closing m frames [] [] (Gave frames)
+  Stops : {frames : Frames} {left : List Token} → Run closing m frames left [] Stopped
+  -- there is no such assignment
+  Unknown : {frames : Frames} {t : Token} {left : List Token} → assignment_at m.assignments t.lexeme ≡ None → Run closing m frames (t ∷ left) [] (Refused (Internal (unknown_assignment_text t.lexeme) t))
+  -- it is not referenced
+  Passes : {frames : Frames} {t : Token} {left : List Token} {bs : List Block} {o : Outcome Frames} → (a : Assignment) → assignment_at m.assignments t.lexeme ≡ Some a → m.assignments.referenced a.number ≡ false → Run closing m frames left bs o → Run closing m frames (t ∷ left) bs o
+  -- it is bound already
+  Skips : {frames : Frames} {t : Token} {left : List Token} {bs : List Block} {o : Outcome Frames} → (a : Assignment) (b : Bound) → assignment_at m.assignments t.lexeme ≡ Some a → m.assignments.referenced a.number ≡ true → innermost a.number frames ≡ Some b → Run closing m frames left bs o → Run closing m frames (t ∷ left) bs o
+  -- its value is bound
+  Binds : {frames : Frames} {t : Token} {left : List Token} {bs : List Block} {o : Outcome Frames} → (a : Assignment) (es : List Event) (v : Value) → IsTaken m frames t a → Path (assigned closing m frames a) es (Gave v)
+      → Run closing m (bound_in_front frames (bound_of m.context.fixed.settings.export a v)) left bs o → Run closing m frames (t ∷ left) (record { number = a.number; events = es; outcome = Gave v } ∷ bs) o
+  -- it is refused
+  Breaks : {frames : Frames} {t : Token} {left : List Token} → (a : Assignment) (es : List Event) (r : Refusal) → IsTaken m frames t a → Path (assigned closing m frames a) es (Refused r)
+      → Run closing m frames (t ∷ left) (record { number = a.number; events = es; outcome = Refused r } ∷ []) (Refused r)
+  -- it is stopped
+  Halts : {frames : Frames} {t : Token} {left : List Token} → (a : Assignment) (es : List Event) → IsTaken m frames t a → Path (assigned closing m frames a) es Stopped
+      → Run closing m frames (t ∷ left) (record { number = a.number; events = es; outcome = Stopped } ∷ []) Stopped
+
+-- Some blocks are a run to the outcome, and their questions lead the host from old to new.
+pub record Ran {S : Type 0} (step : S → Question → Answer → S → Type 0) (old : S) (closing : Closing) (m : Module) (frames : Frames) (names : List Token) (outcome : Outcome Frames) (new : S) : Type 0 where
+  pub blocks : List Block
+  pub run : Run closing m frames names blocks outcome
+  pub chain : Chain step old (events_of blocks) new

@@ -1,0 +1,249 @@
+-- What is reached is looked through, and none is looked through twice.
+use Rattle.std.proofs.Common.{◌≡◌, ◌↔◌, ◌⊎◌, inl, inr, ⊎_elim, ℕ, suc, ◌+◌, ◌<◌, ◌≤◌, ◌||◌, Bool, true, false, cond, List, [], ◌∷◌, ◌++◌, length, Option, Some, None, refl, ap, sym, ◌∙◌, subst, arith, IsTrue, IsSome, is_some, Bor, length-append}
+use Rattle.std.specs.Option.{option_to_list}
+use Rattle.std.proofs.lemmas.List.{map-append}
+use Rattle.just_resolution.specs.Seen.{texts}
+use Rattle.std.specs.Str.{bytes_eq}
+use Rattle.std.proofs.lemmas.Bool.{cases_eq, or_cases, or_left, or_right}
+use Rattle.std.proofs.lemmas.Slice.Eq.{bytes_eq-Decides}
+use Rattle.just_syntax.specs.Plain.{Text, Token, Function, Expr}
+use Rattle.just_host.specs.Interaction.{Read, Entered}
+use Rattle.just_resolution.specs.Admitted.{IsAdmitted}
+use Rattle.just_resolution.specs.Mentions.{called_names, calls_of, mentions, nothing}
+use Rattle.just_resolution.specs.Reaches.{IsAmong, Reaches, Here, Later, Reads, Stands, function_at}
+use Rattle.just_resolution.proofs.Standing.{IsNamed, all_called}
+
+-- ---- names in lists
+
+pub named_append : (xs ys : List Text) (t : Text) → IsNamed (xs ++ ys) t ↔ (IsNamed xs t ⊎ IsNamed ys t)
+named_append [] ys t = ((λ h. inr h), (λ h. ⊎_elim (λ k. absurd k) (λ k. k) h))
+named_append (x ∷ xs) ys t =
+    let rest = named_append xs ys t in (
+      (λ h. ⊎_elim (λ k. inl (inl k)) (λ k. ⊎_elim (λ j. inl (inr j)) (λ j. inr j) (rest.0 k)) h),
+      (λ h. ⊎_elim (λ k. ⊎_elim (λ j. inl j) (λ j. inr (rest.1 (inl j))) k) (λ k. inr (rest.1 (inr k))) h),
+    )
+
+-- a set that holds one name more
+abbrev pub Adds : (Text → Bool) → (Text → Bool) → Text → Type 0
+Adds old new name = (t : Text) → IsTrue (new t) ↔ ((name ≡ t) ⊎ IsTrue (old t))
+
+-- a name is admitted or pending
+abbrev pub IsSettled : (Text → Bool) → List Text → Text → Type 0
+IsSettled admitted pending t = IsTrue (admitted t) ⊎ IsNamed pending t
+
+-- What an expression calls, and what admitted functions call, is settled; what is pending is reached. The
+-- expression and the admitted functions read nothing but what they may.
+pub record IsWalked (functions : List Function) (e : Expr) (readable : ℕ → Bool) (admitted : Text → Bool) (pending : List Text) : Type 0 where
+  pub start : (name : Text) → Stands e (Entered name) → IsSettled admitted pending name
+  pub own : (n : ℕ) → Stands e (Read n) → IsTrue (readable n)
+  pub reads : (name : Text) (f : Function) → IsTrue (admitted name) → function_at functions name ≡ Some f → (n : ℕ) → Stands f.body (Read n) → IsAmong f.parameters n ⊎ IsTrue (readable n)
+  pub calls : (name : Text) (f : Function) → IsTrue (admitted name) → function_at functions name ≡ Some f → (further : Text) → Stands f.body (Entered further) → IsSettled admitted pending further
+  pub reached : (name : Text) → IsNamed pending name → Reaches functions e name
+
+-- whether a number is a parameter's
+among_cases : (ps : List (Token × ℕ)) (n : ℕ) → IsAmong ps n ⊎ (IsAmong ps n → ⊥)
+among_cases [] n = inr (λ h. h)
+among_cases (p ∷ ps) n =
+    ⊎_elim (λ e. inl (inl e)) (λ e. ⊎_elim (λ k. inl (inr k)) (λ k. inr (λ h. ⊎_elim (λ j. e j) (λ j. k j) h)) (among_cases ps n)) (cases_eq p.1 n)
+
+-- the body of the function that was found decides
+pub body_decided : (o : Option Function) (f : Function) (own readable : ℕ → Bool) (A : Type 0) → o ≡ Some f → ((n : ℕ) → IsTrue (own n) ↔ IsAmong f.parameters n) → A ↔ ((n : ℕ) → Stands f.body (Read n) → IsTrue (own n || readable n)) →
+    A ↔ ((g : Function) → o ≡ Some g → (n : ℕ) → Stands g.body (Read n) → IsAmong g.parameters n ⊎ IsTrue (readable n))
+body_decided o f own readable A found owns body = (
+  (λ a g found_g n.
+      let same : f ≡ g = (let e = sym found ∙ found_g in cc) in
+      subst (λ (h : Function). Stands h.body (Read n) → IsAmong h.parameters n ⊎ IsTrue (readable n)) same
+      (λ s. ⊎_elim (λ k. inl ((owns n).0 k)) (λ r. inr r) (or_cases (own n) (readable n) (body.0 a n s)))),
+  (λ h. body.1 (λ n s. ⊎_elim (λ k. or_left (own n) (readable n) ((owns n).1 k)) (λ r. or_right (own n) (readable n) r) (h f found n s))),
+)
+
+module _ (functions : List Function) where
+  -- what the body of a reached function calls is reached
+  reaches_on : {e : Expr} {name : Text} → Reaches functions e name → (f : Function) → function_at functions name ≡ Some f → (further : Text) → Stands f.body (Entered further) → Reaches functions e further
+  reaches_on (Here {name = name} s) f found further there = Later name s f found (Here there)
+  reaches_on (Later name s g found rest) f found_last further there = Later name s g found (reaches_on rest f found_last further there)
+
+  -- a closed set that holds what an expression calls holds what it reaches
+  reached_admitted : {e : Expr} {name : Text} (readable : ℕ → Bool) (admitted : Text → Bool) → IsAdmitted functions readable admitted → ((t : Text) → Stands e (Entered t) → IsTrue (admitted t)) → Reaches functions e name → IsTrue (admitted name)
+  reached_admitted {name = name} readable admitted closed start (Here s) = start name s
+  reached_admitted readable admitted closed start (Later mid s f found rest) =
+      reached_admitted readable admitted closed (λ t there. closed.calls mid f (start mid s) found t there) rest
+
+  module _ (e : Expr) (readable : ℕ → Bool) where
+    abbrev pub AllReadable : Type 0
+    AllReadable = (n : ℕ) → Reads functions e n → IsTrue (readable n)
+
+    -- nothing is admitted yet but what was, and what the expression calls is pending
+    pub begins : (admitted : Text → Bool) (pending : List Text) → IsAdmitted functions readable admitted → pending ≡ called_names (mentions nothing e) → ((n : ℕ) → Stands e (Read n) → IsTrue (readable n)) → IsWalked functions e readable admitted pending
+    begins admitted pending closed is own = record {
+      start = λ name s. inr (subst (λ names. IsNamed names name) (sym is) ((all_called e name).1 s));
+      own = own;
+      reads = closed.reads;
+      calls = λ name f h found further there. inl (closed.calls name f h found further there);
+      reached = λ name h. Here ((all_called e name).0 (subst (λ names. IsNamed names name) is h));
+    }
+
+    -- a reached function reads nothing but what it may
+    refused_within : (admitted : Text → Bool) (front : List Text) (name : Text) → IsWalked functions e readable admitted (front ++ name ∷ []) → AllReadable →
+        (f : Function) → function_at functions name ≡ Some f → (n : ℕ) → Stands f.body (Read n) → IsAmong f.parameters n ⊎ IsTrue (readable n)
+    refused_within admitted front name w all f found n s =
+        ⊎_elim (λ own. inl own)
+        (λ beyond. inr (all n (inr (record { name = name; function = f; reached = w.reached name ((named_append front (name ∷ []) name).1 (inr (inl refl))); found = found; stands = s; beyond = beyond }))))
+        (among_cases f.parameters n)
+
+    -- the answer, where the expression itself reads something else
+    pub refuses_at_once : (own : ℕ → Bool) (answer : Bool) → answer ≡ false → (answer ≡ true) ↔ ((n : ℕ) → Stands e (Read n) → IsTrue (own n || readable n)) → (false ≡ true) ↔ AllReadable
+    refuses_at_once own answer off decides = (
+      (λ h. absurd (cc)),
+      (λ all. absurd (let h : answer ≡ true = decides.1 (λ n s. or_right (own n) (readable n) (all n (inl s))) in cc)),
+    )
+
+    -- the answer, where the body of a reached function does
+    pub refuses_within : (admitted : Text → Bool) (front pending : List Text) (name : Text) (answer : Bool) → IsWalked functions e readable admitted pending → pending ≡ front ++ name ∷ [] → answer ≡ false →
+        (answer ≡ true) ↔ ((f : Function) → function_at functions name ≡ Some f → (n : ℕ) → Stands f.body (Read n) → IsAmong f.parameters n ⊎ IsTrue (readable n)) → (false ≡ true) ↔ AllReadable
+    refuses_within admitted front pending name answer w is off decides = (
+      (λ h. absurd (cc)),
+      (λ all. absurd (let h : answer ≡ true = decides.1 (refused_within admitted front name (subst (IsWalked functions e readable admitted) is w) all) in cc)),
+    )
+
+    module _ (admitted next_admitted : Text → Bool) (front next : List Text) (name : Text) (w : IsWalked functions e readable admitted (front ++ name ∷ [])) (adds : Adds admitted next_admitted name) (kept : (t : Text) → IsNamed front t → IsNamed next t) where
+      settled_on : (t : Text) → IsSettled admitted (front ++ name ∷ []) t → IsSettled next_admitted next t
+      settled_on t h = ⊎_elim (λ a. inl ((adds t).1 (inr a)))
+          (λ k. ⊎_elim (λ j. inr (kept t j)) (λ j. ⊎_elim (λ same. inl ((adds t).1 (inl same))) (λ bad. absurd bad) j) ((named_append front (name ∷ []) t).0 k)) h
+
+      -- one name more is admitted, whose function reads nothing but what it may, and what it calls is settled
+      step : ((f : Function) → function_at functions name ≡ Some f → (n : ℕ) → Stands f.body (Read n) → IsAmong f.parameters n ⊎ IsTrue (readable n)) →
+          ((f : Function) → function_at functions name ≡ Some f → (further : Text) → Stands f.body (Entered further) → IsSettled next_admitted next further) →
+          ((t : Text) → IsNamed next t → Reaches functions e t) → IsWalked functions e readable next_admitted next
+      step reads calls reached = record {
+        start = λ t s. settled_on t (w.start t s);
+        own = w.own;
+        reads = λ t f h found n s. ⊎_elim (λ same. reads f (ap (function_at functions) same ∙ found) n s) (λ old. w.reads t f old found n s) ((adds t).0 h);
+        calls = λ t f h found further s. ⊎_elim (λ same. calls f (ap (function_at functions) same ∙ found) further s) (λ old. settled_on further (w.calls t f old found further s)) ((adds t).0 h);
+        reached = reached;
+      }
+
+    -- the last of what is pending was admitted before
+    pub passes : (admitted next_admitted : Text → Bool) (front : List Text) (name : Text) → IsWalked functions e readable admitted (front ++ name ∷ []) → Adds admitted next_admitted name → IsTrue (admitted name) →
+        IsWalked functions e readable next_admitted front
+    passes admitted next_admitted front name w adds there =
+        step admitted next_admitted front front name w adds (λ t h. h)
+        (λ f found n s. w.reads name f there found n s)
+        (λ f found further s. settled_on admitted next_admitted front front name w adds (λ t h. h) further (w.calls name f there found further s))
+        (λ t h. w.reached t ((named_append front (name ∷ []) t).1 (inl h)))
+
+    -- the last of what is pending is admitted now, and what its body calls is pending
+    pub admits : (admitted next_admitted : Text → Bool) (front next : List Text) (name : Text) → IsWalked functions e readable admitted (front ++ name ∷ []) → Adds admitted next_admitted name →
+        ((f : Function) → function_at functions name ≡ Some f → (n : ℕ) → Stands f.body (Read n) → IsAmong f.parameters n ⊎ IsTrue (readable n)) →
+        next ≡ front ++ calls_of (function_at functions name) → IsWalked functions e readable next_admitted next
+    admits admitted next_admitted front next name w adds reads is =
+        step admitted next_admitted front next name w adds
+        (λ t h. subst (λ names. IsNamed names t) (sym is) ((named_append front (calls_of (function_at functions name)) t).1 (inl h)))
+        reads
+        (λ f found further s. inr (subst (λ names. IsNamed names further) (sym is) ((named_append front (calls_of (function_at functions name)) further).1
+        (inr (subst (λ o. IsNamed (calls_of o) further) (sym found) ((all_called f.body further).1 s))))))
+        (λ t h. ⊎_elim (λ old. w.reached t ((named_append front (name ∷ []) t).1 (inl old))) (λ new. called_reached (function_at functions name) refl t new)
+        ((named_append front (calls_of (function_at functions name)) t).0 (subst (λ names. IsNamed names t) is h)))
+      where
+        called_reached : (o : Option Function) → function_at functions name ≡ o → (t : Text) → IsNamed (calls_of o) t → Reaches functions e t
+        called_reached None found t h = absurd h
+        called_reached (Some f) found t h = reaches_on (w.reached name ((named_append front (name ∷ []) name).1 (inr (inl refl)))) f found t ((all_called f.body t).0 h)
+
+    -- nothing is pending
+    pub closes : (admitted : Text → Bool) → IsWalked functions e readable admitted [] → IsAdmitted functions readable admitted
+    closes admitted w = record {
+      reads = w.reads;
+      calls = λ name f h found further s. ⊎_elim (λ k. k) (λ k. absurd k) (w.calls name f h found further s);
+    }
+
+    pub all_readable : (admitted : Text → Bool) → IsWalked functions e readable admitted [] → AllReadable
+    all_readable admitted w n r = ⊎_elim (λ s. w.own n s)
+        (λ b. ⊎_elim (λ k. absurd (b.beyond k)) (λ k. k)
+        (w.reads b.name b.function
+        (reached_admitted readable admitted (closes admitted w) (λ t s. ⊎_elim (λ k. k) (λ k. absurd k) (w.start t s)) b.reached)
+        b.found n b.stands)) r
+
+-- ---- why the walk ends
+
+-- for each function that is not admitted, what it calls, and one more
+abbrev pub work : List Function → (Text → Bool) → ℕ
+work [] admitted = 0
+work (f ∷ fs) admitted = cond (admitted f.name.lexeme) 0 (suc (length (called_names (mentions nothing f.body)))) + work fs admitted
+
+module _ (admitted next : Text → Bool) (kept : (t : Text) → IsTrue (admitted t) → IsTrue (next t)) where
+  part_kept : (a b : Bool) (w : ℕ) → (IsTrue a → IsTrue b) → cond b 0 w ≤ cond a 0 w
+  part_kept true true w h = omega arith
+  part_kept true false w h = absurd (let e : false ≡ true = h refl in cc)
+  part_kept false true w h = omega arith
+  part_kept false false w h = omega arith
+
+  pub work_kept : (fs : List Function) → work fs next ≤ work fs admitted
+  work_kept [] = omega arith
+  work_kept (f ∷ fs) =
+      let here = part_kept (admitted f.name.lexeme) (next f.name.lexeme) (suc (length (called_names (mentions nothing f.body)))) (kept f.name.lexeme) in
+      let rest = work_kept fs in
+      omega (arith, here, rest)
+
+  part_falls : (a b : Bool) (w : ℕ) → a ≡ false → b ≡ true → cond b 0 w + w ≤ cond a 0 w
+  part_falls true b w off on = absurd (cc)
+  part_falls false true w off on = omega arith
+  part_falls false false w off on = absurd (cc)
+
+  -- one function more is admitted
+  work_falls : (fs : List Function) (name : Text) (f : Function) → function_at fs name ≡ Some f → admitted name ≡ false → next name ≡ true →
+      work fs next + suc (length (called_names (mentions nothing f.body))) ≤ work fs admitted
+  work_falls [] name f found off on = absurd (cc)
+  work_falls (g ∷ gs) name f found off on = by (bytes_eq name g.name.lexeme) refl found (λ later. work_falls gs name f later off on)
+    where
+      by : (b : Bool) → bytes_eq name g.name.lexeme ≡ b → cond b (Some g) (function_at gs name) ≡ Some f →
+          (function_at gs name ≡ Some f → work gs next + suc (length (called_names (mentions nothing f.body))) ≤ work gs admitted) → work (g ∷ gs) next + suc (length (called_names (mentions nothing f.body))) ≤ work (g ∷ gs) admitted
+      by true e is again =
+          let key : name ≡ g.name.lexeme = (bytes_eq-Decides name g.name.lexeme).0 e in
+          let same : g ≡ f = cc in
+          let here = part_falls (admitted g.name.lexeme) (next g.name.lexeme) (suc (length (called_names (mentions nothing g.body)))) (ap admitted (sym key) ∙ off) (ap next (sym key) ∙ on) in
+          let rest = work_kept gs in
+          let size : length (called_names (mentions nothing g.body)) ≡ length (called_names (mentions nothing f.body)) = ap (λ (h : Function). length (called_names (mentions nothing h.body))) same in
+          omega (arith, here, rest, size)
+      by false e is again =
+          let here = part_kept (admitted g.name.lexeme) (next g.name.lexeme) (suc (length (called_names (mentions nothing g.body)))) (kept g.name.lexeme) in
+          let rest = again is in
+          omega (arith, here, rest)
+
+  -- the work falls by what becomes pending, and one more
+  pub work_left : (fs : List Function) (name : Text) → admitted name ≡ false → next name ≡ true → work fs next + length (calls_of (function_at fs name)) ≤ work fs admitted
+  work_left fs name off on = by (function_at fs name) refl
+    where
+      by : (o : Option Function) → function_at fs name ≡ o → work fs next + length (calls_of o) ≤ work fs admitted
+      by None found = let rest = work_kept fs in omega (arith, rest)
+      by (Some f) found = let rest = work_falls fs name f found off on in omega (arith, rest)
+
+-- the last of what is pending is gone
+pub falls_passed : (fs : List Function) (admitted next : Text → Bool) (front pending : List Text) (name : Text) → Adds admitted next name → pending ≡ front ++ name ∷ [] → work fs next + length front < work fs admitted + length pending
+falls_passed fs admitted next front pending name adds is =
+    let rest = work_kept admitted next (λ t h. (adds t).1 (inr h)) fs in
+    let size : length pending ≡ length front + 1 = ap length is ∙ length-append front (name ∷ []) in
+    omega (arith, rest, size)
+
+-- it is gone, and what its body calls is pending
+pub falls_admitted : (fs : List Function) (admitted next_admitted : Text → Bool) (front next pending : List Text) (name : Text) → Adds admitted next_admitted name → admitted name ≡ false → pending ≡ front ++ name ∷ [] →
+    next ≡ front ++ calls_of (function_at fs name) → work fs next_admitted + length next < work fs admitted + length pending
+falls_admitted fs admitted next_admitted front next pending name adds off is calls =
+    let rest = work_left admitted next_admitted (λ t h. (adds t).1 (inr h)) fs name off ((adds name).1 (inl refl)) in
+    let size : length pending ≡ length front + 1 = ap length is ∙ length-append front (name ∷ []) in
+    let more : length next ≡ length front + length (calls_of (function_at fs name)) = ap length calls ∙ length-append front (calls_of (function_at fs name)) in
+    omega (arith, rest, size, more)
+
+-- ---- what code does
+
+-- the last name of a list
+pub popped : (old new : List (Bor Text)) (r : Option (Bor Text)) (name : Bor Text) → old ≡ new ++ option_to_list r → r ≡ Some name → texts old ≡ texts new ++ name.now ∷ []
+popped old new r name is some = ap texts (is ∙ ap (λ o. new ++ option_to_list o) some) ∙ map-append (λ (b : Bor Text). b.now) new (name ∷ [])
+
+-- there is no name left
+pub emptied : (xs : List (Bor Text)) (r : Option (Bor Text)) → r ≡ None → (0 < length xs → IsSome r) → texts xs ≡ []
+emptied [] r none some = refl
+emptied (x ∷ xs) r none some = absurd (let h : is_some r ≡ true = some (omega arith) in let e : is_some r ≡ false = ap is_some none in cc)
+
+-- no own number: what may be read is readable
+pub own_out : (own readable : Bool) → own ≡ false → IsTrue (own || readable) → IsTrue readable
+own_out own readable off h = subst (λ b. (b || readable) ≡ true) off h

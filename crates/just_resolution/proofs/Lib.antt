@@ -1,0 +1,7 @@
+mod Closure
+mod Ordering
+mod Resolving
+mod Rows
+mod Sets
+mod Standing
+mod Tables

@@ -1,0 +1,262 @@
+-- What an order takes, one name after another.
+use Rattle.std.proofs.Common.{◌≡◌, ◌↔◌, ◌⊎◌, inl, inr, ⊎_elim, ℕ, Bool, true, false, cond, List, [], ◌∷◌, ◌++◌, map, Option, Some, None, is_some, Bor, refl, ap, sym, ◌∙◌, subst, IsTrue, IfOk, Result, Ok, Err}
+use Rattle.std.specs.Str.{bytes_eq}
+use Rattle.std.proofs.lemmas.Bool.{or_cases, or_left, or_right}
+use Rattle.just_syntax.specs.Keyed.{value_at}
+use Rattle.just_syntax.specs.Plain.{Text, Token, Assignment, Function}
+use Rattle.just_value.specs.Value.{Value}
+use Rattle.just_value.specs.Frames.{Frames, value_in}
+use Rattle.just_value.specs.View.{frames_view}
+use Rattle.just_value.specs.declared.scope.Scope.{Scope}
+use Rattle.just_resolution.specs.Admitted.{IsAdmitted, IsNumberOf, IsTakenBy, MayFollow, ReadsReadable}
+use Rattle.just_resolution.specs.Assignments.{Assignments, assignment_at}
+use Rattle.just_resolution.specs.Reaches.{Reads}
+use Rattle.just_resolution.specs.Seen.{is_readable, is_taken}
+use Rattle.just_resolution.specs.declared.readable.Readable.{Readable}
+use Rattle.just_resolution.specs.Resolved.{AreAssignments, AreDistinct, AreInOrder, IsBound, IsOneOf, with_taken}
+
+-- ---- numbers that are distinct
+
+one_of_found : (name : Text) (vs : List Assignment) (a : Assignment) → value_at (λ v. v.name.lexeme) name vs ≡ Some a → IsOneOf (map (λ v. v.number) vs) a.number
+one_of_found name [] a found = absurd (cc)
+one_of_found name (v ∷ vs) a found = by (bytes_eq name v.name.lexeme) found (λ later. one_of_found name vs a later)
+  where
+    by : (b : Bool) → cond b (Some v) (value_at (λ v. v.name.lexeme) name vs) ≡ Some a → (value_at (λ v. v.name.lexeme) name vs ≡ Some a → IsOneOf (map (λ v. v.number) vs) a.number) → IsOneOf (map (λ v. v.number) (v ∷ vs)) a.number
+    by true is again = inl (let same : v ≡ a = cc in ap (λ (w : Assignment). w.number) same)
+    by false is again = inr (again is)
+
+-- two assignments of one number are one
+pub one_assignment : (vs : List Assignment) → AreDistinct (map (λ v. v.number) vs) → (x y : Text) (a b : Assignment) → value_at (λ v. v.name.lexeme) x vs ≡ Some a → value_at (λ v. v.name.lexeme) y vs ≡ Some b →
+    a.number ≡ b.number → a ≡ b
+one_assignment [] distinct x y a b found_a found_b same = absurd (cc)
+one_assignment (v ∷ vs) distinct x y a b found_a found_b same = by (bytes_eq x v.name.lexeme) (bytes_eq y v.name.lexeme) found_a found_b (λ late_a late_b. one_assignment vs distinct.1 x y a b late_a late_b same)
+  where
+    by : (p q : Bool) → cond p (Some v) (value_at (λ v. v.name.lexeme) x vs) ≡ Some a → cond q (Some v) (value_at (λ v. v.name.lexeme) y vs) ≡ Some b →
+        (value_at (λ v. v.name.lexeme) x vs ≡ Some a → value_at (λ v. v.name.lexeme) y vs ≡ Some b → a ≡ b) → a ≡ b
+    by true true is_a is_b again = cc
+    by true false is_a is_b again =
+        let first : v ≡ a = cc in
+        let number : b.number ≡ v.number = sym same ∙ ap (λ (w : Assignment). w.number) (sym first) in
+        absurd (distinct.0 (subst (IsOneOf (map (λ v. v.number) vs)) number (one_of_found y vs b is_b)))
+    by false true is_a is_b again =
+        let first : v ≡ b = cc in
+        let number : a.number ≡ v.number = same ∙ ap (λ (w : Assignment). w.number) (sym first) in
+        absurd (distinct.0 (subst (IsOneOf (map (λ v. v.number) vs)) number (one_of_found x vs a is_a)))
+    by false false is_a is_b again = again is_a is_b
+
+one_left : (xs ys : List ℕ) (n : ℕ) → IsOneOf xs n → IsOneOf (xs ++ ys) n
+one_left [] ys n h = absurd h
+one_left (x ∷ xs) ys n h = ⊎_elim (λ e. inl e) (λ k. inr (one_left xs ys n k)) h
+
+-- the front of distinct numbers is distinct
+pub distinct_front : (xs ys : List ℕ) → AreDistinct (xs ++ ys) → AreDistinct xs
+distinct_front [] ys d = tt
+distinct_front (x ∷ xs) ys d = ((λ one. d.0 (one_left xs ys x one)), distinct_front xs ys d.1)
+
+-- ---- what is readable
+
+pub bound_if : (o : Option Value) → (is_some o ≡ true) ↔ ((v : Value) × (o ≡ Some v))
+bound_if None = ((λ h. absurd (let e : false ≡ true = h in cc)), (λ h. absurd (let e : None ≡ Some h.0 = h.1 in cc)))
+bound_if (Some v) = ((λ h. (v, refl)), (λ h. refl))
+
+-- what is taken or bound outside
+pub readable_if : (r : Readable) (outer : Frames) → frames_view r.outer.now ≡ outer → (n : ℕ) → IsTrue (is_readable r n) ↔ (IsTrue (is_taken r n) ⊎ IsBound outer n)
+readable_if r outer is n =
+    let bound = bound_if (value_in (frames_view r.outer.now) n) in (
+      (λ h. ⊎_elim (λ k. inl k) (λ k. inr (subst (λ frames. IsBound frames n) is (bound.0 k))) (or_cases (is_taken r n) (is_some (value_in (frames_view r.outer.now) n)) h)),
+      (λ h. ⊎_elim (λ k. or_left (is_taken r n) (is_some (value_in (frames_view r.outer.now) n)) k)
+          (λ k. or_right (is_taken r n) (is_some (value_in (frames_view r.outer.now) n)) (bound.1 (subst (λ frames. IsBound frames n) (sym is) k))) h),
+    )
+
+-- where more is taken, more is readable
+pub more_readable : (old new : Readable) → new.outer ≡ old.outer → ((n : ℕ) → IsTrue (is_taken old n) → IsTrue (is_taken new n)) → (n : ℕ) → IsTrue (is_readable old n) → IsTrue (is_readable new n)
+more_readable old new same on n h =
+    let was = readable_if old (frames_view old.outer.now) refl n in
+    let now_if = readable_if new (frames_view old.outer.now) (ap (λ (o : Bor Scope). frames_view o.now) same) n in
+    now_if.1 (⊎_elim (λ k. inl (on n k)) (λ k. inr k) (was.0 h))
+
+module _ (functions : List Function) (assignments : Assignments) where
+  -- more is readable
+  pub admitted_on : (readable more : ℕ → Bool) (admitted : Text → Bool) → ((n : ℕ) → IsTrue (readable n) → IsTrue (more n)) → IsAdmitted functions readable admitted → IsAdmitted functions more admitted
+  admitted_on readable more admitted on closed = record {
+    reads = λ name f h found n s. ⊎_elim (λ own. inl own) (λ k. inr (on n k)) (closed.reads name f h found n s);
+    calls = closed.calls;
+  }
+
+  -- an assignment is taken, whose reads are readable
+  pub takes_one : (t : Token) (a : Assignment) (taken next readable more : ℕ → Bool) (old admitted : Text → Bool) → IsTakenBy functions assignments taken readable old → assignment_at assignments t.lexeme ≡ Some a →
+      IsAdmitted functions readable admitted → ReadsReadable functions readable a →
+      ((n : ℕ) → IsTrue (next n) ↔ (IsTrue (taken n) ⊎ (a.number ≡ n))) → ((n : ℕ) → IsTrue (readable n) → IsTrue (more n)) → IsTakenBy functions assignments next more admitted
+  takes_one t a taken next readable more old admitted by_now found closed reads adds on = record {
+    closed = admitted_on readable more admitted on closed;
+    origin = λ n h. ⊎_elim
+        (λ k. let was = by_now.origin n k in (was.0, was.1, was.2, was.3, λ m r. on m (was.4 m r)))
+        (λ is. (t.lexeme, a, found, is, λ m r. on m (reads m r)))
+        ((adds n).0 h);
+  }
+
+  -- a number that was taken before is the number of this assignment
+  pub may_come_again : (t : Token) (a : Assignment) (taken readable : ℕ → Bool) (admitted : Text → Bool) → AreDistinct (map (λ v. v.number) assignments.all) → IsTakenBy functions assignments taken readable admitted →
+      assignment_at assignments t.lexeme ≡ Some a → IsTrue (taken a.number) → ReadsReadable functions readable a
+  may_come_again t a taken readable admitted distinct by_now found there n r =
+      let was = by_now.origin a.number there in
+      let same : was.1 ≡ a = one_assignment assignments.all distinct was.0 t.lexeme was.1 a was.2 found was.3 in
+      was.4 n (subst (λ (b : Assignment). Reads functions b.value n) (sym same) r)
+
+  -- the assignment that was found decides
+  pub may_follow_found : (t : Token) (a : Assignment) (readable : ℕ → Bool) → assignment_at assignments t.lexeme ≡ Some a → (assignments.referenced a.number ≡ true → ReadsReadable functions readable a) → MayFollow functions assignments readable t
+  may_follow_found t a readable found reads =
+      let one : (b : Assignment) → assignment_at assignments t.lexeme ≡ Some b → a ≡ b = λ b found_b. (let e = sym found ∙ found_b in cc) in
+      ((a, found), (λ b found_b referenced. subst (ReadsReadable functions readable) (one b found_b) (reads (ap (λ (c : Assignment). assignments.referenced c.number) (one b found_b) ∙ referenced))))
+
+  -- ---- what one name does
+
+  abbrev Changes : (ℕ → Bool) → (ℕ → Bool) → Token → Type 0
+  Changes taken next t = (n : ℕ) → IsTrue (next n) ↔ (IsTrue (taken n) ⊎ IsNumberOf assignments t n)
+
+  -- there is no such assignment
+  pub names_none : (t : Token) (readable : ℕ → Bool) → assignment_at assignments t.lexeme ≡ None → (false ≡ true) ↔ MayFollow functions assignments readable t
+  names_none t readable none = ((λ h. absurd (cc)), (λ m. absurd (let e : None ≡ Some m.0.0 = sym none ∙ m.0.1 in cc)))
+
+  module _ (t : Token) (a : Assignment) (found : assignment_at assignments t.lexeme ≡ Some a) where
+    is_the_one : (b : Assignment) → assignment_at assignments t.lexeme ≡ Some b → a ≡ b
+    is_the_one b found_b = let e = sym found ∙ found_b in cc
+
+    -- it is not referenced
+    pub passed_over : (readable : ℕ → Bool) → assignments.referenced a.number ≡ false → (true ≡ true) ↔ MayFollow functions assignments readable t
+    passed_over readable off = (
+      (λ h. may_follow_found t a readable found (λ on. absurd (let e : false ≡ true = sym off ∙ on in cc))),
+      (λ m. refl),
+    )
+
+    pub passed_over_takes_none : (taken : ℕ → Bool) → assignments.referenced a.number ≡ false → Changes taken taken t
+    passed_over_takes_none taken off n = (
+      (λ h. inl h),
+      (λ h. ⊎_elim (λ k. k) (λ k. absurd (let e : false ≡ true = sym off ∙ (ap (λ (b : Assignment). assignments.referenced b.number) (is_the_one k.0 k.1) ∙ k.2) in cc)) h),
+    )
+
+    -- it was taken before
+    pub comes_again : (taken readable : ℕ → Bool) (admitted : Text → Bool) → AreDistinct (map (λ v. v.number) assignments.all) → IsTakenBy functions assignments taken readable admitted → IsTrue (taken a.number) →
+        (true ≡ true) ↔ MayFollow functions assignments readable t
+    comes_again taken readable admitted distinct by_now there = (
+      (λ h. may_follow_found t a readable found (λ on. may_come_again t a taken readable admitted distinct by_now found there)),
+      (λ m. refl),
+    )
+
+    pub comes_again_takes_none : (taken : ℕ → Bool) → IsTrue (taken a.number) → Changes taken taken t
+    comes_again_takes_none taken there n = (
+      (λ h. inl h),
+      (λ h. ⊎_elim (λ k. k) (λ k. subst (λ m. taken m ≡ true) (ap (λ (b : Assignment). b.number) (is_the_one k.0 k.1) ∙ k.3) there) h),
+    )
+
+    -- it is taken now
+    pub comes_now : (readable : ℕ → Bool) (A : Type 0) → assignments.referenced a.number ≡ true → A ↔ ReadsReadable functions readable a → A ↔ MayFollow functions assignments readable t
+    comes_now readable A on reads = (
+      (λ h. may_follow_found t a readable found (λ referenced. reads.0 h)),
+      (λ m. reads.1 (m.1 a found on)),
+    )
+
+    pub comes_now_takes_one : (taken next : ℕ → Bool) → assignments.referenced a.number ≡ true → ((n : ℕ) → IsTrue (next n) ↔ (IsTrue (taken n) ⊎ (a.number ≡ n))) → Changes taken next t
+    comes_now_takes_one taken next on adds n = (
+      (λ h. ⊎_elim (λ k. inl k) (λ is. inr (a, found, on, is)) ((adds n).0 h)),
+      (λ h. (adds n).1 (⊎_elim (λ k. inl k) (λ k. inr (ap (λ (b : Assignment). b.number) (is_the_one k.0 k.1) ∙ k.3)) h)),
+    )
+
+  -- ---- the order, name by name
+
+  -- A list of what was taken, which holds the same numbers; and the whole order is good exactly if what is left of
+  -- it is.
+  pub record IsWalkedTo (outer : Frames) (taken readable : ℕ → Bool) (admitted : Text → Bool) (left all : List Token) : Type 0 where
+    pub by_now : IsTakenBy functions assignments taken readable admitted
+    pub readable_if : (n : ℕ) → IsTrue (readable n) ↔ (IsTrue (taken n) ⊎ IsBound outer n)
+    pub numbers : List ℕ
+    pub same : (n : ℕ) → IsOneOf numbers n ↔ IsTrue (taken n)
+    pub decides : (AreAssignments assignments left × AreInOrder functions assignments outer numbers left) ↔ (AreAssignments assignments all × AreInOrder functions assignments outer [] all)
+
+  module _ (outer : Frames) where
+    abbrev LooksBack : List ℕ → Token → Type 0
+    LooksBack numbers t = (a : Assignment) → assignment_at assignments t.lexeme ≡ Some a → assignments.referenced a.number ≡ true → (n : ℕ) → Reads functions a.value n → IsOneOf numbers n ⊎ IsBound outer n
+
+    -- what may follow is the test of the order
+    looks_back : (taken readable : ℕ → Bool) (numbers : List ℕ) (t : Token) → ((n : ℕ) → IsTrue (readable n) ↔ (IsTrue (taken n) ⊎ IsBound outer n)) → ((n : ℕ) → IsOneOf numbers n ↔ IsTrue (taken n)) →
+        MayFollow functions assignments readable t ↔ (((a : Assignment) × (assignment_at assignments t.lexeme ≡ Some a)) × LooksBack numbers t)
+    looks_back taken readable numbers t readable_if same = (
+      (λ h. (h.0, λ a found referenced n r. ⊎_elim (λ k. inl ((same n).1 k)) (λ k. inr k) ((readable_if n).0 (h.1 a found referenced n r)))),
+      (λ h. (h.0, λ a found referenced n r. (readable_if n).1 (⊎_elim (λ k. inl ((same n).0 k)) (λ k. inr k) (h.1 a found referenced n r)))),
+    )
+
+    with_one : (o : Option Assignment) (numbers : List ℕ) (n : ℕ) → IsOneOf (with_taken assignments o numbers) n ↔ (IsOneOf numbers n ⊎ ((a : Assignment) × (o ≡ Some a) × (assignments.referenced a.number ≡ true) × (a.number ≡ n)))
+    with_one None numbers n = ((λ h. inl h), (λ h. ⊎_elim (λ k. k) (λ k. absurd (let e : None ≡ Some k.0 = k.1 in cc)) h))
+    with_one (Some a) numbers n = by (assignments.referenced a.number) refl
+      where
+        by : (b : Bool) → assignments.referenced a.number ≡ b → IsOneOf (cond b (a.number ∷ numbers) numbers) n ↔ (IsOneOf numbers n ⊎ ((c : Assignment) × (Some a ≡ Some c) × (assignments.referenced c.number ≡ true) × (c.number ≡ n)))
+        by true e = (
+          (λ h. ⊎_elim (λ k. inr (a, refl, e, k)) (λ k. inl k) h),
+          (λ h. ⊎_elim (λ k. inr k) (λ k. inl (let f : Some a ≡ Some k.0 = k.1 in let is : a ≡ k.0 = cc in ap (λ (c : Assignment). c.number) is ∙ k.3)) h),
+        )
+        by false e = (
+          (λ h. inl h),
+          (λ h. ⊎_elim (λ k. k) (λ k. absurd (let f : Some a ≡ Some k.0 = k.1 in let is : a ≡ k.0 = cc in let off : false ≡ true = sym e ∙ ap (λ (c : Assignment). assignments.referenced c.number) is ∙ k.2 in cc)) h),
+        )
+
+    module _ (taken readable : ℕ → Bool) (admitted : Text → Bool) (t : Token) (left all : List Token) (w : IsWalkedTo outer taken readable admitted (t ∷ left) all) where
+      -- one name more was taken
+      pub walks_on : (next more : ℕ → Bool) (admits : Text → Bool) → IsTakenBy functions assignments next more admits → ((n : ℕ) → IsTrue (more n) ↔ (IsTrue (next n) ⊎ IsBound outer n)) →
+          ((n : ℕ) → IsTrue (next n) ↔ (IsTrue (taken n) ⊎ IsNumberOf assignments t n)) → MayFollow functions assignments readable t → IsWalkedTo outer next more admits left all
+      walks_on next more admits by_then more_if number follows =
+          let back = (looks_back taken readable w.numbers t w.readable_if w.same).0 follows in
+          record {
+            by_now = by_then;
+            readable_if = more_if;
+            numbers = with_taken assignments (assignment_at assignments t.lexeme) w.numbers;
+            same = λ n. (
+              (λ h. (number n).1 (⊎_elim (λ k. inl ((w.same n).0 k)) (λ k. inr k) ((with_one (assignment_at assignments t.lexeme) w.numbers n).0 h))),
+              (λ h. (with_one (assignment_at assignments t.lexeme) w.numbers n).1 (⊎_elim (λ k. inl ((w.same n).1 k)) (λ k. inr k) ((number n).0 h))),
+            );
+            decides = (
+              (λ h. w.decides.0 ((back.0, h.0), (back.1, h.1))),
+              (λ h. let before = w.decides.1 h in (before.0.1, before.1.1)),
+            );
+          }
+
+      -- a name that may not follow spoils the order
+      pub walks_off : (AreAssignments assignments all × AreInOrder functions assignments outer [] all) → MayFollow functions assignments readable t
+      walks_off h = let before = w.decides.1 h in (looks_back taken readable w.numbers t w.readable_if w.same).1 (before.0.0, before.1.0)
+
+    -- the answer, where a name may not follow
+    pub spoils : (taken readable : ℕ → Bool) (admitted : Text → Bool) (t : Token) (left start all : List Token) (answer : Bool) → start ≡ t ∷ left → IsWalkedTo outer taken readable admitted start all → answer ≡ false →
+        (answer ≡ true) ↔ MayFollow functions assignments readable t → (false ≡ true) ↔ (AreAssignments assignments all × AreInOrder functions assignments outer [] all)
+    spoils taken readable admitted t left start all answer is w off follows = (
+      (λ h. absurd (cc)),
+      (λ whole. absurd (let e : answer ≡ true = follows.1 (walks_off taken readable admitted t left all (subst (λ l. IsWalkedTo outer taken readable admitted l all) is w) whole) in cc)),
+    )
+
+    -- the answer, where all names were walked
+    pub decides_all : (taken readable : ℕ → Bool) (admitted : Text → Bool) (start all : List Token) → start ≡ [] → IsWalkedTo outer taken readable admitted start all →
+        (true ≡ true) ↔ (AreAssignments assignments all × AreInOrder functions assignments outer [] all)
+    decides_all taken readable admitted start all is w =
+        let ended = subst (λ l. IsWalkedTo outer taken readable admitted l all) is w in
+        ((λ h. ended.decides.0 (tt, tt)), (λ whole. refl))
+
+    -- nothing is taken yet
+    pub walks_from : (taken readable : ℕ → Bool) (admitted : Text → Bool) (all : List Token) → ((n : ℕ) → taken n ≡ false) → ((name : Text) → admitted name ≡ false) → ((n : ℕ) → IsTrue (readable n) ↔ (IsTrue (taken n) ⊎ IsBound outer n)) →
+        IsWalkedTo outer taken readable admitted all all
+    walks_from taken readable admitted all none nothing readable_if = record {
+      by_now = record {
+        closed = record {
+          reads = λ name f h found n s. absurd (let e : false ≡ true = sym (nothing name) ∙ h in cc);
+          calls = λ name f h found further s. absurd (let e : false ≡ true = sym (nothing name) ∙ h in cc);
+        };
+        origin = λ n h. absurd (let e : false ≡ true = sym (none n) ∙ h in cc);
+      };
+      readable_if = readable_if;
+      numbers = [];
+      same = λ n. ((λ h. absurd h), (λ h. absurd (let e : false ≡ true = sym (none n) ∙ h in cc)));
+      decides = ((λ h. h), (λ h. h));
+    }
+
+-- ---- results
+
+pub all_three : {X E : Type 0} (r : Result X E) (P Q R S : X → Type 0) → ((x : X) → P x → Q x → R x → S x) → IfOk r P → IfOk r Q → IfOk r R → IfOk r S
+all_three (Ok x) P Q R S f p q s = f x p q s
+all_three (Err e) P Q R S f p q s = tt

@@ -1,0 +1,35 @@
+-- Functions that need not be looked through again, and what follows in an order.
+use Rattle.std.specs.Prelude.{◌≡◌, ◌⊎◌, ℕ, Bool, true, List, Option, Some, None, IsTrue}
+use Rattle.just_syntax.specs.Plain.{Text, Token, Assignment, Function}
+use Rattle.just_host.specs.Interaction.{Read, Entered}
+use Rattle.just_resolution.specs.Assignments.{Assignments, assignment_at}
+use Rattle.just_resolution.specs.Reaches.{IsAmong, Reads, Stands, function_at}
+
+-- whether a variable's number passes a test, if it has one
+abbrev pub may_stand : (ℕ → Bool) → Option ℕ → Bool
+may_stand test None = true
+may_stand test (Some n) = test n
+
+-- an admitted function reads nothing but its own parameters and what is readable, and calls admitted functions alone
+pub record IsAdmitted (functions : List Function) (readable : ℕ → Bool) (admitted : Text → Bool) : Type 0 where
+  pub reads : (name : Text) (f : Function) → IsTrue (admitted name) → function_at functions name ≡ Some f → (n : ℕ) → Stands f.body (Read n) → IsAmong f.parameters n ⊎ IsTrue (readable n)
+  pub calls : (name : Text) (f : Function) → IsTrue (admitted name) → function_at functions name ≡ Some f → (further : Text) → Stands f.body (Entered further) → IsTrue (admitted further)
+
+-- an assignment reads nothing but what is readable
+abbrev pub ReadsReadable : List Function → (ℕ → Bool) → Assignment → Type 0
+ReadsReadable functions readable a = (n : ℕ) → Reads functions a.value n → IsTrue (readable n)
+
+-- each number that was taken is that of an assignment that reads nothing but what is readable
+pub record IsTakenBy (functions : List Function) (assignments : Assignments) (taken readable : ℕ → Bool) (admitted : Text → Bool) : Type 0 where
+  pub closed : IsAdmitted functions readable admitted
+  pub origin : (n : ℕ) → IsTrue (taken n) → (name : Text) × (a : Assignment) × (assignment_at assignments name ≡ Some a) × (a.number ≡ n) × ReadsReadable functions readable a
+
+-- the number of the assignment with a name, if it is referenced
+abbrev pub IsNumberOf : Assignments → Token → ℕ → Type 0
+IsNumberOf assignments t n = (a : Assignment) × (assignment_at assignments t.lexeme ≡ Some a) × (assignments.referenced a.number ≡ true) × (a.number ≡ n)
+
+-- the name is an assignment's, which reads nothing but what is readable if it is referenced
+abbrev pub MayFollow : List Function → Assignments → (ℕ → Bool) → Token → Type 0
+MayFollow functions assignments readable t =
+    ((a : Assignment) × (assignment_at assignments t.lexeme ≡ Some a))
+    × ((a : Assignment) → assignment_at assignments t.lexeme ≡ Some a → assignments.referenced a.number ≡ true → ReadsReadable functions readable a)

@@ -1,0 +1,7 @@
+pub mod Admitted
+pub mod Assignments
+pub mod Mentions
+pub mod Reaches
+pub mod Resolved
+pub mod Seen
+pub mod View

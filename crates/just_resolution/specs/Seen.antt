@@ -1,0 +1,34 @@
+-- What mentions, sets and names are as plain data.
+use Rattle.std.specs.Prelude.{ℕ, Bool, ◌||◌, List, map, is_some}
+use Rattle.std.specs.Borrow.{Bor}
+use Rattle.std.specs.BTreeSet.{BTreeSet, contains_by}
+use Rattle.std.specs.Cmp.Lexicographic.{slice_cmp}
+use Rattle.std.specs.Ordering.{nat_cmp}
+use Rattle.just_syntax.specs.Plain.{Text}
+use Rattle.just_value.specs.Frames.{value_in}
+use Rattle.just_value.specs.View.{frames_view}
+use Rattle.just_resolution.specs.declared.mentions.Mentions as declared
+use Rattle.just_resolution.specs.declared.readable.Readable.{Readable}
+use Rattle.just_resolution.specs.Mentions.{Mentions}
+
+abbrev pub mentions_view : declared.Mentions → Mentions
+mentions_view m = record { calls = map (λ c. (c.0.now, c.1)) m.calls.items; variables = m.variables.items }
+
+abbrev pub texts : List (Bor Text) → List Text
+texts names = map (λ name. name.now) names
+
+-- whether a number is in a set
+abbrev pub is_number_in : BTreeSet ℕ → ℕ → Bool
+is_number_in set n = contains_by (nat_cmp n) set
+
+-- whether a name is in a set
+abbrev pub is_name_in : BTreeSet (Bor Text) → Text → Bool
+is_name_in set name = contains_by (λ key. slice_cmp nat_cmp name key.now) set
+
+-- whether a number was taken
+abbrev pub is_taken : Readable → ℕ → Bool
+is_taken r n = is_number_in r.taken n
+
+-- whether a number was taken, or is bound outside
+abbrev pub is_readable : Readable → ℕ → Bool
+is_readable r n = is_taken r n || is_some (value_in (frames_view r.outer.now) n)

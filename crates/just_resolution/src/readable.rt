@@ -1,0 +1,57 @@
+// What an assignment of the order may read.
+
+ghost use Rattle.std.specs.Prelude.{◌≡◌, ◌↔◌, ◌⊎◌, ℕ, false, IsTrue, OnOk};
+
+use just_syntax::number::Number;
+use just_syntax::out_of_memory::OutOfMemory;
+use just_value::scope::Scope;
+use std::alloc::Global;
+use std::collections::BTreeSet;
+
+// The numbers that may be read: those that were taken, and those that are bound outside.
+#[derive(Drop)]
+pub(crate) struct Readable<'scope, 'src, 'run> {
+    outer: &'scope Scope<'src, 'run>,
+    taken: BTreeSet<Number>,
+}
+
+impl<'scope, 'src, 'run> Readable<'scope, 'src, 'run> {
+    ghost use Rattle.just_resolution.specs.Seen.{is_readable, is_taken};
+
+    // None is taken. It takes no memory.
+    pub(crate) fn new(
+        alloc: Global,
+        outer: &'scope Scope<'src, 'run>,
+    ) -> Readable<'scope, 'src, 'run>
+        ensures taken { (n : ℕ) → is_taken result n ≡ false }
+        ensures outer { result.outer ≡ outer.entry }
+    {
+        Readable {
+            outer,
+            taken: BTreeSet::new(alloc),
+        }
+    }
+
+    // Whether a number was taken.
+    pub(crate) fn has_taken(&self, number: Number) -> bool
+        ensures { result ≡ is_taken self.now number }
+    {
+        self.taken.contains(&number)
+    }
+
+    // Whether a number may be read.
+    pub(crate) fn contains(&self, number: Number) -> bool
+        ensures { result ≡ is_readable self.now number }
+    {
+        self.has_taken(number) || self.outer.value(number).is_some()
+    }
+
+    // Takes a number.
+    pub(crate) fn take(&mut self, number: Number) -> Result<(), OutOfMemory>
+        ensures taken { OnOk result ((n : ℕ) → IsTrue (is_taken self.new n) ↔ (IsTrue (is_taken self.old n) ⊎ (number ≡ n))) }
+        ensures outer { self.new.outer ≡ self.old.outer }
+    {
+        self.taken.insert(number)?;
+        Ok(())
+    }
+}

@@ -1,0 +1,54 @@
+// Whether a module is resolved.
+
+ghost use Rattle.std.specs.Prelude.{◌↔◌, IfOk, IsTrue};
+ghost use Rattle.just_value.specs.View.{frames_view};
+ghost use Rattle.just_resolution.specs.Resolved.{IsResolved};
+ghost use Rattle.just_resolution.specs.View.{assignments_view, functions_view};
+
+use crate::known::{are_bodies_known, are_values_known};
+use crate::numbers::are_numbers_apart;
+use crate::order::is_in_order;
+use just_host::justfile::Justfile;
+use just_syntax::number::Number;
+use just_syntax::out_of_memory::OutOfMemory;
+use just_value::scope::Scope;
+use std::alloc::Global;
+use std::collections::HashSet;
+
+/// Whether a module is resolved: what its names mean does not depend on who asks, and all is evaluated before it
+/// is read.
+///
+/// - The numbers of all assignments and of all parameters of functions are distinct, and `parent` binds no
+///   parameter's number.
+/// - Each variable in an assignment or a body has a number, and each called name is a function of the file with as
+///   many parameters as the call has arguments.
+/// - Each name of the evaluation order is an assignment's. What a taken assignment reads, overridden or not, by
+///   itself or in the bodies of the functions that it reaches (less each function's own parameters), is taken
+///   earlier or bound in `parent`. Taken are the assignments of the order that are referenced: each, where
+///   `variable_references` is `None`.
+///
+/// Functions may call each other for ever. Each assignment and each body is looked through a bounded number of
+/// times, not once for each assignment that reaches it.
+///
+/// # Errors
+///
+/// `OutOfMemory` where memory was asked for and refused.
+pub fn resolved<'src, 'run>(
+    alloc: Global,
+    module: &Justfile<'src>,
+    parent: &Scope<'src, 'run>,
+    variable_references: Option<&HashSet<Number>>,
+) -> Result<bool, OutOfMemory>
+    ensures exact { IfOk result (λ answer. IsTrue answer ↔ IsResolved (functions_view «module».now) (assignments_view «module».now variable_references.entry) (frames_view parent.now)) }
+{
+    if !are_numbers_apart(alloc, module, parent)? {
+        return Ok(false);
+    }
+    if !are_values_known(alloc, &module.functions, &module.assignments)? {
+        return Ok(false);
+    }
+    if !are_bodies_known(alloc, &module.functions)? {
+        return Ok(false);
+    }
+    is_in_order(alloc, module, parent, variable_references)
+}

@@ -1,0 +1,27 @@
+-- Texts put together.
+use Rattle.std.proofs.Common.{◌≡◌, ℕ, ◌<◌, List, [], ◌∷◌, ◌++◌, length, map, refl, ap, arith}
+use Rattle.std.specs.List.{flat_map, join_by, onto_first}
+use Rattle.std.proofs.lemmas.List.{append_assoc}
+
+-- the texts with the separator between them
+abbrev pub joined : List ℕ → List (List ℕ) → List ℕ
+joined separator texts = join_by (λ text. text) separator texts
+
+others : {A : Type 0} (f : A → List ℕ) (separator : List ℕ) (xs : List A) → flat_map (λ y. separator ++ f y) xs ≡ flat_map (λ y. separator ++ y) (map f xs)
+others f separator [] = refl
+others f separator (x ∷ xs) = ap (λ t. (separator ++ f x) ++ t) (others f separator xs)
+
+-- the texts of things, joined
+pub joined_texts : {A : Type 0} (f : A → List ℕ) (separator : List ℕ) (xs : List A) → join_by f separator xs ≡ joined separator (map f xs)
+joined_texts f separator [] = refl
+joined_texts f separator (x ∷ xs) = ap (λ t. f x ++ t) (others f separator xs)
+
+-- a text put before the others
+pub joined_more : (separator x : List ℕ) (ps : List (List ℕ)) → 0 < length ps → joined separator (x ∷ ps) ≡ x ++ (separator ++ joined separator ps)
+joined_more separator x [] some = absurd (omega arith)
+joined_more separator x (p ∷ ps) some = ap (λ t. x ++ t) (append_assoc separator p (flat_map (λ y. separator ++ y) ps))
+
+-- a byte put before the first
+pub joined_onto : (separator : List ℕ) (b : ℕ) (ps : List (List ℕ)) → 0 < length ps → joined separator (onto_first b ps) ≡ b ∷ joined separator ps
+joined_onto separator b [] some = absurd (omega arith)
+joined_onto separator b (p ∷ ps) some = refl

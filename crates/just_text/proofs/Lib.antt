@@ -1,0 +1,11 @@
+pub mod Ascii
+pub mod Components
+pub mod Ends
+pub mod Escapes
+mod Examples
+pub mod Joined
+pub mod LastByte
+pub mod Names
+pub mod Pieces
+pub mod Slashes
+pub mod Words

@@ -1,0 +1,9 @@
+-- Two paths joined, as `std::path` joins them.
+use Rattle.std.proofs.Common.{◌≡◌, ℕ, List, [], ◌∷◌, refl}
+use Rattle.std.specs.Path.{path_join}
+use Rattle.just_text.specs.Path.{joined}
+
+pub joined_is : (base path : List ℕ) → path_join base path ≡ joined base path
+unfolding path_join
+joined_is base [] = refl
+joined_is base (b ∷ bs) = refl

@@ -1,0 +1,13 @@
+-- Texts with another text in place of one.
+use Rattle.std.specs.Prelude.{◌++◌, ◌==◌, if◌then◌else◌, length, chars, encode_utf8}
+use Rattle.std.specs.List.{flat_map, join_by}
+use Rattle.just_syntax.specs.Plain.{Text}
+use Rattle.just_text.specs.Split.{pieces}
+
+-- `to` before each character of the text and at its end
+abbrev pub interleaved : Text → Text → Text
+interleaved text to = flat_map (λ c. to ++ encode_utf8 c) (chars text) ++ to
+
+-- `to` between the pieces that `from` stands between; an empty `from` stands before each character and at the end
+abbrev pub replaced : Text → Text → Text → Text
+replaced text from to = if length from == 0 then interleaved text to else join_by (λ piece. piece) to (pieces from text)

@@ -1,0 +1,32 @@
+// Texts without another text at their ends. No memory is taken.
+
+ghost use Rattle.std.specs.Prelude.{◌≡◌};
+ghost use Rattle.just_text.specs.Pattern as spec;
+
+/// The text without the pattern at its start, if it begins with it.
+pub fn trim_start_match<'a>(text: &'a str, pattern: &str) -> &'a str
+    ensures { result.now ≡ spec.without_start pattern.now text.now }
+{
+    text.strip_prefix(pattern).unwrap_or(text)
+}
+
+/// The text without the pattern at its start, as often as it stands there. An empty pattern takes nothing.
+pub fn trim_start_matches<'a>(text: &'a str, pattern: &str) -> &'a str
+    ensures { result.now ≡ spec.without_starts pattern.now text.now }
+{
+    text.trim_start_matches(pattern)
+}
+
+/// The text without the pattern at its end, if it ends with it.
+pub fn trim_end_match<'a>(text: &'a str, pattern: &str) -> &'a str
+    ensures { result.now ≡ spec.without_end pattern.now text.now }
+{
+    text.strip_suffix(pattern).unwrap_or(text)
+}
+
+/// The text without the pattern at its end, as often as it stands there. An empty pattern takes nothing.
+pub fn trim_end_matches<'a>(text: &'a str, pattern: &str) -> &'a str
+    ensures { result.now ≡ spec.without_ends pattern.now text.now }
+{
+    text.trim_end_matches(pattern)
+}

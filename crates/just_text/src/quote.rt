@@ -1,0 +1,16 @@
+// Texts quoted for a shell.
+
+ghost use Rattle.std.specs.Prelude.{◌≡◌, IfOk, string_bytes};
+ghost use Rattle.just_text.specs.Quote.{single_quoted};
+
+use crate::replace::replace;
+use just_syntax::out_of_memory::OutOfMemory;
+use std::alloc::Global;
+
+/// The text with `'` before and behind it, and each `'` in it written `'\''`.
+pub fn quote(alloc: Global, text: &str) -> Result<String, OutOfMemory>
+    ensures { IfOk result (λ quoted. string_bytes quoted ≡ single_quoted text.now) }
+{
+    let inner = replace(alloc, text, "'", "'\\''")?;
+    Ok(format!(in alloc; "'{inner}'")?)
+}
