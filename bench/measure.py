@@ -177,39 +177,54 @@ def measured(program, name, case, answer):
 # --- depth ---
 
 
-def to_the_left(depth, word):
-    return ["str x"] + ["str x", word] * depth
+# What stands before and behind the expression that a form is put around.
+TOWERS = {
+    "group": ([], ["group"]),
+    "not": ([], ["not"]),
+    "list": ([], ["list 1"]),
+    "and, left": ([], ["str x", "and"]),
+    "and, right": (["str x"], ["and"]),
+    "or, left": ([], ["str x", "or"]),
+    "or, right": (["list 0"], ["or"]),
+    "if, condition": ([], ["str x", "str x", "if"]),
+    "if, consequence": (["str x"], ["str x", "if"]),
+    "if, otherwise": (["list 0", "str x"], ["if"]),
+    "when, condition": ([], ["str x", "when"]),
+    "cat, left": ([], ["str x", "cat"]),
+    "cat, right": (["str x"], ["cat"]),
+    "assert": ([], ["assert"]),
+    "assert, condition": ([], ["str x", "assertm"]),
+    "assert, message": (["list 0"], ["assertm"]),
+    "add, left": ([], ["str x", "add"]),
+    "add, right": (["str x"], ["add"]),
+    "join, left": ([], ["str x", "join"]),
+    "join, right": (["str x"], ["join"]),
+    "root": ([], ["root"]),
+    "eq, left": ([], ["str x", "eq"]),
+    "eq, right": (["str x"], ["eq"]),
+    "call, argument": ([], ["call g 1"]),
+    "built-in, argument": ([], ["call trim 1"]),
+}
 
 
-def to_the_right(depth, word):
-    return ["str x"] * (depth + 1) + [word] * depth
+def nested(depth, tower, innermost):
+    """A form around itself, and at its innermost place this expression."""
+    before, behind = tower
+    return ["var p", "fun g p"] + before * depth + [innermost] + behind * depth
 
 
-def on_itself(depth, lines, word):
-    """A tower of forms with one part, or with others that are pushed before or behind it."""
-    return ["str x"] + (lines + [word]) * depth
+def evaluated(depth, tower):
+    return nested(depth, tower, "str x") + ["assign a", "run"]
 
 
-def condition_to_the_left(depth, word):
-    return on_itself(depth, ["str x", "str x"], word)
-
-
-def single(depth, word):
-    return on_itself(depth, [], word)
-
-
-def evaluated(lines):
-    return lines + ["assign a", "run"]
-
-
-def only_dropped(lines):
+def only_dropped(depth, tower):
     """The assignment is overridden, so that its expression is built and let go, and not evaluated."""
-    return lines + ["assign a", "override a 5", "run"]
+    return nested(depth, tower, "str x") + ["assign a", "override a 5", "run"]
 
 
-def called_a_thousand_times(lines):
+def called_a_thousand_times(depth, tower):
     """The tower is the body of a function that calls itself at its innermost place, up to the limit."""
-    return ["call f 0"] + lines[1:] + ["fun f", "call f 0", "assign a", "limit 1000", "run"]
+    return nested(depth, tower, "call f 0") + ["fun f", "call f 0", "assign a", "limit 1000", "run"]
 
 
 def ends_by_itself(program, name, lines):
@@ -218,7 +233,7 @@ def ends_by_itself(program, name, lines):
         return True
     if run.status < 0 and -run.status in (signal.SIGSEGV, signal.SIGBUS, signal.SIGABRT):
         return False
-    if run.status == 2 and (name.startswith("assert ") or run.output == b"refused 11 RecursionLimit f\n"):
+    if run.status == 2 and run.output.startswith((b"refused 1 Assert ", b"refused 11 RecursionLimit ")):
         return True
     sys.exit(f"{name}: status {run.status}")
 
@@ -243,27 +258,12 @@ def deepest(program, name, lines_of):
     return good, True
 
 
-TOWERS = [
-    ("and", to_the_left),
-    ("and", to_the_right),
-    ("add", to_the_left),
-    ("if", condition_to_the_left),
-    ("list 1", single),
-    ("group", single),
-    ("not", single),
-    ("join", to_the_left),
-    ("cat", to_the_left),
-    ("assert", single),
-    ("eq", to_the_left),
-]
-
-
 def measure_depth(program):
-    print(f"depth: how many operators may nest on a stack of {STACK} bytes")
+    print(f"depth: how many forms may nest on a stack of {STACK} bytes")
     for use in [evaluated, only_dropped, called_a_thousand_times]:
-        for word, tower in TOWERS:
-            name = f"{word} {tower.__name__}, {use.__name__}"
-            depth, is_bounded = deepest(program, name, lambda n: use(tower(n, word)))
+        for word, tower in TOWERS.items():
+            name = f"{word}, {use.__name__}"
+            depth, is_bounded = deepest(program, name, lambda n: use(n, tower))
             level = f"{STACK // (depth + 1)} bytes a level" if is_bounded else "as many as a case holds"
             if use is called_a_thousand_times:
                 level = f"{STACK // 1000} bytes a call"

@@ -1,7 +1,7 @@
 // What is printed of a run.
 
 use crate::recorded_question::{RecordedQuestion, TextKind};
-use just_host::directory_kind::DirectoryKind;
+use just_builtins::directory::directory_word;
 use just_host::fault::fault_text;
 use just_host::number_question::NumberQuestion;
 use just_syntax::out_of_memory::OutOfMemory;
@@ -72,20 +72,6 @@ fn print_text_question(text: &mut String, kind: TextKind, about: &str) -> Result
         TextKind::OsFamily => text.push_str("? os_family")?,
     }
     Ok(())
-}
-
-// What a directory is called.
-fn directory_word(directory: DirectoryKind) -> &'static str {
-    match directory {
-        DirectoryKind::Cache => "cache",
-        DirectoryKind::Config => "config",
-        DirectoryKind::ConfigLocal => "local config",
-        DirectoryKind::Data => "data",
-        DirectoryKind::DataLocal => "local data",
-        DirectoryKind::Executable => "executable",
-        DirectoryKind::Home => "home",
-        DirectoryKind::Runtime => "runtime",
-    }
 }
 
 /// Adds a scope's own bindings by rising number, each on a line: the name and the value.

@@ -5,4 +5,5 @@ mod evaluations;
 mod fakes;
 mod functions;
 mod hosts;
+mod runs;
 mod streams;

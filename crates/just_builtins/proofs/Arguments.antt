@@ -1,8 +1,8 @@
 -- The arguments of a call, one by one.
-use Rattle.std.proofs.Common.{◌≡◌, ℕ, ◌<◌, ◌≤◌, List, [], ◌∷◌, refl, sym, ap, ◌∙◌, arith, length, drop, map, get_or, unwrap_or}
+use Rattle.std.proofs.Common.{◌≡◌, ℕ, ◌<◌, ◌≤◌, List, [], ◌∷◌, refl, sym, ap, ◌∙◌, arith, length, drop, map, get_or, unwrap_or, Option, Some, None, Bor, option_map, slice_get}
 use Rattle.std.proofs.lemmas.Option.{slice_get-get_or}
 use Rattle.just_value.specs.Value.{Value}
-use Rattle.just_builtins.specs.Argument.{value_at}
+use Rattle.just_builtins.specs.Argument.{value_at, values_given}
 
 -- where one element is all that there is, its view is all of the value
 pub only : {A : Type 0} (f : A → List ℕ) (xs : List A) (x : A) (v : Value) (t : List ℕ) → map f xs ≡ v → length v ≡ 1 → x ≡ get_or xs 0 x → t ≡ f x → v ≡ t ∷ []
@@ -20,6 +20,11 @@ second [] v n m a = absurd (omega arith)
 second (x ∷ []) v n m a = absurd (omega arith)
 second (x ∷ y ∷ []) v n m a = ap (λ u. u ∷ []) (sym a)
 second (x ∷ y ∷ z ∷ zs) v n m a = absurd (omega arith)
+
+-- the second that may be given
+pub given_second : (v : Value) (given : Option (Bor Value)) → option_map (λ value. value.now) given ≡ slice_get (v ∷ values_given given) 1
+given_second v None = refl
+given_second v (Some w) = refl
 
 -- as many arguments as are given
 pub one : (vs : List Value) (v : Value) → length vs ≡ 1 → value_at vs 0 ≡ v → vs ≡ v ∷ []

@@ -1,19 +1,23 @@
--- Calls that ask nothing.
-use Rattle.std.proofs.Common.{◌≡◌, ℕ, refl, sym, List, [], Result, Ok, Err, string_bytes, subst}
+-- Calls, and the trees of what they ask.
+use Rattle.std.proofs.Common.{◌≡◌, ℕ, refl, sym, List, [], ◌∷◌, Option, Some, None, Result, Ok, Err, string_bytes, subst, inl, inr}
+use Rattle.just_syntax.specs.Plain.{Text}
 use Rattle.just_value.specs.Value.{Value}
 use Rattle.just_value.specs.Frames.{Frames}
 use Rattle.just_value.specs.Outcome.{Gave, Stopped}
-use Rattle.just_host.specs.Question.{Question, Answer}
-use Rattle.just_host.specs.Interaction.{Tree, done, ask, note, Path, Runs}
+use Rattle.just_value.specs.Refusal.{NoMemory}
+use Rattle.just_host.specs.Question.{Question, Answer, Blind, Failed, TextOf, TextQuestion, frameless}
+use Rattle.just_host.specs.Interaction.{Asked as answered, Tree, done, ask, note, Path, Runs, AsksOnce}
+use Rattle.just_builtins.specs.declared.builtin.Builtin.{Builtin}
 use Rattle.just_builtins.specs.declared.call_fault.CallFault.{CallFault}
 use Rattle.just_builtins.specs.declared.call_fault.CallFault.TheVariants.{Internal, Message, OutOfMemory}
 use Rattle.just_builtins.specs.declared.function.Function.{Function}
 use Rattle.just_host.specs.Function.{Context}
 use Rattle.just_builtins.specs.Argument.{IsExpected}
+use Rattle.just_builtins.specs.Asking.{asks_text, text_answered}
 use Rattle.just_builtins.specs.Meaning.{reply}
-use Rattle.just_builtins.specs.Reply.{Reply}
+use Rattle.just_builtins.specs.Reply.{Reply, Asks}
 use Rattle.just_builtins.specs.Shape.{builtin_of}
-use Rattle.just_builtins.specs.Called.{Returned, Said, tree, outcome, Replies}
+use Rattle.just_builtins.specs.Called.{Returned, Said, tree, frames_for, outcome, Asked, AskedBy, AskedOr, Gives, GivesOr, IsNoneOf, Replies, RepliesAmong}
 use Rattle.just_builtins.specs.Table.{IsUnnamed}
 
 -- a tree may be stopped at once
@@ -22,19 +26,25 @@ stopped (done o) = tt
 stopped (ask q next) = refl
 stopped (note x rest) = refl
 
--- the reply's tree is gone down at once
-path : (f : Function) (shown : Frames) (reply : Reply) (result : Result Value CallFault) → Replies f reply result → Path (tree shown reply) [] (outcome result)
-path f shown reply (Ok v) is = subst (λ r. Path (tree shown r) [] (Gave (Returned v))) (sym is) refl
-path f shown reply (Err (Message message)) is = subst (λ r. Path (tree shown r) [] (Gave (Said (string_bytes message)))) (sym is) refl
-path f shown reply (Err OutOfMemory) is = stopped (tree shown reply)
-path f shown reply (Err Internal) is = stopped (tree shown reply)
+-- a reply that asks nothing is gone down at once
+path : (shown : Frames) (reply : Reply) (result : Result Value CallFault) → Gives reply result → Path (tree shown reply) [] (outcome result)
+path shown reply (Ok v) is = subst (λ r. Path (tree shown r) [] (Gave (Returned v))) (sym is) refl
+path shown reply (Err (Message message)) is = subst (λ r. Path (tree shown r) [] (Gave (Said (string_bytes message)))) (sym is) refl
+path shown reply (Err OutOfMemory) is = stopped (tree shown reply)
+path shown reply (Err Internal) is = absurd is
 
--- a host that is not asked stays as it is
-pub runs : {S : Type 0} (step : S → Question → Answer → S → Type 0) (host : S) (f : Function) (shown : Frames) (reply : Reply) (result : Result Value CallFault) → Replies f reply result → Runs step host (tree shown reply) (outcome result) host
-runs step host f shown reply result is = record { events = []; path = path f shown reply result is; chain = refl }
+-- what is given is not `Internal`
+named : (reply : Reply) (result : Result Value CallFault) → Gives reply result → result ≡ Err Internal → ⊥
+named reply (Ok v) is e = absurd (cc)
+named reply (Err (Message message)) is e = absurd (cc)
+named reply (Err OutOfMemory) is e = absurd (cc)
+named reply (Err Internal) is e = absurd is
 
-pub internal : (f : Function) (reply : Reply) (result : Result Value CallFault) → Replies f reply result → result ≡ Err Internal → IsUnnamed f
-internal f reply result is e = subst (λ r. Replies f reply r) e is
+-- a reply that is left to the rest, where there is none yet
+gives_err : (next : Reply → Reply) (e : CallFault) → GivesOr next (Err e) → (rest : Reply) → Gives (next rest) (Err e)
+gives_err next (Message message) is rest = is rest
+gives_err next OutOfMemory is rest = tt
+gives_err next Internal is rest = absurd is
 
 -- a call of the same function with the same arguments
 pub same_call : (f g : Function) (c : Context) (vs ws : List Value) (result : Result Value CallFault) → f ≡ g → vs ≡ ws → Replies g (reply (builtin_of g) c ws) result → Replies f (reply (builtin_of f) c vs) result
@@ -43,3 +53,69 @@ same_call f g c vs ws result same alike is = rw (same, alike) is
 -- what is expected of a function is of the same one
 pub expected : (f g : Function) (n : ℕ) → f ≡ g → IsExpected f n → IsExpected g n
 expected f g n same is = subst (λ h. IsExpected h n) same is
+
+module _ {S : Type 0} {step : S → Question → Answer → S → Type 0} where
+  -- ---- functions that ask nothing: the host stays as it is
+
+  pub told : {h : S} (shown : Frames) (reply : Reply) (result : Result Value CallFault) → Gives reply result → Asked step h shown reply result h
+  told shown reply result is = (record { events = []; path = path shown reply result is; chain = refl }, named reply result is)
+
+  -- memory is refused
+  pub unasked : {h : S} (shown : Frames) (reply : Reply) (result : Result Value CallFault) (e : CallFault) → result ≡ Err e → e ≡ OutOfMemory → Asked step h shown reply result h
+  unasked {h = h} shown reply result e is wanted = subst (λ r. Asked step h shown reply r h) (sym (rw wanted at is)) (told shown reply (Err OutOfMemory) tt)
+
+  pub told_by : {h : S} (f : Function) (shown : Frames) (reply : Reply) (result : Result Value CallFault) → Replies f reply result → AskedBy f step h shown reply result h
+  told_by f shown reply (Ok v) is = (record { events = []; path = path shown reply (Ok v) is; chain = refl }, λ e. absurd (cc))
+  told_by f shown reply (Err (Message message)) is = (record { events = []; path = path shown reply (Err (Message message)) is; chain = refl }, λ e. absurd (cc))
+  told_by f shown reply (Err OutOfMemory) is = (record { events = []; path = stopped (tree shown reply); chain = refl }, λ e. absurd (cc))
+  told_by f shown reply (Err Internal) is = (record { events = []; path = stopped (tree shown reply); chain = refl }, λ e. is)
+
+  -- the same, where those that ask nothing are among others of their shape
+  pub told_among : {h : S} (f : Function) (those : List Builtin) (b : Builtin) (shown : Frames) (reply : Reply) (result : Result Value CallFault) → RepliesAmong those b reply result → (IsNoneOf those b → IsUnnamed f) → AskedBy f step h shown reply result h
+  told_among f those b shown reply (Ok v) is unnamed = told_by f shown reply (Ok v) is
+  told_among f those b shown reply (Err (Message message)) is unnamed = told_by f shown reply (Err (Message message)) is
+  told_among f those b shown reply (Err OutOfMemory) is unnamed = told_by f shown reply (Err OutOfMemory) tt
+  told_among f those b shown reply (Err Internal) is unnamed = told_by f shown reply (Err Internal) (unnamed is)
+
+  -- ---- functions that ask
+
+  -- a question, and what its answer leads to
+  pub asked : {old new : S} (shown : Frames) (q : Blind) (next : Answer → Reply) (a : Answer) (result : Result Value CallFault) → step old (record { blind = q; shown = frames_for q shown }) a new → Gives (next a) result → Asked step old shown (Asks q next) result new
+  asked shown q next a result taken is = (record { events = answered _ a ∷ []; path = (refl, path shown (next a) result is); chain = (_, taken, refl) }, named (next a) result is)
+
+  -- the same, for a text
+  pub asked_text : {old new : S} (shown : Frames) (q wanted : TextQuestion) (absent : Reply) (odd faulty : Text → Text) (a : Answer) (result : Result Value CallFault) → q ≡ wanted → step old (frameless (TextOf q)) a new → Gives (text_answered absent odd faulty a) result → Asked step old shown (asks_text wanted absent odd faulty) result new
+  asked_text {old = old} {new = new} shown q wanted absent odd faulty a result same taken is =
+      asked shown (TextOf wanted) (text_answered absent odd faulty) a result (subst (λ x. step old (frameless (TextOf x)) a new) same taken) is
+
+  -- the same, where memory may be refused before it is asked
+  pub asked_once : {old new : S} (shown : Frames) (q : Blind) (next : Answer → Reply) (a : Answer) (result : Result Value CallFault) → AsksOnce step old (record { blind = q; shown = frames_for q shown }) a new → Gives (next a) result → (a ≡ Failed NoMemory → result ≡ Err OutOfMemory) → Asked step old shown (Asks q next) result new
+  asked_once shown q next a result (inl taken) is wanting = asked shown q next a result taken is
+  asked_once {old = old} {new = new} shown q next a result (inr without) is wanting =
+      subst (λ h. Asked step old shown (Asks q next) result h) without.1 (unasked shown (Asks q next) result OutOfMemory (wanting without.0) refl)
+
+  -- ---- by the shapes of arguments
+
+  -- a built-in function of a shape
+  pub of_builtin : {old new : S} (f : Function) (b other : Builtin) (c : Context) (vs : List Value) (shown : Frames) (result : Result Value CallFault) → b ≡ other → Asked step old shown (reply other c vs) result new → AskedBy f step old shown (reply b c vs) result new
+  of_builtin {old = old} {new = new} f b other c vs shown result is (run, not_internal) = (subst (λ x. Runs step old (tree shown (reply x c vs)) (outcome result) new) (sym is) run, λ e. absurd (not_internal e))
+
+  -- a function of no name
+  pub internal : {h : S} (f : Function) (shown : Frames) (reply : Reply) → IsUnnamed f → AskedBy f step h shown reply (Err Internal) h
+  internal f shown reply unnamed = told_by f shown reply (Err Internal) unnamed
+
+  -- a call of the same function with the same arguments
+  pub same_asked : {old new : S} (f g : Function) (c : Context) (vs ws : List Value) (shown : Frames) (result : Result Value CallFault) → f ≡ g → vs ≡ ws → AskedBy g step old shown (reply (builtin_of g) c ws) result new → AskedBy f step old shown (reply (builtin_of f) c vs) result new
+  same_asked f g c vs ws shown result same alike is = rw (same, alike) is
+
+  -- the same, where it asks nothing
+  pub same_told : {h : S} (f g : Function) (c : Context) (vs ws : List Value) (shown : Frames) (result : Result Value CallFault) → f ≡ g → vs ≡ ws → Replies g (reply (builtin_of g) c ws) result → AskedBy f step h shown (reply (builtin_of f) c vs) result h
+  same_told f g c vs ws shown result same alike is = told_by f shown (reply (builtin_of f) c vs) result (same_call f g c vs ws result same alike is)
+
+module _ {S : Type 0} (step : S → Question → Answer → S → Type 0) where
+  -- a question, and what its answer leads to or leaves to the rest
+  pub asked_or : {old new : S} (shown : Frames) (q : Blind) (next : Reply → Answer → Reply) (a : Answer) (result : Result (Option Value) CallFault) → step old (record { blind = q; shown = frames_for q shown }) a new → GivesOr (λ rest. next rest a) result → AskedOr step old shown (λ rest. Asks q (next rest)) result new
+  asked_or shown q next a (Ok (Some v)) taken is = λ rest. (asked shown q (next rest) a (Ok v) taken (is rest)).0
+  asked_or shown q next a (Ok None) taken is = λ rest o last r.
+      record { events = answered _ a ∷ r.events; path = (refl, subst (λ t. Path (tree shown t) r.events o) (sym (is rest)) r.path); chain = (_, taken, r.chain) }
+  asked_or shown q next a (Err e) taken is = λ rest. asked shown q (next rest) a (Err e) taken (gives_err (λ other. next other a) e is rest)

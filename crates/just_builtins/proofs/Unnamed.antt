@@ -76,12 +76,24 @@ abbrev pub is_value_unary : Function → Bool
 is_value_unary (ValueUnary b) = true
 is_value_unary _ = false
 
+abbrev pub is_unary_plus : Function → Bool
+is_unary_plus (UnaryPlus b) = true
+is_unary_plus _ = false
+
+abbrev pub is_unary_to_value : Function → Bool
+is_unary_to_value (UnaryToValue b) = true
+is_unary_to_value _ = false
+
+abbrev pub is_value_binary : Function → Bool
+is_value_binary (ValueBinary b) = true
+is_value_binary _ = false
+
+abbrev pub is_value_binary_opt : Function → Bool
+is_value_binary_opt (ValueBinaryOpt b) = true
+is_value_binary_opt _ = false
+
 -- the shapes that no built-in has
 abbrev pub is_of_no_builtin : Function → Bool
 is_of_no_builtin (BinaryOptValueStr b) = true
 is_of_no_builtin (BinaryToValue b) = true
-is_of_no_builtin (UnaryPlus b) = true
-is_of_no_builtin (UnaryToValue b) = true
-is_of_no_builtin (ValueBinary b) = true
-is_of_no_builtin (ValueBinaryOpt b) = true
 is_of_no_builtin _ = false

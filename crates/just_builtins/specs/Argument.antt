@@ -28,6 +28,11 @@ abbrev pub texts_given : Option (Bor Text) → List Value
 texts_given (Some text) = (text.now ∷ []) ∷ []
 texts_given None = []
 
+-- the argument that may be given
+abbrev pub values_given : Option (Bor Value) → List Value
+values_given (Some value) = value.now ∷ []
+values_given None = []
+
 -- each argument has one element
 abbrev pub HasOneEach : List Value → Type 0
 HasOneEach vs = (i : ℕ) → i < length vs → length (value_at vs i) ≡ 1

@@ -1,11 +1,12 @@
 -- How a call of a built-in function ends, and the tree of what it asks.
-use Rattle.std.specs.Prelude.{◌≡◌, ⊤, Result, Ok, Err, [], string_bytes}
+use Rattle.std.specs.Prelude.{◌≡◌, ◌≢◌, ⊤, Option, Some, None, Result, Ok, Err, List, [], ◌∷◌, string_bytes}
 use Rattle.just_syntax.specs.Plain.{Text}
 use Rattle.just_value.specs.Value.{Value}
 use Rattle.just_value.specs.Frames.{Frames}
 use Rattle.just_value.specs.Outcome.{Outcome, Gave, Stopped}
-use Rattle.just_host.specs.Question.{Blind, CommandOf}
-use Rattle.just_host.specs.Interaction.{Tree, done, ask, gives}
+use Rattle.just_host.specs.Question.{Question, Answer, Blind, CommandOf}
+use Rattle.just_host.specs.Interaction.{Tree, done, ask, gives, Runs}
+use Rattle.just_builtins.specs.declared.builtin.Builtin.{Builtin}
 use Rattle.just_builtins.specs.declared.call_fault.CallFault.{CallFault}
 use Rattle.just_builtins.specs.declared.call_fault.CallFault.TheVariants.{Internal, Message, OutOfMemory}
 use Rattle.just_builtins.specs.declared.function.Function.{Function}
@@ -36,6 +37,11 @@ outcome (Err (Message message)) = Gave (Said (string_bytes message))
 outcome (Err OutOfMemory) = Stopped
 outcome (Err Internal) = Stopped
 
+-- the built-in function is none of these
+abbrev pub IsNoneOf : List Builtin → Builtin → Type 0
+IsNoneOf [] builtin = ⊤
+IsNoneOf (other ∷ others) builtin = (other ≢ builtin) × IsNoneOf others builtin
+
 -- the result is the reply, which asks nothing, unless memory is wanting
 abbrev pub Gives : Reply → Result Value CallFault → Type 0
 Gives reply (Ok v) = reply ≡ Answers v
@@ -49,3 +55,35 @@ Replies f reply (Ok v) = reply ≡ Answers v
 Replies f reply (Err (Message message)) = reply ≡ Fails (string_bytes message)
 Replies f reply (Err OutOfMemory) = ⊤
 Replies f reply (Err Internal) = IsUnnamed f
+
+-- the same, but that it is `Internal` where the built-in function is none of these
+abbrev pub RepliesAmong : List Builtin → Builtin → Reply → Result Value CallFault → Type 0
+RepliesAmong those builtin reply (Ok v) = reply ≡ Answers v
+RepliesAmong those builtin reply (Err (Message message)) = reply ≡ Fails (string_bytes message)
+RepliesAmong those builtin reply (Err OutOfMemory) = ⊤
+RepliesAmong those builtin reply (Err Internal) = IsNoneOf those builtin
+
+-- the result is the reply, or it is left to what is done else, unless memory is wanting
+abbrev pub GivesOr : (Reply → Reply) → Result (Option Value) CallFault → Type 0
+GivesOr reply (Ok (Some v)) = (rest : Reply) → reply rest ≡ Answers v
+GivesOr reply (Ok None) = (rest : Reply) → reply rest ≡ rest
+GivesOr reply (Err (Message message)) = (rest : Reply) → reply rest ≡ Fails (string_bytes message)
+GivesOr reply (Err OutOfMemory) = ⊤
+GivesOr reply (Err Internal) = ⊥
+
+-- ---- functions that ask: what the host is asked, and then what they answer
+
+-- the call is a run of the reply's tree, and its result is not `Internal`
+abbrev pub Asked : {S : Type 0} → (S → Question → Answer → S → Type 0) → S → Frames → Reply → Result Value CallFault → S → Type 0
+Asked step old shown reply result new = Runs step old (tree shown reply) (outcome result) new × (result ≢ Err Internal)
+
+-- the same, but that it is `Internal` where no name stands for the function
+abbrev pub AskedBy : {S : Type 0} → Function → (S → Question → Answer → S → Type 0) → S → Frames → Reply → Result Value CallFault → S → Type 0
+AskedBy f step old shown reply result new = Runs step old (tree shown reply) (outcome result) new × (result ≡ Err Internal → IsUnnamed f)
+
+-- Where there is a result, it is the reply's. Where there is none yet, whatever the rest then comes to is what the reply
+-- comes to.
+abbrev pub AskedOr : {S : Type 0} → (S → Question → Answer → S → Type 0) → S → Frames → (Reply → Reply) → Result (Option Value) CallFault → S → Type 0
+AskedOr step old shown reply (Ok (Some v)) new = (rest : Reply) → Runs step old (tree shown (reply rest)) (Gave (Returned v)) new
+AskedOr {S} step old shown reply (Ok None) new = (rest : Reply) (o : Outcome Called) (last : S) → Runs step new (tree shown rest) o last → Runs step old (tree shown (reply rest)) o last
+AskedOr step old shown reply (Err e) new = (rest : Reply) → Asked step old shown (reply rest) (Err e) new

@@ -1,4 +1,5 @@
 pub mod Argument
+pub mod Asking
 pub mod Called
 pub mod Message
 pub mod Meaning

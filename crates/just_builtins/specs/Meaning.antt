@@ -1,5 +1,5 @@
--- What each built-in function answers that asks nothing. One line a function.
-use Rattle.std.specs.Prelude.{ℕ, ◌++◌, Bool, true, false, ◌||◌, List, [], ◌∷◌, Option, Some, None, Result, Ok, Err, unwrap_or, if◌then◌else◌, bytes_eq, codes, decimal, length, map}
+-- What each built-in function answers, and what it asks. One line a function.
+use Rattle.std.specs.Prelude.{ℕ, ◌++◌, Bool, true, false, ◌||◌, List, [], ◌∷◌, Option, Some, None, Result, Ok, Err, unwrap_or, if◌then◌else◌, bytes_eq, codes, decimal, length, map, slice_get}
 use Rattle.std.specs.List.{join_by}
 use Rattle.std.specs.Str.{trim, trim_start, trim_end}
 use Rattle.just_syntax.specs.Plain.{Text}
@@ -13,15 +13,15 @@ use Rattle.just_text.specs.Uri.{encoded}
 use Rattle.just_value.specs.Shown.{shown}
 use Rattle.just_value.specs.Value.{Value, from_condition, joined}
 use Rattle.just_host.specs.Function.{Context}
+use Rattle.just_host.specs.Question.{Arch, Os, OsFamily}
+use Rattle.just_host.specs.declared.directory_kind.DirectoryKind.TheVariants as kinds
+use Rattle.just_host.specs.declared.number_question.NumberQuestion.TheVariants.{ProcessId, Cpus}
 use Rattle.just_builtins.specs.Argument.{value_at, text_at, text_given, first}
-use Rattle.just_builtins.specs.Message.{not_extracted, no_parent, no_justfile_directory, not_boolean, many_for_boolean, past_ascii, outside_recipe}
-use Rattle.just_builtins.specs.Reply.{Reply, Answers, Fails}
+use Rattle.just_builtins.specs.Asking.{asks_canonical, asks_contents, asks_directory, asks_environment, asks_executable, asks_existence, asks_number, asks_shell, asks_system, asks_which}
+use Rattle.just_builtins.specs.Message.{not_extracted, no_parent, no_justfile_directory, not_boolean, many_for_boolean, past_ascii, outside_recipe, no_executable}
+use Rattle.just_builtins.specs.Reply.{Reply, Answers, Fails, says}
 use Rattle.just_builtins.specs.declared.builtin.Builtin.{Builtin}
 use Rattle.just_builtins.specs.declared.builtin.Builtin.TheVariants as builtin
-
--- the one text
-abbrev pub says : Text → Reply
-says text = Answers (text ∷ [])
 
 -- what is done with a text, if there is one, else the message
 abbrev pub or_fails : Option Text → Text → (Text → Reply) → Reply
@@ -112,18 +112,32 @@ split_at text (Some separator) = split text separator
 
 abbrev pub reply : Builtin → Context → List Value → Reply
 reply builtin.Append c vs = Answers (each (has_lists c) (λ text. text ++ text_at vs 0) (value_at vs 1))
+reply builtin.Arch c vs = asks_system (codes "arch") Arch
 reply builtin.Bool c vs = says_truth (has_lists c) (value_truth (value_at vs 0))
+reply builtin.CacheDirectory c vs = asks_directory kinds.Cache
+reply builtin.Canonicalize c vs = asks_canonical c (text_at vs 0)
 reply builtin.Capitalize c vs = cased capitalize (text_at vs 0)
+reply builtin.ConfigDirectory c vs = asks_directory kinds.Config
+reply builtin.ConfigLocalDirectory c vs = asks_directory kinds.ConfigLocal
+reply builtin.DataDirectory c vs = asks_directory kinds.Data
+reply builtin.DataLocalDirectory c vs = asks_directory kinds.DataLocal
 reply builtin.EncodeUriComponent c vs = says (encoded (text_at vs 0))
+reply builtin.Env c vs = asks_environment c (value_at vs 0) (slice_get vs 1)
+reply builtin.EnvVar c vs = asks_environment c (value_at vs 0) None
+reply builtin.EnvVarOrDefault c vs = asks_environment c (value_at vs 0) (Some (value_at vs 1))
 reply builtin.Error c vs = Fails (text_at vs 0)
+reply builtin.ExecutableDirectory c vs = asks_directory kinds.Executable
 reply builtin.Extension c vs = part (codes "extension") path.extension (text_at vs 0)
 reply builtin.FileName c vs = part (codes "file name") path.file_name (text_at vs 0)
 reply builtin.FileStem c vs = part (codes "file stem") path.file_stem (text_at vs 0)
+reply builtin.HomeDirectory c vs = asks_directory kinds.Home
 reply builtin.InvocationDirectory c vs = says c.fixed.config.invocation_directory
 reply builtin.InvocationDirectoryNative c vs = says c.fixed.config.invocation_directory
 reply builtin.IsDependency c vs = Answers (truth (has_lists c) c.is_dependency)
 reply builtin.Join c vs = says (all_joined [] vs)
 reply builtin.JoinList c vs = says (join_by (λ text. text) (unwrap_or (text_given vs 1) (codes " ")) (value_at vs 0))
+reply builtin.JustExecutable c vs = asks_executable
+reply builtin.JustPid c vs = asks_number ProcessId
 reply builtin.JustVersion c vs = says (codes "1.58.0")
 reply builtin.Justfile c vs = says c.fixed.justfile
 reply builtin.JustfileDirectory c vs = justfile_directory c.fixed.justfile
@@ -132,12 +146,20 @@ reply builtin.Lowercase c vs = cased lowercase (text_at vs 0)
 reply builtin.ModuleDirectory c vs = with_parent c.fixed.source says
 reply builtin.ModuleFile c vs = says c.fixed.source
 reply builtin.ModulePath c vs = says c.fixed.module_path
+reply builtin.NumCpus c vs = asks_number Cpus
 reply builtin.NumJobs c vs = Answers (jobs c.fixed.config.jobs)
+reply builtin.Os c vs = asks_system (codes "os") Os
+reply builtin.OsFamily c vs = asks_system (codes "os_family") OsFamily
 reply builtin.ParentDirectory c vs = parent_directory (text_at vs 0)
+reply builtin.PathExists c vs = asks_existence c (truth (has_lists c)) (text_at vs 0)
 reply builtin.Prepend c vs = Answers (each (has_lists c) (λ text. text_at vs 0 ++ text) (value_at vs 1))
 reply builtin.Quote c vs = Answers (map single_quoted (value_at vs 0))
+reply builtin.Read c vs = asks_contents c (text_at vs 0)
 reply builtin.RecipeName c vs = or_fails c.recipe outside_recipe says
 reply builtin.Replace c vs = says (replaced (text_at vs 0) (text_at vs 1) (text_at vs 2))
+reply builtin.Require c vs = asks_which c (text_at vs 0) (Fails (no_executable (text_at vs 0)))
+reply builtin.RuntimeDirectory c vs = asks_directory kinds.Runtime
+reply builtin.Shell c vs = asks_shell c (map first vs)
 reply builtin.Show c vs = says (shown (value_at vs 0))
 reply builtin.SourceDirectory c vs = with_source c (λ file. with_parent file says)
 reply builtin.SourceFile c vs = with_source c says
@@ -150,4 +172,5 @@ reply builtin.TrimStart c vs = says (trim_start (text_at vs 0))
 reply builtin.TrimStartMatch c vs = says (without_start (text_at vs 1) (text_at vs 0))
 reply builtin.TrimStartMatches c vs = says (without_starts (text_at vs 1) (text_at vs 0))
 reply builtin.Uppercase c vs = cased uppercase (text_at vs 0)
+reply builtin.Which c vs = asks_which c (text_at vs 0) (Answers [])
 reply builtin.WithoutExtension c vs = without_extension (text_at vs 0)

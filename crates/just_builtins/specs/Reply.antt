@@ -1,4 +1,5 @@
 -- What a built-in function answers, as plain data.
+use Rattle.std.specs.Prelude.{[], ◌∷◌}
 use Rattle.just_syntax.specs.Plain.{Text}
 use Rattle.just_value.specs.Value.{Value}
 use Rattle.just_host.specs.Question.{Blind, Answer}
@@ -10,3 +11,7 @@ pub data Reply : Type 0 where
   Fails : Text → Reply
   Asks : Blind → (Answer → Reply) → Reply
   Stops : Reply
+
+-- the one text
+abbrev pub says : Text → Reply
+says text = Answers (text ∷ [])

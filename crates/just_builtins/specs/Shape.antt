@@ -1,6 +1,7 @@
 -- What the shapes take.
-use Rattle.std.specs.Prelude.{ℕ, Bool, true, false, ◌==◌, ◌^◌, ◌-◌}
+use Rattle.std.specs.Prelude.{ℕ, Bool as Truth, true, false, ◌==◌, ◌^◌, ◌-◌, List, [], ◌∷◌}
 use Rattle.just_builtins.specs.declared.builtin.Builtin.{Builtin}
+use Rattle.just_builtins.specs.declared.builtin.Builtin.TheVariants.{Bool, Capitalize, EncodeUriComponent, Error, Extension, FileName, FileStem, InvocationDirectory, InvocationDirectoryNative, JustVersion, Justfile, JustfileDirectory, Len, Lowercase, ModuleDirectory, ModuleFile, ModulePath, ParentDirectory, RecipeName, Show, SourceDirectory, SourceFile, Trim, TrimEnd, TrimStart, Uppercase, WithoutExtension}
 use Rattle.just_builtins.specs.declared.function.Function.{Function}
 use Rattle.just_builtins.specs.declared.function.Function.TheVariants.{Binary, BinaryOptToValue, BinaryOptValueStr, BinaryOptValueStrToValue, BinaryPlus, BinaryStrValue, BinaryToValue, Nullary, Ternary, Unary, UnaryMap, UnaryPlus, UnaryToValue, ValueBinary, ValueBinaryOpt, ValueNullary, ValueUnary}
 
@@ -49,7 +50,7 @@ most_arguments (ValueBinary b) = 2
 most_arguments (ValueBinaryOpt b) = 2
 
 -- whether the argument at a position is a text: one element
-abbrev pub is_text : Function → ℕ → Bool
+abbrev pub is_text : Function → ℕ → Truth
 is_text (Nullary b) i = false
 is_text (Unary b) i = i == 0
 is_text (UnaryMap b) i = false
@@ -87,3 +88,40 @@ builtin_of (ValueNullary b) = b
 builtin_of (ValueUnary b) = b
 builtin_of (ValueBinary b) = b
 builtin_of (ValueBinaryOpt b) = b
+
+-- ---- those that ask nothing, of shapes that others have that ask
+
+abbrev pub unasked_nullary : List Builtin
+unasked_nullary =
+    InvocationDirectory
+    ∷ InvocationDirectoryNative
+    ∷ JustVersion
+    ∷ Justfile
+    ∷ JustfileDirectory
+    ∷ ModuleDirectory
+    ∷ ModuleFile
+    ∷ ModulePath
+    ∷ RecipeName
+    ∷ SourceDirectory
+    ∷ SourceFile
+    ∷ []
+
+abbrev pub unasked_unary : List Builtin
+unasked_unary =
+    Capitalize
+    ∷ EncodeUriComponent
+    ∷ Error
+    ∷ Extension
+    ∷ FileName
+    ∷ FileStem
+    ∷ Lowercase
+    ∷ ParentDirectory
+    ∷ Trim
+    ∷ TrimEnd
+    ∷ TrimStart
+    ∷ Uppercase
+    ∷ WithoutExtension
+    ∷ []
+
+abbrev pub unasked_value_unary : List Builtin
+unasked_value_unary = Bool ∷ Len ∷ Show ∷ []

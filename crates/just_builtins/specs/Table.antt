@@ -3,24 +3,38 @@ use Rattle.std.specs.Prelude.{◌≢◌, ℕ, ◌++◌, ◌-◌, List, [], ◌�
 use Rattle.std.specs.List.{ends_with, list_any}
 use Rattle.just_syntax.specs.Plain.{Text}
 use Rattle.just_builtins.specs.declared.function.Function.{Function}
-use Rattle.just_builtins.specs.declared.function.Function.TheVariants.{Binary, BinaryOptToValue, BinaryOptValueStrToValue, BinaryPlus, BinaryStrValue, Nullary, Ternary, Unary, UnaryMap, ValueNullary, ValueUnary}
-use Rattle.just_builtins.specs.declared.builtin.Builtin.TheVariants.{Append, Bool, Capitalize, EncodeUriComponent, Error, Extension, FileName, FileStem, InvocationDirectory, InvocationDirectoryNative, IsDependency, Join, JoinList, JustVersion, Justfile, JustfileDirectory, Len, Lowercase, ModuleDirectory, ModuleFile, ModulePath, NumJobs, ParentDirectory, Prepend, Quote, RecipeName, Replace, Show, SourceDirectory, SourceFile, Split, Trim, TrimEnd, TrimEndMatch, TrimEndMatches, TrimStart, TrimStartMatch, TrimStartMatches, Uppercase, WithoutExtension}
+use Rattle.just_builtins.specs.declared.function.Function.TheVariants.{Binary, BinaryOptToValue, BinaryOptValueStrToValue, BinaryPlus, BinaryStrValue, Nullary, Ternary, Unary, UnaryMap, UnaryPlus, UnaryToValue, ValueBinary, ValueBinaryOpt, ValueNullary, ValueUnary}
+use Rattle.just_builtins.specs.declared.builtin.Builtin.TheVariants.{Append, Arch, Bool, CacheDirectory, Canonicalize, Capitalize, ConfigDirectory, ConfigLocalDirectory, DataDirectory, DataLocalDirectory, EncodeUriComponent, Env, EnvVar, EnvVarOrDefault, Error, ExecutableDirectory, Extension, FileName, FileStem, HomeDirectory, InvocationDirectory, InvocationDirectoryNative, IsDependency, Join, JoinList, JustExecutable, JustPid, JustVersion, Justfile, JustfileDirectory, Len, Lowercase, ModuleDirectory, ModuleFile, ModulePath, NumCpus, NumJobs, Os, OsFamily, ParentDirectory, PathExists, Prepend, Quote, Read, RecipeName, Replace, Require, RuntimeDirectory, Shell, Show, SourceDirectory, SourceFile, Split, Trim, TrimEnd, TrimEndMatch, TrimEndMatches, TrimStart, TrimStartMatch, TrimStartMatches, Uppercase, Which, WithoutExtension}
 
 abbrev pub table : List (Text × Function)
 table =
     (codes "append", BinaryStrValue Append)
+    ∷ (codes "arch", Nullary Arch)
     ∷ (codes "bool", ValueUnary Bool)
+    ∷ (codes "cache_directory", Nullary CacheDirectory)
+    ∷ (codes "canonicalize", Unary Canonicalize)
     ∷ (codes "capitalize", Unary Capitalize)
+    ∷ (codes "config_directory", Nullary ConfigDirectory)
+    ∷ (codes "config_local_directory", Nullary ConfigLocalDirectory)
+    ∷ (codes "data_directory", Nullary DataDirectory)
+    ∷ (codes "data_local_directory", Nullary DataLocalDirectory)
     ∷ (codes "encode_uri_component", Unary EncodeUriComponent)
+    ∷ (codes "env", ValueBinaryOpt Env)
+    ∷ (codes "env_var", ValueUnary EnvVar)
+    ∷ (codes "env_var_or_default", ValueBinary EnvVarOrDefault)
     ∷ (codes "error", Unary Error)
+    ∷ (codes "executable_directory", Nullary ExecutableDirectory)
     ∷ (codes "extension", Unary Extension)
     ∷ (codes "file_name", Unary FileName)
     ∷ (codes "file_stem", Unary FileStem)
+    ∷ (codes "home_directory", Nullary HomeDirectory)
     ∷ (codes "invocation_directory", Nullary InvocationDirectory)
     ∷ (codes "invocation_directory_native", Nullary InvocationDirectoryNative)
     ∷ (codes "is_dependency", ValueNullary IsDependency)
     ∷ (codes "join", BinaryPlus Join)
     ∷ (codes "join_list", BinaryOptValueStrToValue JoinList)
+    ∷ (codes "just_executable", Nullary JustExecutable)
+    ∷ (codes "just_pid", Nullary JustPid)
     ∷ (codes "just_version", Nullary JustVersion)
     ∷ (codes "justfile", Nullary Justfile)
     ∷ (codes "justfile_directory", Nullary JustfileDirectory)
@@ -29,12 +43,20 @@ table =
     ∷ (codes "module_directory", Nullary ModuleDirectory)
     ∷ (codes "module_file", Nullary ModuleFile)
     ∷ (codes "module_path", Nullary ModulePath)
+    ∷ (codes "num_cpus", Nullary NumCpus)
     ∷ (codes "num_jobs", ValueNullary NumJobs)
+    ∷ (codes "os", Nullary Os)
+    ∷ (codes "os_family", Nullary OsFamily)
     ∷ (codes "parent_directory", Unary ParentDirectory)
+    ∷ (codes "path_exists", UnaryToValue PathExists)
     ∷ (codes "prepend", BinaryStrValue Prepend)
     ∷ (codes "quote", UnaryMap Quote)
+    ∷ (codes "read", Unary Read)
     ∷ (codes "recipe_name", Nullary RecipeName)
     ∷ (codes "replace", Ternary Replace)
+    ∷ (codes "require", Unary Require)
+    ∷ (codes "runtime_directory", Nullary RuntimeDirectory)
+    ∷ (codes "shell", UnaryPlus Shell)
     ∷ (codes "show", ValueUnary Show)
     ∷ (codes "source_directory", Nullary SourceDirectory)
     ∷ (codes "source_file", Nullary SourceFile)
@@ -47,6 +69,7 @@ table =
     ∷ (codes "trim_start_match", Binary TrimStartMatch)
     ∷ (codes "trim_start_matches", Binary TrimStartMatches)
     ∷ (codes "uppercase", Unary Uppercase)
+    ∷ (codes "which", UnaryToValue Which)
     ∷ (codes "without_extension", Unary WithoutExtension)
     ∷ []
 

@@ -1,7 +1,7 @@
 // The arguments of a call.
 
 ghost use Rattle.std.specs.Prelude.{◌≡◌, ◌<◌, ◌≤◌, ◌∷◌, [], drop, length};
-ghost use Rattle.just_builtins.specs.Argument.{texts_given, value_at};
+ghost use Rattle.just_builtins.specs.Argument.{texts_given, value_at, values_given};
 
 use just_value::value::Value;
 
@@ -23,6 +23,18 @@ pub fn second_text(arguments: &[Value]) -> Option<&str>
 {
     if arguments.len() > 1 {
         Some(text_at(arguments, 1))
+    } else {
+        None
+    }
+}
+
+/// The second argument, if there is one.
+pub fn second(arguments: &[Value]) -> Option<&Value>
+    requires few { length arguments.now ≤ 2 }
+    ensures { values_given result ≡ drop 1 arguments.now }
+{
+    if arguments.len() > 1 {
+        Some(&arguments[1])
     } else {
         None
     }

@@ -1,18 +1,21 @@
 // The built-in functions that take two arguments, one or two, or two and more.
 
 ghost use Rattle.std.specs.Prelude.{◌≡◌, ◌<◌, ◌∷◌, ◌++◌, [], IfOk, length, option_map, string_bytes};
+ghost use Rattle.just_value.specs.Frames.{Frames};
 ghost use Rattle.just_host.specs.Function as function;
 ghost use Rattle.just_host.specs.View.{function_context_view};
-ghost use Rattle.just_builtins.specs.Argument.{HasOneEach, texts_given};
-ghost use Rattle.just_builtins.specs.Called.{Replies};
+ghost use Rattle.just_builtins.specs.Argument.{HasOneEach, texts_given, value_at, values_given};
+ghost use Rattle.just_builtins.specs.Called.{AskedBy, Replies};
 ghost use Rattle.just_builtins.specs.Meaning.{all_joined, reply};
-ghost use Rattle.just_builtins.specs.declared.function.Function.TheVariants.{Binary, BinaryOptToValue, BinaryOptValueStrToValue, BinaryPlus, BinaryStrValue};
+ghost use Rattle.just_builtins.specs.declared.function.Function.TheVariants.{Binary, BinaryOptToValue, BinaryOptValueStrToValue, BinaryPlus, BinaryStrValue, ValueBinary, ValueBinaryOpt};
 
 use crate::argument::text_at;
 use crate::builtin::Builtin;
 use crate::call_fault::CallFault;
+use crate::environment::environment;
 use crate::words::{append, prepend};
 use just_host::function::Context;
+use just_host::host::Host;
 use just_syntax::out_of_memory::OutOfMemory;
 use just_text::{join_list, pattern, split};
 use just_value::value::Value;
@@ -20,12 +23,17 @@ use std::alloc::Global;
 use std::path::PathBuf;
 
 /// What a built-in function answers that takes two texts.
-pub fn binary(
-    alloc: Global,
-    builtin: Builtin,
-    text: &str,
-    pattern: &str,
-) -> Result<Value, CallFault>
+pub fn binary(alloc: Global, builtin: Builtin, arguments: &[Value]) -> Result<Value, CallFault>
+    requires count { length arguments.now ≡ 2 }
+    requires texts { HasOneEach arguments.now }
+    ensures { (c : function.Context) → Replies (Binary builtin) (reply builtin c arguments.now) result }
+{
+    let pattern = text_at(arguments, 1);
+    trimmed(alloc, builtin, text_at(arguments, 0), pattern)
+}
+
+// The first text without the second at an end.
+fn trimmed(alloc: Global, builtin: Builtin, text: &str, pattern: &str) -> Result<Value, CallFault>
     ensures { (c : function.Context) → Replies (Binary builtin) (reply builtin c ((text.now ∷ []) ∷ (pattern.now ∷ []) ∷ [])) result }
 {
     let text = match builtin {
@@ -109,6 +117,21 @@ pub fn binary_str_value(
     alloc: Global,
     context: &Context,
     builtin: Builtin,
+    arguments: &[Value],
+) -> Result<Value, CallFault>
+    requires count { length arguments.now ≡ 2 }
+    requires text { length (value_at arguments.now 0) ≡ 1 }
+    ensures { Replies (BinaryStrValue builtin) (reply builtin (function_context_view context.now) arguments.now) result }
+{
+    let text = text_at(arguments, 0);
+    extended(alloc, context, builtin, text, &arguments[1])
+}
+
+// The value with the text put to each element.
+fn extended(
+    alloc: Global,
+    context: &Context,
+    builtin: Builtin,
     text: &str,
     value: &Value,
 ) -> Result<Value, CallFault>
@@ -118,6 +141,40 @@ pub fn binary_str_value(
     match builtin {
         Builtin::Append => Ok(append(alloc, lists, text, value)?),
         Builtin::Prepend => Ok(prepend(alloc, lists, text, value)?),
+        _ => Err(CallFault::Internal),
+    }
+}
+
+/// What a built-in function asks and answers that takes two values.
+pub fn value_binary<H: Host>(
+    alloc: Global,
+    host: &mut H,
+    context: &Context,
+    builtin: Builtin,
+    value: &Value,
+    other: &Value,
+) -> Result<Value, CallFault>
+    ensures { (shown : Frames) → AskedBy (ValueBinary builtin) H.step host.old shown (reply builtin (function_context_view context.now) (value.now ∷ other.now ∷ [])) result host.new }
+{
+    match builtin {
+        Builtin::EnvVarOrDefault => environment(alloc, host, context, value, Some(other)),
+        _ => Err(CallFault::Internal),
+    }
+}
+
+/// What a built-in function asks and answers that takes a value, and a second where it is given.
+pub fn value_binary_opt<H: Host>(
+    alloc: Global,
+    host: &mut H,
+    context: &Context,
+    builtin: Builtin,
+    value: &Value,
+    other: Option<&Value>,
+) -> Result<Value, CallFault>
+    ensures { (shown : Frames) → AskedBy (ValueBinaryOpt builtin) H.step host.old shown (reply builtin (function_context_view context.now) (value.now ∷ values_given other.entry)) result host.new }
+{
+    match builtin {
+        Builtin::Env => environment(alloc, host, context, value, other),
         _ => Err(CallFault::Internal),
     }
 }

@@ -6,15 +6,16 @@ ghost use Rattle.just_value.specs.View.{frames_view};
 ghost use Rattle.just_host.specs.Interaction.{Runs};
 ghost use Rattle.just_host.specs.View.{function_context_view};
 ghost use Rattle.just_builtins.specs.Argument.{HasTexts, IsExpected};
-ghost use Rattle.just_builtins.specs.Called.{Replies, outcome, tree};
+ghost use Rattle.just_builtins.specs.Called.{AskedBy, outcome, tree};
 ghost use Rattle.just_builtins.specs.Meaning.{reply};
 ghost use Rattle.just_builtins.specs.Shape.{builtin_of, fewest_arguments, is_text, most_arguments};
 ghost use Rattle.just_builtins.specs.Table.{IsUnnamed, function_named, is_left_out};
 ghost use Rattle.just_builtins.specs.declared.call_fault.CallFault.TheVariants.{Internal};
 
-use crate::argument::{second_text, text_at};
+use crate::argument::{second, second_text, text_at};
 use crate::binary::{
     binary, binary_opt_to_value, binary_opt_value_str_to_value, binary_plus, binary_str_value,
+    value_binary, value_binary_opt,
 };
 use crate::builtin::Builtin;
 use crate::call_fault::CallFault;
@@ -22,7 +23,7 @@ use crate::name::{find_function, is_among, whole_name};
 use crate::nullary::{nullary, value_nullary};
 use crate::table::{LEFT_OUT, TABLE};
 use crate::ternary::ternary;
-use crate::unary::{unary, unary_map, value_unary};
+use crate::unary::{unary, unary_map, unary_plus, unary_to_value, value_unary};
 use just_host::function::Context;
 use just_host::host::Host;
 use just_value::value::Value;
@@ -138,25 +139,23 @@ impl Function {
             Runs H.step host.old (tree (frames_view context.now.scope.now) answer) (outcome result) host.new }
         ensures internal { result ≡ Err Internal → IsUnnamed self }
     {
-        self.answer(alloc, context, arguments)
+        self.answer(alloc, host, context, arguments)
     }
 
-    // What it answers that asks nothing.
-    fn answer(
+    // What it asks and answers, by its shape.
+    fn answer<H: Host>(
         self,
         alloc: Global,
+        host: &mut H,
         context: &Context,
         arguments: &[Value],
     ) -> Result<Value, CallFault>
         requires count { IsExpected self (length arguments.now) }
         requires texts { HasTexts self arguments.now }
-        ensures { Replies self (reply (builtin_of self) (function_context_view context.now) arguments.now) result }
+        ensures { AskedBy self H.step host.old (frames_view context.now.scope.now) (reply (builtin_of self) (function_context_view context.now) arguments.now) result host.new }
     {
         match self {
-            Function::Binary(builtin) => {
-                let pattern = text_at(arguments, 1);
-                binary(alloc, builtin, text_at(arguments, 0), pattern)
-            }
+            Function::Binary(builtin) => binary(alloc, builtin, arguments),
             Function::BinaryOptToValue(builtin) => {
                 let separator = second_text(arguments);
                 binary_opt_to_value(alloc, builtin, text_at(arguments, 0), separator)
@@ -167,25 +166,31 @@ impl Function {
             }
             Function::BinaryPlus(builtin) => binary_plus(alloc, builtin, arguments),
             Function::BinaryStrValue(builtin) => {
-                let text = text_at(arguments, 0);
-                binary_str_value(alloc, context, builtin, text, &arguments[1])
+                binary_str_value(alloc, context, builtin, arguments)
             }
-            Function::Nullary(builtin) => nullary(alloc, context, builtin),
-            Function::Ternary(builtin) => {
-                let from = text_at(arguments, 1);
-                let to = text_at(arguments, 2);
-                ternary(alloc, builtin, text_at(arguments, 0), from, to)
-            }
-            Function::Unary(builtin) => unary(alloc, builtin, text_at(arguments, 0)),
+            Function::Nullary(builtin) => nullary(alloc, host, context, builtin),
+            Function::Ternary(builtin) => ternary(alloc, builtin, arguments),
+            Function::Unary(builtin) => unary(alloc, host, context, builtin, text_at(arguments, 0)),
             Function::UnaryMap(builtin) => unary_map(alloc, builtin, &arguments[0]),
+            Function::UnaryPlus(builtin) => unary_plus(alloc, host, context, builtin, arguments),
+            Function::UnaryToValue(builtin) => {
+                unary_to_value(alloc, host, context, builtin, text_at(arguments, 0))
+            }
+            Function::ValueBinary(builtin) => {
+                let other = &arguments[1];
+                value_binary(alloc, host, context, builtin, &arguments[0], other)
+            }
+            Function::ValueBinaryOpt(builtin) => {
+                let other = second(arguments);
+                value_binary_opt(alloc, host, context, builtin, &arguments[0], other)
+            }
             Function::ValueNullary(builtin) => value_nullary(alloc, context, builtin),
-            Function::ValueUnary(builtin) => { value_unary(alloc, context, builtin, &arguments[0]) }
-            Function::BinaryOptValueStr(_)
-            | Function::BinaryToValue(_)
-            | Function::UnaryPlus(_)
-            | Function::UnaryToValue(_)
-            | Function::ValueBinary(_)
-            | Function::ValueBinaryOpt(_) => Err(CallFault::Internal),
+            Function::ValueUnary(builtin) => {
+                value_unary(alloc, host, context, builtin, &arguments[0])
+            }
+            Function::BinaryOptValueStr(_) | Function::BinaryToValue(_) => {
+                Err(CallFault::Internal)
+            }
         }
     }
 }

@@ -1,10 +1,14 @@
 // What built-in functions say that give no value.
 
-ghost use Rattle.std.specs.Prelude.{◌≡◌, IfOk, string_bytes};
+ghost use Rattle.std.specs.Prelude.{◌≡◌, IfOk, map, string_bytes};
 ghost use Rattle.just_builtins.specs.Message as spec;
 
 use just_syntax::out_of_memory::OutOfMemory;
+use just_value::list::List;
 use std::alloc::Global;
+
+/// What is said of what a host does not find.
+pub const NOT_FOUND: &str = "not found";
 
 /// Why a path has no part of a kind: ``could not extract file name from `..` ``.
 pub fn not_extracted(alloc: Global, part: &str, path: &str) -> Result<String, OutOfMemory>
@@ -61,4 +65,105 @@ pub fn outside_recipe(alloc: Global) -> Result<String, OutOfMemory>
 {
     let text = String::from_str(alloc, "`recipe_name()` can only be used within a recipe")?;
     Ok(text)
+}
+
+/// That the host gives no text for a built-in function.
+pub fn no_answer(alloc: Global, name: &str) -> Result<String, OutOfMemory>
+    ensures { IfOk result (λ message. string_bytes message ≡ spec.no_answer name.now) }
+{
+    Ok(format!(in alloc; "`{name}` has no answer")?)
+}
+
+/// That there is no directory of a kind: `cache directory not found`.
+pub fn no_directory(alloc: Global, word: &str) -> Result<String, OutOfMemory>
+    ensures { IfOk result (λ message. string_bytes message ≡ spec.no_directory word.now) }
+{
+    Ok(format!(in alloc; "{word} directory not found")?)
+}
+
+/// That a directory's path is no text.
+pub fn directory_not_unicode(alloc: Global, word: &str, text: &str) -> Result<String, OutOfMemory>
+    ensures { IfOk result (λ message. string_bytes message ≡ spec.directory_not_unicode word.now text.now) }
+{
+    Ok(format!(in alloc; "unable to convert {word} directory path to string: {text}")?)
+}
+
+/// Why a directory is not known.
+pub fn directory_unreadable(alloc: Global, word: &str, text: &str) -> Result<String, OutOfMemory>
+    ensures { IfOk result (λ message. string_bytes message ≡ spec.directory_unreadable word.now text.now) }
+{
+    Ok(format!(in alloc; "{word} directory cannot be read: {text}")?)
+}
+
+/// Why there is no path free of links: ``I/O error canonicalizing `a`: not found``.
+pub fn not_canonicalized(alloc: Global, path: &str, text: &str) -> Result<String, OutOfMemory>
+    ensures { IfOk result (λ message. string_bytes message ≡ spec.not_canonicalized path.now text.now) }
+{
+    Ok(format!(in alloc; "I/O error canonicalizing `{path}`: {text}")?)
+}
+
+/// That a path free of links is no text.
+pub fn canonical_not_unicode(alloc: Global, text: &str) -> Result<String, OutOfMemory>
+    ensures { IfOk result (λ message. string_bytes message ≡ spec.canonical_not_unicode text.now) }
+{
+    Ok(format!(in alloc; "canonical path is not valid unicode: {text}")?)
+}
+
+/// Why there is no text of a file: ``I/O error reading `a`: not found``.
+pub fn not_read(alloc: Global, path: &str, text: &str) -> Result<String, OutOfMemory>
+    ensures { IfOk result (λ message. string_bytes message ≡ spec.not_read path.now text.now) }
+{
+    Ok(format!(in alloc; "I/O error reading `{path}`: {text}")?)
+}
+
+/// That there is no executable of a name.
+pub fn no_executable(alloc: Global, name: &str) -> Result<String, OutOfMemory>
+    ensures { IfOk result (λ message. string_bytes message ≡ spec.no_executable name.now) }
+{
+    Ok(format!(in alloc; "could not find executable `{name}`")?)
+}
+
+/// Why the running program's path is not known.
+pub fn executable_unknown(alloc: Global, text: &str) -> Result<String, OutOfMemory>
+    ensures { IfOk result (λ message. string_bytes message ≡ spec.executable_unknown text.now) }
+{
+    Ok(format!(in alloc; "error getting current executable: {text}")?)
+}
+
+/// That the running program's path is no text.
+pub fn executable_not_unicode(alloc: Global, text: &str) -> Result<String, OutOfMemory>
+    ensures { IfOk result (λ message. string_bytes message ≡ spec.executable_not_unicode text.now) }
+{
+    Ok(format!(in alloc; "executable path is not valid unicode: {text}")?)
+}
+
+/// That a variable of the environment holds no text.
+pub fn variable_not_unicode(alloc: Global, key: &str, text: &str) -> Result<String, OutOfMemory>
+    ensures { IfOk result (λ message. string_bytes message ≡ spec.variable_not_unicode key.now text.now) }
+{
+    Ok(format!(in alloc; "environment variable `{key}` is not unicode: `{text}`")?)
+}
+
+/// Why it is not known what a variable of the environment holds.
+pub fn variable_unreadable(alloc: Global, key: &str, text: &str) -> Result<String, OutOfMemory>
+    ensures { IfOk result (λ message. string_bytes message ≡ spec.variable_unreadable key.now text.now) }
+{
+    Ok(format!(in alloc; "environment variable `{key}` cannot be read: {text}")?)
+}
+
+/// That none of these variables is set: ``environment variables `a` and `b` not present``.
+pub fn no_variable(alloc: Global, keys: &[String]) -> Result<String, OutOfMemory>
+    ensures { IfOk result (λ message. string_bytes message ≡ spec.no_variable (map string_bytes keys.now)) }
+{
+    match keys {
+        [] => {
+            let text = String::from_str(alloc, "empty environment variable list with no default")?;
+            Ok(text)
+        }
+        [key] => Ok(format!(in alloc; "environment variable `{key}` not present")?),
+        _ => {
+            let list = List::and_ticked(alloc, keys)?;
+            Ok(format!(in alloc; "environment variables {list} not present")?)
+        }
+    }
 }

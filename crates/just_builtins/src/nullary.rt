@@ -1,25 +1,62 @@
 // The built-in functions that take nothing.
 
 ghost use Rattle.std.specs.Prelude.{◌≡◌, [], IfOk};
+ghost use Rattle.just_value.specs.Frames.{Frames};
 ghost use Rattle.just_host.specs.View.{function_context_view};
-ghost use Rattle.just_builtins.specs.Called.{Gives, Replies};
+ghost use Rattle.just_builtins.specs.Called.{AskedBy, Gives, Replies, RepliesAmong};
 ghost use Rattle.just_builtins.specs.Meaning as spec;
 ghost use Rattle.just_builtins.specs.Message.{outside_recipe};
+ghost use Rattle.just_builtins.specs.Reply.{says};
+ghost use Rattle.just_builtins.specs.Shape.{unasked_nullary};
 ghost use Rattle.just_builtins.specs.declared.function.Function.TheVariants.{Nullary, ValueNullary};
 
 use crate::builtin::Builtin;
 use crate::call_fault::CallFault;
+use crate::directory::directory;
 use crate::message;
 use crate::source::{directory_of, justfile_directory, source_directory, source_file};
+use crate::system::{executable, number, system};
 use crate::truth::truth;
+use just_host::directory_kind::DirectoryKind;
 use just_host::function::Context;
+use just_host::host::Host;
+use just_host::number_question::NumberQuestion;
+use just_host::text_question::TextQuestion;
 use just_syntax::out_of_memory::OutOfMemory;
 use just_value::value::Value;
 use std::alloc::Global;
 
-/// What a built-in function answers that takes nothing and gives a text.
-pub fn nullary(alloc: Global, context: &Context, builtin: Builtin) -> Result<Value, CallFault>
-    ensures { Replies (Nullary builtin) (spec.reply builtin (function_context_view context.now) []) result }
+/// What a built-in function asks and answers that takes nothing and gives a text.
+pub fn nullary<H: Host>(
+    alloc: Global,
+    host: &mut H,
+    context: &Context,
+    builtin: Builtin,
+) -> Result<Value, CallFault>
+    ensures { (shown : Frames) → AskedBy (Nullary builtin) H.step host.old shown (spec.reply builtin (function_context_view context.now) []) result host.new }
+{
+    match builtin {
+        Builtin::Arch => system(alloc, host, "arch", TextQuestion::Arch),
+        Builtin::CacheDirectory => directory(alloc, host, DirectoryKind::Cache),
+        Builtin::ConfigDirectory => directory(alloc, host, DirectoryKind::Config),
+        Builtin::ConfigLocalDirectory => directory(alloc, host, DirectoryKind::ConfigLocal),
+        Builtin::DataDirectory => directory(alloc, host, DirectoryKind::Data),
+        Builtin::DataLocalDirectory => directory(alloc, host, DirectoryKind::DataLocal),
+        Builtin::ExecutableDirectory => directory(alloc, host, DirectoryKind::Executable),
+        Builtin::HomeDirectory => directory(alloc, host, DirectoryKind::Home),
+        Builtin::JustExecutable => executable(alloc, host),
+        Builtin::JustPid => number(alloc, host, NumberQuestion::ProcessId),
+        Builtin::NumCpus => number(alloc, host, NumberQuestion::Cpus),
+        Builtin::Os => system(alloc, host, "os", TextQuestion::Os),
+        Builtin::OsFamily => system(alloc, host, "os_family", TextQuestion::OsFamily),
+        Builtin::RuntimeDirectory => directory(alloc, host, DirectoryKind::Runtime),
+        _ => nullary_unasked(alloc, context, builtin),
+    }
+}
+
+// What such a one answers that asks nothing.
+fn nullary_unasked(alloc: Global, context: &Context, builtin: Builtin) -> Result<Value, CallFault>
+    ensures { RepliesAmong unasked_nullary builtin (spec.reply builtin (function_context_view context.now) []) result }
 {
     let execution_context = context.execution_context;
     let config = execution_context.config;
@@ -72,7 +109,7 @@ fn jobs(alloc: Global, jobs: Option<u64>) -> Result<Value, OutOfMemory>
 
 // The name of the recipe that the call belongs to.
 fn recipe_name(alloc: Global, context: &Context) -> Result<Value, CallFault>
-    ensures { Gives (spec.or_fails (function_context_view context.now).recipe outside_recipe spec.says) result }
+    ensures { Gives (spec.or_fails (function_context_view context.now).recipe outside_recipe says) result }
 {
     match context.recipe {
         Some(name) => Ok(Value::from_text(alloc, name.lexeme())?),

@@ -4,6 +4,7 @@ ghost use Rattle.std.specs.Prelude.{◌≡◌, IfOk, [], option_copied, string_b
 ghost use Rattle.just_builtins.specs.Called.{Gives};
 ghost use Rattle.just_builtins.specs.Meaning as spec;
 ghost use Rattle.just_builtins.specs.Message.{not_extracted};
+ghost use Rattle.just_builtins.specs.Reply.{says};
 
 use crate::argument::text_at;
 use crate::call_fault::CallFault;
@@ -15,7 +16,7 @@ use std::path::PathBuf;
 
 /// A part of a path, or that it has none of that kind.
 pub fn part(alloc: Global, kind: &str, found: Option<&str>, path: &str) -> Result<Value, CallFault>
-    ensures { Gives (spec.or_fails (option_copied found.entry) (not_extracted kind.now path.now) spec.says) result }
+    ensures { Gives (spec.or_fails (option_copied found.entry) (not_extracted kind.now path.now) says) result }
 {
     match found {
         Some(text) => Ok(Value::from_text(alloc, text)?),

@@ -4,7 +4,7 @@ ghost use Rattle.just_host.specs.View.{function_context_view};
 ghost use Rattle.just_builtins.specs.Called.{Gives};
 ghost use Rattle.just_builtins.specs.Meaning as spec;
 ghost use Rattle.just_builtins.specs.Message.{no_parent};
-ghost use Rattle.just_builtins.specs.Reply.{Fails};
+ghost use Rattle.just_builtins.specs.Reply.{Fails, says};
 
 use crate::call_fault::CallFault;
 use crate::{message, path};
@@ -24,7 +24,7 @@ pub fn justfile_directory(alloc: Global, justfile: &str) -> Result<Value, CallFa
 
 /// The directory of a path.
 pub fn directory_of(alloc: Global, path: &str) -> Result<Value, CallFault>
-    ensures { Gives (spec.with_parent path.now spec.says) result }
+    ensures { Gives (spec.with_parent path.now says) result }
 {
     match path::parent(path) {
         Some(directory) => Ok(Value::from_text(alloc, directory)?),
@@ -34,7 +34,7 @@ pub fn directory_of(alloc: Global, path: &str) -> Result<Value, CallFault>
 
 /// The path of the file that the call stands in.
 pub fn source_file(alloc: Global, context: &Context) -> Result<Value, CallFault>
-    ensures { Gives (spec.with_source (function_context_view context.now) spec.says) result }
+    ensures { Gives (spec.with_source (function_context_view context.now) says) result }
 {
     let justfile = &context.execution_context.search.justfile;
     match path::parent(justfile) {
@@ -48,7 +48,7 @@ pub fn source_file(alloc: Global, context: &Context) -> Result<Value, CallFault>
 
 /// The directory of the file that the call stands in.
 pub fn source_directory(alloc: Global, context: &Context) -> Result<Value, CallFault>
-    ensures { Gives (spec.with_source (function_context_view context.now) (λ file. spec.with_parent file spec.says)) result }
+    ensures { Gives (spec.with_source (function_context_view context.now) (λ file. spec.with_parent file says)) result }
 {
     let justfile = &context.execution_context.search.justfile;
     match path::parent(justfile) {

@@ -4,18 +4,48 @@ use crate::builtin::Builtin;
 use crate::function::Function;
 
 /// Each built-in function behind its name, in the order of the names' bytes.
-pub const TABLE: [(&str, Function); 40] = [
+pub const TABLE: [(&str, Function); 63] = [
     ("append", Function::BinaryStrValue(Builtin::Append)),
+    ("arch", Function::Nullary(Builtin::Arch)),
     ("bool", Function::ValueUnary(Builtin::Bool)),
+    (
+        "cache_directory",
+        Function::Nullary(Builtin::CacheDirectory),
+    ),
+    ("canonicalize", Function::Unary(Builtin::Canonicalize)),
     ("capitalize", Function::Unary(Builtin::Capitalize)),
+    (
+        "config_directory",
+        Function::Nullary(Builtin::ConfigDirectory),
+    ),
+    (
+        "config_local_directory",
+        Function::Nullary(Builtin::ConfigLocalDirectory),
+    ),
+    ("data_directory", Function::Nullary(Builtin::DataDirectory)),
+    (
+        "data_local_directory",
+        Function::Nullary(Builtin::DataLocalDirectory),
+    ),
     (
         "encode_uri_component",
         Function::Unary(Builtin::EncodeUriComponent),
     ),
+    ("env", Function::ValueBinaryOpt(Builtin::Env)),
+    ("env_var", Function::ValueUnary(Builtin::EnvVar)),
+    (
+        "env_var_or_default",
+        Function::ValueBinary(Builtin::EnvVarOrDefault),
+    ),
     ("error", Function::Unary(Builtin::Error)),
+    (
+        "executable_directory",
+        Function::Nullary(Builtin::ExecutableDirectory),
+    ),
     ("extension", Function::Unary(Builtin::Extension)),
     ("file_name", Function::Unary(Builtin::FileName)),
     ("file_stem", Function::Unary(Builtin::FileStem)),
+    ("home_directory", Function::Nullary(Builtin::HomeDirectory)),
     (
         "invocation_directory",
         Function::Nullary(Builtin::InvocationDirectory),
@@ -33,6 +63,11 @@ pub const TABLE: [(&str, Function); 40] = [
         "join_list",
         Function::BinaryOptValueStrToValue(Builtin::JoinList),
     ),
+    (
+        "just_executable",
+        Function::Nullary(Builtin::JustExecutable),
+    ),
+    ("just_pid", Function::Nullary(Builtin::JustPid)),
     ("just_version", Function::Nullary(Builtin::JustVersion)),
     ("justfile", Function::Nullary(Builtin::Justfile)),
     (
@@ -47,15 +82,26 @@ pub const TABLE: [(&str, Function); 40] = [
     ),
     ("module_file", Function::Nullary(Builtin::ModuleFile)),
     ("module_path", Function::Nullary(Builtin::ModulePath)),
+    ("num_cpus", Function::Nullary(Builtin::NumCpus)),
     ("num_jobs", Function::ValueNullary(Builtin::NumJobs)),
+    ("os", Function::Nullary(Builtin::Os)),
+    ("os_family", Function::Nullary(Builtin::OsFamily)),
     (
         "parent_directory",
         Function::Unary(Builtin::ParentDirectory),
     ),
+    ("path_exists", Function::UnaryToValue(Builtin::PathExists)),
     ("prepend", Function::BinaryStrValue(Builtin::Prepend)),
     ("quote", Function::UnaryMap(Builtin::Quote)),
+    ("read", Function::Unary(Builtin::Read)),
     ("recipe_name", Function::Nullary(Builtin::RecipeName)),
     ("replace", Function::Ternary(Builtin::Replace)),
+    ("require", Function::Unary(Builtin::Require)),
+    (
+        "runtime_directory",
+        Function::Nullary(Builtin::RuntimeDirectory),
+    ),
+    ("shell", Function::UnaryPlus(Builtin::Shell)),
     ("show", Function::ValueUnary(Builtin::Show)),
     (
         "source_directory",
@@ -80,6 +126,7 @@ pub const TABLE: [(&str, Function); 40] = [
         Function::Binary(Builtin::TrimStartMatches),
     ),
     ("uppercase", Function::Unary(Builtin::Uppercase)),
+    ("which", Function::UnaryToValue(Builtin::Which)),
     (
         "without_extension",
         Function::Unary(Builtin::WithoutExtension),

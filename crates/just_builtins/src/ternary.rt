@@ -1,11 +1,13 @@
 // The built-in functions that take three arguments.
 
-ghost use Rattle.std.specs.Prelude.{◌∷◌, []};
+ghost use Rattle.std.specs.Prelude.{◌≡◌, ◌∷◌, [], length};
 ghost use Rattle.just_host.specs.Function.{Context};
+ghost use Rattle.just_builtins.specs.Argument.{HasOneEach};
 ghost use Rattle.just_builtins.specs.Called.{Replies};
 ghost use Rattle.just_builtins.specs.Meaning.{reply};
 ghost use Rattle.just_builtins.specs.declared.function.Function.TheVariants.{Ternary};
 
+use crate::argument::text_at;
 use crate::builtin::Builtin;
 use crate::call_fault::CallFault;
 use just_text::replace::replace;
@@ -13,7 +15,18 @@ use just_value::value::Value;
 use std::alloc::Global;
 
 /// What a built-in function answers that takes three texts.
-pub fn ternary(
+pub fn ternary(alloc: Global, builtin: Builtin, arguments: &[Value]) -> Result<Value, CallFault>
+    requires count { length arguments.now ≡ 3 }
+    requires texts { HasOneEach arguments.now }
+    ensures { (c : Context) → Replies (Ternary builtin) (reply builtin c arguments.now) result }
+{
+    let from = text_at(arguments, 1);
+    let to = text_at(arguments, 2);
+    replaced(alloc, builtin, text_at(arguments, 0), from, to)
+}
+
+// The first text with the third in place of the second.
+fn replaced(
     alloc: Global,
     builtin: Builtin,
     text: &str,

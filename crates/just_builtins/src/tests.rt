@@ -1,12 +1,18 @@
 // Names, shapes, and what the built-in functions answer.
 
 mod around;
+mod questions;
 mod rows;
+mod scripted;
 mod silent;
 
 use crate::function::{get, is_left_out};
 use crate::path;
-use around::{Around, answer, name};
+use around::{Around, answer, asked_and_answered, name};
+use questions::{
+    COMMANDS, DIRECTORIES, DRY_COMMANDS, EXECUTABLES, FILES, FILES_WITH_LISTS, Question, SYSTEM,
+    VARIABLES,
+};
 use rows::{
     LEFT_OUT_NAMES, LISTS, NAMES, OTHER_SURROUNDINGS, PATHS, Row, SHAPES, SURROUNDINGS, TEXTS,
     TRUTHS, TRUTHS_WITHOUT_LISTS, WITHOUT_LISTS,
@@ -50,43 +56,110 @@ fn compare(rt: &impl Abort, alloc: Global, around: &Around, rows: &[Row]) -> Res
     Ok(())
 }
 
+// The same of calls in a module with lists, or without.
+fn compare_calls(rt: &impl Abort, alloc: Global, lists: bool, rows: &[Row]) -> Result<(), Fail> {
+    compare(rt, alloc, &Around::new(alloc, lists)?, rows)
+}
+
+// Compares what functions ask and answer with what is wanted.
+fn compare_questions(
+    rt: &impl Abort,
+    alloc: Global,
+    around: &Around,
+    rows: &[Question],
+) -> Result<(), Fail> {
+    for (function, arguments, given, asked, wanted) in rows {
+        let (questions, answer) = asked_and_answered(
+            alloc,
+            *given,
+            around,
+            name(function),
+            arguments,
+        )?;
+        assert_eq!(rt; questions.as_str(), *asked, "{function} {given:?}");
+        assert_eq!(rt; answer.as_str(), *wanted, "{function} {given:?}");
+    }
+    Ok(())
+}
+
+// The same of calls in a module with lists, or without.
+fn compare_questions_of(
+    rt: &impl Abort,
+    alloc: Global,
+    lists: bool,
+    rows: &[Question],
+) -> Result<(), Fail> {
+    compare_questions(rt, alloc, &Around::new(alloc, lists)?, rows)
+}
+
+#[test]
+fn system(rt: HostRuntime) -> Result<(), Fail> {
+    let alloc = rt.alloc();
+    compare_questions_of(&rt, alloc, true, SYSTEM)?;
+    compare_questions_of(&rt, alloc, true, DIRECTORIES)
+}
+
+#[test]
+fn files(rt: HostRuntime) -> Result<(), Fail> {
+    let alloc = rt.alloc();
+    compare_questions_of(&rt, alloc, false, FILES)?;
+    compare_questions_of(&rt, alloc, true, FILES_WITH_LISTS)
+}
+
+#[test]
+fn executables(rt: HostRuntime) -> Result<(), Fail> {
+    let alloc = rt.alloc();
+    compare_questions_of(&rt, alloc, true, EXECUTABLES)
+}
+
+#[test]
+fn variables(rt: HostRuntime) -> Result<(), Fail> {
+    let alloc = rt.alloc();
+    let mut around = Around::new(alloc, true)?;
+    let key = String::from_str(alloc, "set")?;
+    around.dotenv.insert(key, String::from_str(alloc, "dot")?)?;
+    compare_questions(&rt, alloc, &around, VARIABLES)
+}
+
+#[test]
+fn commands(rt: HostRuntime) -> Result<(), Fail> {
+    let alloc = rt.alloc();
+    let mut around = Around::new(alloc, true)?;
+    compare_questions(&rt, alloc, &around, COMMANDS)?;
+    around.config.dry_run = true;
+    compare_questions(&rt, alloc, &around, DRY_COMMANDS)
+}
+
 #[test]
 fn text_built_ins(rt: HostRuntime) -> Result<(), Fail> {
     let alloc = rt.alloc();
-    let around = Around::new(alloc, true)?;
-    compare(&rt, alloc, &around, TEXTS)
+    compare_calls(&rt, alloc, true, TEXTS)
 }
 
 #[test]
 fn path_texts(rt: HostRuntime) -> Result<(), Fail> {
     let alloc = rt.alloc();
-    let around = Around::new(alloc, false)?;
-    compare(&rt, alloc, &around, PATHS)
+    compare_calls(&rt, alloc, false, PATHS)
 }
 
 #[test]
 fn lists(rt: HostRuntime) -> Result<(), Fail> {
     let alloc = rt.alloc();
-    compare(&rt, alloc, &Around::new(alloc, true)?, LISTS)?;
-    compare(&rt, alloc, &Around::new(alloc, false)?, WITHOUT_LISTS)
+    compare_calls(&rt, alloc, true, LISTS)?;
+    compare_calls(&rt, alloc, false, WITHOUT_LISTS)
 }
 
 #[test]
 fn bool_texts(rt: HostRuntime) -> Result<(), Fail> {
     let alloc = rt.alloc();
-    compare(&rt, alloc, &Around::new(alloc, true)?, TRUTHS)?;
-    compare(
-        &rt,
-        alloc,
-        &Around::new(alloc, false)?,
-        TRUTHS_WITHOUT_LISTS,
-    )
+    compare_calls(&rt, alloc, true, TRUTHS)?;
+    compare_calls(&rt, alloc, false, TRUTHS_WITHOUT_LISTS)
 }
 
 #[test]
 fn surroundings(rt: HostRuntime) -> Result<(), Fail> {
     let alloc = rt.alloc();
-    compare(&rt, alloc, &Around::new(alloc, true)?, SURROUNDINGS)?;
+    compare_calls(&rt, alloc, true, SURROUNDINGS)?;
     compare(&rt, alloc, &Around::at_the_root(alloc)?, OTHER_SURROUNDINGS)
 }
 

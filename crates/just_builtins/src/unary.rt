@@ -1,28 +1,56 @@
 // The built-in functions that take one argument.
 
-ghost use Rattle.std.specs.Prelude.{◌≡◌, ◌∷◌, [], IfOk, map, option_map, string_bytes};
+ghost use Rattle.std.specs.Prelude.{◌≡◌, ◌<◌, ◌∷◌, [], IfOk, length, map, option_map, string_bytes};
 ghost use Rattle.just_text.specs.Quote.{single_quoted};
+ghost use Rattle.just_value.specs.Frames.{Frames};
+ghost use Rattle.just_value.specs.View.{frames_view};
 ghost use Rattle.just_host.specs.Function as function;
 ghost use Rattle.just_host.specs.View.{function_context_view};
-ghost use Rattle.just_builtins.specs.Called.{Gives, Replies};
-ghost use Rattle.just_builtins.specs.Meaning.{or_fails, reply, says};
+ghost use Rattle.just_builtins.specs.Argument.{HasOneEach};
+ghost use Rattle.just_builtins.specs.Called.{AskedBy, Gives, Replies, RepliesAmong};
+ghost use Rattle.just_builtins.specs.Meaning.{or_fails, reply};
 ghost use Rattle.just_builtins.specs.Message.{past_ascii};
-ghost use Rattle.just_builtins.specs.declared.function.Function.TheVariants.{Unary, UnaryMap, ValueUnary};
+ghost use Rattle.just_builtins.specs.Reply.{says};
+ghost use Rattle.just_builtins.specs.Shape.{unasked_unary, unasked_value_unary};
+ghost use Rattle.just_builtins.specs.declared.function.Function.TheVariants.{Unary, UnaryMap, UnaryPlus, UnaryToValue, ValueUnary};
 
 use crate::builtin::Builtin;
 use crate::call_fault::CallFault;
+use crate::environment::environment;
+use crate::file::{canonicalize, path_exists, read};
+use crate::lookup::{require, which};
 use crate::parts::{parent_directory, part, without_extension};
+use crate::shell::shell;
 use crate::truth::value_truth;
 use crate::{message, path};
 use just_host::function::Context;
+use just_host::host::Host;
 use just_syntax::out_of_memory::OutOfMemory;
 use just_text::{case, quote, uri};
 use just_value::value::Value;
 use std::alloc::Global;
 
-/// What a built-in function answers that takes a text and gives one.
-pub fn unary(alloc: Global, builtin: Builtin, text: &str) -> Result<Value, CallFault>
-    ensures { (c : function.Context) → Replies (Unary builtin) (reply builtin c ((text.now ∷ []) ∷ [])) result }
+/// What a built-in function asks and answers that takes a text and gives one.
+pub fn unary<H: Host>(
+    alloc: Global,
+    host: &mut H,
+    context: &Context,
+    builtin: Builtin,
+    text: &str,
+) -> Result<Value, CallFault>
+    ensures { (shown : Frames) → AskedBy (Unary builtin) H.step host.old shown (reply builtin (function_context_view context.now) ((text.now ∷ []) ∷ [])) result host.new }
+{
+    match builtin {
+        Builtin::Canonicalize => canonicalize(alloc, host, context, text),
+        Builtin::Read => read(alloc, host, context, text),
+        Builtin::Require => require(alloc, host, context, text),
+        _ => unary_unasked(alloc, builtin, text),
+    }
+}
+
+// What such a one answers that asks nothing.
+fn unary_unasked(alloc: Global, builtin: Builtin, text: &str) -> Result<Value, CallFault>
+    ensures { (c : function.Context) → RepliesAmong unasked_unary builtin (reply builtin c ((text.now ∷ []) ∷ [])) result }
 {
     match builtin {
         Builtin::Capitalize => cased(alloc, case::capitalize(alloc, text)?, text),
@@ -79,14 +107,65 @@ fn quoted(alloc: Global, texts: &[String]) -> Result<Vec<String>, OutOfMemory>
     Ok(all)
 }
 
-/// What a built-in function answers that takes a value.
-pub fn value_unary(
+/// What a built-in function asks and answers that takes one text or more.
+pub fn unary_plus<H: Host>(
+    alloc: Global,
+    host: &mut H,
+    context: &Context,
+    builtin: Builtin,
+    arguments: &[Value],
+) -> Result<Value, CallFault>
+    requires some { 0 < length arguments.now }
+    requires texts { HasOneEach arguments.now }
+    ensures { AskedBy (UnaryPlus builtin) H.step host.old (frames_view context.now.scope.now) (reply builtin (function_context_view context.now) arguments.now) result host.new }
+{
+    match builtin {
+        Builtin::Shell => shell(alloc, host, context, arguments),
+        _ => Err(CallFault::Internal),
+    }
+}
+
+/// What a built-in function asks and answers that takes a text and gives a value.
+pub fn unary_to_value<H: Host>(
+    alloc: Global,
+    host: &mut H,
+    context: &Context,
+    builtin: Builtin,
+    text: &str,
+) -> Result<Value, CallFault>
+    ensures { (shown : Frames) → AskedBy (UnaryToValue builtin) H.step host.old shown (reply builtin (function_context_view context.now) ((text.now ∷ []) ∷ [])) result host.new }
+{
+    match builtin {
+        Builtin::PathExists => path_exists(alloc, host, context, text),
+        Builtin::Which => which(alloc, host, context, text),
+        _ => Err(CallFault::Internal),
+    }
+}
+
+/// What a built-in function asks and answers that takes a value.
+pub fn value_unary<H: Host>(
+    alloc: Global,
+    host: &mut H,
+    context: &Context,
+    builtin: Builtin,
+    value: &Value,
+) -> Result<Value, CallFault>
+    ensures { (shown : Frames) → AskedBy (ValueUnary builtin) H.step host.old shown (reply builtin (function_context_view context.now) (value.now ∷ [])) result host.new }
+{
+    match builtin {
+        Builtin::EnvVar => environment(alloc, host, context, value, None),
+        _ => value_unary_unasked(alloc, context, builtin, value),
+    }
+}
+
+// What such a one answers that asks nothing.
+fn value_unary_unasked(
     alloc: Global,
     context: &Context,
     builtin: Builtin,
     value: &Value,
 ) -> Result<Value, CallFault>
-    ensures { Replies (ValueUnary builtin) (reply builtin (function_context_view context.now) (value.now ∷ [])) result }
+    ensures { RepliesAmong unasked_value_unary builtin (reply builtin (function_context_view context.now) (value.now ∷ [])) result }
 {
     match builtin {
         Builtin::Bool => {

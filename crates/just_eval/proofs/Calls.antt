@@ -1,17 +1,23 @@
 -- What runs of calls come to.
-use Rattle.std.proofs.Common.{◌≡◌, ℕ, suc, true, false, List, [], ◌∷◌, Option, Some, None, length, nat_eq, refl, sym, ap, ◌∙◌, subst, arith}
+use Rattle.std.proofs.Common.{◌≡◌, ℕ, suc, true, false, if◌then◌else◌, List, [], ◌∷◌, Option, Some, None, length, nat_eq, refl, sym, ap, ◌∙◌, subst, arith}
 use Rattle.std.proofs.lemmas.Bool.Decides.{nat_tests}
-use Rattle.just_syntax.specs.Plain.{Text, Token, Function}
+use Rattle.just_syntax.specs.Plain.{Token, Function, Expr}
 use Rattle.just_value.specs.Value.{Value}
-use Rattle.just_value.specs.Refusal.{Refusal, Internal, RecursionLimit}
-use Rattle.just_value.specs.Outcome.{Outcome, Gave, Refused, Stopped, without_value}
+use Rattle.just_value.specs.Refusal.{Refusal, Internal}
+use Rattle.just_value.specs.Outcome.{Outcome, Gave, without_value}
 use Rattle.just_value.specs.Frames.{Frames, value_in}
 use Rattle.just_host.specs.Question.{Question, Answer}
 use Rattle.just_host.specs.Interaction.{Tree, bind, refuses, Runs}
-use Rattle.just_meaning.specs.Messages.{unknown_function_text, miscounted_text}
-use Rattle.just_meaning.specs.Meaning.{Context, Situation, Deeper, called, eval, when}
+use Rattle.just_builtins.specs.Argument.{IsExpected}
+use Rattle.just_builtins.specs.Table.{function_named, is_left_out}
+use Rattle.just_builtins.specs.declared.function.Function.{Function as BuiltIn}
+use Rattle.just_resolution.specs.Callee as callee
+use Rattle.just_resolution.specs.Callee.{Defined, LeftOut, built_in_or_unknown, defined_or, undefined}
+use Rattle.just_resolution.proofs.Standing.{callable}
+use Rattle.just_meaning.specs.Messages.{miscounted_text}
+use Rattle.just_meaning.specs.Meaning.{Context, Situation, Deeper, built_in_call, called, eval, when}
 use Rattle.just_meaning.specs.Closings.{chained, inside, with_parameters}
-use Rattle.just_eval.proofs.Runs.{runs_done, runs_on, runs_ends, runs_stopped}
+use Rattle.just_eval.proofs.Runs.{runs_on, runs_ends}
 
 -- a body's situation, from the evaluator's own
 pub inside_is : (frames inner : Frames) (caller own : Situation) (f : Function) (vs : List Value) → inner ≡ with_parameters [] f.parameters vs ∷ frames → caller.below ≡ frames
@@ -22,39 +28,50 @@ inside_is frames inner caller own f vs e below is = is ∙ rw (e, below) refl
 abbrev body : Context → ℕ → Situation → Function → List Value → Tree Value
 body c m s f vs = eval c (chained c m) (inside (value_in s.below) s f vs) f.body
 
--- what a call comes to where its function is found and its count fits
-called_is : (c : Context) (t : Token) (found : Option Function) (f : Function) (calls m : ℕ) (s : Situation) (n : ℕ) (arguments : Tree (List Value)) → found ≡ Some f → calls ≡ suc m → n ≡ length f.parameters → called t found (chained c calls) s n arguments ≡ bind arguments (body c m s f)
-called_is c t found f calls m s n arguments is one same =
+-- what a call comes to where its count fits
+called_is : (c : Context) (t : Token) (f : Function) (calls m : ℕ) (s : Situation) (n : ℕ) (arguments : Tree (List Value)) (checked : BuiltIn → Tree (List Value)) → calls ≡ suc m → n ≡ length f.parameters → called c t (Defined f) (chained c calls) s n arguments checked ≡ bind arguments (body c m s f)
+called_is c t f calls m s n arguments checked one same =
     let e : nat_eq n (length f.parameters) ≡ true = grind (arith, nat_tests) in
-    ap (λ o. called t o (chained c calls) s n arguments) is
-    ∙ ap (λ k. called t (Some f) (chained c k) s n arguments) one
+    ap (λ k. called c t (Defined f) (chained c k) s n arguments checked) one
     ∙ ap (λ b. when b (bind arguments (body c m s f)) (refuses (Internal (miscounted_text t.lexeme) t))) e
 
+-- what a call comes to of a built-in function that takes so many arguments
+module _ (c : Context) (t : Token) (f : BuiltIn) (kept : is_left_out t.lexeme ≡ false) (found : function_named t.lexeme ≡ Some f) (n : ℕ) (fits : IsExpected f n) (d : Deeper) (s : Situation) (arguments : Tree (List Value)) (checked : BuiltIn → Tree (List Value)) where
+  built_in_is : called c t (undefined t.lexeme) d s n arguments checked ≡ bind (checked f) (built_in_call c s t f)
+  built_in_is =
+      ap (λ b. called c t (if b then LeftOut else built_in_or_unknown (function_named t.lexeme)) d s n arguments checked) kept
+      ∙ ap (λ o. called c t (built_in_or_unknown o) d s n arguments checked) found
+      ∙ ap (λ b. when b (bind (checked f) (built_in_call c s t f)) (refuses (Internal (miscounted_text t.lexeme) t))) ((callable (callee.BuiltIn f) n).1 fits)
+
+  module _ {S : Type 0} {step : S → Question → Answer → S → Type 0} where
+    -- an argument ends it
+    pub built_in_ends : {old new : S} (e : Option Refusal) → Runs step old (checked f) (without_value e) new → Runs step old (called c t (undefined t.lexeme) d s n arguments checked) (without_value e) new
+    built_in_ends {old = old} {new = new} e r = subst (λ x. Runs step old x (without_value e) new) (sym built_in_is) (runs_ends (checked f) (built_in_call c s t f) e r)
+
+    -- it answers after its arguments
+    pub built_in_runs : {old mid new : S} (vs : List Value) (o : Outcome Value) → Runs step old (checked f) (Gave vs) mid → Runs step mid (built_in_call c s t f vs) o new → Runs step old (called c t (undefined t.lexeme) d s n arguments checked) o new
+    built_in_runs {old = old} {new = new} vs o r q = subst (λ x. Runs step old x o new) (sym built_in_is) (runs_on (checked f) (built_in_call c s t f) r q)
+
 module _ {S : Type 0} {step : S → Question → Answer → S → Type 0} (c : Context) (t : Token) where
-  pub call_unknown : {h : S} (found : Option Function) (d : Deeper) (s : Situation) (n : ℕ) (arguments : Tree (List Value)) (text : Text) → found ≡ None → text ≡ unknown_function_text t.lexeme
-      → Runs step h (called t found d s n arguments) (Refused (Internal text t)) h
-  call_unknown found d s n arguments text e m = rw (e, m) (runs_done _ _ refl)
+  -- the file does not define the name
+  pub call_undefined : {old new : S} (found : Option Function) (d : Deeper) (s : Situation) (n : ℕ) (arguments : Tree (List Value)) (checked : BuiltIn → Tree (List Value)) (o : Outcome Value) → found ≡ None
+      → Runs step old (called c t (undefined t.lexeme) d s n arguments checked) o new → Runs step old (called c t (defined_or found (undefined t.lexeme)) d s n arguments checked) o new
+  call_undefined {old = old} {new = new} found d s n arguments checked o e r = subst (λ p. Runs step old (called c t (defined_or p (undefined t.lexeme)) d s n arguments checked) o new) (sym e) r
 
-  module _ (found : Option Function) (f : Function) (is : found ≡ Some f) where
-    pub call_at_limit : {h : S} (calls : ℕ) (s : Situation) (n : ℕ) (arguments : Tree (List Value)) → calls ≡ 0 → Runs step h (called t found (chained c calls) s n arguments) (Refused (RecursionLimit f.name)) h
-    call_at_limit calls s n arguments e = rw (is, e) (runs_done _ _ refl)
+  -- the file defines it
+  pub call_defined : {old new : S} (found : Option Function) (f : Function) (d : Deeper) (s : Situation) (n : ℕ) (arguments : Tree (List Value)) (checked : BuiltIn → Tree (List Value)) (o : Outcome Value) → found ≡ Some f
+      → Runs step old (called c t (Defined f) d s n arguments checked) o new → Runs step old (called c t (defined_or found (undefined t.lexeme)) d s n arguments checked) o new
+  call_defined {old = old} {new = new} found f d s n arguments checked o e r = subst (λ p. Runs step old (called c t (defined_or p (undefined t.lexeme)) d s n arguments checked) o new) (sym e) r
 
-    module _ (calls m : ℕ) (one : calls ≡ suc m) (s : Situation) (n : ℕ) (arguments : Tree (List Value)) where
-      pub call_miscounted : {h : S} (text : Text) → (n ≡ length f.parameters → ⊥) → text ≡ miscounted_text t.lexeme → Runs step h (called t found (chained c calls) s n arguments) (Refused (Internal text t)) h
-      call_miscounted text differs m =
-          let e : nat_eq n (length f.parameters) ≡ false = grind (arith, nat_tests) in
-          rw (is, one, e, m) (runs_done _ _ refl)
+  module _ (f : Function) (calls m : ℕ) (one : calls ≡ suc m) (s : Situation) (n : ℕ) (arguments : Tree (List Value)) (checked : BuiltIn → Tree (List Value)) (same : n ≡ length f.parameters) where
+    -- an argument ends it
+    pub call_ends : {old new : S} (e : Option Refusal) → Runs step old arguments (without_value e) new → Runs step old (called c t (Defined f) (chained c calls) s n arguments checked) (without_value e) new
+    call_ends {old = old} {new = new} e r = subst (λ x. Runs step old x (without_value e) new) (sym (called_is c t f calls m s n arguments checked one same)) (runs_ends arguments (body c m s f) e r)
 
-      module _ (same : n ≡ length f.parameters) where
-        -- an argument ends it
-        pub call_ends : {old new : S} (e : Option Refusal) → Runs step old arguments (without_value e) new → Runs step old (called t found (chained c calls) s n arguments) (without_value e) new
-        call_ends {old = old} {new = new} e r = subst (λ x. Runs step old x (without_value e) new) (sym (called_is c t found f calls m s n arguments is one same)) (runs_ends arguments (body c m s f) e r)
+    -- the body runs after the arguments
+    pub call_runs : {old mid new : S} (vs : List Value) (o : Outcome Value) → Runs step old arguments (Gave vs) mid → Runs step mid (body c m s f vs) o new → Runs step old (called c t (Defined f) (chained c calls) s n arguments checked) o new
+    call_runs {old = old} {new = new} vs o r q = subst (λ x. Runs step old x o new) (sym (called_is c t f calls m s n arguments checked one same)) (runs_on arguments (body c m s f) r q)
 
-        -- memory runs out before the body
-        pub call_stopped : {old new : S} (vs : List Value) → Runs step old arguments (Gave vs) new → Runs step old (called t found (chained c calls) s n arguments) Stopped new
-        call_stopped {old = old} {new = new} vs r = subst (λ x. Runs step old x Stopped new) (sym (called_is c t found f calls m s n arguments is one same)) (runs_on arguments (body c m s f) r (runs_stopped _))
-
-        -- the body runs after the arguments
-        pub call_runs : {old mid new : S} (vs : List Value) (o : Outcome Value) (inner : Situation) → Runs step old arguments (Gave vs) mid → inner ≡ inside (value_in s.below) s f vs → Runs step mid (eval c (chained c m) inner f.body) o new
-            → Runs step old (called t found (chained c calls) s n arguments) o new
-        call_runs {old = old} {mid = mid} {new = new} vs o inner r e q = subst (λ x. Runs step old x o new) (sym (called_is c t found f calls m s n arguments is one same)) (runs_on arguments (body c m s f) r (subst (λ i. Runs step mid (eval c (chained c m) i f.body) o new) e q))
+-- a body runs in its own situation
+pub body_runs : {S : Type 0} {step : S → Question → Answer → S → Type 0} {old new : S} (c : Context) (m k : ℕ) (inner own : Situation) (e : Expr) (o : Outcome Value) → inner ≡ own → k ≡ m → Runs step old (eval c (chained c k) inner e) o new → Runs step old (eval c (chained c m) own e) o new
+body_runs {step = step} {old = old} {new = new} c m k inner own e o is same r = subst (λ i. Runs step old (eval c (chained c m) i e) o new) is (subst (λ j. Runs step old (eval c (chained c j) inner e) o new) same r)

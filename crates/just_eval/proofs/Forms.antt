@@ -1,15 +1,15 @@
 -- What runs of the forms come to.
-use Rattle.std.proofs.Common.{◌≡◌, ℕ, true, false, [], ◌∷◌, ◌++◌, refl, ap, inl, inr, Option, Some, None}
+use Rattle.std.proofs.Common.{◌≡◌, ℕ, Bool, true, false, [], ◌∷◌, ◌++◌, refl, ap, inl, inr, Option, Some, None}
 use Rattle.just_syntax.specs.Plain.{Text, Token}
 use Rattle.just_value.specs.Value.{Value, Names}
 use Rattle.just_value.specs.Refusal.{Internal, Fault, Code, Message, NoMemory}
 use Rattle.just_value.specs.Outcome.{Outcome, Gave, Refused, Stopped, UnlessStopped}
 use Rattle.just_host.specs.Fixed.{Fixed}
 use Rattle.just_host.specs.Question.{Question, Answer, Failed, command_question}
-use Rattle.just_host.specs.Interaction.{Asked, done, ask, AsksOnce, Runs}
+use Rattle.just_host.specs.Interaction.{Asked, Tree, done, ask, bind, AsksOnce, Path, Runs}
 use Rattle.just_meaning.specs.Messages.{unevaluated_text}
-use Rattle.just_meaning.specs.Meaning.{Situation, variable, command, answered, faulted}
-use Rattle.just_eval.proofs.Runs.{runs_done, runs_gives, runs_note, runs_when, runs_else}
+use Rattle.just_meaning.specs.Meaning.{Situation, argument, variable, command, answered, faulted}
+use Rattle.just_eval.proofs.Runs.{runs_done, runs_gives, runs_on, runs_note, runs_when, runs_else}
 
 module _ {S : Type 0} {step : S → Question → Answer → S → Type 0} where
   -- a variable that has a value
@@ -32,6 +32,10 @@ module _ {S : Type 0} {step : S → Question → Answer → S → Type 0} where
   -- a command expression that asks
   pub runs_asked : {h m : S} (f : Fixed) (s : Situation) (text : Text) (t : Token) (a : Answer) (o : Outcome Value) → f.config.dry_run ≡ false → AsksOnce step h (command_question f s.environment s.shown text None) a m → UnlessStopped o (answered t a) → (a ≡ Failed NoMemory → o ≡ Stopped) → Runs step h (command f s text t) o m
   runs_asked f s text t a o d asked u stops = runs_note (runs_else _ _ _ d (runs_once _ a (answered t) o asked u stops))
+
+  -- an argument's value, and what becomes of it without a question
+  pub runs_argument : {old new : S} (e : Tree Value) (b : Bool) (t : Token) (v : Value) (o : Outcome Value) → Runs step old e (Gave v) new → Path (argument b t v) [] o → Runs step old (bind e (argument b t)) o new
+  runs_argument e b t v o r p = runs_on e (argument b t) r (record { events = []; path = p; chain = refl })
 
 pub without_memory : (t : Token) (f : Fault) → Failed f ≡ Failed NoMemory → faulted t f ≡ Stopped
 without_memory t (Code n) e = absurd (cc)

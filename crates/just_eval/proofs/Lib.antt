@@ -6,3 +6,4 @@ pub mod Measure
 pub mod Tables
 pub mod Module
 pub mod InFront
+pub mod Texts

@@ -14,7 +14,7 @@ deepest_body functions = most (λ f. size-Expression f.body) functions
 
 -- what so many pending calls may still need
 abbrev pub room : ℕ → List FunctionDefinition → ℕ
-room calls functions = calls * suc (3 * deepest_body functions)
+room calls functions = calls * suc (4 * deepest_body functions)
 
 -- what the calls may still need that an evaluator's expression can make
 abbrev pub calls_room : Evaluator → ℕ
@@ -34,11 +34,11 @@ found_most weight key name (y ∷ ys) x e = by (found_most weight key name ys x)
 
 -- one pending call fewer leaves less than a body's size
 pub one_fewer : (limit depth depth' : ℕ) (functions : List FunctionDefinition) (key : FunctionDefinition → Text) (name : Text) (f : FunctionDefinition) →
-    value_at key name functions ≡ Some f → depth' ≡ depth + 1 → depth < limit → room (limit - depth') functions + 3 * size-Expression f.body < suc (room (limit - depth) functions)
+    value_at key name functions ≡ Some f → depth' ≡ depth + 1 → depth < limit → room (limit - depth') functions + 4 * size-Expression f.body < suc (room (limit - depth) functions)
 one_fewer limit depth depth' functions key name f e deep below =
     let h = found_most (λ (g : FunctionDefinition). size-Expression g.body) key name functions f e in
     let n : limit - depth ≡ suc (limit - depth') = omega arith in
-    subst (λ k. room (limit - depth') functions + 3 * size-Expression f.body < suc (room k functions)) (sym n) (times (limit - depth') (deepest_body functions) (size-Expression f.body) h)
+    subst (λ k. room (limit - depth') functions + 4 * size-Expression f.body < suc (room k functions)) (sym n) (times (limit - depth') (deepest_body functions) (size-Expression f.body) h)
   where
-    times : (n d s : ℕ) → s ≤ d → n * suc (3 * d) + 3 * s < suc (suc n * suc (3 * d))
-    times n d s h = let e : suc n * suc (3 * d) ≡ n * suc (3 * d) + suc (3 * d) = grind arith in omega arith
+    times : (n d s : ℕ) → s ≤ d → n * suc (4 * d) + 4 * s < suc (suc n * suc (4 * d))
+    times n d s h = let e : suc n * suc (4 * d) ≡ n * suc (4 * d) + suc (4 * d) = grind arith in omega arith

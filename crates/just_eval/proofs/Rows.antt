@@ -1,18 +1,20 @@
 -- Expressions whose parts are no boxes, and values one after another.
-use Rattle.std.proofs.Common.{◌≡◌, ℕ, suc, ◌+◌, ◌<◌, List, [], ◌∷◌, ◌++◌, length, get_or, drop, add-one, drop-cons, refl, ap, sym, ◌∙◌, subst, rules, Option, Some, None}
+use Rattle.std.proofs.Common.{◌≡◌, ℕ, Bool, suc, ◌+◌, ◌<◌, List, [], ◌∷◌, ◌++◌, length, get_or, drop, add-one, drop-cons, refl, ap, sym, ◌∙◌, subst, rules, Option, Some, None}
+use Rattle.std.proofs.lemmas.List.{append-nil}
 use Rattle.just_syntax.specs.declared.expression.Expression.{Expression, Row_of-Expression, end_of-Expression, more_of-Expression, items-the_row-Expression, Row_of-Expression-FormatString-1-2, items-the_row-Expression-FormatString-1-2, end_of-Expression-FormatString-1-2, more_of-Expression-FormatString-1-2}
 use Rattle.just_syntax.specs.declared.expression.Expression.TheViews.{the_lemmas}
 use Rattle.just_syntax.specs.declared.expression.Expression.TheViews as expressions
 use Rattle.just_syntax.specs.declared.string_literal.StringLiteral.{StringLiteral as Written}
-use Rattle.just_syntax.specs.Plain.{Text, Call, Cons, Piece, ListOf, FormatString, count}
+use Rattle.just_syntax.specs.Plain.{Text, Token, Call, Cons, Piece, ListOf, FormatString, count}
 use Rattle.just_syntax.specs.View.{name_view, token_view, literal_view, view, views, row_view, piece_views, pieces_view}
 use Rattle.just_value.specs.Value.{Value, joined}
 use Rattle.just_value.specs.Refusal.{Refusal}
 use Rattle.just_value.specs.Outcome.{Outcome, Gave, Refused, Stopped, without_value}
 use Rattle.just_host.specs.Question.{Question, Answer}
 use Rattle.just_host.specs.Interaction.{Entered, Tree, note, bind, gives, Runs}
-use Rattle.just_resolution.specs.Reaches.{function_at}
-use Rattle.just_meaning.specs.Meaning.{Context, Situation, Deeper, called, eval, eval_all, eval_pieces, flatten, formatted}
+use Rattle.just_builtins.specs.Shape.{is_text}
+use Rattle.just_resolution.specs.Callee.{callee}
+use Rattle.just_meaning.specs.Meaning.{Context, Situation, Deeper, argument, eval, eval_all, eval_arguments, eval_pieces, called, flatten, formatted}
 use Rattle.just_eval.proofs.Runs.{runs_on, runs_ends, runs_stopped, runs_gives, path_refused, path_stopped}
 
 row_items : {n : _} (row : Row_of-Expression n) → row_view row ≡ views (items-the_row-Expression n row)
@@ -48,10 +50,10 @@ module _ (c : Context) (d : Deeper) (s : Situation) where
   list_is es t = ap (eval c d s) (view_list es t)
 
   pub call_is : (es : _) (name : _) → eval c d s (view (expressions.Call es name))
-      ≡ note (Entered (name_view name).lexeme) (called (name_view name) (function_at c.functions (name_view name).lexeme) d s (length es.items) (eval_all c d s (views es.items)))
+      ≡ note (Entered (name_view name).lexeme) (called c (name_view name) (callee c.functions (name_view name).lexeme) d s (length es.items) (eval_all c d s (views es.items)) (λ f. eval_arguments c d s (name_view name) (is_text f) 0 (views es.items)))
   call_is es name =
       ap (eval c d s) (view_call es name)
-      ∙ ap (λ n. note (Entered (name_view name).lexeme) (called (name_view name) (function_at c.functions (name_view name).lexeme) d s n (eval_all c d s (views es.items)))) (count_views es.items)
+      ∙ ap (λ n. note (Entered (name_view name).lexeme) (called c (name_view name) (callee c.functions (name_view name).lexeme) d s n (eval_all c d s (views es.items)) (λ f. eval_arguments c d s (name_view name) (is_text f) 0 (views es.items)))) (count_views es.items)
 
   pub format_string_is : (start : _) (es : _) → eval c d s (view (expressions.FormatString start es)) ≡ bind (eval_pieces c d s (piece_views es.items)) (λ text. gives (formatted (literal_view start) text ∷ []))
   format_string_is start es = ap (eval c d s) (view_format_string start es)
@@ -85,6 +87,10 @@ module _ {S : Type 0} {step : S → Question → Answer → S → Type 0} where
   runs_made t f (Refused s) r = record { events = r.events; path = path_refused t (λ a. gives (f a)) r.events s r.path; chain = r.chain }
   runs_made t f Stopped r = record { events = r.events; path = path_stopped t (λ a. gives (f a)) r.events r.path; chain = r.chain }
 
+  -- no more behind what is made
+  pub runs_all : {A : Type 0} {old new : S} (t : Tree (List A)) (made : List A) → Runs step old t (Gave (made ++ [])) new → Runs step old t (Gave made) new
+  runs_all {old = old} {new = new} t made r = subst (λ vs. Runs step old t (Gave vs) new) (append-nil made) r
+
   -- a value, and then the rest, of which f makes one
   runs_more : {A B : Type 0} {old mid new : S} (first : Tree Value) (rest : Tree A) (v : Value) (f : Value → A → B) (o : Outcome A) → Runs step old first (Gave v) mid → Runs step mid rest o new
       → Runs step old (bind first (λ v. bind rest (λ a. gives (f v a)))) (behind (f v) o) new
@@ -92,33 +98,64 @@ module _ {S : Type 0} {step : S → Question → Answer → S → Type 0} where
   runs_more first rest v f (Refused s) r q = runs_on first _ r (record { events = q.events; path = path_refused rest (λ a. gives (f v a)) q.events s q.path; chain = q.chain })
   runs_more first rest v f Stopped r q = runs_on first _ r (record { events = q.events; path = path_stopped rest (λ a. gives (f v a)) q.events q.path; chain = q.chain })
 
+  -- a row of values: made so far, and what is left, a first one and more
+  module _ {B : Type 0} (whole : Tree B) (start here : S) (finish : List Value → B) (all : Tree (List Value)) (first : Tree Value) (left : Tree (List Value)) (front : all ≡ bind first (λ v. bind left (λ vs. gives (v ∷ vs))))
+      (rest : (o : Outcome (List Value)) (new : S) → Runs step here all o new → Runs step start whole (behind finish o) new) where
+    twice : (v : Value) (o : Outcome (List Value)) → behind finish (behind (λ vs. v ∷ vs) o) ≡ behind (λ vs. finish (v ∷ vs)) o
+    twice v (Gave vs) = refl
+    twice v (Refused r) = refl
+    twice v Stopped = refl
+
+    pub row_next : {mid : S} (v : Value) → Runs step here first (Gave v) mid → (o : Outcome (List Value)) (new : S) → Runs step mid left o new → Runs step start whole (behind (λ vs. finish (v ∷ vs)) o) new
+    row_next v r o new q =
+        subst (λ x. Runs step start whole x new) (twice v o)
+        (rest (behind (λ vs. v ∷ vs) o) new (subst (λ t. Runs step here t (behind (λ vs. v ∷ vs) o) new) (sym front) (runs_more _ _ v (λ v vs. v ∷ vs) o r q)))
+
+    -- an expression that ends it
+    pub row_end : {new : S} (err : Option Refusal) → Runs step here first (without_value err) new → Runs step start whole (without_value err) new
+    row_end {new = new} err r =
+        subst (λ x. Runs step start whole x new) (behind_ended finish err)
+        (rest (without_value err) new (subst (λ t. Runs step here t (without_value err) new) (sym front) (runs_ends _ _ err r)))
+
+    -- memory runs out after a value
+    pub row_stop : {new : S} (v : Value) → Runs step here first (Gave v) new → Runs step start whole Stopped new
+    row_stop {new = new} v r = rest Stopped new (subst (λ t. Runs step here t Stopped new) (sym front) (runs_on _ _ r (runs_stopped _)))
+
   module _ (c : Context) (d : Deeper) (s : Situation) {B : Type 0} (whole : Tree B) (start here : S) where
-    -- the values of a list: made so far, and what is left
+    -- the values of a list
     module _ (finish : List Value → B) (es : List Expression) (i : ℕ) (e : Expression) (fits : i < length es) (is : e ≡ get_or es i e)
         (rest : (o : Outcome (List Value)) (new : S) → Runs step here (eval_all c d s (views (drop i es))) o new → Runs step start whole (behind finish o) new) where
       front : eval_all c d s (views (drop i es)) ≡ bind (eval c d s (view e)) (λ v. bind (eval_all c d s (views (drop (i + 1) es))) (λ vs. gives (v ∷ vs)))
       front = ap (eval_all c d s) (views_front es i e fits is)
 
-      twice : (v : Value) (o : Outcome (List Value)) → behind finish (behind (λ vs. v ∷ vs) o) ≡ behind (λ vs. finish (v ∷ vs)) o
-      twice v (Gave vs) = refl
-      twice v (Refused r) = refl
-      twice v Stopped = refl
-
       pub values_next : {mid : S} (v : Value) → Runs step here (eval c d s (view e)) (Gave v) mid →
           (o : Outcome (List Value)) (new : S) → Runs step mid (eval_all c d s (views (drop (i + 1) es))) o new → Runs step start whole (behind (λ vs. finish (v ∷ vs)) o) new
-      values_next v r o new q =
-          subst (λ x. Runs step start whole x new) (twice v o)
-          (rest (behind (λ vs. v ∷ vs) o) new (subst (λ t. Runs step here t (behind (λ vs. v ∷ vs) o) new) (sym front) (runs_more _ _ v (λ v vs. v ∷ vs) o r q)))
+      values_next v r o new q = row_next whole start here finish _ _ _ front rest v r o new q
 
-      -- an expression that ends it
       pub values_end : {new : S} (err : Option Refusal) → Runs step here (eval c d s (view e)) (without_value err) new → Runs step start whole (without_value err) new
-      values_end {new = new} err r =
-          subst (λ x. Runs step start whole x new) (behind_ended finish err)
-          (rest (without_value err) new (subst (λ t. Runs step here t (without_value err) new) (sym front) (runs_ends _ _ err r)))
+      values_end err r = row_end whole start here finish _ _ _ front rest err r
 
-      -- memory runs out after a value
       pub values_stop : {new : S} (v : Value) → Runs step here (eval c d s (view e)) (Gave v) new → Runs step start whole Stopped new
-      values_stop {new = new} v r = rest Stopped new (subst (λ t. Runs step here t Stopped new) (sym front) (runs_on _ _ r (runs_stopped _)))
+      values_stop v r = row_stop whole start here finish _ _ _ front rest v r
+
+    -- the values of a built-in function's arguments
+    module _ (t : Token) (texts : ℕ → Bool) (finish : List Value → B) (es : List Expression) (i : ℕ) (e : Expression) (fits : i < length es) (is : e ≡ get_or es i e)
+        (rest : (o : Outcome (List Value)) (new : S) → Runs step here (eval_arguments c d s t texts i (views (drop i es))) o new → Runs step start whole (behind finish o) new) where
+      abbrev pub first_argument : Tree Value
+      first_argument = bind (eval c d s (view e)) (argument (texts i) t)
+
+      arguments_front : eval_arguments c d s t texts i (views (drop i es)) ≡ bind first_argument (λ v. bind (eval_arguments c d s t texts (i + 1) (views (drop (i + 1) es))) (λ vs. gives (v ∷ vs)))
+      arguments_front = ap (eval_arguments c d s t texts i) (views_front es i e fits is) ∙ ap (λ j. bind first_argument (λ v. bind (eval_arguments c d s t texts j (views (drop (i + 1) es))) (λ vs. gives (v ∷ vs)))) (sym (add-one i))
+
+      pub arguments_next : {mid : S} (v : Value) → Runs step here first_argument (Gave v) mid →
+          (o : Outcome (List Value)) (new : S) → Runs step mid (eval_arguments c d s t texts (i + 1) (views (drop (i + 1) es))) o new → Runs step start whole (behind (λ vs. finish (v ∷ vs)) o) new
+      arguments_next v r o new q = row_next whole start here finish _ _ _ arguments_front rest v r o new q
+
+      pub arguments_end : {new : S} (err : Option Refusal) → Runs step here first_argument (without_value err) new → Runs step start whole (without_value err) new
+      arguments_end err r = row_end whole start here finish _ _ _ arguments_front rest err r
+
+      pub arguments_stop : {new : S} (v : Value) → Runs step here first_argument (Gave v) new → Runs step start whole Stopped new
+      arguments_stop v r = row_stop whole start here finish _ _ _ arguments_front rest v r
 
     -- the interpolations of a format string: what is made so far, and what is left
     module _ (finish : Text → B) (ps : List (Expression × Written)) (i : ℕ) (p : Expression × Written) (fits : i < length ps) (is : p ≡ get_or ps i p)

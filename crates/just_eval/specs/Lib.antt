@@ -1,2 +1,3 @@
+pub mod Call
 pub mod Parameter
 pub mod View

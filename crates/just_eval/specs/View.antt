@@ -10,8 +10,10 @@ use Rattle.std.specs.Option.{option_map}
 use Rattle.std.specs.declared.hash.FoldHasher.{FoldHasher}
 use Rattle.std.specs.declared.hash.BuildHasherDefault.{BuildHasherDefault}
 use Rattle.std.specs.declared.string.String.{String}
+use Rattle.just_syntax.specs.Keyed.{value_at}
 use Rattle.just_syntax.specs.Plain.{Text}
 use Rattle.just_syntax.specs.View.{name_view}
+use Rattle.just_syntax.specs.declared.function_definition.FunctionDefinition.{FunctionDefinition}
 use Rattle.just_syntax.specs.declared.name.Name.{Name}
 use Rattle.just_value.specs.Frames.{value_in}
 use Rattle.just_value.specs.View.{frames_view}
@@ -69,3 +71,7 @@ pub record IsAtStart (e : Evaluator) : Type 0 where
   pub no_dependency : e.is_dependency ≡ false
   pub depth : e.recursion_depth ≡ 0
   pub room : 0 < e.context.recursion_limit
+
+-- the function of the file with a name
+abbrev pub function_of : Evaluator → Text → Option FunctionDefinition
+function_of e name = value_at (λ f. f.name.token.lexeme.now) name e.context.module.now.functions

@@ -1,42 +1,49 @@
 // Evaluates expressions, in the order of their parts.
 
-ghost use Rattle.std.specs.Prelude.{IfOk, [], length, map, string_bytes, ◌-◌, ◌<◌, ◌≡◌, ◌∷◌};
+ghost use Rattle.std.specs.Prelude.{IfErr, IfOk, Some, [], length, map, ◌+◌, ◌-◌, ◌<◌, ◌≡◌, ◌∷◌};
 ghost use Rattle.std.specs.Option.{is_some, option_map};
-ghost use Rattle.just_syntax.specs.View.{assignment_view, literal_view, name_view, piece_views, token_view, view, views};
+ghost use Rattle.just_syntax.specs.View.{assignment_view, function_view, literal_view, name_view, piece_views, token_view, view, views};
 ghost use Rattle.just_syntax.specs.declared.list_operator.ListOperator.TheVariants.{Concatenate, Join};
-ghost use Rattle.just_value.specs.View.{bound_view, ended, fault_view, frames_view, refusal};
-ghost use Rattle.just_value.specs.Frames.{innermost};
-ghost use Rattle.just_value.specs.Outcome.{Gave, UnlessStopped, without_value};
+ghost use Rattle.just_value.specs.Outcome.{without_value};
+ghost use Rattle.just_value.specs.View.{bound_view, ended, frames_view, refusal};
+ghost use Rattle.just_value.specs.Frames.{innermost, value_in};
 ghost use Rattle.just_host.specs.Interaction.{GoesByAnswers, Runs, bind, gives};
 ghost use Rattle.just_host.specs.View.{fixed_view};
-ghost use Rattle.just_resolution.specs.Reaches.{function_at};
+ghost use Rattle.just_builtins.specs.Argument.{HasTexts, IsExpected};
+ghost use Rattle.just_builtins.specs.Shape.{is_text};
+ghost use Rattle.just_builtins.specs.Table.{function_named};
+ghost use Rattle.just_resolution.specs.Callee.{Defined, callee, undefined};
 ghost use Rattle.just_resolution.specs.Resolved.{IsResolved};
-ghost use Rattle.just_resolution.specs.View.{is_referenced_in};
-ghost use Rattle.just_meaning.specs.Closings.{chained};
-ghost use Rattle.just_meaning.specs.Meaning.{assertion, assertion_text, branch, called, choice, combination, command, comparison, conjunction, disjunction, eval, eval_all, eval_pieces, faulted, flatten, formatted, negation, succession, variable};
+ghost use Rattle.just_meaning.specs.Closings.{chained, inside};
+ghost use Rattle.just_meaning.specs.Meaning.{assertion, assertion_text, branch, built_in_call, called, choice, combination, command, comparison, conjunction, disjunction, eval, eval_all, eval_arguments, eval_pieces, flatten, formatted, negation, succession, variable};
 ghost use Rattle.just_meaning.specs.Module.{Ran, bound_of, by_chain, lexically, or_override, situation_at};
 ghost use Rattle.just_meaning.specs.Internal.{IsNotInternal};
-ghost use Rattle.just_eval.specs.View.{IsAtStart, calls_left, context_view, module_view, override_of, run_of, situation};
+ghost use Rattle.just_eval.specs.Call.{DefinedEndsAtOnce};
+ghost use Rattle.just_eval.specs.View.{IsAtStart, calls_left, context_view, function_of, module_view, override_of, run_of, situation};
 
 use crate::parameters::called_scope;
-use crate::{form, message};
+use crate::{built_in, form, message};
+use just_builtins::function::Function;
 use just_host::ask::ask_command;
 use just_host::config::Config;
 use just_host::execution_context::ExecutionContext;
+use just_host::function::Context;
 use just_host::host::Host;
 use just_host::justfile::Justfile;
 use just_host::search::Search;
+use just_resolution::references::is_referenced;
 use just_syntax::assignment::Assignment;
 use just_syntax::attribute_set::AttributeSet;
 use just_syntax::conditional_operator::ConditionalOperator;
 use just_syntax::expression::Expression;
+use just_syntax::function_definition::FunctionDefinition;
 use just_syntax::list_operator::ListOperator;
 use just_syntax::name::Name;
 use just_syntax::number::Number;
 use just_syntax::string_literal::StringLiteral;
 use just_syntax::token::Token;
 use just_value::binding::Binding;
-use just_value::error::{CommandFault, Error};
+use just_value::error::Error;
 use just_value::scope::Scope;
 use just_value::value::Value;
 use std::alloc::Global;
@@ -272,7 +279,7 @@ impl<'src, 'run> Evaluator<'src, 'run> {
             Expression::Not { operand } => self.evaluate_not(alloc, host, operand),
             Expression::Or { lhs, rhs } => self.evaluate_or(alloc, host, lhs, rhs),
             Expression::StringLiteral { string_literal } => {
-                evaluate_string_literal(alloc, string_literal)
+                form::string_literal(alloc, string_literal)
             }
             Expression::Variable { name, number } => {
                 self.evaluate_variable(alloc, host, name, *number)
@@ -486,7 +493,7 @@ impl<'src, 'run> Evaluator<'src, 'run> {
         Ok(form::extended(left, right)?)
     }
 
-    // The value of an assertion.
+    // The value of an assertion. One that fails says its message joined, or its condition in backticks.
     #[cycle(evaluate)]
     #[inline(never)]
     fn evaluate_assert<H: Host>(
@@ -506,34 +513,17 @@ impl<'src, 'run> Evaluator<'src, 'run> {
             let lists = self.context.module.settings.lists;
             return Ok(form::asserted(alloc, lists, value)?);
         }
-        let message = self.assertion_message(alloc, host, condition, message)?;
+        let message = match message {
+            Some(message) => {
+                let value = self.evaluate_value(alloc, host, message)?;
+                value.join(alloc)?
+            }
+            None => form::in_backticks(alloc, condition)?,
+        };
         Err(Error::Assert {
             message,
             name: *name,
         })
-    }
-
-    // What an assertion that fails says: its message joined, or its condition in backticks.
-    #[cycle(evaluate)]
-    #[inline(never)]
-    fn assertion_message<H: Host>(
-        &self,
-        alloc: Global,
-        host: &mut H,
-        condition: &Expression<'src>,
-        message: Option<&Expression<'src>>,
-    ) -> Result<String, Error<'src>>
-        requires below { self.now.recursion_depth < self.now.context.recursion_limit }
-        ensures { let c = context_view self.now.context in let d = chained c (calls_left self.now) in let value = eval c d (situation self.now) in
-            Runs H.step host.old (assertion_text c d (situation self.now) (view condition.now) (option_map (λ e. view e.now) message.entry)) (ended string_bytes result) host.new }
-    {
-        match message {
-            Some(message) => {
-                let value = self.evaluate_value(alloc, host, message)?;
-                Ok(value.join(alloc)?)
-            }
-            None => Ok(format!(in alloc; "`{condition}`")?),
-        }
     }
 
     // The value of a list: the elements of all.
@@ -593,15 +583,61 @@ impl<'src, 'run> Evaluator<'src, 'run> {
     ) -> Result<Value, Error<'src>>
         requires below { self.now.recursion_depth < self.now.context.recursion_limit }
         ensures { let c = context_view self.now.context in let d = chained c (calls_left self.now) in let t = name_view name.now in
-            Runs H.step host.old (called t (function_at c.functions t.lexeme) d (situation self.now) (length arguments.now) (eval_all c d (situation self.now) (views arguments.now))) (ended (λ v. v) result) host.new }
+            Runs H.step host.old (called c t (callee c.functions t.lexeme) d (situation self.now) (length arguments.now) (eval_all c d (situation self.now) (views arguments.now)) (λ f. eval_arguments c d (situation self.now) t (is_text f) 0 (views arguments.now))) (ended (λ v. v) result) host.new }
     {
-        let Some(function) = self.context.module.functions.get(name.lexeme()) else {
-            let message = message::unknown_function(alloc, name.lexeme())?;
-            return Err(Error::Internal {
-                message,
-                token: name.token,
-            });
-        };
+        match self.function(name) {
+            Some(function) => self.evaluate_defined(alloc, host, name, function, arguments),
+            None => self.evaluate_built_in(alloc, host, name, arguments),
+        }
+    }
+
+    // The function of the file with a name.
+    #[inline(never)]
+    fn function(&self, name: &Name<'src>) -> Option<&'run FunctionDefinition<'src>>
+        ensures { option_map (λ f. f.now) result ≡ function_of self.now (name_view name.now).lexeme }
+    {
+        self.context.module.functions.get(name.lexeme())
+    }
+
+    // The value of a call of a function of the file.
+    #[cycle(evaluate)]
+    #[inline(never)]
+    fn evaluate_defined<H: Host>(
+        &self,
+        alloc: Global,
+        host: &mut H,
+        name: &Name<'src>,
+        function: &FunctionDefinition<'src>,
+        arguments: &[Expression<'src>],
+    ) -> Result<Value, Error<'src>>
+        requires below { self.now.recursion_depth < self.now.context.recursion_limit }
+        requires found { function_of self.now (name_view name.now).lexeme ≡ Some function.now }
+        ensures { let c = context_view self.now.context in let d = chained c (calls_left self.now) in let t = name_view name.now in
+            Runs H.step host.old (called c t (Defined (function_view function.now)) d (situation self.now) (length arguments.now) (eval_all c d (situation self.now) (views arguments.now)) (λ f. eval_arguments c d (situation self.now) t (is_text f) 0 (views arguments.now))) (ended (λ v. v) result) host.new }
+    {
+        let recursion_depth = self.called_depth(alloc, name, function, arguments.len())?;
+        let mut values = Vec::with_capacity(alloc, arguments.len())?;
+        for argument in arguments {
+            values.push(self.evaluate_value(alloc, host, argument)?)?;
+        }
+        self.evaluate_body(alloc, host, function, recursion_depth, values)
+    }
+
+    // How many calls are pending in a function's body, if so many may be, and if it takes so many arguments.
+    #[inline(never)]
+    fn called_depth(
+        &self,
+        alloc: Global,
+        name: &Name<'src>,
+        function: &FunctionDefinition<'src>,
+        arguments: usize,
+    ) -> Result<usize, Error<'src>>
+        requires below { self.now.recursion_depth < self.now.context.recursion_limit }
+        ensures deeper { IfOk result (λ depth. depth ≡ self.now.recursion_depth + 1) }
+        ensures below { IfOk result (λ depth. depth < self.now.context.recursion_limit) }
+        ensures count { IfOk result (λ _. arguments ≡ length function.now.parameters.items) }
+        ensures refused { IfErr result (λ e. DefinedEndsAtOnce (name_view name.now) (function_view function.now) (calls_left self.now) arguments (without_value (refusal e))) }
+    {
         let recursion_limit = self.recursion_limit();
         let recursion_depth = self.recursion_depth() + 1;
         if recursion_depth == recursion_limit {
@@ -609,14 +645,34 @@ impl<'src, 'run> Evaluator<'src, 'run> {
                 last: function.name,
             });
         }
-        if arguments.len() != function.parameters.len() {
+        if arguments != function.parameters.len() {
             let message = message::miscounted(alloc, name.lexeme())?;
             return Err(Error::Internal {
                 message,
                 token: name.token,
             });
         }
-        let values = self.evaluate_arguments(alloc, host, arguments)?;
+        Ok(recursion_depth)
+    }
+
+    // The value of a function's body, one call deeper, its parameters bound to as many values. It is entered after the
+    // arguments, so that they nest without the room of its scope and its evaluator.
+    #[cycle(evaluate)]
+    #[inline(never)]
+    fn evaluate_body<H: Host>(
+        &self,
+        alloc: Global,
+        host: &mut H,
+        function: &FunctionDefinition<'src>,
+        recursion_depth: usize,
+        values: Vec<Value>,
+    ) -> Result<Value, Error<'src>>
+        requires deeper { recursion_depth ≡ self.now.recursion_depth + 1 }
+        requires below { recursion_depth < self.now.context.recursion_limit }
+        requires count { length function.now.parameters.items ≡ length values.items }
+        ensures { let c = context_view self.now.context in let f = function_view function.now in
+            Runs H.step host.old (eval c (chained c (calls_left self.now - 1)) (inside (value_in (frames_view self.now.scope)) (situation self.now) f values.items) f.body) (ended (λ v. v) result) host.new }
+    {
         let scope = called_scope(alloc, &function.parameters, values, &self.scope)?;
         let evaluator = Evaluator {
             context: self.context,
@@ -629,25 +685,54 @@ impl<'src, 'run> Evaluator<'src, 'run> {
         evaluator.evaluate_value(alloc, host, &function.body)
     }
 
-    // The values of a call's arguments.
+    // The value of a call of a name that the file does not define. Those of its arguments at text positions are to be
+    // texts.
     #[cycle(evaluate)]
     #[inline(never)]
-    fn evaluate_arguments<H: Host>(
+    fn evaluate_built_in<H: Host>(
         &self,
         alloc: Global,
         host: &mut H,
+        name: &Name<'src>,
         arguments: &[Expression<'src>],
-    ) -> Result<Vec<Value>, Error<'src>>
+    ) -> Result<Value, Error<'src>>
         requires below { self.now.recursion_depth < self.now.context.recursion_limit }
-        ensures count { IfOk result (λ values. length values.items ≡ length arguments.now) }
-        ensures runs { let c = context_view self.now.context in let d = chained c (calls_left self.now) in
-            Runs H.step host.old (eval_all c d (situation self.now) (views arguments.now)) (ended (λ values. values.items) result) host.new }
+        ensures { let c = context_view self.now.context in let d = chained c (calls_left self.now) in let t = name_view name.now in
+            Runs H.step host.old (called c t (undefined t.lexeme) d (situation self.now) (length arguments.now) (eval_all c d (situation self.now) (views arguments.now)) (λ f. eval_arguments c d (situation self.now) t (is_text f) 0 (views arguments.now))) (ended (λ v. v) result) host.new }
     {
+        let function = built_in::named(alloc, name, arguments.len())?;
         let mut values = Vec::with_capacity(alloc, arguments.len())?;
         for argument in arguments {
-            values.push(self.evaluate_value(alloc, host, argument)?)?;
+            let value = self.evaluate_value(alloc, host, argument)?;
+            built_in::push_argument(name, function, &mut values, value)?;
         }
-        Ok(values)
+        self.call_built_in(alloc, host, name, function, values)
+    }
+
+    // What a built-in function answers here.
+    #[inline(never)]
+    fn call_built_in<H: Host>(
+        &self,
+        alloc: Global,
+        host: &mut H,
+        name: &Name<'src>,
+        function: Function,
+        values: Vec<Value>,
+    ) -> Result<Value, Error<'src>>
+        requires named { function_named (name_view name.now).lexeme ≡ Some function }
+        requires count { IsExpected function (length values.items) }
+        requires texts { HasTexts function values.items }
+        ensures { Runs H.step host.old (built_in_call (context_view self.now.context) (situation self.now) (name_view name.now) function values.items) (ended (λ v. v) result) host.new }
+    {
+        let context = Context {
+            env: &self.env,
+            execution_context: &self.context,
+            is_dependency: self.is_dependency,
+            name: *name,
+            recipe: self.recipe,
+            scope: &self.scope,
+        };
+        built_in::call(alloc, host, &context, function, &values)
     }
 
     // How many calls are pending. Read through a function, whose answer is known to fit a `usize`.
@@ -719,41 +804,7 @@ impl<'src, 'run> Evaluator<'src, 'run> {
             None,
         ) {
             Ok(text) => Ok(Value::from_string(alloc, text)?),
-            Err(fault) => Err(backtick_error(*token, fault)),
+            Err(fault) => Err(form::backtick_error(*token, fault)),
         }
-    }
-}
-
-// The value of a string literal.
-#[inline(never)]
-fn evaluate_string_literal<'src>(
-    alloc: Global,
-    literal: &StringLiteral<'src>,
-) -> Result<Value, Error<'src>>
-    ensures { UnlessStopped (ended (λ v. v) result) (Gave ((literal_view literal.now).cooked ∷ [])) }
-{
-    Ok(Value::from_text(alloc, &literal.cooked)?)
-}
-
-// What a command expression's fault ends with.
-fn backtick_error(token: Token, output_error: CommandFault) -> Error
-    ensures { without_value (refusal result) ≡ faulted (token_view token.entry) (fault_view output_error) }
-{
-    match output_error {
-        CommandFault::OutOfMemory => Error::OutOfMemory,
-        output_error => Error::Backtick {
-            token,
-            output_error,
-        },
-    }
-}
-
-// Whether a number is referenced: each one is where no set is given.
-fn is_referenced(references: Option<&HashSet<Number>>, number: Number) -> bool
-    ensures { result ≡ is_referenced_in references.entry number }
-{
-    match references {
-        Some(references) => references.contains(&number),
-        None => true,
     }
 }

@@ -1,12 +1,20 @@
 // What forms make of the values of their parts.
 
 ghost use Rattle.std.specs.Prelude.{IfOk, [], string_bytes, ◌++◌, ◌∷◌, ◌≡◌};
+ghost use Rattle.just_syntax.specs.Printed.{printed};
+ghost use Rattle.just_syntax.specs.View.{literal_view, token_view, view};
+ghost use Rattle.just_value.specs.Outcome.{Gave, UnlessStopped, without_value};
 ghost use Rattle.just_value.specs.Value.{from_condition};
-ghost use Rattle.just_meaning.specs.Meaning.{asserted, compared, is_regex, unindented_if};
+ghost use Rattle.just_value.specs.View.{ended, fault_view, refusal};
+ghost use Rattle.just_meaning.specs.Meaning.{asserted, compared, faulted, is_regex, unindented_if};
 
 use just_syntax::conditional_operator::ConditionalOperator;
+use just_syntax::expression::Expression;
 use just_syntax::out_of_memory::OutOfMemory;
+use just_syntax::string_literal::StringLiteral;
+use just_syntax::token::Token;
 use just_syntax::unindent::unindent;
+use just_value::error::{CommandFault, Error};
 use just_value::value::Value;
 use std::alloc::Global;
 
@@ -55,6 +63,14 @@ pub(crate) fn empty_text(alloc: Global) -> Result<Value, OutOfMemory>
     Value::from_text(alloc, "")
 }
 
+// What an assertion without a message says: its condition, in backticks.
+#[inline(never)]
+pub(crate) fn in_backticks(alloc: Global, condition: &Expression) -> Result<String, OutOfMemory>
+    ensures { IfOk result (λ text. string_bytes text ≡ (96 ∷ printed (view condition.now)) ++ 96 ∷ []) }
+{
+    Ok(format!(in alloc; "`{condition}`")?)
+}
+
 // A format string's text, unindented if its start is.
 pub(crate) fn formatted(alloc: Global, indented: bool, text: String) -> Result<String, OutOfMemory>
     ensures { IfOk result (λ t. string_bytes t ≡ unindented_if indented (string_bytes text)) }
@@ -63,5 +79,29 @@ pub(crate) fn formatted(alloc: Global, indented: bool, text: String) -> Result<S
         unindent(alloc, &text)
     } else {
         Ok(text)
+    }
+}
+
+// The value of a string literal. It is made out of line, so that its frame is no part of every form's.
+#[inline(never)]
+pub(crate) fn string_literal<'src>(
+    alloc: Global,
+    literal: &StringLiteral<'src>,
+) -> Result<Value, Error<'src>>
+    ensures { UnlessStopped (ended (λ v. v) result) (Gave ((literal_view literal.now).cooked ∷ [])) }
+{
+    Ok(Value::from_text(alloc, &literal.cooked)?)
+}
+
+// What a command expression's fault ends with.
+pub(crate) fn backtick_error(token: Token, output_error: CommandFault) -> Error
+    ensures { without_value (refusal result) ≡ faulted (token_view token.entry) (fault_view output_error) }
+{
+    match output_error {
+        CommandFault::OutOfMemory => Error::OutOfMemory,
+        output_error => Error::Backtick {
+            token,
+            output_error,
+        },
     }
 }

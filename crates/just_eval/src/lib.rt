@@ -1,6 +1,7 @@
 // Evaluation of a module's assignments, and of the expressions that they stand on.
 #![tactic(auto)]
 
+mod built_in;
 pub mod evaluator;
 mod form;
 mod message;

@@ -1,7 +1,7 @@
 // What is said of a module that is not resolved.
 
 ghost use Rattle.std.specs.Prelude.{◌≡◌, IfOk, string_bytes};
-ghost use Rattle.just_meaning.specs.Messages.{miscounted_text, unevaluated_text, unknown_assignment_text, unknown_function_text, unresolved_text};
+ghost use Rattle.just_meaning.specs.Messages.{miscounted_text, shapeless_text, unevaluated_text, unknown_assignment_text, unknown_function_text, unresolved_text};
 
 use just_syntax::out_of_memory::OutOfMemory;
 use std::alloc::Global;
@@ -32,6 +32,13 @@ pub(crate) fn miscounted(alloc: Global, name: &str) -> Result<String, OutOfMemor
     ensures { IfOk result (λ text. string_bytes text ≡ miscounted_text name.now) }
 {
     Ok(format!(in alloc; "function `{name}` called with a wrong number of arguments")?)
+}
+
+// Of a built-in function that has another shape than its tag.
+pub(crate) fn shapeless(alloc: Global, name: &str) -> Result<String, OutOfMemory>
+    ensures { IfOk result (λ text. string_bytes text ≡ shapeless_text name.now) }
+{
+    Ok(format!(in alloc; "function `{name}` has no such shape")?)
 }
 
 // Of a name in the order that is no assignment's.

@@ -6,8 +6,13 @@ use Rattle.just_value.specs.Frames.{Frames}
 use Rattle.just_value.specs.Outcome.{Outcome, Gave, Refused, Stopped}
 use Rattle.just_host.specs.Question.{Answer}
 use Rattle.just_host.specs.Interaction.{Event, Asked, Noted, Tree, done, ask, note, bind, Path}
-use Rattle.just_resolution.specs.Reaches.{function_at}
-use Rattle.just_meaning.specs.Meaning.{Context, Situation, Deeper, AtLimit, Room, called, eval, eval_all, eval_pieces, is_regex, when}
+use Rattle.just_builtins.specs.Called.{tree}
+use Rattle.just_builtins.specs.Meaning.{reply}
+use Rattle.just_builtins.specs.Reply.{Reply, Answers, Fails, Asks, Stops}
+use Rattle.just_builtins.specs.Shape.{builtin_of, is_text}
+use Rattle.just_builtins.specs.declared.function.Function as built_in
+use Rattle.just_resolution.specs.Callee.{Callee, Defined, BuiltIn, LeftOut, Unknown, accepts, callee}
+use Rattle.just_meaning.specs.Meaning.{Context, Situation, Deeper, AtLimit, Room, argument, built_in_context, called, eval, eval_all, eval_arguments, eval_pieces, is_regex, returned, when}
 use Rattle.just_meaning.specs.Closings.{lexical, inside, with_parameters}
 use Rattle.just_meaning.specs.Laws.{AreAnsweredAlike, AreSame, FramesDoNotMatter, with_frames}
 
@@ -47,6 +52,14 @@ alike_when false t u t' u' h k = k
 two : {A B D : Type 0} (t t' : Tree A) (u u' : Tree B) (k : A → B → Tree D) → Alike t t' → Alike u u' → Alike (bind t (λ v. bind u (λ w. k v w))) (bind t' (λ v. bind u' (λ w. k v w)))
 two t t' u u' k h h' = alike_bind t t' _ _ h (λ v. alike_bind u u' _ _ h' (λ w. alike_itself (k v w)))
 
+-- ---- replies
+
+alike_reply : (shown other : Frames) (r : Reply) → Alike (tree shown r) (tree other r)
+alike_reply shown other (Answers v) = refl
+alike_reply shown other (Fails message) = refl
+alike_reply shown other (Asks q next) = (refl, λ a. alike_reply shown other (next a))
+alike_reply shown other Stops = refl
+
 -- ---- expressions
 
 -- what a call may still do is alike, whatever the frames
@@ -55,10 +68,12 @@ IsBlind AtLimit = Unit {0}
 IsBlind (Room run) = (f : Function) (s : Situation) (shown below : Frames) (vs : List Value) → Alike (run f s vs) (run f (with_frames shown below s) vs)
 
 module _ (c : Context) (d : Deeper) (blind : IsBlind d) (s : Situation) (shown below : Frames) where
-  called_alike : (t : Token) (found : Option Function) (d' : Deeper) → IsBlind d' → (n : ℕ) (x y : Tree (List Value)) → Alike x y → Alike (called t found d' s n x) (called t found d' (with_frames shown below s) n y)
-  called_alike t None d' b n x y h = refl
-  called_alike t (Some f) AtLimit b n x y h = refl
-  called_alike t (Some f) (Room run) b n x y h = alike_when (nat_eq n (length f.parameters)) _ _ _ _ (alike_bind x y _ _ h (λ vs. b f s shown below vs)) refl
+  called_alike : (t : Token) (found : Callee) (d' : Deeper) → IsBlind d' → (n : ℕ) (x y : Tree (List Value)) (k l : built_in.Function → Tree (List Value)) → Alike x y → ((f : built_in.Function) → Alike (k f) (l f)) → Alike (called c t found d' s n x k) (called c t found d' (with_frames shown below s) n y l)
+  called_alike t (Defined f) AtLimit b n x y k l h g = refl
+  called_alike t (Defined f) (Room run) b n x y k l h g = alike_when (nat_eq n (length f.parameters)) _ _ _ _ (alike_bind x y _ _ h (λ vs. b f s shown below vs)) refl
+  called_alike t (BuiltIn f) d' b n x y k l h g = alike_when (accepts (BuiltIn f) n) _ _ _ _ (alike_bind (k f) (l f) _ _ (g f) (λ vs. alike_bind _ _ _ _ (alike_reply s.shown shown (reply (builtin_of f) (built_in_context c s t) vs)) (λ r. alike_itself (returned t r)))) refl
+  called_alike t LeftOut d' b n x y k l h g = refl
+  called_alike t Unknown d' b n x y k l h g = refl
 
   mutual
     alike_eval : (e : Expr) → Alike (eval c d s e) (eval c d (with_frames shown below s) e)
@@ -66,7 +81,7 @@ module _ (c : Context) (d : Deeper) (blind : IsBlind d) (s : Situation) (shown b
     alike_eval (Assert e m t) = alike_bind _ _ _ _ (alike_eval e) (λ v. alike_when (is_truthy v) _ _ _ _ refl (alike_bind _ _ _ _ (alike_bind _ _ _ _ (alike_eval m) (λ w. refl)) (λ text. refl)))
     alike_eval (AssertOnly e t) = alike_bind _ _ _ _ (alike_eval e) (λ v. alike_when (is_truthy v) _ _ _ _ refl refl)
     alike_eval (Backtick text t) = (refl, alike_when c.fixed.config.dry_run _ _ _ _ refl (refl, λ a. refl))
-    alike_eval (Call t es) = (refl, called_alike t (function_at c.functions t.lexeme) d blind (count es) _ _ (alike_all es))
+    alike_eval (Call t es) = (refl, called_alike t (callee c.functions t.lexeme) d blind (count es) _ _ _ _ (alike_all es) (λ f. alike_arguments t (is_text f) 0 es))
     alike_eval (Comparison l o r t) = alike_when (is_regex o) _ _ _ _ refl (two _ _ _ _ _ (alike_eval l) (alike_eval r))
     alike_eval (Concatenation l t r) = two _ _ _ _ _ (alike_eval l) (alike_eval r)
     alike_eval (Conditional e a b) = alike_bind _ _ _ _ (alike_eval e) (λ v. alike_when (is_truthy v) _ _ _ _ (alike_eval a) (alike_eval b))
@@ -86,6 +101,10 @@ module _ (c : Context) (d : Deeper) (blind : IsBlind d) (s : Situation) (shown b
     alike_all : (es : Exprs) → Alike (eval_all c d s es) (eval_all c d (with_frames shown below s) es)
     alike_all Nil = refl
     alike_all (Cons e es) = two _ _ _ _ _ (alike_eval e) (alike_all es)
+
+    alike_arguments : (t : Token) (is_text : ℕ → Bool) (i : ℕ) (es : Exprs) → Alike (eval_arguments c d s t is_text i es) (eval_arguments c d (with_frames shown below s) t is_text i es)
+    alike_arguments t is_text i Nil = refl
+    alike_arguments t is_text i (Cons e es) = two _ _ _ _ _ (alike_bind _ _ _ _ (alike_eval e) (λ v. alike_itself (argument (is_text i) t v))) (alike_arguments t is_text (suc i) es)
 
     alike_pieces : (pieces : Pieces) → Alike (eval_pieces c d s pieces) (eval_pieces c d (with_frames shown below s) pieces)
     alike_pieces NoPiece = refl

@@ -1,5 +1,5 @@
 -- A resolved module meets no refusal that is Internal.
-use Rattle.std.proofs.Common.{◌≡◌, ⊎_elim, inl, inr, ◌⊎◌, ℕ, zero, suc, ◌-◌, Bool, true, false, List, [], ◌∷◌, ◌++◌, length, map, nat_eq, Option, Some, None, refl, sym, ap, ◌∙◌, subst, arith}
+use Rattle.std.proofs.Common.{◌≡◌, ⊎_elim, inl, inr, ◌⊎◌, ℕ, zero, suc, ◌-◌, Bool, true, false, List, [], ◌∷◌, ◌++◌, length, map, nat_eq, if◌then◌else◌, Option, Some, None, refl, sym, ap, ◌∙◌, subst, arith}
 use Rattle.std.proofs.lemmas.Bool.Decides.{nat_tests}
 use Rattle.just_syntax.specs.Plain.{Text, Token, Assignment, Function, Expr, And, Assert, AssertOnly, Backtick, Call, Comparison, Concatenation, Conditional, ConditionalOnly, FormatString, Group, Join, JoinOnly, ListOf, ListConcatenation, Not, Or, StringLiteral, Variable, Exprs, Nil, Cons, count, Pieces, NoPiece, Piece}
 use Rattle.just_syntax.specs.Printed.{printed}
@@ -14,12 +14,20 @@ use Rattle.just_value.specs.Outcome.{Outcome, Gave, Refused, Stopped, UnlessStop
 use Rattle.just_value.proofs.Values.{value_innermost}
 use Rattle.just_host.specs.Question.{Answer, Replied, Failed}
 use Rattle.just_host.specs.Interaction.{Event, Asked, Noted, Note, Read, Entered, Command, Tree, done, ask, note, bind, gives, refuses, Path}
+use Rattle.just_builtins.specs.Called.{Called, Returned, Said, tree}
+use Rattle.just_builtins.specs.Meaning.{reply}
+use Rattle.just_builtins.specs.Reply.{Reply, Answers, Fails, Asks, Stops}
+use Rattle.just_builtins.specs.Shape.{builtin_of, is_text}
+use Rattle.just_builtins.specs.Table.{function_named, is_left_out}
+use Rattle.just_builtins.specs.declared.function.Function as built_in
+use Rattle.just_resolution.specs.Callee.{Defined, BuiltIn, LeftOut, Accepts, accepts, built_in_or_unknown, defined_or, undefined}
+use Rattle.just_resolution.proofs.Standing.{callable}
 use Rattle.just_resolution.specs.Assignments.{assignment_at}
 use Rattle.just_resolution.specs.Reaches.{function_at, IsAmong, Stands, StandsIn, StandsInPieces, Reaches, Here, Reads}
 use Rattle.just_resolution.specs.Resolved.{IsKnown, AreKnown, AreKnownPieces, AllKnown, IsOneOf, IsBound, AreAssignments, AreInOrder, with_taken, IsResolved}
 use Rattle.just_meaning.specs.Laws.{ResolvedIsNeverInternal}
 use Rattle.just_meaning.specs.Messages.{miscounted_text}
-use Rattle.just_meaning.specs.Meaning.{Context, Situation, Deeper, AtLimit, Room, answered, assertion, called, combination, eval, eval_all, eval_pieces, is_regex, named, when}
+use Rattle.just_meaning.specs.Meaning.{Context, Situation, Deeper, AtLimit, Room, answered, argument, assertion, built_in_call, built_in_context, called, combination, eval, eval_all, eval_arguments, eval_pieces, is_regex, named, returned, when}
 use Rattle.just_meaning.specs.Closings.{inside, lexical}
 use Rattle.just_meaning.specs.Module.{Module, Block, Run, Finished, Stops, Unknown, Passes, Skips, Binds, Breaks, Halts, assigned, bound_of, lexically, or_override, situation_at}
 use Rattle.just_meaning.specs.Internal.{IsNotInternal}
@@ -84,6 +92,22 @@ both_never o l r t h k = bind_never l _ h (λ v. bind_never r _ k (λ w. lists_n
 assertion_never : (lists : Bool) (t : Token) (e : Tree Value) (m : Tree Text) → IsNeverInternal e → IsNeverInternal m → IsNeverInternal (assertion lists t e m)
 assertion_never lists t e m h k = bind_never e _ h (λ v. when_never (is_truthy v) _ _ tt (bind_never m _ k (λ text none. none)))
 
+reply_never : (shown : Frames) (r : Reply) → IsNeverInternal (tree shown r)
+reply_never shown (Answers v) = tt
+reply_never shown (Fails message) = tt
+reply_never shown (Asks q next) = λ a. reply_never shown (next a)
+reply_never shown Stops = tt
+
+returned_never : (t : Token) (r : Called) → IsNeverInternal (returned t r)
+returned_never t (Returned v) = tt
+returned_never t (Said message) = λ none. none
+
+argument_never : (is_text : Bool) (t : Token) (v : Value) → IsNeverInternal (argument is_text t v)
+argument_never false t v = tt
+argument_never true t [] = λ none. none
+argument_never true t (text ∷ []) = tt
+argument_never true t (text ∷ next ∷ texts) = λ none. none
+
 -- on from arguments that give so many values
 counted_never : (n : ℕ) (t : Tree (List Value)) (go : List Value → Tree Value) → HasCount n t → IsNeverInternal t → ((vs : List Value) → length vs ≡ n → IsNeverInternal (go vs)) → IsNeverInternal (bind t go)
 counted_never n (done (Gave vs)) go counted h k = k vs counted
@@ -107,16 +131,30 @@ module _ (c : Context) (d : Deeper) (s : Situation) (C : Text → Type 0) (sound
   abbrev Has : (Note → Type 0) → Type 0
   Has stands = (x : Note) → stands x → Holds C s.names x
 
-  called_never : (t : Token) (n : ℕ) (arguments : Tree (List Value)) (f : Function) → C t.lexeme → function_at c.functions t.lexeme ≡ Some f → n ≡ length f.parameters → HasCount n arguments → IsNeverInternal arguments →
-      (found : Option Function) → function_at c.functions t.lexeme ≡ found → (d' : Deeper) → IsSound C c.functions s d' → IsNeverInternal (called t found d' s n arguments)
-  called_never t n arguments f reached is fits counted h None e d' sound' = absurd (cc)
-  called_never t n arguments f reached is fits counted h (Some g) e AtLimit sound' = λ none. none
-  called_never t n arguments f reached is fits counted h (Some g) e (Room run) sound' =
-      let same : f ≡ g = cc in
-      let count : n ≡ length g.parameters = subst (λ x. n ≡ length x.parameters) same fits in
-      let yes' : nat_eq n (length g.parameters) ≡ true = grind (arith, nat_tests) in
-      subst (λ b. IsNeverInternal (when b (bind arguments (run g s)) (refuses (Internal (miscounted_text t.lexeme) t)))) (sym yes')
-      (counted_never n arguments (run g s) counted h (λ vs l. sound' t.lexeme g vs reached e (sym count ∙ sym l)))
+  defined_never : (t : Token) (n : ℕ) (arguments : Tree (List Value)) (checked : built_in.Function → Tree (List Value)) → C t.lexeme → HasCount n arguments → IsNeverInternal arguments →
+      (f : Function) → function_at c.functions t.lexeme ≡ Some f → n ≡ length f.parameters → (d' : Deeper) → IsSound C c.functions s d' → IsNeverInternal (called c t (Defined f) d' s n arguments checked)
+  defined_never t n arguments checked reached counted h f e count AtLimit sound' = λ none. none
+  defined_never t n arguments checked reached counted h f e count (Room run) sound' =
+      let yes' : nat_eq n (length f.parameters) ≡ true = grind (arith, nat_tests) in
+      subst (λ b. IsNeverInternal (when b (bind arguments (run f s)) (refuses (Internal (miscounted_text t.lexeme) t)))) (sym yes')
+      (counted_never n arguments (run f s) counted h (λ vs l. sound' t.lexeme f vs reached e (sym count ∙ sym l)))
+
+  built_in_never : (t : Token) (f : built_in.Function) (vs : List Value) → IsNeverInternal (built_in_call c s t f vs)
+  built_in_never t f vs = bind_never (tree s.shown (reply (builtin_of f) (built_in_context c s t) vs)) (returned t) (reply_never s.shown (reply (builtin_of f) (built_in_context c s t) vs)) (λ r. returned_never t r)
+
+  undefined_never : (t : Token) (n : ℕ) (arguments : Tree (List Value)) (checked : built_in.Function → Tree (List Value)) → ((f : built_in.Function) → IsNeverInternal (checked f)) →
+      (out : Bool) (found : Option built_in.Function) → let other = if out then LeftOut else built_in_or_unknown found in Accepts other n → (d' : Deeper) → IsNeverInternal (called c t other d' s n arguments checked)
+  undefined_never t n arguments checked h true found fits d' = λ none. none
+  undefined_never t n arguments checked h false None fits d' = absurd fits
+  undefined_never t n arguments checked h false (Some f) fits d' =
+      let yes' : accepts (BuiltIn f) n ≡ true = (callable (BuiltIn f) n).1 fits in
+      subst (λ b. IsNeverInternal (when b (bind (checked f) (built_in_call c s t f)) (refuses (Internal (miscounted_text t.lexeme) t)))) (sym yes')
+      (bind_never (checked f) _ (h f) (λ vs. built_in_never t f vs))
+
+  called_never : (t : Token) (n : ℕ) (arguments : Tree (List Value)) (checked : built_in.Function → Tree (List Value)) → C t.lexeme → HasCount n arguments → IsNeverInternal arguments → ((f : built_in.Function) → IsNeverInternal (checked f)) →
+      (found : Option Function) → function_at c.functions t.lexeme ≡ found → Accepts (defined_or found (undefined t.lexeme)) n → IsNeverInternal (called c t (defined_or found (undefined t.lexeme)) d s n arguments checked)
+  called_never t n arguments checked reached counted h k None e fits = undefined_never t n arguments checked k (is_left_out t.lexeme) (function_named t.lexeme) fits d
+  called_never t n arguments checked reached counted h k (Some f) e fits = defined_never t n arguments checked reached counted h f e fits d sound
 
   mutual
     -- what is known, and reads only what has a value
@@ -128,7 +166,8 @@ module _ (c : Context) (d : Deeper) (s : Situation) (C : Text → Type 0) (sound
     eval_never (AssertOnly e t) h has = assertion_never s.lists t (eval c d s e) (gives ((96 ∷ printed e) ++ 96 ∷ [])) (eval_never e h has) tt
     eval_never (Backtick text t) h has = when_never c.fixed.config.dry_run _ _ tt (λ a. answered_not t a)
     eval_never (Call t es) h has =
-        called_never t (count es) (eval_all c d s es) h.0.0 (has (Entered t.lexeme) (inl refl)) h.0.1 h.0.2 (has_count c d s es) (all_never es h.1 (λ x y. has x (inr y))) (function_at c.functions t.lexeme) refl d sound
+        called_never t (count es) (eval_all c d s es) (λ f. eval_arguments c d s t (is_text f) 0 es) (has (Entered t.lexeme) (inl refl)) (has_count c d s es) (all_never es h.1 (λ x y. has x (inr y)))
+        (λ f. arguments_never t (is_text f) 0 es h.1 (λ x y. has x (inr y))) (function_at c.functions t.lexeme) refl h.0
     eval_never (Comparison l o r t) h has =
         when_never (is_regex o) _ _ (λ none. none)
         (bind_never (eval c d s l) _ (eval_never l h.0 (λ x y. has x (inl y))) (λ v. bind_never (eval c d s r) _ (eval_never r h.1 (λ x y. has x (inr y))) (λ w. tt)))
@@ -152,6 +191,12 @@ module _ (c : Context) (d : Deeper) (s : Situation) (C : Text → Type 0) (sound
     all_never : (es : Exprs) → AreKnown c.functions es → Has (StandsIn es) → IsNeverInternal (eval_all c d s es)
     all_never Nil h has = tt
     all_never (Cons e es) h has = bind_never (eval c d s e) _ (eval_never e h.0 (λ x y. has x (inl y))) (λ v. bind_never (eval_all c d s es) _ (all_never es h.1 (λ x y. has x (inr y))) (λ vs. tt))
+
+    arguments_never : (t : Token) (is_text : ℕ → Bool) (i : ℕ) (es : Exprs) → AreKnown c.functions es → Has (StandsIn es) → IsNeverInternal (eval_arguments c d s t is_text i es)
+    arguments_never t is_text i Nil h has = tt
+    arguments_never t is_text i (Cons e es) h has =
+        bind_never (bind (eval c d s e) (argument (is_text i) t)) _ (bind_never (eval c d s e) _ (eval_never e h.0 (λ x y. has x (inl y))) (λ v. argument_never (is_text i) t v))
+        (λ v. bind_never (eval_arguments c d s t is_text (suc i) es) _ (arguments_never t is_text (suc i) es h.1 (λ x y. has x (inr y))) (λ vs. tt))
 
     pieces_never : (pieces : Pieces) → AreKnownPieces c.functions pieces → Has (StandsInPieces pieces) → IsNeverInternal (eval_pieces c d s pieces)
     pieces_never NoPiece h has = tt

@@ -1,5 +1,5 @@
 -- Pending calls do not matter: on a resolved module the chain of frames means what the lexical rules do.
-use Rattle.std.proofs.Common.{◌≡◌, ⊎_elim, inl, inr, ℕ, zero, suc, Bool, true, false, List, [], ◌∷◌, ◌++◌, length, map, Option, Some, None, nat_eq, refl, sym, ap, ◌∙◌, subst, arith}
+use Rattle.std.proofs.Common.{◌≡◌, ⊎_elim, inl, inr, ℕ, zero, suc, Bool, true, false, List, [], ◌∷◌, ◌++◌, length, map, Option, Some, None, nat_eq, if◌then◌else◌, refl, sym, ap, ◌∙◌, subst, arith}
 use Rattle.std.proofs.lemmas.Bool.Decides.{nat_tests}
 use Rattle.just_syntax.specs.Plain.{Text, Token, Assignment, Function, Expr, And, Assert, AssertOnly, Backtick, Call, Comparison, Concatenation, Conditional, ConditionalOnly, FormatString, Group, Join, JoinOnly, ListOf, ListConcatenation, Not, Or, StringLiteral, Variable, Exprs, Nil, Cons, count, Pieces, NoPiece, Piece}
 use Rattle.just_syntax.specs.Printed.{printed}
@@ -9,12 +9,16 @@ use Rattle.just_value.specs.Frames.{Frames, value_in}
 use Rattle.just_value.specs.Refusal.{Internal}
 use Rattle.just_value.specs.Outcome.{Outcome, Gave, Refused, Stopped}
 use Rattle.just_host.specs.Interaction.{Note, Read, Entered, Command, Path, Tree, done, note, bind, gives, refuses}
+use Rattle.just_builtins.specs.Shape.{is_text}
+use Rattle.just_builtins.specs.Table.{function_named, is_left_out}
+use Rattle.just_builtins.specs.declared.function.Function as built_in
+use Rattle.just_resolution.specs.Callee.{Callee, Defined, BuiltIn, LeftOut, Unknown, built_in_or_unknown, callee, defined_or, undefined}
 use Rattle.just_resolution.specs.Assignments.{Assignments, assignment_at}
 use Rattle.just_resolution.specs.Reaches.{function_at, IsAmong, Stands, StandsIn, StandsInPieces, Reaches, Here, ReadsBeyond}
 use Rattle.just_resolution.specs.Resolved.{IsResolved, IsOneOf, AreInOrder, parameter_numbers, with_taken}
 use Rattle.just_meaning.specs.Laws.{PendingCallsDoNotMatter}
 use Rattle.just_meaning.specs.Messages.{miscounted_text}
-use Rattle.just_meaning.specs.Meaning.{Context, Situation, Deeper, assertion, called, choice, combination, comparison, conjunction, disjunction, eval, eval_all, eval_pieces, flatten, formatted, named, negation, succession, when}
+use Rattle.just_meaning.specs.Meaning.{Context, Situation, Deeper, argument, assertion, called, choice, combination, comparison, conjunction, disjunction, eval, eval_all, eval_arguments, eval_pieces, flatten, formatted, named, negation, succession, when}
 use Rattle.just_meaning.specs.Closings.{lexical, chained, inside}
 use Rattle.just_meaning.specs.Module.{Module, Block, Run, Finished, Stops, Unknown, Passes, Skips, Binds, Breaks, Halts, assigned, by_chain, lexically, or_override, situation_at}
 use Rattle.just_meaning.proofs.Counts.{HasCount, has_count, go_on}
@@ -33,7 +37,7 @@ Told C names names' (Entered f) = C f
 Told C names names' (Command t) = Unit {0}
 
 module _ (c : Context) (d d' : Deeper) (C : Text → Type 0) (s : Situation) (names : Names)
-    (same_call : (t : Token) (n : ℕ) (arguments : Tree (List Value)) → C t.lexeme → HasCount n arguments → called t (function_at c.functions t.lexeme) d s n arguments ≡ called t (function_at c.functions t.lexeme) d' (with_names names s) n arguments) where
+    (same_call : (t : Token) (n : ℕ) (arguments : Tree (List Value)) (checked : built_in.Function → Tree (List Value)) → C t.lexeme → HasCount n arguments → called c t (callee c.functions t.lexeme) d s n arguments checked ≡ called c t (callee c.functions t.lexeme) d' (with_names names s) n arguments checked) where
   abbrev ToldOf : (Note → Type 0) → Type 0
   ToldOf stands = (x : Note) → stands x → Told C s.names names x
 
@@ -44,8 +48,8 @@ module _ (c : Context) (d d' : Deeper) (C : Text → Type 0) (s : Situation) (na
     same_eval (AssertOnly e t) told = λ i. assertion s.lists t (same_eval e told i) (gives ((96 ∷ printed e) ++ 96 ∷ []))
     same_eval (Backtick text t) told = refl
     same_eval (Call t es) told =
-        ap (λ x. note (Entered t.lexeme) (called t (function_at c.functions t.lexeme) d s (count es) x)) (same_all es (λ x h. told x (inr h)))
-        ∙ ap (note (Entered t.lexeme)) (same_call t (count es) (eval_all c d' (with_names names s) es) (told (Entered t.lexeme) (inl refl)) (has_count c d' (with_names names s) es))
+        (λ i. note (Entered t.lexeme) (called c t (callee c.functions t.lexeme) d s (count es) (same_all es (λ x h. told x (inr h)) i) (λ f. same_arguments t (is_text f) 0 es (λ x h. told x (inr h)) i)))
+        ∙ ap (note (Entered t.lexeme)) (same_call t (count es) (eval_all c d' (with_names names s) es) (λ f. eval_arguments c d' (with_names names s) t (is_text f) 0 es) (told (Entered t.lexeme) (inl refl)) (has_count c d' (with_names names s) es))
     same_eval (Comparison l o r t) told = λ i. comparison o t (same_eval l (λ x h. told x (inl h)) i) (same_eval r (λ x h. told x (inr h)) i)
     same_eval (Concatenation l t r) told = λ i. combination operators.Concatenate (same_eval l (λ x h. told x (inl h)) i) t (same_eval r (λ x h. told x (inr h)) i)
     same_eval (Conditional e a b) told = λ i. choice (same_eval e (λ x h. told x (inl h)) i) (same_eval a (λ x h. told x (inr (inl h))) i) (same_eval b (λ x h. told x (inr (inr h))) i)
@@ -66,9 +70,20 @@ module _ (c : Context) (d d' : Deeper) (C : Text → Type 0) (s : Situation) (na
     same_all Nil told = refl
     same_all (Cons e es) told = λ i. bind (same_eval e (λ x h. told x (inl h)) i) (λ v. bind (same_all es (λ x h. told x (inr h)) i) (λ vs. gives (v ∷ vs)))
 
+    same_arguments : (t : Token) (is_text : ℕ → Bool) (i : ℕ) (es : Exprs) → ToldOf (StandsIn es) → eval_arguments c d s t is_text i es ≡ eval_arguments c d' (with_names names s) t is_text i es
+    same_arguments t is_text i Nil told = refl
+    same_arguments t is_text i (Cons e es) told = λ j. bind (bind (same_eval e (λ x h. told x (inl h)) j) (argument (is_text i) t)) (λ v. bind (same_arguments t is_text (suc i) es (λ x h. told x (inr h)) j) (λ vs. gives (v ∷ vs)))
+
     same_pieces : (pieces : Pieces) → ToldOf (StandsInPieces pieces) → eval_pieces c d s pieces ≡ eval_pieces c d' (with_names names s) pieces
     same_pieces NoPiece told = refl
     same_pieces (Piece e literal pieces) told = λ i. bind (same_eval e (λ x h. told x (inl h)) i) (λ v. bind (same_pieces pieces (λ x h. told x (inr h)) i) (λ text. gives ((joined v ++ literal.cooked) ++ text)))
+
+-- a name that the file does not define stands for what reads no names
+same_undefined : (c : Context) (d d' : Deeper) (s : Situation) (names : Names) (t : Token) (n : ℕ) (arguments : Tree (List Value)) (checked : built_in.Function → Tree (List Value)) (out : Bool) (found : Option built_in.Function) →
+    let other = if out then LeftOut else built_in_or_unknown found in called c t other d s n arguments checked ≡ called c t other d' (with_names names s) n arguments checked
+same_undefined c d d' s names t n arguments checked true found = refl
+same_undefined c d d' s names t n arguments checked false None = refl
+same_undefined c d d' s names t n arguments checked false (Some f) = refl
 
 -- ---- by the number of calls left
 
@@ -97,10 +112,10 @@ module _ (c : Context) (C : Text → Type 0)
       told (Entered further) h = closed name further f reached found h
       told (Command t) h = tt
 
-  same_called : (k : ℕ) → IsLexical k → (s : Situation) (base names : Names) → IsOnBase (value_in s.below) base → (t : Token) (n : ℕ) (arguments : Tree (List Value)) → C t.lexeme → HasCount n arguments → (found : Option Function) → function_at c.functions t.lexeme ≡ found →
-      called t found (chained c (suc k)) s n arguments ≡ called t found (lexical c base (suc k)) (with_names names s) n arguments
-  same_called k again s base names on t n arguments reached counted None e = refl
-  same_called k again s base names on t n arguments reached counted (Some f) e = test (nat_eq n (length f.parameters)) refl
+  same_called : (k : ℕ) → IsLexical k → (s : Situation) (base names : Names) → IsOnBase (value_in s.below) base → (t : Token) (n : ℕ) (arguments : Tree (List Value)) (checked : built_in.Function → Tree (List Value)) → C t.lexeme → HasCount n arguments → (found : Option Function) → function_at c.functions t.lexeme ≡ found →
+      called c t (defined_or found (undefined t.lexeme)) (chained c (suc k)) s n arguments checked ≡ called c t (defined_or found (undefined t.lexeme)) (lexical c base (suc k)) (with_names names s) n arguments checked
+  same_called k again s base names on t n arguments checked reached counted None e = same_undefined c (chained c (suc k)) (lexical c base (suc k)) s names t n arguments checked (is_left_out t.lexeme) (function_named t.lexeme)
+  same_called k again s base names on t n arguments checked reached counted (Some f) e = test (nat_eq n (length f.parameters)) refl
     where
       test : (b : Bool) → nat_eq n (length f.parameters) ≡ b →
           when b (bind arguments (λ vs. eval c (chained c k) (inside (value_in s.below) s f vs) f.body)) (refuses (Internal (miscounted_text t.lexeme) t))
@@ -109,14 +124,16 @@ module _ (c : Context) (C : Text → Type 0)
       test true is = go_on n arguments _ _ counted (λ vs l. same_body k again s base names on t.lexeme f vs reached e (let same : n ≡ length f.parameters = grind (arith, nat_tests) in sym same ∙ sym l))
 
   chained_lexical : (k : ℕ) → IsLexical k
-  chained_lexical zero s base names e told on = same_eval c (chained c 0) (lexical c base 0) C s names (λ t n arguments reached counted. at_limit (function_at c.functions t.lexeme) t n arguments) e told
+  chained_lexical zero s base names e told on = same_eval c (chained c 0) (lexical c base 0) C s names (λ t n arguments checked reached counted. at_limit (callee c.functions t.lexeme) t n arguments checked) e told
     where
-      at_limit : (found : Option Function) (t : Token) (n : ℕ) (arguments : Tree (List Value)) → called t found (chained c 0) s n arguments ≡ called t found (lexical c base 0) (with_names names s) n arguments
-      at_limit None t n arguments = refl
-      at_limit (Some f) t n arguments = refl
+      at_limit : (found : Callee) (t : Token) (n : ℕ) (arguments : Tree (List Value)) (checked : built_in.Function → Tree (List Value)) → called c t found (chained c 0) s n arguments checked ≡ called c t found (lexical c base 0) (with_names names s) n arguments checked
+      at_limit (Defined f) t n arguments checked = refl
+      at_limit (BuiltIn f) t n arguments checked = refl
+      at_limit LeftOut t n arguments checked = refl
+      at_limit Unknown t n arguments checked = refl
   chained_lexical (suc k) s base names e told on =
       same_eval c (chained c (suc k)) (lexical c base (suc k)) C s names
-      (λ t n arguments reached counted. same_called k (λ s base names e. chained_lexical k s base names e) s base names on t n arguments reached counted (function_at c.functions t.lexeme) refl) e told
+      (λ t n arguments checked reached counted. same_called k (λ s base names e. chained_lexical k s base names e) s base names on t n arguments checked reached counted (function_at c.functions t.lexeme) refl) e told
 
 -- where bodies read no other function's parameters, the chain of frames means what the lexical rules do
 chained_is_lexical : (c : Context) (k : ℕ) (s : Situation) (e : Expr) → IsApart c.functions e → eval c (chained c k) s e ≡ eval c (lexical c (value_in s.below) k) s e

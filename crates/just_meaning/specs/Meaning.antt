@@ -1,11 +1,12 @@
 -- What an expression means: what is asked for its value, in order, and the value. One line a form.
-use Rattle.std.specs.Prelude.{ℕ, Bool, true, false, not, List, [], ◌∷◌, ◌++◌, length, Option, Some, None, nat_eq, if◌then◌else◌}
+use Rattle.std.specs.Prelude.{ℕ, suc, Bool, true, false, not, List, [], ◌∷◌, ◌++◌, length, Option, Some, None, nat_eq, if◌then◌else◌}
 use Rattle.std.specs.List.{flat_map}
 use Rattle.just_syntax.specs.Plain.{Text, Token, Literal, Expr, And, Assert, AssertOnly, Backtick, Call, Comparison, Concatenation, Conditional, ConditionalOnly, FormatString, Group, Join, JoinOnly, ListOf, ListConcatenation, Not, Or, StringLiteral, Variable, Exprs, Nil, Cons, count, Pieces, NoPiece, Piece, Function}
 use Rattle.just_syntax.specs.declared.conditional_operator.ConditionalOperator.{ConditionalOperator}
 use Rattle.just_syntax.specs.declared.conditional_operator.ConditionalOperator.TheVariants.{Inequality, RegexMatch, RegexMismatch}
 use Rattle.just_syntax.specs.declared.list_operator.ListOperator.{ListOperator}
 use Rattle.just_syntax.specs.declared.list_operator.ListOperator.TheVariants as operators
+use Rattle.just_syntax.specs.StringContext as contexts
 use Rattle.just_syntax.specs.Printed.{printed}
 use Rattle.just_syntax.specs.Unindented.{unindented}
 use Rattle.just_value.specs.Value.{Value, Names, is_truthy, is_same, from_condition, joined}
@@ -17,7 +18,12 @@ use Rattle.just_value.specs.Outcome.{Outcome, Gave, Refused, Stopped}
 use Rattle.just_host.specs.Fixed.{Fixed}
 use Rattle.just_host.specs.Question.{Answer, Replied, Failed, command_question}
 use Rattle.just_host.specs.Interaction.{Read, Entered, Command, Tree, done, ask, note, bind, gives, refuses}
-use Rattle.just_resolution.specs.Reaches.{function_at}
+use Rattle.just_host.specs.Function as function
+use Rattle.just_builtins.specs.Called.{Called, Returned, Said, tree}
+use Rattle.just_builtins.specs.Meaning.{reply}
+use Rattle.just_builtins.specs.Shape.{builtin_of, is_text}
+use Rattle.just_builtins.specs.declared.function.Function as built_in
+use Rattle.just_resolution.specs.Callee.{Callee, Defined, BuiltIn, LeftOut, Unknown, accepts, callee}
 use Rattle.just_meaning.specs.Messages.{unresolved_text, unevaluated_text, unknown_function_text, miscounted_text}
 
 -- what stays the same in all of a run: the fixed context, and the functions that the file defines
@@ -76,12 +82,37 @@ command f s text t =
     (gives (((96 ∷ text) ++ 96 ∷ []) ∷ []))
     (ask (command_question f s.environment s.shown text None) (λ a. done (answered t a))))
 
--- A call with so many arguments. It is refused for want of the function, then at the recursion limit, then for the
--- number of its arguments, each before they are evaluated.
-abbrev pub called : Token → Option Function → Deeper → Situation → ℕ → Tree (List Value) → Tree Value
-called t None d s n arguments = refuses (Internal (unknown_function_text t.lexeme) t)
-called t (Some f) AtLimit s n arguments = refuses (refusal.RecursionLimit f.name)
-called t (Some f) (Room run) s n arguments = when (nat_eq n (length f.parameters)) (bind arguments (run f s)) (refuses (Internal (miscounted_text t.lexeme) t))
+-- a value as a text argument of a function: its one element
+abbrev pub one_text : Token → Value → Tree Value
+one_text t (text ∷ []) = gives (text ∷ [])
+one_text t v = refuses (refusal.ListInStringContext (contexts.Function t) v)
+
+-- a text where one is wanted, and else any value
+abbrev pub argument : Bool → Token → Value → Tree Value
+argument is_text t v = when is_text (one_text t v) (gives v)
+
+-- what a built-in function is called in
+abbrev pub built_in_context : Context → Situation → Token → function.Context
+built_in_context c s t = record { environment = s.environment; fixed = c.fixed; is_dependency = s.is_dependency; name = t; recipe = s.recipe }
+
+-- a built-in function's own message is a refusal
+abbrev pub returned : Token → Called → Tree Value
+returned t (Returned v) = gives v
+returned t (Said message) = refuses (refusal.FunctionCall t message)
+
+-- what a built-in function answers, shown the frames that can be seen
+abbrev pub built_in_call : Context → Situation → Token → built_in.Function → List Value → Tree Value
+built_in_call c s t f vs = bind (tree s.shown (reply (builtin_of f) (built_in_context c s t) vs)) (returned t)
+
+-- A call with so many arguments, and the same arguments where those at a built-in function's text positions are to be
+-- texts. It is refused for what its name stands for, at the recursion limit, then for the number of its arguments, each
+-- before they are evaluated.
+abbrev pub called : Context → Token → Callee → Deeper → Situation → ℕ → Tree (List Value) → (built_in.Function → Tree (List Value)) → Tree Value
+called c t (Defined f) AtLimit s n arguments checked = refuses (refusal.RecursionLimit f.name)
+called c t (Defined f) (Room run) s n arguments checked = when (nat_eq n (length f.parameters)) (bind arguments (run f s)) (refuses (Internal (miscounted_text t.lexeme) t))
+called c t (BuiltIn f) d s n arguments checked = when (accepts (BuiltIn f) n) (bind (checked f) (built_in_call c s t f)) (refuses (Internal (miscounted_text t.lexeme) t))
+called c t LeftOut d s n arguments checked = refuses (refusal.LeftOut t)
+called c t Unknown d s n arguments checked = refuses (Internal (unknown_function_text t.lexeme) t)
 
 -- the second value if the first is truthy, else no element
 abbrev pub conjunction : Tree Value → Tree Value → Tree Value
@@ -146,7 +177,7 @@ abbrev mutual
   eval c d s (Assert e m t) = assertion s.lists t (eval c d s e) (bind (eval c d s m) (λ w. gives (joined w)))
   eval c d s (AssertOnly e t) = assertion s.lists t (eval c d s e) (gives ((96 ∷ printed e) ++ 96 ∷ []))
   eval c d s (Backtick text t) = command c.fixed s text t
-  eval c d s (Call t es) = note (Entered t.lexeme) (called t (function_at c.functions t.lexeme) d s (count es) (eval_all c d s es))
+  eval c d s (Call t es) = note (Entered t.lexeme) (called c t (callee c.functions t.lexeme) d s (count es) (eval_all c d s es) (λ f. eval_arguments c d s t (is_text f) 0 es))
   eval c d s (Comparison l o r t) = comparison o t (eval c d s l) (eval c d s r)
   eval c d s (Concatenation l t r) = combination operators.Concatenate (eval c d s l) t (eval c d s r)
   eval c d s (Conditional e a b) = choice (eval c d s e) (eval c d s a) (eval c d s b)
@@ -166,6 +197,11 @@ abbrev mutual
   pub eval_all : Context → Deeper → Situation → Exprs → Tree (List Value)
   eval_all c d s Nil = gives []
   eval_all c d s (Cons e es) = bind (eval c d s e) (λ v. bind (eval_all c d s es) (λ vs. gives (v ∷ vs)))
+
+  -- the same, from a position on, where a value at a text position is to be a text, and is refused at once
+  pub eval_arguments : Context → Deeper → Situation → Token → (ℕ → Bool) → ℕ → Exprs → Tree (List Value)
+  eval_arguments c d s t is_text i Nil = gives []
+  eval_arguments c d s t is_text i (Cons e es) = bind (bind (eval c d s e) (argument (is_text i) t)) (λ v. bind (eval_arguments c d s t is_text (suc i) es) (λ vs. gives (v ∷ vs)))
 
   -- each interpolation joined, and the text behind it
   pub eval_pieces : Context → Deeper → Situation → Pieces → Tree Text

@@ -18,6 +18,10 @@ unknown_function_text name = (codes "unknown function `" ++ name) ++ codes "`"
 abbrev pub miscounted_text : Text → Text
 miscounted_text name = (codes "function `" ++ name) ++ codes "` called with a wrong number of arguments"
 
+-- of a built-in function that has another shape than its tag, which no name stands for
+abbrev pub shapeless_text : Text → Text
+shapeless_text name = (codes "function `" ++ name) ++ codes "` has no such shape"
+
 -- of a name in the order that is no assignment's
 abbrev pub unknown_assignment_text : Text → Text
 unknown_assignment_text name = (codes "unknown assignment `" ++ name) ++ codes "`"

@@ -3,5 +3,5 @@ mod Ordering
 mod Resolving
 mod Rows
 mod Sets
-mod Standing
+pub mod Standing
 mod Tables

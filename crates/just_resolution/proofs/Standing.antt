@@ -1,12 +1,15 @@
 -- What is mentioned is what stands in an expression.
-use Rattle.std.proofs.Common.{◌≡◌, ◌↔◌, ◌⊎◌, inl, inr, ⊎_elim, ℕ, Bool, true, false, List, [], ◌∷◌, ◌++◌, length, map, Option, Some, None, is_some, refl, ap, sym, ◌∙◌}
+use Rattle.std.proofs.Common.{nat_le, ◌≤◌, arith, ◌≡◌, ◌↔◌, ◌⊎◌, inl, inr, ⊎_elim, ℕ, Bool, true, false, List, [], ◌∷◌, ◌++◌, length, map, Option, Some, None, is_some, refl, ap, sym, ◌∙◌}
 use Rattle.std.specs.List.{list_all}
 use Rattle.std.proofs.lemmas.Bool.{and_parts, and_from, eqb-true, eq-eqb}
+use Rattle.std.proofs.lemmas.Bool.Decides.{nat_tests}
+use Rattle.just_builtins.specs.Shape.{fewest_arguments, most_arguments}
 use Rattle.just_syntax.specs.Plain.{Text, Token, Function, Expr, And, Assert, AssertOnly, Backtick, Call, Comparison, Concatenation, Conditional, ConditionalOnly, FormatString, Group, Join, JoinOnly, ListOf, ListConcatenation, Not, Or, StringLiteral, Variable, Exprs, Nil, Cons, count, Pieces, NoPiece, Piece}
 use Rattle.just_host.specs.Interaction.{Note, Read, Entered, Command}
 use Rattle.just_resolution.specs.Admitted.{may_stand}
-use Rattle.just_resolution.specs.Mentions.{Mentions, nothing, with_call, with_variable, mentions, mentions_of_row, mentions_of_pieces, called_names, takes}
-use Rattle.just_resolution.specs.Reaches.{IsReadOf, Stands, StandsIn, StandsInPieces, function_at}
+use Rattle.just_resolution.specs.Callee.{Callee, Defined, BuiltIn, LeftOut, Unknown, Accepts, accepts, callee}
+use Rattle.just_resolution.specs.Mentions.{Mentions, nothing, with_call, with_variable, mentions, mentions_of_row, mentions_of_pieces, called_names}
+use Rattle.just_resolution.specs.Reaches.{IsReadOf, Stands, StandsIn, StandsInPieces}
 use Rattle.just_resolution.specs.Resolved.{IsCallable, IsKnown, AreKnown, AreKnownPieces}
 
 -- a name is called
@@ -130,16 +133,24 @@ and_three p q r = (
 and_none : {A : Type 0} → A ↔ (A × Unit {0})
 and_none = ((λ a. (a, tt)), (λ s. s.0))
 
-callable : (o : Option Function) (n : ℕ) → (takes o n ≡ true) ↔ ((f : Function) × (o ≡ Some f) × (n ≡ length f.parameters))
-callable None n = ((λ h. absurd (let e : false ≡ true = h in cc)), (λ h. absurd (let e : None ≡ Some h.0 = h.1 in cc)))
-callable (Some f) n = (
-  (λ h. (f, refl, sym (eqb-true (length f.parameters) n h))),
-  (λ h. let e : Some f ≡ Some h.0 = h.1 in let same : f ≡ h.0 = cc in eq-eqb (length f.parameters) n (ap (λ (g : Function). length g.parameters) same ∙ sym h.2)),
+at_most : (m n : ℕ) → nat_le m n ≡ true → m ≤ n
+at_most m n h = grind (arith, nat_tests)
+
+is_at_most : (m n : ℕ) → m ≤ n → nat_le m n ≡ true
+is_at_most m n h = grind (arith, nat_tests)
+
+pub callable : (c : Callee) (n : ℕ) → (accepts c n ≡ true) ↔ Accepts c n
+callable (Defined f) n = ((λ h. sym (eqb-true (length f.parameters) n h)), (λ h. eq-eqb (length f.parameters) n (sym h)))
+callable (BuiltIn f) n = (
+  (λ h. let s = and_parts (nat_le (fewest_arguments f) n) (nat_le n (most_arguments f)) h in (at_most (fewest_arguments f) n s.0, at_most n (most_arguments f) s.1)),
+  (λ h. and_from (nat_le (fewest_arguments f) n) (nat_le n (most_arguments f)) (is_at_most (fewest_arguments f) n h.0) (is_at_most n (most_arguments f) h.1)),
 )
+callable LeftOut n = ((λ h. tt), (λ h. refl))
+callable Unknown n = ((λ h. absurd (let e : false ≡ true = h in cc)), (λ h. absurd h))
 
 module _ (functions : List Function) where
   abbrev takes_all : List (Text × ℕ) → Bool
-  takes_all cs = list_all (λ c. takes (function_at functions c.0) c.1) cs
+  takes_all cs = list_all (λ c. accepts (callee functions c.0) c.1) cs
 
   abbrev AreAllKnown : Mentions → Type 0
   AreAllKnown ms = (takes_all ms.calls ≡ true) × (list_all is_some ms.variables ≡ true)
@@ -162,7 +173,7 @@ module _ (functions : List Function) where
 
   call_known : (ms : Mentions) (name : Text) (n : ℕ) → AreAllKnown (with_call ms name n) ↔ (AreAllKnown ms × IsCallable functions name n)
   call_known ms name n =
-      let all = all_pushed (λ c. takes (function_at functions c.0) c.1) ms.calls (name, n) (IsCallable functions name n) (callable (function_at functions name) n) in (
+      let all = all_pushed (λ c. accepts (callee functions c.0) c.1) ms.calls (name, n) (IsCallable functions name n) (callable (callee functions name) n) in (
         (λ h. ((((all.0 h.0).0), h.1), (all.0 h.0).1)),
         (λ h. (all.1 (h.0.0, h.1), h.0.1)),
       )

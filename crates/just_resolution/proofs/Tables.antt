@@ -8,7 +8,7 @@ use Rattle.just_syntax.specs.Keyed.{value_at}
 use Rattle.just_syntax.specs.View.{assignment_view, function_view, parameter_view}
 use Rattle.just_syntax.specs.declared.assignment.Assignment as assignment
 use Rattle.just_syntax.specs.declared.function_definition.FunctionDefinition.{FunctionDefinition}
-use Rattle.just_resolution.specs.Mentions.{takes}
+use Rattle.just_resolution.specs.Callee.{Callee, accepts, defined_or}
 use Rattle.just_resolution.specs.Reaches.{function_at}
 
 module _ {X Y : Type 0} (f : X → Y) (key : Y → Text) where
@@ -43,5 +43,5 @@ assignment_seen text name vs r o same is found =
     ap (λ (t : Text). value_at (λ (a : Assignment). a.name.lexeme) t (map assignment_view vs)) (sym same) ∙ assignment_found text vs r found ∙ ap (option_map (λ (v : Bor assignment.Assignment). assignment_view v.now)) is
 
 -- whether a function that was found has so many parameters
-pub takes_found : (o : Option Function) (f : FunctionDefinition) (k n : ℕ) → o ≡ Some (function_view f) → k ≡ length f.parameters.items → nat_eq k n ≡ takes o n
-takes_found o f k n found is = ap (λ j. nat_eq j n) (is ∙ sym (length-map f.parameters.items parameter_view)) ∙ ap (λ p. takes p n) (sym found)
+pub accepts_found : (o : Option Function) (f : FunctionDefinition) (other : Callee) (k n : ℕ) → o ≡ Some (function_view f) → k ≡ length f.parameters.items → nat_eq k n ≡ accepts (defined_or o other) n
+accepts_found o f other k n found is = ap (λ j. nat_eq j n) (is ∙ sym (length-map f.parameters.items parameter_view)) ∙ ap (λ p. accepts (defined_or p other) n) (sym found)

@@ -1,5 +1,6 @@
 pub mod Admitted
 pub mod Assignments
+pub mod Callee
 pub mod Mentions
 pub mod Reaches
 pub mod Resolved

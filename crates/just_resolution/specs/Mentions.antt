@@ -1,5 +1,5 @@
 -- What stands in an expression, in order.
-use Rattle.std.specs.Prelude.{ℕ, Bool, false, ◌==◌, List, [], ◌∷◌, ◌++◌, length, map, Option, Some, None}
+use Rattle.std.specs.Prelude.{ℕ, List, [], ◌∷◌, ◌++◌, map, Option, Some, None}
 use Rattle.just_syntax.specs.Plain.{Text, Function, Expr, And, Assert, AssertOnly, Backtick, Call, Comparison, Concatenation, Conditional, ConditionalOnly, FormatString, Group, Join, JoinOnly, ListOf, ListConcatenation, Not, Or, StringLiteral, Variable, Exprs, Nil, Cons, count, Pieces, NoPiece, Piece}
 
 -- the names that are called, each with the number of its arguments, and the variables, each with its number, if it
@@ -65,8 +65,3 @@ called_names ms = map (λ c. c.0) ms.calls
 abbrev pub calls_of : Option Function → List Text
 calls_of None = []
 calls_of (Some f) = called_names (mentions nothing f.body)
-
--- whether there is a function with so many parameters
-abbrev pub takes : Option Function → ℕ → Bool
-takes None n = false
-takes (Some f) n = length f.parameters == n

@@ -4,13 +4,14 @@ use Rattle.just_syntax.specs.Plain.{Text, Token, Assignment, Function, Expr, And
 use Rattle.just_value.specs.Value.{Value}
 use Rattle.just_value.specs.Frames.{Frames, value_in}
 use Rattle.just_resolution.specs.Assignments.{Assignments, assignment_at}
-use Rattle.just_resolution.specs.Reaches.{function_at, Reads}
+use Rattle.just_resolution.specs.Callee.{Accepts, callee}
+use Rattle.just_resolution.specs.Reaches.{Reads}
 
--- the name is a function's with so many parameters
+-- the name stands for what may be called with so many arguments
 abbrev pub IsCallable : List Function → Text → ℕ → Type 0
-IsCallable functions name n = (f : Function) × (function_at functions name ≡ Some f) × (n ≡ length f.parameters)
+IsCallable functions name n = Accepts (callee functions name) n
 
--- each variable of an expression has a number, and each call names a function with as many parameters
+-- each variable of an expression has a number, and each call names what takes as many arguments
 abbrev mutual
   pub IsKnown : List Function → Expr → Type 0
   IsKnown functions (And l r) = IsKnown functions l × IsKnown functions r
@@ -80,8 +81,8 @@ AreInOrder functions assignments outer taken (t ∷ left) =
     ((a : Assignment) → assignment_at assignments t.lexeme ≡ Some a → assignments.referenced a.number ≡ true → (n : ℕ) → Reads functions a.value n → IsOneOf taken n ⊎ IsBound outer n)
     × AreInOrder functions assignments outer (with_taken assignments (assignment_at assignments t.lexeme) taken) left
 
--- Numbers are distinct, no parameter is bound outside, every variable has a number and every call a function, the
--- order names assignments alone, and all is taken before it is read.
+-- Numbers are distinct, no parameter is bound outside, every variable has a number, every call has arguments that its
+-- name takes, the order names assignments alone, and all is taken before it is read.
 pub record IsResolved (functions : List Function) (assignments : Assignments) (outer : Frames) : Type 0 where
   pub distinct : AreDistinct (map (λ a. a.number) assignments.all ++ parameter_numbers functions)
   pub unbound : (n : ℕ) → IsOneOf (parameter_numbers functions) n → IsBound outer n → ⊥

@@ -1,13 +1,13 @@
-// Whether each variable has a number, and each called name is a function of the file.
+// Whether each variable has a number, and each called name stands for what takes as many arguments.
 
 ghost use Rattle.std.specs.Prelude.{◌≡◌, ◌↔◌, IfOk, IsTrue, is_some, map};
 ghost use Rattle.std.specs.List.{list_all};
 ghost use Rattle.just_syntax.specs.View.{assignment_view, function_view, view};
-ghost use Rattle.just_resolution.specs.Mentions.{takes};
-ghost use Rattle.just_resolution.specs.Reaches.{function_at};
+ghost use Rattle.just_resolution.specs.Callee.{accepts, callee, undefined};
 ghost use Rattle.just_resolution.specs.Resolved.{AllKnown, IsKnown};
 
 use crate::mentions::mentions_in;
+use just_builtins::function::{get, is_left_out};
 use just_syntax::assignment::Assignment;
 use just_syntax::expression::Expression;
 use just_syntax::function_definition::FunctionDefinition;
@@ -16,19 +16,35 @@ use just_syntax::out_of_memory::OutOfMemory;
 use just_syntax::table::Table;
 use std::alloc::Global;
 
-// Whether a name is a function's with so many parameters.
+// Whether a name stands for what may be called with so many arguments: a function of the file, or another one.
 fn is_callable(functions: &Table<FunctionDefinition>, name: &str, arguments: usize) -> bool
-    ensures { result ≡ takes (function_at (map function_view functions.now) name.now) arguments }
+    ensures { result ≡ accepts (callee (map function_view functions.now) name.now) arguments }
 {
     match functions.get(name) {
         Some(function) => function.parameters.len() == arguments,
+        None => is_undefined_callable(name, arguments),
+    }
+}
+
+// The same of a name that the file does not define: a built-in function's, or that of one that is left out.
+fn is_undefined_callable(name: &str, arguments: usize) -> bool
+    ensures { result ≡ accepts (undefined name.now) arguments }
+{
+    if is_left_out(name) {
+        return true;
+    }
+    match get(name) {
+        Some(function) => {
+            let expected = function.expected_arguments();
+            *expected.start() <= arguments && arguments <= *expected.end()
+        }
         None => false,
     }
 }
 
-// Whether each of these names is a function's with so many parameters.
+// Whether each of these names stands for what may be called with so many arguments.
 fn are_callable(functions: &Table<FunctionDefinition>, calls: &[(&str, usize)]) -> bool
-    ensures { result ≡ list_all (λ c. takes (function_at (map function_view functions.now) c.0.now) c.1) calls.now }
+    ensures { result ≡ list_all (λ c. accepts (callee (map function_view functions.now) c.0.now) c.1) calls.now }
 {
     calls
         .iter()

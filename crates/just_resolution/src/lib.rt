@@ -7,6 +7,7 @@ mod mentions;
 mod numbers;
 mod order;
 mod readable;
+pub mod references;
 pub mod resolved;
 #[cfg(test)]
 mod tests;

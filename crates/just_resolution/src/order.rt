@@ -6,10 +6,11 @@ ghost use Rattle.just_value.specs.View.{frames_view};
 ghost use Rattle.just_resolution.specs.Admitted.{IsAdmitted, IsNumberOf, IsTakenBy, MayFollow, ReadsReadable};
 ghost use Rattle.just_resolution.specs.Resolved.{AreAssignments, AreDistinct, AreInOrder};
 ghost use Rattle.just_resolution.specs.Seen.{is_name_in, is_readable, is_taken};
-ghost use Rattle.just_resolution.specs.View.{assignments_view, functions_view, is_referenced_in};
+ghost use Rattle.just_resolution.specs.View.{assignments_view, functions_view};
 
 use crate::admitted::reads_readable;
 use crate::readable::Readable;
+use crate::references::is_referenced;
 use just_host::justfile::Justfile;
 use just_syntax::assignment::Assignment;
 use just_syntax::function_definition::FunctionDefinition;
@@ -103,14 +104,4 @@ fn takes<'src>(
     }
     readable.take(assignment.number)?;
     Ok(true)
-}
-
-// Whether a number is referenced: each one is where no set is given.
-fn is_referenced(variable_references: Option<&HashSet<Number>>, number: Number) -> bool
-    ensures { result ≡ is_referenced_in variable_references.entry number }
-{
-    match variable_references {
-        Some(variable_references) => variable_references.contains(&number),
-        None => true,
-    }
 }

@@ -298,3 +298,33 @@ fn unreferenced_assignments(rt: HostRuntime) -> Result<(), Fail> {
     }
     Ok(())
 }
+
+// Calls of names that the file does not define, and of a built-in function's name that it does.
+#[test]
+fn built_in_names(rt: HostRuntime) -> Result<(), Fail> {
+    let alloc = rt.alloc();
+    let none: &[Function] = &[];
+    let hidden: &[Function] = &[("len", &[8, 9], &[])];
+    let len: &[Variable] = &[("a", 1, &[]), ("b", 2, &[Call("len", &[1])])];
+    let len_of_two: &[Variable] = &[("a", 1, &[]), ("b", 2, &[Call("len", &[1, 1])])];
+    let alias: &[Variable] = &[("a", 1, &[]), ("b", 2, &[Call("justfile_dir", &[])])];
+    let shell: &[Variable] = &[("a", 1, &[]), ("b", 2, &[Call("shell", &[1, 1, 1])])];
+    let shell_of_none: &[Variable] = &[("a", 1, &[]), ("b", 2, &[Call("shell", &[])])];
+    let left_out: &[Variable] = &[("a", 1, &[]), ("b", 2, &[Call("sha256", &[1, 1])])];
+    let unknown: &[Variable] = &[("a", 1, &[]), ("b", 2, &[Call("nope", &[])])];
+    for (functions, variables, expected) in [
+        (none, len, true),
+        (none, len_of_two, false),
+        (hidden, len, false),
+        (hidden, len_of_two, true),
+        (none, alias, true),
+        (none, shell, true),
+        (none, shell_of_none, false),
+        (none, left_out, true),
+        (none, unknown, false),
+    ] {
+        let order = ["a", "b"].as_slice();
+        is_resolved(&rt, alloc, functions, variables, order, None, expected)?;
+    }
+    Ok(())
+}

@@ -28,59 +28,6 @@ fn stored_run(rt: HostRuntime) {
 }
 
 #[test]
-fn finished_runs(rt: HostRuntime) {
-    for (case, answer) in [
-        ("run", ""),
-        ("\n# a comment\nrun\n\n#\n", ""),
-        ("cmd cmd\nassign a\noverride a 5\nrun\n", "a = \"5\"\n"),
-        (
-            "override a 5\noverride a  6 \ncmd c\nassign a\nrun",
-            "a = \" 6 \"\n",
-        ),
-        ("override a\nstr x\nassign a\nrun", "a = \"\"\n"),
-        (
-            "str x\nassign a\nvar a\nstr y\nadd\nexport b-1\nrun",
-            "a = \"x\"\nb-1 = \"xy\"\n",
-        ),
-        ("str a\nstr b\nor\nassign _\nrun", "_ = \"a\"\n"),
-        ("str a\nstr b\nand\nassign _\nrun", "_ = \"b\"\n"),
-        ("str\ncmd c\nor\nassign x\nrun", "x = \"\"\n"),
-        ("str \nstr  x \nadd\nassign x\nrun", "x = \" x \"\n"),
-        ("str \"\\\t\r\nassign x\nrun", "x = \"\\\"\\\\\\t\\r\"\n"),
-    ] {
-        answers(&rt, rt.alloc(), case.as_bytes(), answer, 0);
-    }
-}
-
-#[test]
-fn refused_runs(rt: HostRuntime) {
-    for (case, answer) in [
-        (
-            "cmd one\nassign a\nfail 3\nrun\n",
-            "? command \"one\"\nrefused 2 Backtick \"process exited with status code 3\"\n",
-        ),
-        (
-            "str s\nassign a\ncmd one\nassign b\nrun",
-            "? command \"one\"\nrefused 2 Backtick \"no reply\"\n",
-        ),
-        (
-            "cmd one\ncmd two\nadd\nassign a\nreply x\nrun",
-            "? command \"one\"\n? command \"two\"\nrefused 2 Backtick \"no reply\"\n",
-        ),
-        (
-            "var b\nassign a\nstr c\nassign b\noverride b 1\nrun",
-            "unresolved\nrefused 6 Internal \"attempted to evaluate unevaluated variable `b`\"\n",
-        ),
-        (
-            "var x\nassign a\nrun",
-            "unresolved\nrefused 6 Internal \"attempted to evaluate unevaluated variable `x`\"\n",
-        ),
-    ] {
-        answers(&rt, rt.alloc(), case.as_bytes(), answer, 2);
-    }
-}
-
-#[test]
 fn bad_lines(rt: HostRuntime) {
     for (case, answer) in [
         ("", "bad line 1\n"),
@@ -223,57 +170,4 @@ fn settings_of_a_run(rt: HostRuntime) -> Result<(), Fail> {
         2,
     );
     Ok(())
-}
-
-// The forms of expressions.
-#[test]
-fn forms(rt: HostRuntime) {
-    for (case, answer) in [
-        (
-            "str a\nstr a\neq\nstr y\ncmd boom\nif\nassign a\nrun",
-            "a = \"y\"\n",
-        ),
-        ("str a\nassert\nassign x\nrun", "x = \"\"\n"),
-        ("str a\nassert\nassign x\nlists\nrun", "x = \"a\"\n"),
-        ("list 0\nnot\nassign x\nrun", "x = \"true\"\n"),
-        ("str a\nroot\nroot\nassign x\nrun", "x = \"//a\"\n"),
-        ("str a\nstr b\njoin\nassign x\nrun", "x = \"a/b\"\n"),
-        ("str a\ngroup\nassign x\nrun", "x = \"a\"\n"),
-        ("str a\nstr b\ncat\nassign x\nrun", "x = [\"a\", \"b\"]\n"),
-        (
-            "str a\nstr b\nlist 2\nassign x\nrun",
-            "x = [\"a\", \"b\"]\n",
-        ),
-    ] {
-        answers(&rt, rt.alloc(), case.as_bytes(), answer, 0);
-    }
-}
-
-// Forms that are refused.
-#[test]
-fn refused_forms(rt: HostRuntime) {
-    for (case, answer) in [
-        (
-            "str a\nstr b\neq\nstr c\nwhen\nstr d\nadd\nassign a\nrun",
-            "refused 10 ListOperation [] + \"d\"\n",
-        ),
-        (
-            "str a\nstr a\nne\nassert\nassign x\nrun",
-            "refused 1 Assert \"`'a' != 'a'`\"\n",
-        ),
-        (
-            "str a\nstr b\neq\ncmd m\nassertm\nassign x\nreply no\nrun",
-            "? command \"m\"\nrefused 1 Assert \"no\"\n",
-        ),
-        (
-            "str a\ncmd q\nmatch\nassign x\nrun",
-            "refused 8 LeftOutRegex\n",
-        ),
-        (
-            "str a\ncmd q\nmismatch\nassign x\nrun",
-            "refused 8 LeftOutRegex\n",
-        ),
-    ] {
-        answers(&rt, rt.alloc(), case.as_bytes(), answer, 2);
-    }
 }

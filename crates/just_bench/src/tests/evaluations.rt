@@ -3,7 +3,7 @@
 use crate::case::{Case, build};
 use crate::context::{case_config, case_module, case_search};
 use crate::line::parse_lines;
-use crate::print::print_bindings;
+use crate::print::{print_bindings, print_refusal};
 use crate::program::evaluate_in;
 use crate::token::{name, token};
 use just_eval::evaluator::Evaluator;
@@ -190,6 +190,11 @@ fn keeps_the_outer_value<'src>(
     let Ok(scope) = outcome else {
         return Err("a refusal")?;
     };
+    has_the_outer_value_alone(rt, alloc, &scope)
+}
+
+// A scope binds nothing of its own, and the first number has the value `o`.
+fn has_the_outer_value_alone(rt: &impl Abort, alloc: Global, scope: &Scope) -> Result<(), Fail> {
     assert_eq!(rt; scope.bindings().count(), 0);
     let value = scope.value(Number::new(0)).ok_or("no value")?;
     assert_eq!(rt; format!(in alloc; "{value}")?.as_str(), "\"o\"");
@@ -255,13 +260,31 @@ fn format_strings(rt: HostRuntime) -> Result<(), Fail> {
     prints(&rt, alloc, assignments, &parent, "x = \"<a b>\"\n")
 }
 
-// The assignments of a module of `x` ask nothing, and these bindings are printed of them.
+#[test]
+fn variable_without_a_number(rt: HostRuntime) -> Result<(), Fail> {
+    let alloc = rt.alloc();
+    let variable = Expression::Variable {
+        name: name("y"),
+        number: None,
+    };
+    let assignments = one_assignment(alloc, variable)?;
+    let parent = Scope::root(alloc, &[])?;
+    prints(
+        &rt,
+        alloc,
+        assignments,
+        &parent,
+        "refused 6 Internal \"attempted to evaluate unresolved variable `y`\"\n",
+    )
+}
+
+// The assignments of a module of `x` ask nothing, and their bindings or their refusal are printed so.
 fn prints<'src>(
     rt: &impl Abort,
     alloc: Global,
     assignments: Table<Assignment<'src>>,
     parent: &Scope<'src, '_>,
-    bindings: &str,
+    answer: &str,
 ) -> Result<(), Fail> {
     let order = vec![in alloc; name("x")]?;
     let module = case_module(alloc, assignments, order, Table::new(alloc), false)?;
@@ -274,11 +297,11 @@ fn prints<'src>(
         alloc, &mut host, &config, &dotenv, &module, &overrides, parent, &search, 100, None,
     );
     assert_eq!(rt; host.asked, 0);
-    let Ok(scope) = outcome else {
-        return Err("a refusal")?;
-    };
     let mut text = String::new(alloc);
-    print_bindings(&mut text, &scope)?;
-    assert_eq!(rt; text.as_str(), bindings);
+    match outcome {
+        Ok(scope) => print_bindings(&mut text, &scope)?,
+        Err(error) => print_refusal(alloc, &mut text, &error)?,
+    }
+    assert_eq!(rt; text.as_str(), answer);
     Ok(())
 }

@@ -20,34 +20,6 @@ use std::alloc::Global;
 use std::test::Fail;
 
 #[test]
-fn calls(rt: HostRuntime) {
-    for (case, answer) in [
-        (
-            "var n\nfun f n\nstr a\ncall f 1\nassign x\nrun",
-            "x = \"a\"\n",
-        ),
-        (
-            "var n\nvar m\nadd\nfun f n m\nstr a\nstr b\ncall f 2\nassign x\nrun",
-            "x = \"ab\"\n",
-        ),
-        ("str a\nfun f\ncall f 0\nassign x\nrun", "x = \"a\"\n"),
-        (
-            "str a\nassign a\nvar a\nfun f\ncall f 0\nassign x\nrun",
-            "a = \"a\"\nx = \"a\"\n",
-        ),
-        // Of two parameters with one name the last counts.
-        (
-            "var n\nfun f n n\nstr a\nstr b\ncall f 2\nassign x\nrun",
-            "unresolved\nx = \"b\"\n",
-        ),
-        // A function and an assignment may have one name.
-        ("str a\nfun x\ncall x 0\nassign x\nrun", "x = \"a\"\n"),
-    ] {
-        answers(&rt, rt.alloc(), case.as_bytes(), answer, 0);
-    }
-}
-
-#[test]
 fn limit_one(rt: HostRuntime) {
     answers(
         &rt,
@@ -84,46 +56,6 @@ fn parameter_out_of_reach(rt: HostRuntime) {
         "unresolved\na = \"z\"\n",
         0,
     );
-}
-
-#[test]
-fn refused_calls(rt: HostRuntime) {
-    for (case, answer) in [
-        (
-            "str a\nfun f\ncmd q\ncall f 1\nassign x\nrun",
-            "unresolved\nrefused 6 Internal \"function `f` called with a wrong number of arguments\"\n",
-        ),
-        (
-            "cmd q\ncall nope 1\nassign x\nrun",
-            "unresolved\nrefused 6 Internal \"unknown function `nope`\"\n",
-        ),
-        // The limit is looked at before the count.
-        (
-            "str a\nfun f\ncmd q\ncall f 1\nassign x\nlimit 1\nrun",
-            "unresolved\nrefused 11 RecursionLimit f\n",
-        ),
-        // Arguments are evaluated from the left, and the body after them.
-        (
-            "cmd body\nfun f n m\ncmd one\ncmd two\ncall f 2\nassign x\nreply\nreply\nfail 7\nrun",
-            "? command \"one\"\n? command \"two\"\n? command \"body\"\nrefused 2 Backtick \"process exited with status code 7\"\n",
-        ),
-        (
-            "cmd body\nfun f n m\ncmd one\ncmd two\ncall f 2\nassign x\nfail 7\nrun",
-            "? command \"one\"\nrefused 2 Backtick \"process exited with status code 7\"\n",
-        ),
-        // Functions that call each other for ever.
-        (
-            "call g 0\nfun f\ncall f 0\nfun g\ncall f 0\nassign x\nrun",
-            "refused 11 RecursionLimit g\n",
-        ),
-        // Two assignments that read each other.
-        (
-            "var b\nassign a\nvar a\nassign b\nrun",
-            "unresolved\nrefused 6 Internal \"attempted to evaluate unevaluated variable `b`\"\n",
-        ),
-    ] {
-        answers(&rt, rt.alloc(), case.as_bytes(), answer, 2);
-    }
 }
 
 // A parameter that is bound outside is not resolved.

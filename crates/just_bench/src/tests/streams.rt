@@ -5,19 +5,24 @@ use crate::stream::{LIMIT, StreamError, read_case, write_text};
 use crate::tests::cases::{STORED_ANSWER, STORED_CASE};
 use crate::tests::fakes::{EndlessReader, whole_reader, whole_writer};
 use std::alloc::Global;
+use std::process::Abort;
 use std::test::Fail;
 
+// The stored case is answered where each read and each write takes so many bytes.
+fn runs_in_pieces(rt: &impl Abort, alloc: Global, piece: usize) {
+    let mut case = whole_reader(STORED_CASE.as_bytes());
+    case.piece = piece;
+    let mut out = whole_writer(alloc);
+    out.piece = piece;
+    assert_eq!(rt; run(alloc, case, &mut out), 0);
+    assert_eq!(rt; out.written.as_slice(), STORED_ANSWER.as_bytes());
+}
+
 #[test]
-fn streams_in_pieces(rt: HostRuntime) -> Result<(), Fail> {
+fn streams_in_pieces(rt: HostRuntime) {
     for piece in [1, 3, 10_000] {
-        let mut case = whole_reader(STORED_CASE.as_bytes());
-        case.piece = piece;
-        let mut out = whole_writer(rt.alloc());
-        out.piece = piece;
-        assert_eq!(rt; run(rt.alloc(), case, &mut out), 0);
-        assert_eq!(rt; out.written.as_slice(), STORED_ANSWER.as_bytes());
+        runs_in_pieces(&rt, rt.alloc(), piece);
     }
-    Ok(())
 }
 
 #[test]

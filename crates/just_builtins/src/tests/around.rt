@@ -5,10 +5,12 @@ ghost use Rattle.just_builtins.specs.Argument.{HasTexts};
 
 use crate::call_fault::CallFault;
 use crate::function::{Function, get};
+use crate::tests::scripted::{Given, Scripted};
 use crate::tests::silent::Silent;
 use just_host::config::Config;
 use just_host::execution_context::ExecutionContext;
 use just_host::function::Context;
+use just_host::host::Host;
 use just_host::justfile::Justfile;
 use just_host::search::Search;
 use just_host::settings::Settings;
@@ -140,9 +142,42 @@ fn value(alloc: Global, written: &str) -> Result<Value, OutOfMemory> {
     Ok(value)
 }
 
-/// What a function answers, written: its value, or its message behind `! `.
+/// What a function answers that asks nothing, written: its value, or its message behind `! `.
 pub fn answer<'src>(
     alloc: Global,
+    around: &Around<'src>,
+    name: Name<'src>,
+    arguments: &[&str],
+) -> Result<String, OutOfMemory> {
+    let mut host = Silent { was_asked: false };
+    let text = answer_of(alloc, &mut host, around, name, arguments)?;
+    if host.was_asked {
+        return Ok(String::from_str(alloc, "asked")?);
+    }
+    Ok(text)
+}
+
+/// What a function asks of a host that gives this answer, and then answers, written.
+pub fn asked_and_answered<'src>(
+    alloc: Global,
+    given: Given,
+    around: &Around<'src>,
+    name: Name<'src>,
+    arguments: &[&str],
+) -> Result<(String, String), OutOfMemory> {
+    let mut host = Scripted {
+        given,
+        asked: String::new(alloc),
+    };
+    let text = answer_of(alloc, &mut host, around, name, arguments)?;
+    let Scripted { given: _, asked } = host;
+    Ok((asked, text))
+}
+
+// What a function answers, written.
+fn answer_of<'src, H: Host>(
+    alloc: Global,
+    host: &mut H,
     around: &Around<'src>,
     name: Name<'src>,
     arguments: &[&str],
@@ -151,7 +186,7 @@ pub fn answer<'src>(
     for argument in arguments {
         values.push(value(alloc, argument)?)?;
     }
-    match called(alloc, around, name, &values) {
+    match called(alloc, host, around, name, &values) {
         Some(Ok(value)) if value.is_empty() => Ok(String::from_str(alloc, "[]")?),
         Some(Ok(value)) => Ok(value.elements().join(alloc, "|")?),
         Some(Err(CallFault::Message(message))) => Ok(format!(in alloc; "! {message}")?),
@@ -161,8 +196,9 @@ pub fn answer<'src>(
 }
 
 // A call by a name, if it may be made.
-fn called<'src>(
+fn called<'src, H: Host>(
     alloc: Global,
+    host: &mut H,
     around: &Around<'src>,
     name: Name<'src>,
     arguments: &[Value],
@@ -176,12 +212,13 @@ fn called<'src>(
         scope: &around.scope,
         search: &around.search,
     };
-    called_in(alloc, around, &execution_context, name, arguments)
+    called_in(alloc, host, around, &execution_context, name, arguments)
 }
 
 // The same, in a context. The name stands in the file `shared/é.just`.
-fn called_in<'src, 'run>(
+fn called_in<'src, 'run, H: Host>(
     alloc: Global,
+    host: &mut H,
     around: &'run Around<'src>,
     execution_context: &'run ExecutionContext<'src, 'run>,
     name: Name<'src>,
@@ -204,9 +241,7 @@ fn called_in<'src, 'run>(
         recipe: around.recipe,
         scope: execution_context.scope,
     };
-    let mut host = Silent { was_asked: false };
-    let result = function.call(alloc, &mut host, &context, arguments);
-    if host.was_asked { None } else { Some(result) }
+    Some(function.call(alloc, host, &context, arguments))
 }
 
 // Whether each argument at a text position has one element.

@@ -1,9 +1,10 @@
 use Rattle.std.proofs.Common.{refl}
 use Rattle.just_builtins.specs.declared.function.Function.TheVariants.{Binary}
-use Rattle.just_builtins.proofs.Unnamed.{unnamed, is_binary}
+use Rattle.just_builtins.proofs.Arguments.{two}
+use Rattle.just_builtins.proofs.Calls.{same_call}
 use Rattle.just_builtins.proofs.binary.binary.Goals as goal
 
-pub returns-in_default : goal.returns-in_default
-returns-in_default c =
-    λ context. unnamed is_binary (Binary c.args.builtin) refl
-    ((λ e. c.in_default.not-TrimEndMatch (cc)), ((λ e. c.in_default.not-TrimEndMatches (cc)), ((λ e. c.in_default.not-TrimStartMatch (cc)), ((λ e. c.in_default.not-TrimStartMatches (cc)), tt))))
+pub returns : goal.returns
+returns c = λ context.
+    let alike = two c.args.arguments.now _ _ c.requires.count c.text_at.ensures c.text_at-pattern.ensures in
+    same_call (Binary c.args.builtin) (Binary c.args.builtin) context _ _ _ refl alike (c.trimmed.ensures context)

@@ -1,21 +1,24 @@
-use Rattle.std.proofs.Common.{◌≡◌, ◌∙◌, ◌++◌, ◌∷◌, [], ◌+◌, ◌-◌, suc, true, false, not, ap, arith, length, map, None, Some, sym, refl, string_bytes}
+use Rattle.std.proofs.Common.{◌≡◌, ◌∙◌, ◌++◌, ◌∷◌, [], ◌-◌, suc, true, false, not, ap, arith, length, map, None, Some, sym, refl, string_bytes}
 use Rattle.std.proofs.lemmas.Grind.{common_steps}
 use Rattle.std.proofs.lemmas.List.{append_assoc, append-nil, drop_all, length-map}
 use Rattle.std.proofs.lemmas.Result.{err_from_is_err_and}
+use Rattle.just_syntax.specs.Printed.{printed}
 use Rattle.just_syntax.specs.View.{function_view, literal_view, name_view, parameter_view, view}
 use Rattle.just_value.specs.Value.{from_condition, is_truthy, joined}
 use Rattle.just_value.specs.Outcome.{Gave, Stopped}
 use Rattle.just_value.specs.View.{frames_view}
+use Rattle.just_builtins.specs.Shape.{is_text}
 use Rattle.just_meaning.specs.Meaning.{eval, flatten, formatted, is_regex, unindented_if}
 use Rattle.just_eval.specs.View.{calls_left, context_view, situation}
 use Rattle.just_meaning.specs.Closings.{chained, with_parameters}
-use Rattle.just_meaning.specs.Messages.{miscounted_text, unknown_function_text}
-use Rattle.just_eval.proofs.Calls.{call_at_limit, call_ends, call_miscounted, call_runs, call_stopped, call_unknown, inside_is}
+use Rattle.just_eval.proofs.Calls.{body_runs, built_in_ends, built_in_runs, call_defined, call_ends, call_runs, call_undefined, inside_is}
+use Rattle.just_eval.proofs.Forms.{runs_argument}
 use Rattle.just_eval.proofs.Measure.{one_fewer}
 use Rattle.just_eval.proofs.Tables.{found_at}
-use Rattle.just_eval.proofs.Rows.{behind_same, call_is, format_string_is, list_is, pieces_end, pieces_next, pieces_stop, runs_made, values_end, values_next, values_stop}
-use Rattle.just_eval.proofs.Runs.{not_both, runs_done, runs_else, runs_exit, runs_gives, runs_note, runs_on, runs_stopped, runs_when}
-use Rattle.just_eval.proofs.evaluator.Evaluator.+evaluate.Goals.{evaluate_conditional-then-is_truthy, evaluate_conditional-else-is_truthy}
+use Rattle.just_eval.proofs.Texts.{more_texts}
+use Rattle.just_eval.proofs.Rows.{arguments_end, arguments_next, behind_same, call_is, format_string_is, list_is, pieces_end, pieces_next, pieces_stop, runs_all, runs_made, values_end, values_next, values_stop}
+use Rattle.just_eval.proofs.Runs.{not_both, runs_done, runs_else, runs_ends, runs_exit, runs_gives, runs_note, runs_on, runs_stopped, runs_when}
+use Rattle.just_eval.proofs.evaluator.Evaluator.+evaluate.Goals.{evaluate_assert-in-Some+in_ok-value-in-Some+in_ok-message-in-Some, evaluate_assert-in-None+in_ok-message-in-None, evaluate_conditional-then-is_truthy, evaluate_conditional-else-is_truthy}
 use Rattle.just_eval.proofs.evaluator.Evaluator.+evaluate.Goals as goal
 
 -- ---- `lhs && rhs`, `lhs || rhs`
@@ -185,30 +188,35 @@ evaluate_assert-returns-then-is_truthy g t c =
     let some : is_truthy c.in_ok-value.value ≡ true = cc in
     runs_on _ _ c.in_ok-value.ensures (runs_when _ _ _ some (runs_done _ _ (ap Gave c.in_ok-asserted.ensures)))
 
-pub evaluate_assert-returns-in_err-message : goal.evaluate_assert-returns-in_err-message
-evaluate_assert-returns-in_err-message g t c =
-    let p = err_from_is_err_and c.from_residual-in_err-message.result c.from_residual-in_err-message.ensures.1 in
+pub evaluate_assert-returns-in_err-value-in-Some : goal.evaluate_assert-returns-in_err-value-in-Some
+evaluate_assert-returns-in_err-value-in-Some g t c =
+    let p = err_from_is_err_and c.from_residual-in_err-value-in-Some.result c.from_residual-in_err-value-in-Some.ensures.1 in
     let none : is_truthy c.in_ok-value.value ≡ false = cc in
-    runs_on _ _ c.in_ok-value.ensures (runs_else _ _ _ none (runs_exit _ _ _ _ _ _ p.1 p.2 c.in_err-message.ensures))
+    rw c.in-Some.is (runs_on _ _ c.in_ok-value.ensures (runs_else _ _ _ none (runs_exit _ _ _ _ _ _ p.1 p.2 (runs_ends _ _ _ c.in_err-value-in-Some.ensures))))
+
+pub evaluate_assert-returns-in_err-message-in-Some : goal.evaluate_assert-returns-in_err-message-in-Some
+evaluate_assert-returns-in_err-message-in-Some g t c =
+    let p = err_from_is_err_and c.from_residual-in_err-message-in-Some.result c.from_residual-in_err-message-in-Some.ensures.1 in
+    let none : is_truthy c.in_ok-value.value ≡ false = cc in
+    rw (p.1, p.2, c.in-Some.is) (runs_on _ _ c.in_ok-value.ensures (runs_else _ _ _ none (runs_ends _ _ None (runs_on _ _ c.in_ok-value-in-Some.ensures (runs_stopped _)))))
+
+pub evaluate_assert-returns-in_err-message-in-None : goal.evaluate_assert-returns-in_err-message-in-None
+evaluate_assert-returns-in_err-message-in-None g t c =
+    let p = err_from_is_err_and c.from_residual-in_err-message-in-None.result c.from_residual-in_err-message-in-None.ensures.1 in
+    let none : is_truthy c.in_ok-value.value ≡ false = cc in
+    rw (p.1, p.2, c.in-None.is) (runs_on _ _ c.in_ok-value.ensures (runs_else _ _ _ none (runs_stopped _)))
 
 pub evaluate_assert-returns : goal.evaluate_assert-returns
-evaluate_assert-returns g t c =
-    let none : is_truthy c.in_ok-value.value ≡ false = cc in
-    runs_on _ _ c.in_ok-value.ensures (runs_else _ _ _ none (runs_on _ _ c.in_ok-message.ensures (runs_done _ _ refl)))
-
-pub assertion_message-returns-in_err-value-in-Some : goal.assertion_message-returns-in_err-value-in-Some
-assertion_message-returns-in_err-value-in-Some g t c =
-    let p = err_from_is_err_and c.from_residual.result c.from_residual.ensures.1 in
-    rw c.in-Some.is (runs_exit _ _ _ _ _ _ p.1 p.2 c.in_err-value-in-Some.ensures)
-
-pub assertion_message-returns-in_err-join-in-Some : goal.assertion_message-returns-in_err-join-in-Some
-assertion_message-returns-in_err-join-in-Some g t c =
-    let p = err_from_is_err_and c.from_residual-in_err-join-in-Some.result c.from_residual-in_err-join-in-Some.ensures.1 in
-    rw (p.1, p.2, c.in-Some.is) (runs_on _ _ c.in_ok-value-in-Some.ensures (runs_stopped _))
-
-pub assertion_message-returns-in_ok-join-in-Some : goal.assertion_message-returns-in_ok-join-in-Some
-assertion_message-returns-in_ok-join-in-Some g t c =
-    rw c.in-Some.is (runs_on _ _ c.in_ok-value-in-Some.ensures (runs_done _ _ (ap Gave c.in_ok-join-in-Some.ensures)))
+evaluate_assert-returns g t c = elim c.match-message.branch [
+  | evaluate_assert-in-Some+in_ok-value-in-Some+in_ok-message-in-Some w ↦
+      let none : is_truthy c.in_ok-value.value ≡ false = cc in
+      let text : string_bytes c.match-message.message ≡ joined w.in_ok-value-in-Some.value = rw w.message-is w.in_ok-message-in-Some.ensures in
+      rw (w.in-Some.is, text, w.host-is) (runs_on _ _ c.in_ok-value.ensures (runs_else _ _ _ none (runs_on _ _ (runs_on _ _ w.in_ok-value-in-Some.ensures (runs_gives _)) (runs_done _ _ refl))))
+  | evaluate_assert-in-None+in_ok-message-in-None w ↦
+      let none : is_truthy c.in_ok-value.value ≡ false = cc in
+      let text : string_bytes c.match-message.message ≡ (96 ∷ printed (view c.args.condition.now)) ++ 96 ∷ [] = rw w.message-is w.in_ok-message-in-None.ensures in
+      rw (w.in-None.is, text, w.host-is) (runs_on _ _ c.in_ok-value.ensures (runs_else _ _ _ none (runs_done _ _ refl)))
+]
 
 -- ---- lists
 
@@ -326,36 +334,50 @@ evaluate_root-returns g t c =
 pub evaluate_value-returns-in-Call : goal.evaluate_value-returns-in-Call
 evaluate_value-returns-in-Call g t c = rw (c.in-Call.is, call_is, ← c.deref-in-Call.ensures.value) (runs_note c.evaluate_call.ensures)
 
-pub evaluate_arguments-returns-in_err-evaluate_value : goal.evaluate_arguments-returns-in_err-evaluate_value
-evaluate_arguments-returns-in_err-evaluate_value g t c =
-    let p = err_from_is_err_and c.from_residual-in_err-evaluate_value.result c.from_residual-in_err-evaluate_value.ensures.1 in
-    rw (p.1, p.2) (record { count = tt; runs = values_end _ _ (situation c.args.self.now) _ _ _ _ c.args.arguments.now c.loop-argument.argument-index c.argument-item.result c.loop-argument-test.true c.argument-item.is c.loop-argument.invariant.rest _ c.in_err-evaluate_value.ensures })
+pub evaluate_call-returns-in-Some : goal.evaluate_call-returns-in-Some
+evaluate_call-returns-in-Some g t c =
+    let self = c.args.self.now in
+    let name = (name_view c.args.name.now).lexeme in
+    let function = c.in-Some.function.now in
+    let found = found_at function_view (λ f. f.name.lexeme) name name self.context.module.now.functions (Some function) c.in-Some.ensures refl in
+    call_defined (context_view self.context) (name_view c.args.name.now) _ (function_view function) _ _ _ _ _ _ found c.evaluate_defined.ensures
 
-pub evaluate_arguments-returns-in_err-push : goal.evaluate_arguments-returns-in_err-push
-evaluate_arguments-returns-in_err-push g t c =
-    let p = err_from_is_err_and c.from_residual-in_err-push.result c.from_residual-in_err-push.ensures.1 in
-    rw (p.1, p.2) (record { count = tt; runs = values_stop _ _ (situation c.args.self.now) _ _ _ _ c.args.arguments.now c.loop-argument.argument-index c.argument-item.result c.loop-argument-test.true c.argument-item.is c.loop-argument.invariant.rest _ c.in_ok-evaluate_value.ensures })
+pub evaluate_call-returns-in-None : goal.evaluate_call-returns-in-None
+evaluate_call-returns-in-None g t c =
+    let self = c.args.self.now in
+    let name = (name_view c.args.name.now).lexeme in
+    let found = found_at function_view (λ f. f.name.lexeme) name name self.context.module.now.functions None c.in-None.ensures refl in
+    call_undefined (context_view self.context) (name_view c.args.name.now) _ _ _ _ _ _ _ found c.evaluate_built_in.ensures
 
-pub evaluate_arguments-returns-clause-count : goal.evaluate_arguments-returns-clause-count
-evaluate_arguments-returns-clause-count g t c =
-    let n = c.loop-argument.invariant.count in
-    omega arith
+-- ---- calls of the file's functions
 
-pub evaluate_arguments-returns-clause-runs : goal.evaluate_arguments-returns-clause-runs
-evaluate_arguments-returns-clause-runs g t c =
-    rw (← append-nil c.loop-argument.values.items)
-    (c.loop-argument.invariant.rest (Gave []) c.loop-argument.host (rw (drop_all c.loop-argument.argument-index c.args.arguments.now c.loop-argument-test.false) (runs_gives [])))
-
-pub evaluate_call-overflow_add-recursion_depth : goal.evaluate_call-overflow_add-recursion_depth
-evaluate_call-overflow_add-recursion_depth g t c = grind arith
-
-pub evaluate_arguments-returns-in_err-values-clause-runs : goal.evaluate_arguments-returns-in_err-values-clause-runs
-evaluate_arguments-returns-in_err-values-clause-runs g t c =
-    let p = err_from_is_err_and c.from_residual.result c.from_residual.ensures.1 in
+pub evaluate_defined-returns-in_err-values : goal.evaluate_defined-returns-in_err-values
+evaluate_defined-returns-in_err-values g t c =
+    let p = err_from_is_err_and c.from_residual-in_err-values.result c.from_residual-in_err-values.ensures.1 in
     rw (p.1, p.2) (runs_stopped _)
 
-pub evaluate_arguments-loop-argument-preserved : goal.evaluate_arguments-loop-argument-preserved
-evaluate_arguments-loop-argument-preserved g t c =
+pub evaluate_defined-returns-in_err-evaluate_value : goal.evaluate_defined-returns-in_err-evaluate_value
+evaluate_defined-returns-in_err-evaluate_value g t c =
+    let self = c.args.self.now in
+    let function = c.args.function.now in
+    let one : calls_left self ≡ suc (calls_left self - 1) = omega (arith, c.in_ok-recursion_depth.ensures.deeper, c.in_ok-recursion_depth.ensures.below) in
+    let same : length c.args.arguments.now ≡ length (map parameter_view function.parameters.items) = omega (arith, c.in_ok-recursion_depth.ensures.count, length-map function.parameters.items parameter_view) in
+    let p = err_from_is_err_and c.from_residual-in_err-evaluate_value.result c.from_residual-in_err-evaluate_value.ensures.1 in
+    rw (p.1, p.2) (call_ends (context_view self.context) (name_view c.args.name.now) (function_view function) _ _ one (situation self) _ _ _ same _
+    (values_end _ _ (situation self) _ _ _ _ c.args.arguments.now c.loop-argument.argument-index c.argument-item.result c.loop-argument-test.true c.argument-item.is c.loop-argument.invariant.rest _ c.in_err-evaluate_value.ensures))
+
+pub evaluate_defined-returns-in_err-push : goal.evaluate_defined-returns-in_err-push
+evaluate_defined-returns-in_err-push g t c =
+    let self = c.args.self.now in
+    let function = c.args.function.now in
+    let one : calls_left self ≡ suc (calls_left self - 1) = omega (arith, c.in_ok-recursion_depth.ensures.deeper, c.in_ok-recursion_depth.ensures.below) in
+    let same : length c.args.arguments.now ≡ length (map parameter_view function.parameters.items) = omega (arith, c.in_ok-recursion_depth.ensures.count, length-map function.parameters.items parameter_view) in
+    let p = err_from_is_err_and c.from_residual-in_err-push.result c.from_residual-in_err-push.ensures.1 in
+    rw (p.1, p.2) (call_ends (context_view self.context) (name_view c.args.name.now) (function_view function) _ _ one (situation self) _ _ _ same None
+    (values_stop _ _ (situation self) _ _ _ _ c.args.arguments.now c.loop-argument.argument-index c.argument-item.result c.loop-argument-test.true c.argument-item.is c.loop-argument.invariant.rest _ c.in_ok-evaluate_value.ensures))
+
+pub evaluate_defined-loop-argument-preserved : goal.evaluate_defined-loop-argument-preserved
+evaluate_defined-loop-argument-preserved g t c =
     let made = c.loop-argument.values.items in
     let value = c.in_ok-evaluate_value.field-0 in
     record {
@@ -365,73 +387,79 @@ evaluate_arguments-loop-argument-preserved g t c =
           (values_next _ _ (situation c.args.self.now) _ _ _ _ c.args.arguments.now c.loop-argument.argument-index c.argument-item.result c.loop-argument-test.true c.argument-item.is c.loop-argument.invariant.rest _ c.in_ok-evaluate_value.ensures o new r));
     }
 
-pub evaluate_call-returns-in_err-message : goal.evaluate_call-returns-in_err-message
-evaluate_call-returns-in_err-message g t c =
+pub evaluate_defined-evaluate_body-requires : goal.evaluate_defined-evaluate_body-requires
+evaluate_defined-evaluate_body-requires g t c κs within =
+    let self = c.args.self.now in
+    let deeper = c.in_ok-recursion_depth.ensures.deeper in
+    let h = one_fewer self.context.recursion_limit self.recursion_depth c.in_ok-recursion_depth.recursion_depth self.context.module.now.functions (λ f. f.name.token.lexeme.now) (name_view c.args.name.now).lexeme c.args.function.now c.requires.found deeper c.requires.below in
+    (omega (arith, h), (within, (deeper, (c.in_ok-recursion_depth.ensures.below, omega (arith, c.in_ok-recursion_depth.ensures.count, c.loop-argument.invariant.count)))))
+
+pub evaluate_defined-returns : goal.evaluate_defined-returns
+evaluate_defined-returns g t c =
+    let self = c.args.self.now in
+    let function = c.args.function.now in
+    let one : calls_left self ≡ suc (calls_left self - 1) = omega (arith, c.in_ok-recursion_depth.ensures.deeper, c.in_ok-recursion_depth.ensures.below) in
+    let same : length c.args.arguments.now ≡ length (map parameter_view function.parameters.items) = omega (arith, c.in_ok-recursion_depth.ensures.count, length-map function.parameters.items parameter_view) in
+    call_runs (context_view self.context) (name_view c.args.name.now) (function_view function) _ _ one (situation self) _ _ _ same c.loop-argument.values.items _
+    (runs_all _ c.loop-argument.values.items (c.loop-argument.invariant.rest (Gave []) c.loop-argument.host (rw (drop_all c.loop-argument.argument-index c.args.arguments.now c.loop-argument-test.false) (runs_gives []))))
+    c.evaluate_body.ensures
+
+pub evaluate_body-returns-in_err-scope : goal.evaluate_body-returns-in_err-scope
+evaluate_body-returns-in_err-scope g t c =
     let p = err_from_is_err_and c.from_residual.result c.from_residual.ensures.1 in
     rw (p.1, p.2) (runs_stopped _)
 
-pub evaluate_call-returns-in_default : goal.evaluate_call-returns-in_default
-evaluate_call-returns-in_default g t c =
-    call_unknown (context_view c.args.self.now.context) (name_view c.args.name.now) _ _ _ _ _ _
-    (found_at function_view (λ f. f.name.lexeme) _ _ _ None c.in_default.ensures (ap (λ l. l.now) c.lexeme.ensures))
-    (c.in_ok-message.ensures ∙ ap (λ l. unknown_function_text l.now) c.lexeme-in_default.ensures)
-
-pub evaluate_call-returns-then-recursion_depth-recursion_limit : goal.evaluate_call-returns-then-recursion_depth-recursion_limit
-evaluate_call-returns-then-recursion_depth-recursion_limit g t c =
+pub evaluate_body-returns : goal.evaluate_body-returns
+evaluate_body-returns g t c =
     let self = c.args.self.now in
-    let function = c.in-Some.function.now in
-    let found = found_at function_view (λ f. f.name.lexeme) _ _ _ (Some function) c.in-Some.ensures (ap (λ l. l.now) c.lexeme.ensures) in
-    call_at_limit (context_view self.context) (name_view c.args.name.now) _ (function_view function) found _ (situation self) _ _ (omega arith)
+    let function = c.args.function.now in
+    let bound : frames_view c.in_ok-scope.scope ≡ with_parameters [] (map parameter_view function.parameters.items) c.args.values.items ∷ frames_view self.scope = rw (c.in_ok-scope.ensures, c.deref.ensures.value) refl in
+    body_runs (context_view self.context) (calls_left self - 1) _ _ _ (view function.body) _
+    (inside_is (frames_view self.scope) (frames_view c.in_ok-scope.scope) (situation self) _ (function_view function) c.args.values.items bound refl (rw c.new.ensures.empty refl))
+    (omega (arith, c.requires.deeper))
+    c.evaluate_value.ensures
 
-pub evaluate_call-returns-in_err-message-2 : goal.evaluate_call-returns-in_err-message-2
-evaluate_call-returns-in_err-message-2 g t c =
-    let p = err_from_is_err_and c.from_residual-in_err-message-2.result c.from_residual-in_err-message-2.ensures.1 in
+-- ---- calls of built-in functions
+
+pub evaluate_built_in-returns-in_err-values : goal.evaluate_built_in-returns-in_err-values
+evaluate_built_in-returns-in_err-values g t c =
+    let p = err_from_is_err_and c.from_residual-in_err-values.result c.from_residual-in_err-values.ensures.1 in
     rw (p.1, p.2) (runs_stopped _)
 
-pub evaluate_call-returns-then-arguments-len : goal.evaluate_call-returns-then-arguments-len
-evaluate_call-returns-then-arguments-len g t c =
+pub evaluate_built_in-returns-in_err-value : goal.evaluate_built_in-returns-in_err-value
+evaluate_built_in-returns-in_err-value g t c =
     let self = c.args.self.now in
-    let function = c.in-Some.function.now in
-    let found = found_at function_view (λ f. f.name.lexeme) _ _ _ (Some function) c.in-Some.ensures (ap (λ l. l.now) c.lexeme.ensures) in
-    let one : self.context.recursion_limit - self.recursion_depth - 1 ≡ suc (self.context.recursion_limit - (self.recursion_depth + 1) - 1) = omega arith in
-    call_miscounted (context_view self.context) (name_view c.args.name.now) _ (function_view function) found _ _ one (situation self) _ _ _
-    (λ same. c.if-arguments-len.true (omega (arith, same, length-map function.parameters.items parameter_view, function.parameters.ok.0)))
-    (c.in_ok-message-2.ensures ∙ ap (λ l. miscounted_text l.now) c.lexeme-then-arguments-len.ensures)
+    let p = err_from_is_err_and c.from_residual-in_err-value.result c.from_residual-in_err-value.ensures.1 in
+    rw (p.1, p.2) (built_in_ends (context_view self.context) (name_view c.args.name.now) c.in_ok-function.function c.in_ok-function.ensures.kept c.in_ok-function.ensures.found _ c.in_ok-function.ensures.count _ _ _ _ _
+    (arguments_end _ _ (situation self) _ _ _ _ _ _ c.args.arguments.now c.loop-argument.argument-index c.argument-item.result c.loop-argument-test.true c.argument-item.is c.loop-argument.invariant.rest _ (runs_ends _ _ _ c.in_err-value.ensures)))
 
-pub evaluate_call-returns-in_err-values : goal.evaluate_call-returns-in_err-values
-evaluate_call-returns-in_err-values g t c =
+pub evaluate_built_in-returns-in_err-push_argument : goal.evaluate_built_in-returns-in_err-push_argument
+evaluate_built_in-returns-in_err-push_argument g t c =
     let self = c.args.self.now in
-    let function = c.in-Some.function.now in
-    let found = found_at function_view (λ f. f.name.lexeme) _ _ _ (Some function) c.in-Some.ensures (ap (λ l. l.now) c.lexeme.ensures) in
-    let one : self.context.recursion_limit - self.recursion_depth - 1 ≡ suc (self.context.recursion_limit - (self.recursion_depth + 1) - 1) = omega arith in
-    let same : length c.args.arguments.now ≡ length (map parameter_view function.parameters.items) = omega (arith, length-map function.parameters.items parameter_view, function.parameters.ok.0) in
-    let p = err_from_is_err_and c.from_residual-in_err-values.result c.from_residual-in_err-values.ensures.1 in
-    rw (p.1, p.2) (call_ends (context_view self.context) (name_view c.args.name.now) _ (function_view function) found _ _ one (situation self) _ _ same _ c.in_err-values.ensures.runs)
+    let function = c.in_ok-function.function in
+    let p = err_from_is_err_and c.from_residual-in_err-push_argument.result c.from_residual-in_err-push_argument.ensures.1 in
+    let here = ap (is_text function) c.loop-argument.invariant.count in
+    rw (p.1, p.2) (built_in_ends (context_view self.context) (name_view c.args.name.now) function c.in_ok-function.ensures.kept c.in_ok-function.ensures.found _ c.in_ok-function.ensures.count _ _ _ _ _
+    (arguments_end _ _ (situation self) _ _ _ _ _ _ c.args.arguments.now c.loop-argument.argument-index c.argument-item.result c.loop-argument-test.true c.argument-item.is c.loop-argument.invariant.rest _
+    (runs_argument _ _ _ c.in_ok-value.value _ c.in_ok-value.ensures (rw here at c.in_err-push_argument.ensures.refused))))
 
-pub evaluate_call-returns-in_err-scope : goal.evaluate_call-returns-in_err-scope
-evaluate_call-returns-in_err-scope g t c =
-    let self = c.args.self.now in
-    let function = c.in-Some.function.now in
-    let found = found_at function_view (λ f. f.name.lexeme) _ _ _ (Some function) c.in-Some.ensures (ap (λ l. l.now) c.lexeme.ensures) in
-    let one : self.context.recursion_limit - self.recursion_depth - 1 ≡ suc (self.context.recursion_limit - (self.recursion_depth + 1) - 1) = omega arith in
-    let same : length c.args.arguments.now ≡ length (map parameter_view function.parameters.items) = omega (arith, length-map function.parameters.items parameter_view, function.parameters.ok.0) in
-    let p = err_from_is_err_and c.from_residual-in_err-scope.result c.from_residual-in_err-scope.ensures.1 in
-    rw (p.1, p.2) (call_stopped (context_view self.context) (name_view c.args.name.now) _ (function_view function) found _ _ one (situation self) _ _ same _ c.in_ok-values.ensures.runs)
+pub evaluate_built_in-loop-argument-preserved : goal.evaluate_built_in-loop-argument-preserved
+evaluate_built_in-loop-argument-preserved g t c =
+    let function = c.in_ok-function.function in
+    let made = c.loop-argument.values.items in
+    let value = c.in_ok-value.value in
+    let here = ap (is_text function) c.loop-argument.invariant.count in
+    record {
+      count = rw c.in_ok-push_argument.ensures.pushed (grind (arith, common_steps));
+      texts = rw c.in_ok-push_argument.ensures.pushed (more_texts function made value c.loop-argument.invariant.texts c.in_ok-push_argument.ensures.text);
+      rest = λ o new r. rw c.in_ok-push_argument.ensures.pushed
+          (rw (← behind_same (λ vs. made ++ (value ∷ vs)) (λ vs. (made ++ value ∷ []) ++ vs) (λ vs. sym (append_assoc made (value ∷ []) vs)) o)
+          (arguments_next _ _ (situation c.args.self.now) _ _ _ _ _ _ c.args.arguments.now c.loop-argument.argument-index c.argument-item.result c.loop-argument-test.true c.argument-item.is c.loop-argument.invariant.rest value
+          (runs_argument _ _ _ value _ c.in_ok-value.ensures (rw (rw here at c.in_ok-push_argument.ensures.given) refl)) o new r));
+    }
 
-pub evaluate_call-evaluate_value-requires : goal.evaluate_call-evaluate_value-requires
-evaluate_call-evaluate_value-requires g t c κs within =
-    let self = c.args.self.now in
-    let h = one_fewer self.context.recursion_limit self.recursion_depth (c.recursion_depth-recursion_depth.result + 1) self.context.module.now.functions (λ f. f.name.token.lexeme.now) c.lexeme.result.now c.in-Some.function.now (sym c.in-Some.ensures) (omega arith) (omega arith) in
-    (omega (arith, h), (within, omega arith))
-
-pub evaluate_call-returns : goal.evaluate_call-returns
-evaluate_call-returns g t c =
-    let self = c.args.self.now in
-    let function = c.in-Some.function.now in
-    let found = found_at function_view (λ f. f.name.lexeme) _ _ _ (Some function) c.in-Some.ensures (ap (λ l. l.now) c.lexeme.ensures) in
-    let one : self.context.recursion_limit - self.recursion_depth - 1 ≡ suc (self.context.recursion_limit - (self.recursion_depth + 1) - 1) = rw (← c.recursion_depth-recursion_depth.ensures) (omega arith) in
-    let same : length c.args.arguments.now ≡ length (map parameter_view function.parameters.items) = omega (arith, length-map function.parameters.items parameter_view, function.parameters.ok.0) in
-    let bound : frames_view c.in_ok-scope.scope ≡ with_parameters [] (map parameter_view function.parameters.items) c.in_ok-values.values.items ∷ frames_view self.scope = rw (c.in_ok-scope.ensures, c.deref.ensures.value) refl in
-    call_runs (context_view self.context) (name_view c.args.name.now) _ (function_view function) found _ _ one (situation self) _ _ same c.in_ok-values.values.items _ _ c.in_ok-values.ensures.runs
-    (inside_is (frames_view self.scope) (frames_view c.in_ok-scope.scope) (situation self) _ (function_view function) c.in_ok-values.values.items bound refl (rw c.new.ensures.empty refl))
-    (rw c.recursion_depth-recursion_depth.ensures at c.evaluate_value.ensures)
+pub evaluate_built_in-returns : goal.evaluate_built_in-returns
+evaluate_built_in-returns g t c =
+    built_in_runs (context_view c.args.self.now.context) (name_view c.args.name.now) c.in_ok-function.function c.in_ok-function.ensures.kept c.in_ok-function.ensures.found _ c.in_ok-function.ensures.count _ _ _ _ c.loop-argument.values.items _
+    (runs_all _ c.loop-argument.values.items (c.loop-argument.invariant.rest (Gave []) c.loop-argument.host (rw (drop_all c.loop-argument.argument-index c.args.arguments.now c.loop-argument-test.false) (runs_gives []))))
+    c.call_built_in.ensures

@@ -1,0 +1,45 @@
+-- Commands, and paths that may be empty.
+use Rattle.std.proofs.Common.{◌≡◌, ◌<◌, Bool, false, nat_eq, if◌then◌else◌, List, [], ◌∷◌, Some, Result, Ok, Err, refl, sym, ap, subst, ◌∙◌, arith, length, drop, map}
+use Rattle.just_syntax.specs.Plain.{Text}
+use Rattle.just_value.specs.Frames.{Frames}
+use Rattle.just_value.specs.Value.{Value}
+use Rattle.just_host.specs.Function.{Context}
+use Rattle.just_host.specs.Interaction.{AsksOnce}
+use Rattle.just_host.specs.Question.{Question, Answer, ExistsAt, command_question}
+use Rattle.just_builtins.specs.Argument.{value_at, first}
+use Rattle.just_builtins.specs.Asking.{asks_existence, asks_shell, command_answered, existence_answered, in_working_directory, shell_call}
+use Rattle.just_builtins.specs.Called.{Asked, Gives}
+use Rattle.just_builtins.specs.Reply.{Asks, Stops, says}
+use Rattle.just_builtins.specs.declared.call_fault.CallFault.{CallFault}
+use Rattle.just_builtins.specs.declared.call_fault.CallFault.TheVariants.{Internal, Message, OutOfMemory}
+use Rattle.just_builtins.proofs.Calls.{asked_once}
+
+-- a path that is not empty is asked for
+pub existence_is : (c : Context) (truth : Bool → Value) (path : Text) (b : Bool) → b ≡ nat_eq (length path) 0 → b ≡ false → asks_existence c truth path ≡ Asks (ExistsAt (in_working_directory c path)) (existence_answered truth)
+existence_is c truth [] b is other = absurd (cc)
+existence_is c truth (x ∷ xs) b is other = refl
+
+-- a command that is not in a dry run is asked for
+shell_is : (c : Context) (vs : List Value) (command : Text) → 0 < length vs → value_at vs 0 ≡ command ∷ [] → c.fixed.config.dry_run ≡ false
+    → asks_shell c (map first vs) ≡ Asks (command_question c.fixed c.environment [] command (Some (map first (drop 1 vs)))).blind command_answered
+shell_is c [] command some is dry = absurd (omega arith)
+shell_is c (v ∷ vs) command some is dry =
+    ap (λ b. if b then says (shell_call (first v ∷ map first vs)) else Asks (command_question c.fixed c.environment [] (first v) (Some (map first vs))).blind command_answered) dry
+    ∙ ap (λ w. Asks (command_question c.fixed c.environment [] (first w) (Some (map first vs))).blind command_answered) is
+
+-- what is stopped is stopped for want of memory
+stops : (result : Result Value CallFault) → Gives Stops result → result ≡ Err OutOfMemory
+stops (Ok v) is = absurd (cc)
+stops (Err (Message message)) is = absurd (cc)
+stops (Err OutOfMemory) is = refl
+stops (Err Internal) is = absurd is
+
+module _ {S : Type 0} {step : S → Question → Answer → S → Type 0} where
+  pub shell_asked : {old new : S} (shown : Frames) (c : Context) (vs : List Value) (command : Text) (words : List Text) (a : Answer) (result : Result Value CallFault)
+      → 0 < length vs → value_at vs 0 ≡ command ∷ [] → c.fixed.config.dry_run ≡ false → words ≡ map first (drop 1 vs)
+      → AsksOnce step old (command_question c.fixed c.environment shown command (Some words)) a new → Gives (command_answered a) result → Asked step old shown (asks_shell c (map first vs)) result new
+  shell_asked {old = old} {new = new} shown c vs command words a result some is dry same taken gave =
+      subst (λ r. Asked step old shown r result new) (sym (shell_is c vs command some is dry))
+      (asked_once shown (command_question c.fixed c.environment [] command (Some (map first (drop 1 vs)))).blind command_answered a result
+      (subst (λ ws. AsksOnce step old (command_question c.fixed c.environment shown command (Some ws)) a new) same taken) gave
+      (λ none. stops result (subst (λ x. Gives (command_answered x) result) none gave)))

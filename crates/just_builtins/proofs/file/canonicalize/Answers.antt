@@ -1,0 +1,13 @@
+use Rattle.std.proofs.Common.{ap, ◌∙◌}
+use Rattle.just_host.specs.Question.{Canonicalize}
+use Rattle.just_host.specs.View.{function_context_view}
+use Rattle.just_builtins.specs.Asking.{in_working_directory}
+use Rattle.just_builtins.specs.Message.{canonical_not_unicode, not_canonicalized, not_found}
+use Rattle.just_builtins.specs.Reply.{Fails}
+use Rattle.just_builtins.proofs.Calls.{asked_text}
+use Rattle.just_builtins.proofs.file.canonicalize.Goals as goal
+
+pub returns : goal.returns
+returns g c = λ shown.
+    asked_text shown _ (Canonicalize (in_working_directory (function_context_view c.args.context.now) c.args.path.now)) (Fails (not_canonicalized c.args.path.now not_found)) canonical_not_unicode (not_canonicalized c.args.path.now) _ _
+    (ap Canonicalize (c.deref.ensures ∙ c.in_ok-place.ensures)) c.text-answer.ensures c.canonical_answered.ensures

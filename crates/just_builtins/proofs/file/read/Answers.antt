@@ -1,0 +1,13 @@
+use Rattle.std.proofs.Common.{ap, ◌∙◌}
+use Rattle.just_host.specs.Question.{Read}
+use Rattle.just_host.specs.View.{function_context_view}
+use Rattle.just_builtins.specs.Asking.{in_working_directory}
+use Rattle.just_builtins.specs.Message.{not_found, not_read}
+use Rattle.just_builtins.specs.Reply.{Fails}
+use Rattle.just_builtins.proofs.Calls.{asked_text}
+use Rattle.just_builtins.proofs.file.read.Goals as goal
+
+pub returns : goal.returns
+returns g c = λ shown.
+    asked_text shown _ (Read (in_working_directory (function_context_view c.args.context.now) c.args.path.now)) (Fails (not_read c.args.path.now not_found)) (not_read c.args.path.now) (not_read c.args.path.now) _ _
+    (ap Read (c.deref.ensures ∙ c.in_ok-place.ensures)) c.text-answer.ensures c.contents_answered.ensures

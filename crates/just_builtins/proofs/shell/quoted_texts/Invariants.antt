@@ -1,0 +1,7 @@
+use Rattle.std.proofs.Common.{◌≡◌, ◌++◌, drop, map, string_bytes}
+use Rattle.just_value.specs.Shown.{quoted}
+use Rattle.just_builtins.specs.Argument.{first}
+use Rattle.just_builtins.proofs.shell.quoted_texts.Given as goal
+
+abbrev pub invariant-loop-i : goal.invariant-loop-i
+invariant-loop-i l = map string_bytes l.texts.items ++ map (λ v. quoted (first v)) (drop l.i l.arguments) ≡ map (λ v. quoted (first v)) l.arguments

@@ -1,0 +1,11 @@
+use Rattle.std.proofs.Common.{refl}
+use Rattle.just_host.specs.View.{text_question_view}
+use Rattle.just_builtins.specs.Message.{no_answer}
+use Rattle.just_builtins.specs.Reply.{Fails}
+use Rattle.just_builtins.proofs.Calls.{asked_text}
+use Rattle.just_builtins.proofs.system.system.Goals as goal
+
+pub returns : goal.returns
+returns g c = λ shown.
+    let none = no_answer c.args.name.now in
+    asked_text shown _ (text_question_view c.args.question) (Fails none) (λ text. none) (λ text. none) _ _ refl c.text-answer.ensures c.system_answered.ensures

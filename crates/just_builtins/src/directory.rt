@@ -1,0 +1,70 @@
+// The directories that the system keeps for its user.
+
+ghost use Rattle.std.specs.Prelude.{◌≡◌};
+ghost use Rattle.just_value.specs.Frames.{Frames};
+ghost use Rattle.just_host.specs.View.{text_replied};
+ghost use Rattle.just_builtins.specs.Asking.{asks_directory, directory_word, text_answered};
+ghost use Rattle.just_builtins.specs.Called.{Asked, Gives};
+ghost use Rattle.just_builtins.specs.Message.{directory_not_unicode, directory_unreadable, no_directory};
+ghost use Rattle.just_builtins.specs.Reply.{Fails};
+
+use crate::call_fault::CallFault;
+use crate::message;
+use just_host::directory_kind::DirectoryKind;
+use just_host::host::Host;
+use just_host::text_answer::TextAnswer;
+use just_host::text_question::TextQuestion;
+use just_value::value::Value;
+use std::alloc::Global;
+
+/// The word for a kind of directory, as messages say it.
+pub fn directory_word(kind: DirectoryKind) -> &'static str
+    ensures { result.now ≡ directory_word kind }
+{
+    match kind {
+        DirectoryKind::Cache => "cache",
+        DirectoryKind::Config => "config",
+        DirectoryKind::ConfigLocal => "local config",
+        DirectoryKind::Data => "data",
+        DirectoryKind::DataLocal => "local data",
+        DirectoryKind::Executable => "executable",
+        DirectoryKind::Home => "home",
+        DirectoryKind::Runtime => "runtime",
+    }
+}
+
+/// The path of a directory of this kind.
+///
+/// # Errors
+///
+/// `Message` where there is none, where its path is no text, and at the host's fault; `OutOfMemory` where memory
+/// was asked for and refused, or where the host says so.
+pub(crate) fn directory<H: Host>(
+    alloc: Global,
+    host: &mut H,
+    kind: DirectoryKind,
+) -> Result<Value, CallFault>
+    ensures { (shown : Frames) → Asked H.step host.old shown (asks_directory kind) result host.new }
+{
+    let answer = host.text(alloc, TextQuestion::Directory(kind));
+    directory_answered(alloc, directory_word(kind), answer)
+}
+
+// What the answer to it leads to.
+fn directory_answered(alloc: Global, word: &str, answer: TextAnswer) -> Result<Value, CallFault>
+    ensures { Gives (text_answered (Fails (no_directory word.now)) (directory_not_unicode word.now) (directory_unreadable word.now) (text_replied answer)) result }
+{
+    match answer {
+        TextAnswer::Text(text) => Ok(Value::from_string(alloc, text)?),
+        TextAnswer::Absent => Err(CallFault::Message(message::no_directory(alloc, word)?)),
+        TextAnswer::NotText(text) => {
+            let message = message::directory_not_unicode(alloc, word, &text)?;
+            Err(CallFault::Message(message))
+        }
+        TextAnswer::Fault(text) => {
+            let message = message::directory_unreadable(alloc, word, &text)?;
+            Err(CallFault::Message(message))
+        }
+        TextAnswer::OutOfMemory => Err(CallFault::OutOfMemory),
+    }
+}

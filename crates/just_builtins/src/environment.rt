@@ -1,0 +1,109 @@
+// Variables of the environment.
+
+ghost use Rattle.std.specs.Prelude.{◌≡◌, Option, map, option_map, string_bytes};
+ghost use Rattle.just_value.specs.Frames.{Frames};
+ghost use Rattle.just_host.specs.View.{function_context_view, pairs_view, text_replied};
+ghost use Rattle.just_builtins.specs.Asking as spec;
+ghost use Rattle.just_builtins.specs.Called.{Asked, AskedOr, Gives, GivesOr};
+ghost use Rattle.just_builtins.specs.Message.{variable_not_unicode, variable_unreadable};
+
+use crate::call_fault::CallFault;
+use crate::message;
+use just_host::function::Context;
+use just_host::host::Host;
+use just_host::text_answer::TextAnswer;
+use just_host::text_question::TextQuestion;
+use just_value::value::Value;
+use std::alloc::Global;
+use std::collections::BTreeMap;
+
+/// What the first of these variables holds that is set, by the dotenv map or else by the host, which is asked for
+/// one after another; the default where none is set.
+///
+/// # Errors
+///
+/// `Message` where none is set and there is no default, and where a variable that is asked for holds no text or
+/// cannot be read; `OutOfMemory` where memory was asked for and refused, or where the host says so.
+pub fn environment<H: Host>(
+    alloc: Global,
+    host: &mut H,
+    context: &Context,
+    keys: &Value,
+    default: Option<&Value>,
+) -> Result<Value, CallFault>
+    ensures { (shown : Frames) → Asked H.step host.old shown (spec.asks_environment (function_context_view context.now) keys.now (option_map (λ value. value.now) default.entry)) result host.new }
+{
+    let dotenv = context.execution_context.dotenv;
+    match first_set(alloc, host, dotenv, keys.elements())? {
+        Some(value) => Ok(value),
+        None => unset(alloc, keys.elements(), default),
+    }
+}
+
+// What the first of these variables holds that is set.
+fn first_set<H: Host>(
+    alloc: Global,
+    host: &mut H,
+    dotenv: &BTreeMap<String, String>,
+    keys: &[String],
+) -> Result<Option<Value>, CallFault>
+    ensures { (shown : Frames) → AskedOr H.step host.old shown (λ rest. spec.first_set (pairs_view dotenv.now) rest (map string_bytes keys.now)) result host.new }
+{
+    for key in keys {
+        if let Some(value) = variable(alloc, host, dotenv, key)? {
+            return Ok(Some(value));
+        }
+    }
+    Ok(None)
+}
+
+// What a variable holds, if it is set.
+fn variable<H: Host>(
+    alloc: Global,
+    host: &mut H,
+    dotenv: &BTreeMap<String, String>,
+    key: &str,
+) -> Result<Option<Value>, CallFault>
+    ensures { (shown : Frames) → AskedOr H.step host.old shown (spec.variable (pairs_view dotenv.now) key.now) result host.new }
+{
+    match dotenv.get(key) {
+        Some(text) => Ok(Some(Value::from_text(alloc, text)?)),
+        None => {
+            let answer = host.text(alloc, TextQuestion::Variable(key));
+            variable_answered(alloc, key, answer)
+        }
+    }
+}
+
+// What the answer to it leads to.
+fn variable_answered(
+    alloc: Global,
+    key: &str,
+    answer: TextAnswer,
+) -> Result<Option<Value>, CallFault>
+    ensures { GivesOr (λ rest. spec.text_answered rest (variable_not_unicode key.now) (variable_unreadable key.now) (text_replied answer)) result }
+{
+    match answer {
+        TextAnswer::Text(text) => Ok(Some(Value::from_string(alloc, text)?)),
+        TextAnswer::Absent => Ok(None),
+        TextAnswer::NotText(text) => {
+            let message = message::variable_not_unicode(alloc, key, &text)?;
+            Err(CallFault::Message(message))
+        }
+        TextAnswer::Fault(text) => {
+            let message = message::variable_unreadable(alloc, key, &text)?;
+            Err(CallFault::Message(message))
+        }
+        TextAnswer::OutOfMemory => Err(CallFault::OutOfMemory),
+    }
+}
+
+// What is answered where none of the variables is set.
+fn unset(alloc: Global, keys: &[String], default: Option<&Value>) -> Result<Value, CallFault>
+    ensures { Gives (spec.unset (map string_bytes keys.now) (option_map (λ value. value.now) default.entry)) result }
+{
+    match default {
+        Some(value) => Ok(value.try_clone(alloc)?),
+        None => Err(CallFault::Message(message::no_variable(alloc, keys)?)),
+    }
+}

@@ -1,0 +1,145 @@
+// Files, by paths in the working directory.
+
+ghost use Rattle.std.specs.Prelude.{◌≡◌, IfOk, false, string_bytes};
+ghost use Rattle.just_value.specs.Frames.{Frames};
+ghost use Rattle.just_host.specs.View.{found, function_context_view, text_replied};
+ghost use Rattle.just_builtins.specs.Asking as spec;
+ghost use Rattle.just_builtins.specs.Called.{Asked, Gives};
+ghost use Rattle.just_builtins.specs.Meaning.{has_lists, truth};
+ghost use Rattle.just_builtins.specs.Message.{canonical_not_unicode, not_canonicalized, not_found, not_read};
+ghost use Rattle.just_builtins.specs.Reply.{Answers, Fails};
+
+use crate::call_fault::CallFault;
+use crate::truth::truth;
+use crate::{message, path};
+use just_host::function::Context;
+use just_host::host::Host;
+use just_host::text_answer::TextAnswer;
+use just_host::text_question::TextQuestion;
+use just_syntax::out_of_memory::OutOfMemory;
+use just_value::value::Value;
+use std::alloc::Global;
+
+// A path, behind the working directory.
+fn in_working_directory(alloc: Global, context: &Context, path: &str) -> Result<String, OutOfMemory>
+    ensures { IfOk result (λ text. string_bytes text ≡ spec.in_working_directory (function_context_view context.now) path.now) }
+{
+    let directory = context.execution_context.working_directory(alloc)?;
+    path::join(alloc, &directory, path)
+}
+
+/// The path, free of links, of what stands at a path in the working directory.
+///
+/// # Errors
+///
+/// `Message` where there is none, where it is no text, and at the host's fault; `OutOfMemory` where memory was
+/// asked for and refused, or where the host says so.
+pub fn canonicalize<H: Host>(
+    alloc: Global,
+    host: &mut H,
+    context: &Context,
+    path: &str,
+) -> Result<Value, CallFault>
+    ensures { (shown : Frames) → Asked H.step host.old shown (spec.asks_canonical (function_context_view context.now) path.now) result host.new }
+{
+    let place = in_working_directory(alloc, context, path)?;
+    let answer = host.text(alloc, TextQuestion::Canonicalize(&place));
+    canonical_answered(alloc, path, answer)
+}
+
+// What the answer to it leads to.
+fn canonical_answered(alloc: Global, path: &str, answer: TextAnswer) -> Result<Value, CallFault>
+    ensures { Gives (spec.text_answered (Fails (not_canonicalized path.now not_found)) canonical_not_unicode (not_canonicalized path.now) (text_replied answer)) result }
+{
+    match answer {
+        TextAnswer::Text(text) => Ok(Value::from_string(alloc, text)?),
+        TextAnswer::Absent => {
+            let message = message::not_canonicalized(alloc, path, message::NOT_FOUND)?;
+            Err(CallFault::Message(message))
+        }
+        TextAnswer::NotText(text) => {
+            Err(CallFault::Message(message::canonical_not_unicode(alloc, &text)?))
+        }
+        TextAnswer::Fault(text) => {
+            Err(CallFault::Message(message::not_canonicalized(alloc, path, &text)?))
+        }
+        TextAnswer::OutOfMemory => Err(CallFault::OutOfMemory),
+    }
+}
+
+/// What the file at a path in the working directory holds.
+///
+/// # Errors
+///
+/// `Message` where there is none, where it holds no text, and at the host's fault; `OutOfMemory` where memory was
+/// asked for and refused, or where the host says so.
+pub fn read<H: Host>(
+    alloc: Global,
+    host: &mut H,
+    context: &Context,
+    path: &str,
+) -> Result<Value, CallFault>
+    ensures { (shown : Frames) → Asked H.step host.old shown (spec.asks_contents (function_context_view context.now) path.now) result host.new }
+{
+    let place = in_working_directory(alloc, context, path)?;
+    let answer = host.text(alloc, TextQuestion::Read(&place));
+    contents_answered(alloc, path, answer)
+}
+
+// What the answer to it leads to.
+fn contents_answered(alloc: Global, path: &str, answer: TextAnswer) -> Result<Value, CallFault>
+    ensures { Gives (spec.text_answered (Fails (not_read path.now not_found)) (not_read path.now) (not_read path.now) (text_replied answer)) result }
+{
+    match answer {
+        TextAnswer::Text(text) => Ok(Value::from_string(alloc, text)?),
+        TextAnswer::Absent => {
+            let message = message::not_read(alloc, path, message::NOT_FOUND)?;
+            Err(CallFault::Message(message))
+        }
+        TextAnswer::NotText(text) | TextAnswer::Fault(text) => {
+            Err(CallFault::Message(message::not_read(alloc, path, &text)?))
+        }
+        TextAnswer::OutOfMemory => Err(CallFault::OutOfMemory),
+    }
+}
+
+/// Whether something stands at a path in the working directory, as a truth. Nothing does at the empty path, and
+/// the host is not asked.
+///
+/// # Errors
+///
+/// `OutOfMemory` where memory was asked for and refused, or where the host says so.
+pub fn path_exists<H: Host>(
+    alloc: Global,
+    host: &mut H,
+    context: &Context,
+    path: &str,
+) -> Result<Value, CallFault>
+    ensures { let c = function_context_view context.now in (shown : Frames) → Asked H.step host.old shown (spec.asks_existence c (truth (has_lists c)) path.now) result host.new }
+{
+    let lists = context.execution_context.module.settings.lists;
+    if path.is_empty() {
+        return nowhere(alloc, lists);
+    }
+    let place = in_working_directory(alloc, context, path)?;
+    let answer = host.exists(alloc, &place);
+    existence_answered(alloc, lists, answer)
+}
+
+// That nothing is there.
+fn nowhere(alloc: Global, lists: bool) -> Result<Value, CallFault>
+    ensures { Gives (Answers (truth lists false)) result }
+{
+    Ok(truth(alloc, lists, false)?)
+}
+
+// What the answer to it leads to.
+fn existence_answered(
+    alloc: Global,
+    lists: bool,
+    answer: Result<bool, OutOfMemory>,
+) -> Result<Value, CallFault>
+    ensures { Gives (spec.existence_answered (truth lists) (found answer)) result }
+{
+    Ok(truth(alloc, lists, answer?)?)
+}

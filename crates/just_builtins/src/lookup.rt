@@ -1,0 +1,88 @@
+// Executables, looked for from the working directory.
+
+ghost use Rattle.std.specs.Prelude.{[]};
+ghost use Rattle.just_value.specs.Frames.{Frames};
+ghost use Rattle.just_host.specs.View.{function_context_view, text_replied};
+ghost use Rattle.just_builtins.specs.Asking.{asks_which, text_answered};
+ghost use Rattle.just_builtins.specs.Called.{Asked, Gives};
+ghost use Rattle.just_builtins.specs.Message.{no_executable};
+ghost use Rattle.just_builtins.specs.Reply.{Answers, Fails};
+
+use crate::call_fault::CallFault;
+use crate::message;
+use just_host::function::Context;
+use just_host::host::Host;
+use just_host::text_answer::TextAnswer;
+use just_host::text_question::TextQuestion;
+use just_value::value::Value;
+use std::alloc::Global;
+
+/// The path of the executable of a name; no element where there is none.
+///
+/// # Errors
+///
+/// `Message` where the path is no text, and at the host's fault; `OutOfMemory` where memory was asked for and
+/// refused, or where the host says so.
+pub fn which<H: Host>(
+    alloc: Global,
+    host: &mut H,
+    context: &Context,
+    name: &str,
+) -> Result<Value, CallFault>
+    ensures { (shown : Frames) → Asked H.step host.old shown (asks_which (function_context_view context.now) name.now (Answers [])) result host.new }
+{
+    let working_directory = context.execution_context.working_directory(alloc)?;
+    let question = TextQuestion::Which {
+        name,
+        working_directory: &working_directory,
+    };
+    let answer = host.text(alloc, question);
+    which_answered(alloc, answer)
+}
+
+// What the answer to it leads to.
+fn which_answered(alloc: Global, answer: TextAnswer) -> Result<Value, CallFault>
+    ensures { Gives (text_answered (Answers []) (λ text. text) (λ text. text) (text_replied answer)) result }
+{
+    match answer {
+        TextAnswer::Text(text) => Ok(Value::from_string(alloc, text)?),
+        TextAnswer::Absent => Ok(Value::new(alloc)),
+        TextAnswer::NotText(text) | TextAnswer::Fault(text) => Err(CallFault::Message(text)),
+        TextAnswer::OutOfMemory => Err(CallFault::OutOfMemory),
+    }
+}
+
+/// The path of the executable of a name.
+///
+/// # Errors
+///
+/// `Message` where there is none, where the path is no text, and at the host's fault; `OutOfMemory` where memory
+/// was asked for and refused, or where the host says so.
+pub fn require<H: Host>(
+    alloc: Global,
+    host: &mut H,
+    context: &Context,
+    name: &str,
+) -> Result<Value, CallFault>
+    ensures { (shown : Frames) → Asked H.step host.old shown (asks_which (function_context_view context.now) name.now (Fails (no_executable name.now))) result host.new }
+{
+    let working_directory = context.execution_context.working_directory(alloc)?;
+    let question = TextQuestion::Which {
+        name,
+        working_directory: &working_directory,
+    };
+    let answer = host.text(alloc, question);
+    require_answered(alloc, name, answer)
+}
+
+// What the answer to it leads to.
+fn require_answered(alloc: Global, name: &str, answer: TextAnswer) -> Result<Value, CallFault>
+    ensures { Gives (text_answered (Fails (no_executable name.now)) (λ text. text) (λ text. text) (text_replied answer)) result }
+{
+    match answer {
+        TextAnswer::Text(text) => Ok(Value::from_string(alloc, text)?),
+        TextAnswer::Absent => Err(CallFault::Message(message::no_executable(alloc, name)?)),
+        TextAnswer::NotText(text) | TextAnswer::Fault(text) => Err(CallFault::Message(text)),
+        TextAnswer::OutOfMemory => Err(CallFault::OutOfMemory),
+    }
+}

@@ -1,0 +1,106 @@
+// What is asked about the system and the running program.
+
+ghost use Rattle.just_value.specs.Frames.{Frames};
+ghost use Rattle.just_host.specs.View.{numbered, text_question_view, text_replied};
+ghost use Rattle.just_builtins.specs.Asking.{asks_executable, asks_number, asks_system, number_answered, text_answered};
+ghost use Rattle.just_builtins.specs.Called.{Asked, Gives};
+ghost use Rattle.just_builtins.specs.Message.{executable_not_unicode, executable_unknown, no_answer, not_found};
+ghost use Rattle.just_builtins.specs.Reply.{Fails};
+
+use crate::call_fault::CallFault;
+use crate::message;
+use just_host::host::Host;
+use just_host::number_question::NumberQuestion;
+use just_host::text_answer::TextAnswer;
+use just_host::text_question::TextQuestion;
+use just_syntax::out_of_memory::OutOfMemory;
+use just_value::value::Value;
+use std::alloc::Global;
+
+/// The system's word for a part of itself, which the built-in function of this name asks for.
+///
+/// # Errors
+///
+/// `Message` where the host gives no text; `OutOfMemory` where memory was asked for and refused, or where the
+/// host says so.
+pub fn system<H: Host>(
+    alloc: Global,
+    host: &mut H,
+    name: &str,
+    question: TextQuestion,
+) -> Result<Value, CallFault>
+    ensures { (shown : Frames) → Asked H.step host.old shown (asks_system name.now (text_question_view question.entry)) result host.new }
+{
+    let answer = host.text(alloc, question);
+    system_answered(alloc, name, answer)
+}
+
+// What the answer to it leads to.
+fn system_answered(alloc: Global, name: &str, answer: TextAnswer) -> Result<Value, CallFault>
+    ensures { Gives (text_answered (Fails (no_answer name.now)) (λ text. no_answer name.now) (λ text. no_answer name.now) (text_replied answer)) result }
+{
+    match answer {
+        TextAnswer::Text(text) => Ok(Value::from_string(alloc, text)?),
+        TextAnswer::Absent | TextAnswer::NotText(_) | TextAnswer::Fault(_) => {
+            Err(CallFault::Message(message::no_answer(alloc, name)?))
+        }
+        TextAnswer::OutOfMemory => Err(CallFault::OutOfMemory),
+    }
+}
+
+/// The path of the running program.
+///
+/// # Errors
+///
+/// `Message` where the host has none, where it is no text, and at a fault; `OutOfMemory` where memory was asked
+/// for and refused, or where the host says so.
+pub fn executable<H: Host>(alloc: Global, host: &mut H) -> Result<Value, CallFault>
+    ensures { (shown : Frames) → Asked H.step host.old shown asks_executable result host.new }
+{
+    let answer = host.text(alloc, TextQuestion::Executable);
+    executable_answered(alloc, answer)
+}
+
+// What the answer to it leads to.
+fn executable_answered(alloc: Global, answer: TextAnswer) -> Result<Value, CallFault>
+    ensures { Gives (text_answered (Fails (executable_unknown not_found)) executable_not_unicode executable_unknown (text_replied answer)) result }
+{
+    match answer {
+        TextAnswer::Text(text) => Ok(Value::from_string(alloc, text)?),
+        TextAnswer::Absent => {
+            let message = message::executable_unknown(alloc, message::NOT_FOUND)?;
+            Err(CallFault::Message(message))
+        }
+        TextAnswer::NotText(text) => {
+            Err(CallFault::Message(message::executable_not_unicode(alloc, &text)?))
+        }
+        TextAnswer::Fault(text) => {
+            Err(CallFault::Message(message::executable_unknown(alloc, &text)?))
+        }
+        TextAnswer::OutOfMemory => Err(CallFault::OutOfMemory),
+    }
+}
+
+/// A number, in decimal.
+///
+/// # Errors
+///
+/// `OutOfMemory` where memory was asked for and refused, or where the host says so.
+pub fn number<H: Host>(
+    alloc: Global,
+    host: &mut H,
+    question: NumberQuestion,
+) -> Result<Value, CallFault>
+    ensures { (shown : Frames) → Asked H.step host.old shown (asks_number question) result host.new }
+{
+    let answer = host.number(alloc, question);
+    number_answered(alloc, answer)
+}
+
+// What the answer to it leads to.
+fn number_answered(alloc: Global, answer: Result<u64, OutOfMemory>) -> Result<Value, CallFault>
+    ensures { Gives (number_answered (numbered answer)) result }
+{
+    let digits = answer?.to_string(alloc)?;
+    Ok(Value::from_string(alloc, digits)?)
+}
