@@ -1,5 +1,5 @@
 -- What runs of calls come to.
-use Rattle.std.proofs.Common.{◌≡◌, ℕ, suc, true, false, if◌then◌else◌, List, [], ◌∷◌, Option, Some, None, length, nat_eq, refl, sym, ap, ◌∙◌, subst, arith}
+use Rattle.std.proofs.Common.{◌≡◌, ℕ, suc, Bool, true, false, if◌then◌else◌, List, [], ◌∷◌, Option, Some, None, length, nat_eq, refl, sym, ap, ◌∙◌, subst, arith}
 use Rattle.std.proofs.lemmas.Bool.Decides.{nat_tests}
 use Rattle.just_syntax.specs.Plain.{Token, Function, Expr}
 use Rattle.just_value.specs.Value.{Value}
@@ -12,11 +12,12 @@ use Rattle.just_builtins.specs.Argument.{IsExpected}
 use Rattle.just_builtins.specs.Table.{function_named, is_left_out}
 use Rattle.just_builtins.specs.declared.function.Function.{Function as BuiltIn}
 use Rattle.just_resolution.specs.Callee as callee
-use Rattle.just_resolution.specs.Callee.{Defined, LeftOut, built_in_or_unknown, defined_or, undefined}
+use Rattle.just_resolution.specs.Callee.{Callee, Defined, LeftOut, Unknown, accepts, built_in_or_unknown, defined_or, undefined}
 use Rattle.just_resolution.proofs.Standing.{callable}
 use Rattle.just_meaning.specs.Messages.{miscounted_text}
 use Rattle.just_meaning.specs.Meaning.{Context, Situation, Deeper, built_in_call, called, eval, when}
 use Rattle.just_meaning.specs.Closings.{chained, inside, with_parameters}
+use Rattle.just_eval.specs.Call.{reached}
 use Rattle.just_eval.proofs.Runs.{runs_on, runs_ends}
 
 -- a body's situation, from the evaluator's own
@@ -35,13 +36,35 @@ called_is c t f calls m s n arguments checked one same =
     ap (λ k. called c t (Defined f) (chained c k) s n arguments checked) one
     ∙ ap (λ b. when b (bind arguments (body c m s f)) (refuses (Internal (miscounted_text t.lexeme) t))) e
 
--- what a call comes to of a built-in function that takes so many arguments
-module _ (c : Context) (t : Token) (f : BuiltIn) (kept : is_left_out t.lexeme ≡ false) (found : function_named t.lexeme ≡ Some f) (n : ℕ) (fits : IsExpected f n) (d : Deeper) (s : Situation) (arguments : Tree (List Value)) (checked : BuiltIn → Tree (List Value)) where
+-- the function of a test
+if_some : (b : Bool) (g f : BuiltIn) → (if b then Some g else None) ≡ Some f → (b ≡ true) × (g ≡ f)
+if_some true g f e = (refl, cc)
+if_some false g f e = absurd cc
+
+-- a call that reaches a built-in function names it, and has as many arguments as it takes
+reached_function : (out : Bool) (o : Option BuiltIn) (n : ℕ) (f : BuiltIn) → reached (if out then LeftOut else built_in_or_unknown o) n ≡ Some f → (o ≡ Some f) × IsExpected f n
+reached_function true o n f e = absurd cc
+reached_function false None n f e = absurd cc
+reached_function false (Some g) n f e =
+    let h = if_some (accepts (callee.BuiltIn g) n) g f e in
+    (ap Some h.1, subst (λ k. IsExpected k n) h.1 ((callable (callee.BuiltIn g) n).0 h.0))
+
+pub is_reached : (t : Token) (n : ℕ) (f : BuiltIn) → reached (undefined t.lexeme) n ≡ Some f → (function_named t.lexeme ≡ Some f) × IsExpected f n
+is_reached t = reached_function (is_left_out t.lexeme) (function_named t.lexeme)
+
+-- what a call comes to that reaches a built-in function
+module _ (c : Context) (t : Token) (f : BuiltIn) (n : ℕ) (is : reached (undefined t.lexeme) n ≡ Some f) (d : Deeper) (s : Situation) (arguments : Tree (List Value)) (checked : BuiltIn → Tree (List Value)) where
+  reached_is : (x : Callee) → reached x n ≡ Some f → called c t x d s n arguments checked ≡ bind (checked f) (built_in_call c s t f)
+  reached_is (callee.BuiltIn g) e =
+      let h = if_some (accepts (callee.BuiltIn g) n) g f e in
+      ap (λ b. when b (bind (checked g) (built_in_call c s t g)) (refuses (Internal (miscounted_text t.lexeme) t))) h.0
+      ∙ ap (λ k. bind (checked k) (built_in_call c s t k)) h.1
+  reached_is (Defined g) e = absurd cc
+  reached_is LeftOut e = absurd cc
+  reached_is Unknown e = absurd cc
+
   built_in_is : called c t (undefined t.lexeme) d s n arguments checked ≡ bind (checked f) (built_in_call c s t f)
-  built_in_is =
-      ap (λ b. called c t (if b then LeftOut else built_in_or_unknown (function_named t.lexeme)) d s n arguments checked) kept
-      ∙ ap (λ o. called c t (built_in_or_unknown o) d s n arguments checked) found
-      ∙ ap (λ b. when b (bind (checked f) (built_in_call c s t f)) (refuses (Internal (miscounted_text t.lexeme) t))) ((callable (callee.BuiltIn f) n).1 fits)
+  built_in_is = reached_is (undefined t.lexeme) is
 
   module _ {S : Type 0} {step : S → Question → Answer → S → Type 0} where
     -- an argument ends it

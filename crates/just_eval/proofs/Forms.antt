@@ -1,5 +1,5 @@
 -- What runs of the forms come to.
-use Rattle.std.proofs.Common.{◌≡◌, ℕ, Bool, true, false, [], ◌∷◌, ◌++◌, refl, ap, inl, inr, Option, Some, None}
+use Rattle.std.proofs.Common.{◌≡◌, ℕ, Bool, true, false, [], ◌∷◌, ◌++◌, refl, ap, subst, inl, inr, Option, Some, None}
 use Rattle.just_syntax.specs.Plain.{Text, Token}
 use Rattle.just_value.specs.Value.{Value, Names}
 use Rattle.just_value.specs.Refusal.{Internal, Fault, Code, Message, NoMemory}
@@ -34,8 +34,10 @@ module _ {S : Type 0} {step : S → Question → Answer → S → Type 0} where
   runs_asked f s text t a o d asked u stops = runs_note (runs_else _ _ _ d (runs_once _ a (answered t) o asked u stops))
 
   -- an argument's value, and what becomes of it without a question
-  pub runs_argument : {old new : S} (e : Tree Value) (b : Bool) (t : Token) (v : Value) (o : Outcome Value) → Runs step old e (Gave v) new → Path (argument b t v) [] o → Runs step old (bind e (argument b t)) o new
-  runs_argument e b t v o r p = runs_on e (argument b t) r (record { events = []; path = p; chain = refl })
+  pub runs_argument : {old new : S} (e : Tree Value) (texts : ℕ → Bool) (i k : ℕ) (t : Token) (v : Value) (o : Outcome Value) → i ≡ k → Runs step old e (Gave v) new → Path (argument (texts i) t v) [] o
+      → Runs step old (bind e (argument (texts k) t)) o new
+  runs_argument {old = old} {new = new} e texts i k t v o same r p =
+      subst (λ j. Runs step old (bind e (argument (texts j) t)) o new) same (runs_on e (argument (texts i) t) r (record { events = []; path = p; chain = refl }))
 
 pub without_memory : (t : Token) (f : Fault) → Failed f ≡ Failed NoMemory → faulted t f ≡ Stopped
 without_memory t (Code n) e = absurd (cc)

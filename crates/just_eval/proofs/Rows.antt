@@ -1,12 +1,12 @@
 -- Expressions whose parts are no boxes, and values one after another.
-use Rattle.std.proofs.Common.{◌≡◌, ℕ, Bool, suc, ◌+◌, ◌<◌, List, [], ◌∷◌, ◌++◌, length, get_or, drop, add-one, drop-cons, refl, ap, sym, ◌∙◌, subst, rules, Option, Some, None}
+use Rattle.std.proofs.Common.{◌≡◌, ℕ, Bool, ◌+◌, ◌<◌, List, [], ◌∷◌, ◌++◌, length, get_or, drop, add-one, refl, ap, sym, ◌∙◌, subst, rules, Option, Some, None}
 use Rattle.std.proofs.lemmas.List.{append-nil}
-use Rattle.just_syntax.specs.declared.expression.Expression.{Expression, Row_of-Expression, end_of-Expression, more_of-Expression, items-the_row-Expression, Row_of-Expression-FormatString-1-2, items-the_row-Expression-FormatString-1-2, end_of-Expression-FormatString-1-2, more_of-Expression-FormatString-1-2}
-use Rattle.just_syntax.specs.declared.expression.Expression.TheViews.{the_lemmas}
+use Rattle.just_syntax.specs.declared.expression.Expression.{Expression}
 use Rattle.just_syntax.specs.declared.expression.Expression.TheViews as expressions
 use Rattle.just_syntax.specs.declared.string_literal.StringLiteral.{StringLiteral as Written}
-use Rattle.just_syntax.specs.Plain.{Text, Token, Call, Cons, Piece, ListOf, FormatString, count}
-use Rattle.just_syntax.specs.View.{name_view, token_view, literal_view, view, views, row_view, piece_views, pieces_view}
+use Rattle.just_syntax.specs.Plain.{Text, Token, Call, FormatString}
+use Rattle.just_syntax.specs.View.{name_view, literal_view, view, views, piece_views}
+use Rattle.just_syntax.proofs.Rows.{view_list, view_call, view_format_string, count_views, views_front, pieces_front}
 use Rattle.just_value.specs.Value.{Value, joined}
 use Rattle.just_value.specs.Refusal.{Refusal}
 use Rattle.just_value.specs.Outcome.{Outcome, Gave, Refused, Stopped, without_value}
@@ -16,34 +16,6 @@ use Rattle.just_builtins.specs.Shape.{is_text}
 use Rattle.just_resolution.specs.Callee.{callee}
 use Rattle.just_meaning.specs.Meaning.{Context, Situation, Deeper, argument, eval, eval_all, eval_arguments, eval_pieces, called, flatten, formatted}
 use Rattle.just_eval.proofs.Runs.{runs_on, runs_ends, runs_stopped, runs_gives, path_refused, path_stopped}
-
-row_items : {n : _} (row : Row_of-Expression n) → row_view row ≡ views (items-the_row-Expression n row)
-row_items end_of-Expression = refl
-row_items (more_of-Expression e rest) = ap (Cons (view e)) (row_items rest)
-
-piece_items : {n : _} (row : Row_of-Expression-FormatString-1-2 n) → pieces_view row ≡ piece_views (items-the_row-Expression-FormatString-1-2 n row)
-piece_items end_of-Expression-FormatString-1-2 = refl
-piece_items (more_of-Expression-FormatString-1-2 e literal rest) = ap (Piece (view e) (literal_view literal)) (piece_items rest)
-
-view_list : (es : _) (t : _) → view (expressions.List es t) ≡ ListOf (views es.items) (token_view t)
-view_list es t = search (rules, the_lemmas, row_items)
-
-view_call : (es : _) (name : _) → view (expressions.Call es name) ≡ Call (name_view name) (views es.items)
-view_call es name = search (rules, the_lemmas, row_items)
-
-count_views : (es : List Expression) → count (views es) ≡ length es
-count_views [] = refl
-count_views (e ∷ es) = ap suc (count_views es)
-
-view_format_string : (start : _) (es : _) → view (expressions.FormatString start es) ≡ FormatString (literal_view start) (piece_views es.items)
-view_format_string start es = search (rules, the_lemmas, piece_items)
-
--- what is left begins with the item
-views_front : (es : List Expression) (i : ℕ) (e : Expression) → i < length es → e ≡ get_or es i e → views (drop i es) ≡ Cons (view e) (views (drop (i + 1) es))
-views_front es i e h is = ap views (drop-cons es i e h) ∙ ap (λ x. Cons (view x) (views (drop (suc i) es))) (sym is) ∙ ap (λ j. Cons (view e) (views (drop j es))) (sym (add-one i))
-
-pieces_front : (ps : List (Expression × Written)) (i : ℕ) (p : Expression × Written) → i < length ps → p ≡ get_or ps i p → piece_views (drop i ps) ≡ Piece (view p.0) (literal_view p.1) (piece_views (drop (i + 1) ps))
-pieces_front ps i p h is = ap piece_views (drop-cons ps i p h) ∙ ap (λ x. Piece (view x.0) (literal_view x.1) (piece_views (drop (suc i) ps))) (sym is) ∙ ap (λ j. Piece (view p.0) (literal_view p.1) (piece_views (drop j ps))) (sym (add-one i))
 
 module _ (c : Context) (d : Deeper) (s : Situation) where
   pub list_is : (es : _) (t : _) → eval c d s (view (expressions.List es t)) ≡ bind (eval_all c d s (views es.items)) (λ vs. gives (flatten vs))

@@ -1,18 +1,22 @@
 // Calls of names that the file does not define.
 
-ghost use Rattle.std.specs.Prelude.{◌≡◌, ◌∷◌, ◌++◌, [], IfErr, IfOk, OnOk, Some, false, length, true};
+ghost use Rattle.std.specs.Prelude.{◌≡◌, [], None, Some, false, length, true, ℕ};
+ghost use Rattle.just_syntax.specs.Plain.{Token};
+ghost use Rattle.just_syntax.specs.StringContext as contexts;
 ghost use Rattle.just_syntax.specs.View.{name_view};
-ghost use Rattle.just_value.specs.Outcome.{without_value};
-ghost use Rattle.just_value.specs.View.{ended, frames_view, refusal};
+ghost use Rattle.just_value.specs.Outcome.{Refused};
+ghost use Rattle.just_value.specs.Refusal.{ListInStringContext};
+ghost use Rattle.just_value.specs.View.{ended, frames_view};
 ghost use Rattle.just_host.specs.Interaction.{Path, Runs, bind, gives};
 ghost use Rattle.just_host.specs.View.{function_context_view};
 ghost use Rattle.just_builtins.specs.Argument.{HasTexts, IsExpected};
 ghost use Rattle.just_builtins.specs.Called.{tree};
 ghost use Rattle.just_builtins.specs.Meaning.{reply};
 ghost use Rattle.just_builtins.specs.Shape.{builtin_of, is_text};
-ghost use Rattle.just_builtins.specs.Table.{function_named, is_left_out};
+ghost use Rattle.just_builtins.specs.Table.{function_named};
+ghost use Rattle.just_resolution.specs.Callee.{undefined};
 ghost use Rattle.just_meaning.specs.Meaning.{argument, returned};
-ghost use Rattle.just_eval.specs.Call.{EndsAtOnce};
+ghost use Rattle.just_eval.specs.Call.{EndsAtOnce, reached};
 
 use crate::message;
 use just_builtins::call_fault::CallFault;
@@ -25,58 +29,57 @@ use just_value::error::Error;
 use just_value::value::Value;
 use std::alloc::Global;
 
-// The built-in function of a name, if it takes so many arguments.
-pub(crate) fn named<'src>(
-    alloc: Global,
-    name: &Name<'src>,
-    arguments: usize,
-) -> Result<Function, Error<'src>>
-    ensures found { IfOk result (λ f. function_named (name_view name.now).lexeme ≡ Some f) }
-    ensures kept { IfOk result (λ f. is_left_out (name_view name.now).lexeme ≡ false) }
-    ensures count { IfOk result (λ f. IsExpected f arguments) }
-    ensures refused { IfErr result (λ e. EndsAtOnce (name_view name.now) arguments (without_value (refusal e))) }
+// The built-in function that a call with so many arguments reaches. Why there is none is for `refuse` to say: an answer
+// with room for a refusal would keep it while the arguments are evaluated.
+pub(crate) fn named(name: &Name<'_>, arguments: usize) -> Option<Function>
+    ensures { result ≡ reached (undefined (name_view name.now).lexeme) arguments }
+{
+    if is_left_out(name.lexeme()) {
+        return None;
+    }
+    let function = get(name.lexeme())?;
+    let expected = function.expected_arguments();
+    if arguments < *expected.start() || *expected.end() < arguments {
+        return None;
+    }
+    Some(function)
+}
+
+// Refuses a call that reaches no built-in function: for its name, or else for how many arguments it has.
+pub(crate) fn refuse<'src>(alloc: Global, name: &Name<'src>) -> Result<Value, Error<'src>>
+    ensures { (n : ℕ) → reached (undefined (name_view name.now).lexeme) n ≡ None → EndsAtOnce (name_view name.now) n (ended (λ v. v) result) }
 {
     if is_left_out(name.lexeme()) {
         return Err(Error::LeftOut { function: *name });
     }
-    let Some(function) = get(name.lexeme()) else {
-        let message = message::unknown_function(alloc, name.lexeme())?;
-        return Err(Error::Internal {
-            message,
-            token: name.token,
-        });
+    let message = match get(name.lexeme()) {
+        Some(_) => message::miscounted(alloc, name.lexeme())?,
+        None => message::unknown_function(alloc, name.lexeme())?,
     };
-    let expected = function.expected_arguments();
-    if arguments < *expected.start() || *expected.end() < arguments {
-        let message = message::miscounted(alloc, name.lexeme())?;
-        return Err(Error::Internal {
-            message,
-            token: name.token,
-        });
-    }
-    Ok(function)
+    Err(Error::Internal {
+        message,
+        token: name.token,
+    })
 }
 
-// Puts a function's next argument behind those before it. It is refused where a text is wanted and it has not exactly
-// one element.
-pub(crate) fn push_argument<'src>(
-    name: &Name<'src>,
-    function: Function,
-    values: &mut Vec<Value>,
-    value: Value,
-) -> Result<(), Error<'src>>
-    ensures pushed { OnOk result (values.new.items ≡ values.old.items ++ value ∷ []) }
-    ensures given { OnOk result (argument (is_text function (length values.old.items)) (name_view name.now) value ≡ gives value) }
-    ensures text { OnOk result (is_text function (length values.old.items) ≡ true → length value ≡ 1) }
-    ensures refused { IfErr result (λ e. Path (argument (is_text function (length values.old.items)) (name_view name.now) value) [] (without_value (refusal e))) }
+// Whether a function takes a value as its argument with an index: any value, or one element where a text is wanted.
+pub(crate) fn takes(function: Function, index: usize, value: &Value) -> bool
+    ensures given { result ≡ true → (t : Token) → argument (is_text function index) t value.now ≡ gives value.now }
+    ensures text { result ≡ true → is_text function index ≡ true → length value.now ≡ 1 }
+    ensures refused { result ≡ false → (t : Token) → Path (argument (is_text function index) t value.now) [] (Refused (ListInStringContext (contexts.Function t) value.now)) }
 {
-    if function.is_text(values.len()) && value.len() != 1 {
-        return Err(Error::ListInStringContext {
-            context: StringContext::Function(*name),
-            value,
-        });
-    }
-    Ok(values.push(value)?)
+    !function.is_text(index) || value.len() == 1
+}
+
+// Refuses an argument that is no text where one is wanted. It stands apart from `takes` for the sake of the stack, as
+// `refuse` does from `named`.
+pub(crate) fn refuse_list<'src>(name: &Name<'src>, value: Value) -> Result<Value, Error<'src>>
+    ensures { ended (λ v. v) result ≡ Refused (ListInStringContext (contexts.Function (name_view name.now)) value) }
+{
+    Err(Error::ListInStringContext {
+        context: StringContext::Function(*name),
+        value,
+    })
 }
 
 // What a built-in function answers. Its own message is a refusal.

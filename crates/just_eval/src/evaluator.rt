@@ -1,39 +1,32 @@
 // Evaluates expressions, in the order of their parts.
 
-ghost use Rattle.std.specs.Prelude.{IfErr, IfOk, Some, [], length, map, ◌+◌, ◌-◌, ◌<◌, ◌≡◌, ◌∷◌};
-ghost use Rattle.std.specs.Option.{is_some, option_map};
-ghost use Rattle.just_syntax.specs.View.{assignment_view, function_view, literal_view, name_view, piece_views, token_view, view, views};
+ghost use Rattle.std.specs.Prelude.{IfErr, IfOk, Some, [], length, ◌+◌, ◌-◌, ◌<◌, ◌≡◌, ◌∷◌};
+ghost use Rattle.std.specs.Option.{option_map};
+ghost use Rattle.just_syntax.specs.View.{function_view, literal_view, name_view, piece_views, token_view, view, views};
 ghost use Rattle.just_syntax.specs.declared.list_operator.ListOperator.TheVariants.{Concatenate, Join};
 ghost use Rattle.just_value.specs.Outcome.{without_value};
-ghost use Rattle.just_value.specs.View.{bound_view, ended, frames_view, refusal};
-ghost use Rattle.just_value.specs.Frames.{innermost, value_in};
-ghost use Rattle.just_host.specs.Interaction.{GoesByAnswers, Runs, bind, gives};
+ghost use Rattle.just_value.specs.View.{ended, frames_view, refusal};
+ghost use Rattle.just_value.specs.Frames.{value_in};
+ghost use Rattle.just_host.specs.Interaction.{Runs, bind, gives};
 ghost use Rattle.just_host.specs.View.{fixed_view};
 ghost use Rattle.just_builtins.specs.Argument.{HasTexts, IsExpected};
 ghost use Rattle.just_builtins.specs.Shape.{is_text};
 ghost use Rattle.just_builtins.specs.Table.{function_named};
 ghost use Rattle.just_resolution.specs.Callee.{Defined, callee, undefined};
-ghost use Rattle.just_resolution.specs.Resolved.{IsResolved};
 ghost use Rattle.just_meaning.specs.Closings.{chained, inside};
 ghost use Rattle.just_meaning.specs.Meaning.{assertion, assertion_text, branch, built_in_call, called, choice, combination, command, comparison, conjunction, disjunction, eval, eval_all, eval_arguments, eval_pieces, flatten, formatted, negation, succession, variable};
-ghost use Rattle.just_meaning.specs.Module.{Ran, bound_of, by_chain, lexically, or_override, situation_at};
-ghost use Rattle.just_meaning.specs.Internal.{IsNotInternal};
 ghost use Rattle.just_eval.specs.Call.{DefinedEndsAtOnce};
-ghost use Rattle.just_eval.specs.View.{IsAtStart, calls_left, context_view, function_of, module_view, override_of, run_of, situation};
+ghost use Rattle.just_eval.specs.View.{calls_left, context_view, function_of, situation};
+
+mod assignments;
 
 use crate::parameters::called_scope;
 use crate::{built_in, form, message};
 use just_builtins::function::Function;
 use just_host::ask::ask_command;
-use just_host::config::Config;
 use just_host::execution_context::ExecutionContext;
 use just_host::function::Context;
 use just_host::host::Host;
-use just_host::justfile::Justfile;
-use just_host::search::Search;
-use just_resolution::references::is_referenced;
-use just_syntax::assignment::Assignment;
-use just_syntax::attribute_set::AttributeSet;
 use just_syntax::conditional_operator::ConditionalOperator;
 use just_syntax::expression::Expression;
 use just_syntax::function_definition::FunctionDefinition;
@@ -42,12 +35,11 @@ use just_syntax::name::Name;
 use just_syntax::number::Number;
 use just_syntax::string_literal::StringLiteral;
 use just_syntax::token::Token;
-use just_value::binding::Binding;
 use just_value::error::Error;
 use just_value::scope::Scope;
 use just_value::value::Value;
 use std::alloc::Global;
-use std::collections::{BTreeMap, HashMap, HashSet};
+use std::collections::BTreeMap;
 
 /// Evaluates expressions in a scope.
 #[derive(Drop)]
@@ -61,165 +53,6 @@ pub struct Evaluator<'src, 'run> {
 }
 
 impl<'src, 'run> Evaluator<'src, 'run> {
-    /// Evaluates the assignments of a module in its evaluation order, those that are referenced where a set of
-    /// references is given, and gives a child of `parent` with their bindings.
-    ///
-    /// A number that `parent` binds, or that is bound already, is neither evaluated nor overridden. Else an
-    /// override is one element, and without one the expression is evaluated; the host is asked what it reaches.
-    ///
-    /// # Errors
-    ///
-    /// The first refusal ends the run. On a resolved module that is a command's fault or lists that do not go
-    /// together; on another also `Internal`. `OutOfMemory` comes where memory was asked for and refused, or
-    /// where the host says so.
-    pub fn evaluate_assignments<H: Host>(
-        alloc: Global,
-        host: &mut H,
-        config: &'run Config,
-        dotenv: &'run BTreeMap<String, String>,
-        module: &'run Justfile<'src>,
-        overrides: &'run HashMap<Number, String>,
-        parent: &'run Scope<'src, 'run>,
-        search: &'run Search,
-        recursion_limit: usize,
-        variable_references: Option<&HashSet<Number>>,
-    ) -> Result<Scope<'src, 'run>, Error<'src>>
-        requires room { 0 < recursion_limit }
-
-        // On a resolved module the lexical rules give the scope or the refusal, by the questions that they ask.
-        ensures headline { let m = run_of config.entry dotenv.entry «module».entry overrides.entry parent.entry search.entry recursion_limit variable_references.entry in
-            let outer = frames_view parent.entry.now in
-            IsResolved m.context.functions m.assignments outer → Ran H.step host.old lexically m ([] ∷ outer) m.assignments.order (ended frames_view result) host.new }
-        ensures never_internal { let m = run_of config.entry dotenv.entry «module».entry overrides.entry parent.entry search.entry recursion_limit variable_references.entry in
-            IsResolved m.context.functions m.assignments (frames_view parent.entry.now) → IsNotInternal (ended frames_view result) }
-
-        // On any module nothing but answered questions leads the host on.
-        ensures answered { GoesByAnswers H.step host.old host.new }
-    {
-        let context = ExecutionContext {
-            config,
-            dotenv,
-            module,
-            overrides,
-            recursion_limit,
-            scope: parent,
-            search,
-        };
-        Evaluator::run(
-            alloc,
-            host,
-            context,
-            variable_references,
-            &module.evaluation_order,
-        )
-    }
-
-    // Evaluates the assignments with these names, a body reading what its caller reads below its own parameters.
-    fn run<H: Host>(
-        alloc: Global,
-        host: &mut H,
-        context: ExecutionContext<'src, 'run>,
-        references: Option<&HashSet<Number>>,
-        names: &[Name<'src>],
-    ) -> Result<Scope<'src, 'run>, Error<'src>>
-        requires room { 0 < context.recursion_limit }
-        ensures { Ran H.step host.old by_chain (module_view context.entry references.entry) ([] ∷ frames_view context.entry.scope.now) (map name_view names.entry.now) (ended frames_view result) host.new }
-    {
-        let mut evaluator = Evaluator {
-            context,
-            env: BTreeMap::new(alloc),
-            is_dependency: false,
-            recipe: None,
-            recursion_depth: 0,
-            scope: context.scope.child(alloc)?,
-        };
-        for name in names {
-            evaluator.evaluate_assignment(alloc, host, references, *name)?;
-        }
-        let Evaluator {
-            context: _,
-            env: _,
-            is_dependency: _,
-            recipe: _,
-            recursion_depth: _,
-            scope,
-        } = evaluator;
-        Ok(scope)
-    }
-
-    // Binds the value of the assignment with a name, if it is referenced and its number is not bound.
-    fn evaluate_assignment<H: Host>(
-        &mut self,
-        alloc: Global,
-        host: &mut H,
-        references: Option<&HashSet<Number>>,
-        name: Name<'src>,
-    ) -> Result<(), Error<'src>>
-        requires start { IsAtStart self.old }
-        ensures same { (self.new.context ≡ self.old.context) × IsAtStart self.new }
-        ensures ran { Ran H.step host.old by_chain (module_view self.old.context references.entry) (frames_view self.old.scope) (name_view name.entry ∷ []) (ended (λ _. frames_view self.new.scope) result) host.new }
-    {
-        let Some(assignment) = self.context.module.assignments.get(name.lexeme()) else {
-            let message = message::unknown_assignment(alloc, name.lexeme())?;
-            return Err(Error::Internal {
-                message,
-                token: name.token,
-            });
-        };
-        if !is_referenced(references, assignment.number) {
-            return Ok(());
-        }
-        if self.is_bound(assignment.number) {
-            return Ok(());
-        }
-        let value = self.assigned_value(alloc, host, assignment)?;
-        let binding = self.bound(alloc, assignment, value);
-        self.scope.bind(binding)?;
-        Ok(())
-    }
-
-    // Whether a number is bound, in this scope or outside it.
-    fn is_bound(&self, number: Number) -> bool
-        ensures { result ≡ is_some (innermost number (frames_view self.now.scope)) }
-    {
-        self.scope.binding(number).is_some()
-    }
-
-    // The value of an assignment: an override, or the value of its expression.
-    fn assigned_value<H: Host>(
-        &self,
-        alloc: Global,
-        host: &mut H,
-        assignment: &Assignment<'src>,
-    ) -> Result<Value, Error<'src>>
-        requires start { IsAtStart self.now }
-        ensures { let c = context_view self.now.context in
-            let value = eval c (chained c (self.now.context.recursion_limit - 1)) (situation_at c (frames_view self.now.scope)) (view assignment.now.value) in
-            Runs H.step host.old (or_override (override_of self.now.context.overrides.now assignment.now.number) value) (ended (λ v. v) result) host.new }
-    {
-        match self.context.overrides.get(&assignment.number) {
-            Some(text) => Ok(Value::from_text(alloc, text)?),
-            None => self.evaluate_value(alloc, host, &assignment.value),
-        }
-    }
-
-    // What is bound for an assignment.
-    fn bound(&self, alloc: Global, assignment: &Assignment<'src>, value: Value) -> Binding<'src>
-        ensures { bound_view result ≡ bound_of self.now.context.module.now.settings.export (assignment_view assignment.now) value }
-    {
-        Binding {
-            attributes: AttributeSet::new(alloc),
-            eager: assignment.eager,
-            export: assignment.export || self.context.module.settings.export,
-            file_depth: 0,
-            name: assignment.name,
-            number: assignment.number,
-            prelude: false,
-            private: assignment.private,
-            value,
-        }
-    }
-
     // The value of an expression. Each form is a function of its own, so that the frame of this one stays small:
     // expressions may nest as deep as the stack has room.
     #[cycle(evaluate)]
@@ -616,7 +449,7 @@ impl<'src, 'run> Evaluator<'src, 'run> {
             Runs H.step host.old (called c t (Defined (function_view function.now)) d (situation self.now) (length arguments.now) (eval_all c d (situation self.now) (views arguments.now)) (λ f. eval_arguments c d (situation self.now) t (is_text f) 0 (views arguments.now))) (ended (λ v. v) result) host.new }
     {
         let recursion_depth = self.called_depth(alloc, name, function, arguments.len())?;
-        let mut values = Vec::with_capacity(alloc, arguments.len())?;
+        let mut values = Vec::new(alloc);
         for argument in arguments {
             values.push(self.evaluate_value(alloc, host, argument)?)?;
         }
@@ -700,11 +533,16 @@ impl<'src, 'run> Evaluator<'src, 'run> {
         ensures { let c = context_view self.now.context in let d = chained c (calls_left self.now) in let t = name_view name.now in
             Runs H.step host.old (called c t (undefined t.lexeme) d (situation self.now) (length arguments.now) (eval_all c d (situation self.now) (views arguments.now)) (λ f. eval_arguments c d (situation self.now) t (is_text f) 0 (views arguments.now))) (ended (λ v. v) result) host.new }
     {
-        let function = built_in::named(alloc, name, arguments.len())?;
-        let mut values = Vec::with_capacity(alloc, arguments.len())?;
+        let Some(function) = built_in::named(name, arguments.len()) else {
+            return built_in::refuse(alloc, name);
+        };
+        let mut values = Vec::new(alloc);
         for argument in arguments {
             let value = self.evaluate_value(alloc, host, argument)?;
-            built_in::push_argument(name, function, &mut values, value)?;
+            if !built_in::takes(function, values.len(), &value) {
+                return built_in::refuse_list(name, value);
+            }
+            values.push(value)?;
         }
         self.call_built_in(alloc, host, name, function, values)
     }

@@ -1,10 +1,10 @@
 -- Expressions whose parts are no boxes.
-use Rattle.std.proofs.Common.{◌≡◌, ℕ, suc, List, [], ◌++◌, ◌+◌, ◌<◌, length, get_or, drop, add-one, drop-cons, codes, refl, ap, sym, ◌∙◌, rules, Option, Some, None, Box, Global}
+use Rattle.std.proofs.Common.{◌≡◌, ℕ, suc, List, [], ◌∷◌, ◌++◌, ◌+◌, ◌<◌, length, get_or, drop, add-one, drop-cons, codes, refl, ap, sym, ◌∙◌, rules, Option, Some, None, Box, Global}
 use Rattle.std.specs.Option.{option_map}
 use Rattle.just_syntax.specs.declared.expression.Expression.{Expression, Row_of-Expression, end_of-Expression, more_of-Expression, items-the_row-Expression, Row_of-Expression-FormatString-1-2, items-the_row-Expression-FormatString-1-2, end_of-Expression-FormatString-1-2, more_of-Expression-FormatString-1-2}
 use Rattle.just_syntax.specs.declared.expression.Expression.TheViews.{the_lemmas}
 use Rattle.just_syntax.specs.declared.expression.Expression.TheViews as expressions
-use Rattle.just_syntax.specs.Plain.{Call, Cons, Piece, ListOf, FormatString}
+use Rattle.just_syntax.specs.Plain.{Call, Cons, Piece, ListOf, FormatString, count}
 use Rattle.just_syntax.specs.declared.string_literal.StringLiteral.{StringLiteral as Written}
 use Rattle.just_syntax.specs.Printed.{printed, printed_call, printed_row, printed_pieces}
 use Rattle.just_syntax.specs.View.{assertion, conditional, join, name_view, token_view, literal_view, view, views, row_view, piece_views, pieces_view}
@@ -13,11 +13,16 @@ row_items : {n : _} (row : Row_of-Expression n) → row_view row ≡ views (item
 row_items end_of-Expression = refl
 row_items (more_of-Expression e rest) = ap (Cons (view e)) (row_items rest)
 
-view_list : (es : _) (t : _) → view (expressions.List es t) ≡ ListOf (views es.items) (token_view t)
+pub view_list : (es : _) (t : _) → view (expressions.List es t) ≡ ListOf (views es.items) (token_view t)
 view_list es t = search (rules, the_lemmas, row_items)
 
-view_call : (es : _) (name : _) → view (expressions.Call es name) ≡ Call (name_view name) (views es.items)
+pub view_call : (es : _) (name : _) → view (expressions.Call es name) ≡ Call (name_view name) (views es.items)
 view_call es name = search (rules, the_lemmas, row_items)
+
+-- a row has as many parts as there are expressions
+pub count_views : (es : List Expression) → count (views es) ≡ length es
+count_views [] = refl
+count_views (e ∷ es) = ap suc (count_views es)
 
 pub view_assert : (e : Box Expression Global) (m : Option (Box Expression Global)) (name : _) → view (expressions.Assert e m name) ≡ assertion (view e.value) (option_map (λ b. view b.value) m) (name_view name)
 view_assert e None name = refl
@@ -35,7 +40,7 @@ piece_items : {n : _} (row : Row_of-Expression-FormatString-1-2 n) → pieces_vi
 piece_items end_of-Expression-FormatString-1-2 = refl
 piece_items (more_of-Expression-FormatString-1-2 e literal rest) = ap (Piece (view e) (literal_view literal)) (piece_items rest)
 
-view_format_string : (start : _) (es : _) → view (expressions.FormatString start es) ≡ FormatString (literal_view start) (piece_views es.items)
+pub view_format_string : (start : _) (es : _) → view (expressions.FormatString start es) ≡ FormatString (literal_view start) (piece_views es.items)
 view_format_string start es = search (rules, the_lemmas, piece_items)
 
 -- ---- printed

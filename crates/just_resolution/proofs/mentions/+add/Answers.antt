@@ -3,7 +3,8 @@ use Rattle.just_syntax.specs.Plain.{Text, count}
 use Rattle.just_resolution.specs.Mentions.{mentions_of_row, with_call}
 use Rattle.just_resolution.specs.Seen.{mentions_view}
 use Rattle.just_syntax.specs.View.{views}
-use Rattle.just_resolution.proofs.Rows.{count_views, mentions_call, mentions_format_string, mentions_list}
+use Rattle.just_syntax.proofs.Rows.{count_views}
+use Rattle.just_resolution.proofs.Rows.{mentions_call, mentions_format_string, mentions_list}
 use Rattle.just_resolution.proofs.mentions.+add.Goals as goal
 
 pub add-returns-in-FormatString : goal.add-returns-in-FormatString

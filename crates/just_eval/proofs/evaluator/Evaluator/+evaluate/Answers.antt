@@ -1,22 +1,24 @@
-use Rattle.std.proofs.Common.{◌≡◌, ◌∙◌, ◌++◌, ◌∷◌, [], ◌-◌, suc, true, false, not, ap, arith, length, map, None, Some, sym, refl, string_bytes}
+use Rattle.std.proofs.Common.{◌≡◌, ◌∙◌, ◌++◌, ◌∷◌, [], ◌-◌, suc, true, false, not, ap, arith, length, map, None, Some, sym, refl, subst, string_bytes}
 use Rattle.std.proofs.lemmas.Grind.{common_steps}
 use Rattle.std.proofs.lemmas.List.{append_assoc, append-nil, drop_all, length-map}
 use Rattle.std.proofs.lemmas.Result.{err_from_is_err_and}
 use Rattle.just_syntax.specs.Printed.{printed}
+use Rattle.just_syntax.specs.StringContext as contexts
 use Rattle.just_syntax.specs.View.{function_view, literal_view, name_view, parameter_view, view}
 use Rattle.just_value.specs.Value.{from_condition, is_truthy, joined}
 use Rattle.just_value.specs.Outcome.{Gave, Stopped}
+use Rattle.just_value.specs.Refusal.{ListInStringContext}
 use Rattle.just_value.specs.View.{frames_view}
 use Rattle.just_builtins.specs.Shape.{is_text}
 use Rattle.just_meaning.specs.Meaning.{eval, flatten, formatted, is_regex, unindented_if}
 use Rattle.just_eval.specs.View.{calls_left, context_view, situation}
 use Rattle.just_meaning.specs.Closings.{chained, with_parameters}
-use Rattle.just_eval.proofs.Calls.{body_runs, built_in_ends, built_in_runs, call_defined, call_ends, call_runs, call_undefined, inside_is}
+use Rattle.just_eval.proofs.Calls.{body_runs, built_in_ends, built_in_runs, call_defined, call_ends, call_runs, call_undefined, inside_is, is_reached}
 use Rattle.just_eval.proofs.Forms.{runs_argument}
 use Rattle.just_eval.proofs.Measure.{one_fewer}
 use Rattle.just_eval.proofs.Tables.{found_at}
 use Rattle.just_eval.proofs.Texts.{more_texts}
-use Rattle.just_eval.proofs.Rows.{arguments_end, arguments_next, behind_same, call_is, format_string_is, list_is, pieces_end, pieces_next, pieces_stop, runs_all, runs_made, values_end, values_next, values_stop}
+use Rattle.just_eval.proofs.Rows.{arguments_end, arguments_next, arguments_stop, behind_same, call_is, format_string_is, list_is, pieces_end, pieces_next, pieces_stop, runs_all, runs_made, values_end, values_next, values_stop}
 use Rattle.just_eval.proofs.Runs.{not_both, runs_done, runs_else, runs_ends, runs_exit, runs_gives, runs_note, runs_on, runs_stopped, runs_when}
 use Rattle.just_eval.proofs.evaluator.Evaluator.+evaluate.Goals.{evaluate_assert-in-Some+in_ok-value-in-Some+in_ok-message-in-Some, evaluate_assert-in-None+in_ok-message-in-None, evaluate_conditional-then-is_truthy, evaluate_conditional-else-is_truthy}
 use Rattle.just_eval.proofs.evaluator.Evaluator.+evaluate.Goals as goal
@@ -351,11 +353,6 @@ evaluate_call-returns-in-None g t c =
 
 -- ---- calls of the file's functions
 
-pub evaluate_defined-returns-in_err-values : goal.evaluate_defined-returns-in_err-values
-evaluate_defined-returns-in_err-values g t c =
-    let p = err_from_is_err_and c.from_residual-in_err-values.result c.from_residual-in_err-values.ensures.1 in
-    rw (p.1, p.2) (runs_stopped _)
-
 pub evaluate_defined-returns-in_err-evaluate_value : goal.evaluate_defined-returns-in_err-evaluate_value
 evaluate_defined-returns-in_err-evaluate_value g t c =
     let self = c.args.self.now in
@@ -421,45 +418,64 @@ evaluate_body-returns g t c =
 
 -- ---- calls of built-in functions
 
-pub evaluate_built_in-returns-in_err-values : goal.evaluate_built_in-returns-in_err-values
-evaluate_built_in-returns-in_err-values g t c =
-    let p = err_from_is_err_and c.from_residual-in_err-values.result c.from_residual-in_err-values.ensures.1 in
-    rw (p.1, p.2) (runs_stopped _)
-
 pub evaluate_built_in-returns-in_err-value : goal.evaluate_built_in-returns-in_err-value
 evaluate_built_in-returns-in_err-value g t c =
     let self = c.args.self.now in
-    let p = err_from_is_err_and c.from_residual-in_err-value.result c.from_residual-in_err-value.ensures.1 in
-    rw (p.1, p.2) (built_in_ends (context_view self.context) (name_view c.args.name.now) c.in_ok-function.function c.in_ok-function.ensures.kept c.in_ok-function.ensures.found _ c.in_ok-function.ensures.count _ _ _ _ _
+    let p = err_from_is_err_and c.from_residual.result c.from_residual.ensures.1 in
+    rw (p.1, p.2) (built_in_ends (context_view self.context) (name_view c.args.name.now) c.in-Some.function _ (sym c.in-Some.ensures) _ _ _ _ _
     (arguments_end _ _ (situation self) _ _ _ _ _ _ c.args.arguments.now c.loop-argument.argument-index c.argument-item.result c.loop-argument-test.true c.argument-item.is c.loop-argument.invariant.rest _ (runs_ends _ _ _ c.in_err-value.ensures)))
 
-pub evaluate_built_in-returns-in_err-push_argument : goal.evaluate_built_in-returns-in_err-push_argument
-evaluate_built_in-returns-in_err-push_argument g t c =
+pub evaluate_built_in-returns-then-not-takes : goal.evaluate_built_in-returns-then-not-takes
+evaluate_built_in-returns-then-not-takes g t c =
     let self = c.args.self.now in
-    let function = c.in_ok-function.function in
-    let p = err_from_is_err_and c.from_residual-in_err-push_argument.result c.from_residual-in_err-push_argument.ensures.1 in
-    let here = ap (is_text function) c.loop-argument.invariant.count in
-    rw (p.1, p.2) (built_in_ends (context_view self.context) (name_view c.args.name.now) function c.in_ok-function.ensures.kept c.in_ok-function.ensures.found _ c.in_ok-function.ensures.count _ _ _ _ _
-    (arguments_end _ _ (situation self) _ _ _ _ _ _ c.args.arguments.now c.loop-argument.argument-index c.argument-item.result c.loop-argument-test.true c.argument-item.is c.loop-argument.invariant.rest _
-    (runs_argument _ _ _ c.in_ok-value.value _ c.in_ok-value.ensures (rw here at c.in_err-push_argument.ensures.refused))))
+    let function = c.in-Some.function in
+    let name = name_view c.args.name.now in
+    let value = c.in_ok-value.value in
+    let refused = Some (ListInStringContext (contexts.Function name) value) in
+    let len : c.len.result ≡ length c.loop-argument.values.items = c.len.ensures ∙ c.loop-argument.values.ok.0 in
+    let here = len ∙ c.loop-argument.invariant.count in
+    rw c.refuse_list.ensures (built_in_ends (context_view self.context) name function _ (sym c.in-Some.ensures) _ _ _ _ refused
+    (arguments_end _ _ (situation self) _ _ _ _ _ _ c.args.arguments.now c.loop-argument.argument-index c.argument-item.result c.loop-argument-test.true c.argument-item.is c.loop-argument.invariant.rest refused
+    (runs_argument _ (is_text function) _ _ name value _ here c.in_ok-value.ensures (c.takes.ensures.refused c.if-not-takes.true name))))
+
+pub evaluate_built_in-returns-in_err-push : goal.evaluate_built_in-returns-in_err-push
+evaluate_built_in-returns-in_err-push g t c =
+    let self = c.args.self.now in
+    let function = c.in-Some.function in
+    let name = name_view c.args.name.now in
+    let value = c.in_ok-value.value in
+    let len : c.len.result ≡ length c.loop-argument.values.items = c.len.ensures ∙ c.loop-argument.values.ok.0 in
+    let here = len ∙ c.loop-argument.invariant.count in
+    let p = err_from_is_err_and c.from_residual-in_err-push.result c.from_residual-in_err-push.ensures.1 in
+    rw (p.1, p.2) (built_in_ends (context_view self.context) name function _ (sym c.in-Some.ensures) _ _ _ _ None
+    (arguments_stop _ _ (situation self) _ _ _ _ _ _ c.args.arguments.now c.loop-argument.argument-index c.argument-item.result c.loop-argument-test.true c.argument-item.is c.loop-argument.invariant.rest value
+    (runs_argument _ (is_text function) _ _ name value _ here c.in_ok-value.ensures (rw (c.takes.ensures.given c.if-not-takes.false name) refl))))
 
 pub evaluate_built_in-loop-argument-preserved : goal.evaluate_built_in-loop-argument-preserved
 evaluate_built_in-loop-argument-preserved g t c =
-    let function = c.in_ok-function.function in
+    let function = c.in-Some.function in
+    let name = name_view c.args.name.now in
     let made = c.loop-argument.values.items in
     let value = c.in_ok-value.value in
-    let here = ap (is_text function) c.loop-argument.invariant.count in
+    let len : c.len.result ≡ length c.loop-argument.values.items = c.len.ensures ∙ c.loop-argument.values.ok.0 in
+    let here = len ∙ c.loop-argument.invariant.count in
     record {
-      count = rw c.in_ok-push_argument.ensures.pushed (grind (arith, common_steps));
-      texts = rw c.in_ok-push_argument.ensures.pushed (more_texts function made value c.loop-argument.invariant.texts c.in_ok-push_argument.ensures.text);
-      rest = λ o new r. rw c.in_ok-push_argument.ensures.pushed
+      count = rw c.in_ok-push.ensures.items (grind (arith, common_steps));
+      texts = rw c.in_ok-push.ensures.items (more_texts function made value c.loop-argument.invariant.texts (subst (λ i. is_text function i ≡ true → length value ≡ 1) len (c.takes.ensures.text c.if-not-takes.false)));
+      rest = λ o new r. rw c.in_ok-push.ensures.items
           (rw (← behind_same (λ vs. made ++ (value ∷ vs)) (λ vs. (made ++ value ∷ []) ++ vs) (λ vs. sym (append_assoc made (value ∷ []) vs)) o)
           (arguments_next _ _ (situation c.args.self.now) _ _ _ _ _ _ c.args.arguments.now c.loop-argument.argument-index c.argument-item.result c.loop-argument-test.true c.argument-item.is c.loop-argument.invariant.rest value
-          (runs_argument _ _ _ value _ c.in_ok-value.ensures (rw (rw here at c.in_ok-push_argument.ensures.given) refl)) o new r));
+          (runs_argument _ (is_text function) _ _ name value _ here c.in_ok-value.ensures (rw (c.takes.ensures.given c.if-not-takes.false name) refl)) o new r));
     }
+
+pub evaluate_built_in-call_built_in-requires : goal.evaluate_built_in-call_built_in-requires
+evaluate_built_in-call_built_in-requires g t c =
+    let h = is_reached (name_view c.args.name.now) _ c.in-Some.function (sym c.in-Some.ensures) in
+    let count = c.loop-argument.invariant.count in
+    record { named = h.0; count = (omega (arith, h.1.0, count), omega (arith, h.1.1, count)); texts = c.loop-argument.invariant.texts }
 
 pub evaluate_built_in-returns : goal.evaluate_built_in-returns
 evaluate_built_in-returns g t c =
-    built_in_runs (context_view c.args.self.now.context) (name_view c.args.name.now) c.in_ok-function.function c.in_ok-function.ensures.kept c.in_ok-function.ensures.found _ c.in_ok-function.ensures.count _ _ _ _ c.loop-argument.values.items _
+    built_in_runs (context_view c.args.self.now.context) (name_view c.args.name.now) c.in-Some.function _ (sym c.in-Some.ensures) _ _ _ _ c.loop-argument.values.items _
     (runs_all _ c.loop-argument.values.items (c.loop-argument.invariant.rest (Gave []) c.loop-argument.host (rw (drop_all c.loop-argument.argument-index c.args.arguments.now c.loop-argument-test.false) (runs_gives []))))
     c.call_built_in.ensures
