@@ -174,6 +174,28 @@ def measured(program, name, case, answer):
     return min(seconds), peak_memory(program, case, resource.RLIM_INFINITY)
 
 
+# --- instructions ---
+
+
+def measure_instructions(program):
+    print("instructions: what valgrind counts of each kind of case, of one size")
+    for family, smallest in FAMILIES:
+        lines, answer = family(smallest)
+        case = ("\n".join(lines) + "\n").encode()
+        print(f"{family.__name__} of {smallest}: {counted(program, family.__name__, case, answer.encode())}")
+
+
+def counted(program, name, case, answer):
+    """How many instructions a case with a known answer takes."""
+    with tempfile.NamedTemporaryFile("r") as told:
+        command = ["valgrind", "--tool=cachegrind", "--cache-sim=no", "--cachegrind-out-file=/dev/null", f"--log-file={told.name}", program]
+        run = Run(command, case)
+        if run.output != answer:
+            sys.exit(f"{name}: status {run.status}, or a wrong answer")
+        line = next(line for line in told.read().splitlines() if "I   refs:" in line or "I refs:" in line)
+        return int(line.split(":")[1].replace(",", ""))
+
+
 # --- depth ---
 
 
@@ -362,7 +384,7 @@ def refuse_each(program, library, name, case):
     print(f"{name}: {place - same} allocations; of the runs that one was refused in, {told}")
 
 
-MODES = {"growth": measure_growth, "depth": measure_depth, "memory": measure_memory}
+MODES = {"growth": measure_growth, "instructions": measure_instructions, "depth": measure_depth, "memory": measure_memory}
 
 
 def main():

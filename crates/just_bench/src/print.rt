@@ -1,9 +1,9 @@
 // What is printed of a run.
 
-use crate::recorded_question::{RecordedQuestion, TextKind};
 use just_builtins::directory::directory_word;
 use just_host::fault::fault_text;
 use just_host::number_question::NumberQuestion;
+use just_script::recorded_question::{RecordedQuestion, TextKind};
 use just_syntax::out_of_memory::OutOfMemory;
 use just_value::element::Element;
 use just_value::error::Error;

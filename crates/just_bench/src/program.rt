@@ -3,15 +3,15 @@
 ghost use Rattle.std.specs.Prelude.{◌≡◌, ◌<◌, ◌≤◌, IfOk, IfSome, IsErr, length};
 ghost use Rattle.just_bench.specs.declared.stream.TheConstants.{LIMIT};
 
-use crate::case::{Case, CaseError, build};
 use crate::context::{case_config, case_module, case_search};
-use crate::line::parse_lines;
 use crate::print::{print_bindings, print_questions, print_refusal};
-use crate::recording_host::RecordingHost;
-use crate::scripted_host::ScriptedHost;
 use crate::stream::{StreamError, read_case, write_text};
+use just_case_lines::case::{Case, CaseError, build};
+use just_case_lines::line::parse_lines;
 use just_eval::evaluator::Evaluator;
-use just_resolution::resolved::resolved;
+use just_eval::resolved;
+use just_script::recording_host::RecordingHost;
+use just_script::scripted_host::ScriptedHost;
 use just_syntax::out_of_memory::OutOfMemory;
 use just_value::error::{CommandFault, Error};
 use just_value::scope::Scope;

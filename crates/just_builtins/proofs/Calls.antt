@@ -1,12 +1,12 @@
 -- Calls, and the trees of what they ask.
-use Rattle.std.proofs.Common.{◌≡◌, ℕ, refl, sym, List, [], ◌∷◌, Option, Some, None, Result, Ok, Err, string_bytes, subst, inl, inr}
+use Rattle.std.proofs.Common.{◌≡◌, ◌≢◌, ℕ, refl, sym, List, [], ◌∷◌, Option, Some, None, Result, Ok, Err, string_bytes, subst, inl, inr}
 use Rattle.just_syntax.specs.Plain.{Text}
 use Rattle.just_value.specs.Value.{Value}
 use Rattle.just_value.specs.Frames.{Frames}
-use Rattle.just_value.specs.Outcome.{Gave, Stopped}
+use Rattle.just_value.specs.Outcome.{Gave}
 use Rattle.just_value.specs.Refusal.{NoMemory}
 use Rattle.just_host.specs.Question.{Question, Answer, Blind, Failed, TextOf, TextQuestion, frameless}
-use Rattle.just_host.specs.Interaction.{Asked as answered, Tree, done, ask, note, Path, Runs, AsksOnce}
+use Rattle.just_host.specs.Interaction.{Asked as answered, Tree, Path, Ends, Stops, Asks as asks, Runs, AsksOnce, freely}
 use Rattle.just_builtins.specs.declared.builtin.Builtin.{Builtin}
 use Rattle.just_builtins.specs.declared.call_fault.CallFault.{CallFault}
 use Rattle.just_builtins.specs.declared.call_fault.CallFault.TheVariants.{Internal, Message, OutOfMemory}
@@ -17,20 +17,14 @@ use Rattle.just_builtins.specs.Asking.{asks_text, text_answered}
 use Rattle.just_builtins.specs.Meaning.{reply}
 use Rattle.just_builtins.specs.Reply.{Reply, Asks}
 use Rattle.just_builtins.specs.Shape.{builtin_of}
-use Rattle.just_builtins.specs.Called.{Returned, Said, tree, frames_for, outcome, Asked, AskedBy, AskedOr, Gives, GivesOr, IsNoneOf, Replies, RepliesAmong}
+use Rattle.just_builtins.specs.Called.{Called, Returned, Said, tree, frames_for, outcome, Asked, AskedBy, AskedOr, Gives, GivesOr, IsNoneOf, Replies, RepliesAmong}
 use Rattle.just_builtins.specs.Table.{IsUnnamed}
 
--- a tree may be stopped at once
-stopped : {A : Type 0} (t : Tree A) → Path t [] Stopped
-stopped (done o) = tt
-stopped (ask q next) = refl
-stopped (note x rest) = refl
-
 -- a reply that asks nothing is gone down at once
-path : (shown : Frames) (reply : Reply) (result : Result Value CallFault) → Gives reply result → Path (tree shown reply) [] (outcome result)
-path shown reply (Ok v) is = subst (λ r. Path (tree shown r) [] (Gave (Returned v))) (sym is) refl
-path shown reply (Err (Message message)) is = subst (λ r. Path (tree shown r) [] (Gave (Said (string_bytes message)))) (sym is) refl
-path shown reply (Err OutOfMemory) is = stopped (tree shown reply)
+path : (shown : Frames) (reply : Reply) (result : Result Value CallFault) → Gives reply result → Path freely (tree shown reply) [] (outcome result)
+path shown reply (Ok v) is = subst (λ r. Path freely (tree shown r) [] (Gave (Returned v))) (sym is) Ends
+path shown reply (Err (Message message)) is = subst (λ r. Path freely (tree shown r) [] (Gave (Said (string_bytes message)))) (sym is) Ends
+path shown reply (Err OutOfMemory) is = Stops
 path shown reply (Err Internal) is = absurd is
 
 -- what is given is not `Internal`
@@ -60,15 +54,15 @@ module _ {S : Type 0} {step : S → Question → Answer → S → Type 0} where
   pub told : {h : S} (shown : Frames) (reply : Reply) (result : Result Value CallFault) → Gives reply result → Asked step h shown reply result h
   told shown reply result is = (record { events = []; path = path shown reply result is; chain = refl }, named reply result is)
 
-  -- memory is refused
-  pub unasked : {h : S} (shown : Frames) (reply : Reply) (result : Result Value CallFault) (e : CallFault) → result ≡ Err e → e ≡ OutOfMemory → Asked step h shown reply result h
-  unasked {h = h} shown reply result e is wanted = subst (λ r. Asked step h shown reply r h) (sym (rw wanted at is)) (told shown reply (Err OutOfMemory) tt)
+  -- memory is refused, whatever would be asked
+  pub at_once : {h : S} {t : Tree Called} (result : Result Value CallFault) → result ≡ Err OutOfMemory → Runs freely step h t (outcome result) h × (result ≢ Err Internal)
+  at_once {h = h} {t = t} result is = (subst (λ r. Runs freely step h t (outcome r) h) (sym is) (record { events = []; path = Stops; chain = refl }), λ e. absurd (cc))
 
   pub told_by : {h : S} (f : Function) (shown : Frames) (reply : Reply) (result : Result Value CallFault) → Replies f reply result → AskedBy f step h shown reply result h
   told_by f shown reply (Ok v) is = (record { events = []; path = path shown reply (Ok v) is; chain = refl }, λ e. absurd (cc))
   told_by f shown reply (Err (Message message)) is = (record { events = []; path = path shown reply (Err (Message message)) is; chain = refl }, λ e. absurd (cc))
-  told_by f shown reply (Err OutOfMemory) is = (record { events = []; path = stopped (tree shown reply); chain = refl }, λ e. absurd (cc))
-  told_by f shown reply (Err Internal) is = (record { events = []; path = stopped (tree shown reply); chain = refl }, λ e. is)
+  told_by f shown reply (Err OutOfMemory) is = (record { events = []; path = Stops; chain = refl }, λ e. absurd (cc))
+  told_by f shown reply (Err Internal) is = (record { events = []; path = Stops; chain = refl }, λ e. is)
 
   -- the same, where those that ask nothing are among others of their shape
   pub told_among : {h : S} (f : Function) (those : List Builtin) (b : Builtin) (shown : Frames) (reply : Reply) (result : Result Value CallFault) → RepliesAmong those b reply result → (IsNoneOf those b → IsUnnamed f) → AskedBy f step h shown reply result h
@@ -81,7 +75,7 @@ module _ {S : Type 0} {step : S → Question → Answer → S → Type 0} where
 
   -- a question, and what its answer leads to
   pub asked : {old new : S} (shown : Frames) (q : Blind) (next : Answer → Reply) (a : Answer) (result : Result Value CallFault) → step old (record { blind = q; shown = frames_for q shown }) a new → Gives (next a) result → Asked step old shown (Asks q next) result new
-  asked shown q next a result taken is = (record { events = answered _ a ∷ []; path = (refl, path shown (next a) result is); chain = (_, taken, refl) }, named (next a) result is)
+  asked shown q next a result taken is = (record { events = answered _ a ∷ []; path = asks (path shown (next a) result is); chain = (_, taken, refl) }, named (next a) result is)
 
   -- the same, for a text
   pub asked_text : {old new : S} (shown : Frames) (q wanted : TextQuestion) (absent : Reply) (odd faulty : Text → Text) (a : Answer) (result : Result Value CallFault) → q ≡ wanted → step old (frameless (TextOf q)) a new → Gives (text_answered absent odd faulty a) result → Asked step old shown (asks_text wanted absent odd faulty) result new
@@ -92,13 +86,13 @@ module _ {S : Type 0} {step : S → Question → Answer → S → Type 0} where
   pub asked_once : {old new : S} (shown : Frames) (q : Blind) (next : Answer → Reply) (a : Answer) (result : Result Value CallFault) → AsksOnce step old (record { blind = q; shown = frames_for q shown }) a new → Gives (next a) result → (a ≡ Failed NoMemory → result ≡ Err OutOfMemory) → Asked step old shown (Asks q next) result new
   asked_once shown q next a result (inl taken) is wanting = asked shown q next a result taken is
   asked_once {old = old} {new = new} shown q next a result (inr without) is wanting =
-      subst (λ h. Asked step old shown (Asks q next) result h) without.1 (unasked shown (Asks q next) result OutOfMemory (wanting without.0) refl)
+      subst (λ h. Asked step old shown (Asks q next) result h) without.1 (at_once result (wanting without.0))
 
   -- ---- by the shapes of arguments
 
   -- a built-in function of a shape
   pub of_builtin : {old new : S} (f : Function) (b other : Builtin) (c : Context) (vs : List Value) (shown : Frames) (result : Result Value CallFault) → b ≡ other → Asked step old shown (reply other c vs) result new → AskedBy f step old shown (reply b c vs) result new
-  of_builtin {old = old} {new = new} f b other c vs shown result is (run, not_internal) = (subst (λ x. Runs step old (tree shown (reply x c vs)) (outcome result) new) (sym is) run, λ e. absurd (not_internal e))
+  of_builtin {old = old} {new = new} f b other c vs shown result is (run, not_internal) = (subst (λ x. Runs freely step old (tree shown (reply x c vs)) (outcome result) new) (sym is) run, λ e. absurd (not_internal e))
 
   -- a function of no name
   pub internal : {h : S} (f : Function) (shown : Frames) (reply : Reply) → IsUnnamed f → AskedBy f step h shown reply (Err Internal) h
@@ -117,5 +111,5 @@ module _ {S : Type 0} (step : S → Question → Answer → S → Type 0) where
   pub asked_or : {old new : S} (shown : Frames) (q : Blind) (next : Reply → Answer → Reply) (a : Answer) (result : Result (Option Value) CallFault) → step old (record { blind = q; shown = frames_for q shown }) a new → GivesOr (λ rest. next rest a) result → AskedOr step old shown (λ rest. Asks q (next rest)) result new
   asked_or shown q next a (Ok (Some v)) taken is = λ rest. (asked shown q (next rest) a (Ok v) taken (is rest)).0
   asked_or shown q next a (Ok None) taken is = λ rest o last r.
-      record { events = answered _ a ∷ r.events; path = (refl, subst (λ t. Path (tree shown t) r.events o) (sym (is rest)) r.path); chain = (_, taken, r.chain) }
+      record { events = answered _ a ∷ r.events; path = asks (subst (λ t. Path freely (tree shown t) r.events o) (sym (is rest)) r.path); chain = (_, taken, r.chain) }
   asked_or shown q next a (Err e) taken is = λ rest. asked shown q (next rest) a (Err e) taken (gives_err (λ other. next other a) e is rest)

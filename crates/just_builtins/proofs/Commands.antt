@@ -1,5 +1,6 @@
 -- Commands, and paths that may be empty.
-use Rattle.std.proofs.Common.{◌≡◌, ◌<◌, Bool, false, nat_eq, if◌then◌else◌, List, [], ◌∷◌, Some, Result, Ok, Err, refl, sym, ap, subst, ◌∙◌, arith, length, drop, map}
+use Rattle.std.proofs.Common.{◌≡◌, ◌<◌, Bool, true, false, nat_eq, if◌then◌else◌, List, [], ◌∷◌, Some, Result, Ok, Err, refl, sym, ap, subst, ◌∙◌, arith, length, drop, map}
+use Rattle.std.proofs.lemmas.Bool.Decides.{nat_tests}
 use Rattle.just_syntax.specs.Plain.{Text}
 use Rattle.just_value.specs.Frames.{Frames}
 use Rattle.just_value.specs.Value.{Value}
@@ -9,10 +10,10 @@ use Rattle.just_host.specs.Question.{Question, Answer, ExistsAt, command_questio
 use Rattle.just_builtins.specs.Argument.{value_at, first}
 use Rattle.just_builtins.specs.Asking.{asks_existence, asks_shell, command_answered, existence_answered, in_working_directory, shell_call}
 use Rattle.just_builtins.specs.Called.{Asked, Gives}
-use Rattle.just_builtins.specs.Reply.{Asks, Stops, says}
+use Rattle.just_builtins.specs.Reply.{Answers, Asks, Stops, says}
 use Rattle.just_builtins.specs.declared.call_fault.CallFault.{CallFault}
 use Rattle.just_builtins.specs.declared.call_fault.CallFault.TheVariants.{Internal, Message, OutOfMemory}
-use Rattle.just_builtins.proofs.Calls.{asked_once}
+use Rattle.just_builtins.proofs.Calls.{asked_once, told}
 
 -- a path that is not empty is asked for
 pub existence_is : (c : Context) (truth : Bool → Value) (path : Text) (b : Bool) → b ≡ nat_eq (length path) 0 → b ≡ false → asks_existence c truth path ≡ Asks (ExistsAt (in_working_directory c path)) (existence_answered truth)
@@ -43,3 +44,13 @@ module _ {S : Type 0} {step : S → Question → Answer → S → Type 0} where
       (asked_once shown (command_question c.fixed c.environment [] command (Some (map first (drop 1 vs)))).blind command_answered a result
       (subst (λ ws. AsksOnce step old (command_question c.fixed c.environment shown command (Some ws)) a new) same taken) gave
       (λ none. stops result (subst (λ x. Gives (command_answered x) result) none gave)))
+
+  -- in a dry run nothing is asked
+  pub shell_told : {h : S} (shown : Frames) (c : Context) (vs : List Value) (result : Result Value CallFault) → 0 < length vs → c.fixed.config.dry_run ≡ true → Gives (says (shell_call (map first vs))) result → Asked step h shown (asks_shell c (map first vs)) result h
+  shell_told shown c [] result some dry gave = absurd (omega arith)
+  shell_told shown c (v ∷ vs) result some dry gave = rw dry (told shown (says (shell_call (map first (v ∷ vs)))) result gave)
+
+  -- nothing is asked of the empty path
+  pub existence_told : {h : S} (shown : Frames) (c : Context) (truth : Bool → Value) (path : Text) (b : Bool) (result : Result Value CallFault) → b ≡ nat_eq (length path) 0 → b ≡ true → Gives (Answers (truth false)) result → Asked step h shown (asks_existence c truth path) result h
+  existence_told shown c truth [] b result is empty gave = told shown (Answers (truth false)) result gave
+  existence_told shown c truth (x ∷ xs) b result is empty gave = let full : nat_eq (length (x ∷ xs)) 0 ≡ false = grind (arith, nat_tests) in absurd (cc)

@@ -13,7 +13,7 @@ use Rattle.just_value.specs.Value.{Value}
 use Rattle.just_value.specs.Frames.{Frames}
 use Rattle.just_value.specs.Outcome.{Outcome, Gave}
 use Rattle.just_host.specs.Function.{Context}
-use Rattle.just_host.specs.Interaction.{Runs}
+use Rattle.just_host.specs.Interaction.{Runs, freely}
 use Rattle.just_host.specs.Question.{Question, Answer, TextOf, Variable, frameless}
 use Rattle.just_builtins.specs.Asking.{asks_environment, asks_text, entry, first_set, or_asks, text_answered, unset, variable}
 use Rattle.just_builtins.specs.Called.{Called, Returned, tree, outcome, Asked, AskedOr, Gives, GivesOr}
@@ -69,12 +69,12 @@ module _ {S : Type 0} (step : S → Question → Answer → S → Type 0) (shown
 
   -- one of several variables, where the run from it on is one of all
   module _ (dotenv : List (Text × Text)) (old mid new : S) (keys left : List Text) (key : Text)
-      (from : (rest : Reply) (o : Outcome Called) (last : S) → Runs step mid (tree shown (first_set dotenv rest (key ∷ left))) o last → Runs step old (tree shown (first_set dotenv rest keys)) o last)
+      (from : (rest : Reply) (o : Outcome Called) (last : S) → Runs freely step mid (tree shown (first_set dotenv rest (key ∷ left))) o last → Runs freely step old (tree shown (first_set dotenv rest keys)) o last)
       (r : Result (Option Value) CallFault) (turn : AskedOr step mid shown (variable dotenv key) r new) where
-    pub not_set : r ≡ Ok None → (rest : Reply) (o : Outcome Called) (last : S) → Runs step new (tree shown (first_set dotenv rest left)) o last → Runs step old (tree shown (first_set dotenv rest keys)) o last
+    pub not_set : r ≡ Ok None → (rest : Reply) (o : Outcome Called) (last : S) → Runs freely step new (tree shown (first_set dotenv rest left)) o last → Runs freely step old (tree shown (first_set dotenv rest keys)) o last
     not_set is rest o last run = from rest o last (subst (λ x. AskedOr step mid shown (variable dotenv key) x new) is turn (first_set dotenv rest left) o last run)
 
-    pub set : (v : Value) → r ≡ Ok (Some v) → (rest : Reply) → Runs step old (tree shown (first_set dotenv rest keys)) (Gave (Returned v)) new
+    pub set : (v : Value) → r ≡ Ok (Some v) → (rest : Reply) → Runs freely step old (tree shown (first_set dotenv rest keys)) (Gave (Returned v)) new
     set v is rest = from rest (Gave (Returned v)) new (subst (λ x. AskedOr step mid shown (variable dotenv key) x new) is turn (first_set dotenv rest left))
 
     pub ended : (result : Result (Option Value) CallFault) (e d : CallFault) → r ≡ Err d → result ≡ Err e → e ≡ d → AskedOr step old shown (λ rest. first_set dotenv rest keys) result new

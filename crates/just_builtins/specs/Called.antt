@@ -5,7 +5,7 @@ use Rattle.just_value.specs.Value.{Value}
 use Rattle.just_value.specs.Frames.{Frames}
 use Rattle.just_value.specs.Outcome.{Outcome, Gave, Stopped}
 use Rattle.just_host.specs.Question.{Question, Answer, Blind, CommandOf}
-use Rattle.just_host.specs.Interaction.{Tree, done, ask, gives, Runs}
+use Rattle.just_host.specs.Interaction.{Tree, done, ask, gives, Runs, freely}
 use Rattle.just_builtins.specs.declared.builtin.Builtin.{Builtin}
 use Rattle.just_builtins.specs.declared.call_fault.CallFault.{CallFault}
 use Rattle.just_builtins.specs.declared.call_fault.CallFault.TheVariants.{Internal, Message, OutOfMemory}
@@ -75,15 +75,15 @@ GivesOr reply (Err Internal) = ⊥
 
 -- the call is a run of the reply's tree, and its result is not `Internal`
 abbrev pub Asked : {S : Type 0} → (S → Question → Answer → S → Type 0) → S → Frames → Reply → Result Value CallFault → S → Type 0
-Asked step old shown reply result new = Runs step old (tree shown reply) (outcome result) new × (result ≢ Err Internal)
+Asked step old shown reply result new = Runs freely step old (tree shown reply) (outcome result) new × (result ≢ Err Internal)
 
 -- the same, but that it is `Internal` where no name stands for the function
 abbrev pub AskedBy : {S : Type 0} → Function → (S → Question → Answer → S → Type 0) → S → Frames → Reply → Result Value CallFault → S → Type 0
-AskedBy f step old shown reply result new = Runs step old (tree shown reply) (outcome result) new × (result ≡ Err Internal → IsUnnamed f)
+AskedBy f step old shown reply result new = Runs freely step old (tree shown reply) (outcome result) new × (result ≡ Err Internal → IsUnnamed f)
 
 -- Where there is a result, it is the reply's. Where there is none yet, whatever the rest then comes to is what the reply
 -- comes to.
 abbrev pub AskedOr : {S : Type 0} → (S → Question → Answer → S → Type 0) → S → Frames → (Reply → Reply) → Result (Option Value) CallFault → S → Type 0
-AskedOr step old shown reply (Ok (Some v)) new = (rest : Reply) → Runs step old (tree shown (reply rest)) (Gave (Returned v)) new
-AskedOr {S} step old shown reply (Ok None) new = (rest : Reply) (o : Outcome Called) (last : S) → Runs step new (tree shown rest) o last → Runs step old (tree shown (reply rest)) o last
+AskedOr step old shown reply (Ok (Some v)) new = (rest : Reply) → Runs freely step old (tree shown (reply rest)) (Gave (Returned v)) new
+AskedOr {S} step old shown reply (Ok None) new = (rest : Reply) (o : Outcome Called) (last : S) → Runs freely step new (tree shown rest) o last → Runs freely step old (tree shown (reply rest)) o last
 AskedOr step old shown reply (Err e) new = (rest : Reply) → Asked step old shown (reply rest) (Err e) new

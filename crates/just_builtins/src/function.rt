@@ -3,7 +3,7 @@
 ghost use Rattle.std.specs.Prelude.{◌≡◌, Bool, Err, false, length};
 ghost use Rattle.std.specs.Range.{range_inclusive_end, range_inclusive_exhausted, range_inclusive_start};
 ghost use Rattle.just_value.specs.View.{frames_view};
-ghost use Rattle.just_host.specs.Interaction.{Runs};
+ghost use Rattle.just_host.specs.Interaction.{Runs, freely};
 ghost use Rattle.just_host.specs.View.{function_context_view};
 ghost use Rattle.just_builtins.specs.Argument.{HasTexts, IsExpected};
 ghost use Rattle.just_builtins.specs.Called.{AskedBy, outcome, tree};
@@ -136,7 +136,7 @@ impl Function {
         requires count { IsExpected self (length arguments.now) }
         requires texts { HasTexts self arguments.now }
         ensures replied { let answer = reply (builtin_of self) (function_context_view context.now) arguments.now in
-            Runs H.step host.old (tree (frames_view context.now.scope.now) answer) (outcome result) host.new }
+            Runs freely H.step host.old (tree (frames_view context.now.scope.now) answer) (outcome result) host.new }
         ensures internal { result ≡ Err Internal → IsUnnamed self }
     {
         self.answer(alloc, host, context, arguments)

@@ -1,4 +1,5 @@
-// The built-in functions: the table of their names, and what each of them answers.
+// The built-in functions: the table of their names, and what each of them asks and answers. It leans on hosts and what is
+// below them, and on no definition of evaluation.
 #![tactic(auto)]
 
 mod argument;
@@ -20,8 +21,6 @@ mod source;
 mod system;
 mod table;
 mod ternary;
-#[cfg(test)]
-mod tests;
 mod truth;
 mod unary;
 mod words;

@@ -1,7 +1,7 @@
 -- How module runs are put together.
 use Rattle.std.proofs.Common.{◌≡◌, ℕ, ◌+◌, ◌<◌, true, false, List, [], ◌∷◌, ◌++◌, Option, Some, None, Result, Err, map, drop, get_or, length, append_assoc, add-one, drop-cons, refl, sym, ap, ◌∙◌, subst}
 use Rattle.std.proofs.lemmas.List.{append-nil}
-use Rattle.just_syntax.specs.Plain.{Text, Token, Assignment}
+use Rattle.just_syntax.specs.Plain.{Token, Assignment}
 use Rattle.just_value.specs.declared.error.Error.{Error}
 use Rattle.just_value.specs.Value.{Value}
 use Rattle.just_value.specs.Frames.{Bound, Frames, innermost, bound_in_front}
@@ -9,13 +9,14 @@ use Rattle.just_value.specs.Refusal.{Refusal, Internal}
 use Rattle.just_value.specs.Outcome.{Outcome, Gave, Refused, Stopped, without_value}
 use Rattle.just_value.specs.View.{ended, refusal}
 use Rattle.just_host.specs.Question.{Question, Answer}
-use Rattle.just_host.specs.Interaction.{Chain, GoesByAnswers, Runs}
-use Rattle.just_resolution.specs.Assignments.{assignment_at}
-use Rattle.just_resolution.specs.Resolved.{IsResolved}
+use Rattle.just_host.specs.Interaction.{Chain, GoesByAnswers, Runs, freely}
+use Rattle.just_meaning.specs.Assignments.{assignment_at}
+use Rattle.just_meaning.specs.Resolved.{IsResolved}
 use Rattle.just_meaning.specs.Messages.{unknown_assignment_text}
-use Rattle.just_meaning.specs.Module.{Module, Closing, Block, IsTaken, Run, Finished, Stops, Unknown, Passes, Skips, Binds, Breaks, Halts, Ran, assigned, bound_of, by_chain, events_of, lexically}
-use Rattle.just_meaning.proofs.Lexical.{pending_calls_do_not_matter}
-use Rattle.just_eval.proofs.Runs.{chain_append, path_cut}
+use Rattle.just_meaning.specs.Module.{Module, Closing, Block, IsTaken, Run, Finished, Stops, Unknown, Passes, Skips, Binds, Breaks, Halts, Ran, assigned, bound_of, dynamically, events_of, lexically}
+use Rattle.just_forms.specs.Call.{Says}
+use Rattle.just_laws.proofs.Lexical.{pending_calls_do_not_matter}
+use Rattle.just_host.proofs.Paths.{chain_append, path_cut}
 
 module _ {closing : Closing} {m : Module} where
   -- on from the frames of a run
@@ -80,8 +81,9 @@ module _ {S : Type 0} {step : S → Question → Answer → S → Type 0} {closi
   -- ---- one name
 
   module _ (frames : Frames) (t : Token) where
-    pub ran_unknown : {h : S} (text : Text) → assignment_at m.assignments t.lexeme ≡ None → text ≡ unknown_assignment_text t.lexeme → Ran step h closing m frames (t ∷ []) (Refused (Internal text t)) h
-    ran_unknown text f is = rw is (record { blocks = []; run = Unknown f; chain = refl })
+    pub ran_unknown : {h : S} (r : Option Refusal) → assignment_at m.assignments t.lexeme ≡ None → Says r (Internal (unknown_assignment_text t.lexeme) t) → Ran step h closing m frames (t ∷ []) (without_value r) h
+    ran_unknown None f is = ran_stops frames (t ∷ [])
+    ran_unknown (Some r) f is = rw is (record { blocks = []; run = Unknown f; chain = refl })
 
     module _ (a : Assignment) (found : assignment_at m.assignments t.lexeme ≡ Some a) where
       pub ran_passes : {h : S} → m.assignments.referenced a.number ≡ false → Ran step h closing m frames (t ∷ []) (Gave frames) h
@@ -91,34 +93,34 @@ module _ {S : Type 0} {step : S → Question → Answer → S → Type 0} {closi
       ran_skips b e f = record { blocks = []; run = Skips a b found e f Finished; chain = refl }
 
     module _ (a : Assignment) (taken : IsTaken m frames t a) where
-      pub ran_binds : {old new : S} (v : Value) (made : Frames) → made ≡ bound_in_front frames (bound_of m.context.fixed.settings.export a v) → Runs step old (assigned closing m frames a) (Gave v) new → Ran step old closing m frames (t ∷ []) (Gave made) new
+      pub ran_binds : {old new : S} (v : Value) (made : Frames) → made ≡ bound_in_front frames (bound_of m.program.fixed.settings.export a v) → Runs freely step old (assigned closing m frames a) (Gave v) new → Ran step old closing m frames (t ∷ []) (Gave made) new
       ran_binds {old = old} {new = new} v made made_is r = record {
         blocks = record { number = a.number; events = r.events; outcome = Gave v } ∷ [];
-        run = Binds a r.events v taken r.path (subst (λ (x : Frames). Run closing m (bound_in_front frames (bound_of m.context.fixed.settings.export a v)) [] [] (Gave x)) (sym made_is) Finished);
+        run = Binds a r.events v taken r.path (subst (λ (x : Frames). Run closing m (bound_in_front frames (bound_of m.program.fixed.settings.export a v)) [] [] (Gave x)) (sym made_is) Finished);
         chain = subst (λ es. Chain step old es new) (sym (append-nil r.events)) r.chain;
       }
 
-      ran_breaks : {old new : S} (r : Refusal) → Runs step old (assigned closing m frames a) (Refused r) new → Ran step old closing m frames (t ∷ []) (Refused r) new
+      ran_breaks : {old new : S} (r : Refusal) → Runs freely step old (assigned closing m frames a) (Refused r) new → Ran step old closing m frames (t ∷ []) (Refused r) new
       ran_breaks {old = old} {new = new} s r = record {
         blocks = record { number = a.number; events = r.events; outcome = Refused s } ∷ [];
         run = Breaks a r.events s taken r.path;
         chain = subst (λ es. Chain step old es new) (sym (append-nil r.events)) r.chain;
       }
 
-      ran_halts : {old new : S} → Runs step old (assigned closing m frames a) Stopped new → Ran step old closing m frames (t ∷ []) Stopped new
+      ran_halts : {old new : S} → Runs freely step old (assigned closing m frames a) Stopped new → Ran step old closing m frames (t ∷ []) Stopped new
       ran_halts {old = old} {new = new} r = record {
         blocks = record { number = a.number; events = r.events; outcome = Stopped } ∷ [];
         run = Halts a r.events taken r.path;
         chain = subst (λ es. Chain step old es new) (sym (append-nil r.events)) r.chain;
       }
 
-      pub ran_fails : {old new : S} (e : Option Refusal) → Runs step old (assigned closing m frames a) (without_value e) new → Ran step old closing m frames (t ∷ []) (without_value e) new
+      pub ran_fails : {old new : S} (e : Option Refusal) → Runs freely step old (assigned closing m frames a) (without_value e) new → Ran step old closing m frames (t ∷ []) (without_value e) new
       ran_fails (Some s) r = ran_breaks s r
       ran_fails None r = ran_halts r
 
       -- memory runs out after the value
-      pub ran_cut : {old new : S} (v : Value) → Runs step old (assigned closing m frames a) (Gave v) new → Ran step old closing m frames (t ∷ []) Stopped new
-      ran_cut v r = ran_halts (record { events = r.events; path = path_cut _ r.events _ r.path; chain = r.chain })
+      pub ran_cut : {old new : S} (v : Value) → Runs freely step old (assigned closing m frames a) (Gave v) new → Ran step old closing m frames (t ∷ []) Stopped new
+      ran_cut v r = ran_halts (record { events = r.events; path = path_cut r.path; chain = r.chain })
 
   -- ---- one name after another
 
@@ -129,7 +131,7 @@ module _ {S : Type 0} {step : S → Question → Answer → S → Type 0} {closi
     pub ran_last : {old new : S} {frames : Frames} (e : Option Refusal) → Ran step old closing m frames (seen (get_or items i d) ∷ []) (without_value e) new → Ran step old closing m frames (map seen (drop i items)) (without_value e) new
     ran_last {old = old} {new = new} {frames = frames} e r = subst (λ left. Ran step old closing m frames left (without_value e) new) (sym (front seen items i d fits)) (ran_ends (map seen (drop (i + 1) items)) e r)
 
--- a run of a resolved module by the chain of frames is one by the lexical rules
-pub ran_lexical : {S : Type 0} {step : S → Question → Answer → S → Type 0} {old new : S} (m : Module) (outer : Frames) (o : Outcome Frames) → IsResolved m.context.functions m.assignments outer
-    → Ran step old by_chain m ([] ∷ outer) m.assignments.order o new → Ran step old lexically m ([] ∷ outer) m.assignments.order o new
+-- a run of a resolved module by dynamic scoping is one by the lexical rules
+pub ran_lexical : {S : Type 0} {step : S → Question → Answer → S → Type 0} {old new : S} (m : Module) (outer : Frames) (o : Outcome Frames) → IsResolved m.program.functions m.assignments outer
+    → Ran step old dynamically m ([] ∷ outer) m.assignments.order o new → Ran step old lexically m ([] ∷ outer) m.assignments.order o new
 ran_lexical m outer o resolved r = record { blocks = r.blocks; run = pending_calls_do_not_matter m outer r.blocks o resolved r.run; chain = r.chain }

@@ -1,10 +1,9 @@
-// Evaluation of a module's assignments, and of the expressions that they stand on.
+// Evaluation of a module's assignments: the calls that upstream's `Evaluator` has, with their public clauses. It leans on
+// the recursion over expressions, takes its clauses to the lexical rules by the laws, and passes on the laws and the test
+// of resolution.
 #![tactic(auto)]
 
-mod built_in;
 pub mod evaluator;
-mod form;
-mod message;
-mod parameters;
 
-pub use just_meaning::laws;
+pub use just_laws::laws;
+pub use just_resolution::resolved::resolved;

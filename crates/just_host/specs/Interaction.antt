@@ -1,14 +1,15 @@
 -- What is asked of a host, as a tree: a question has a branch for each answer.
-use Rattle.std.specs.Prelude.{◌≡◌, ℕ, List, [], ◌∷◌, ◌⊎◌}
-use Rattle.just_syntax.specs.Plain.{Text, Token}
+use Rattle.std.specs.Prelude.{◌≡◌, ℕ, List, [], ◌∷◌, ◌⊎◌, Option, Some, None}
+use Rattle.just_syntax.specs.Plain.{Token}
 use Rattle.just_value.specs.Refusal.{Refusal, NoMemory}
-use Rattle.just_value.specs.Outcome.{Outcome, Gave, Refused, Stopped, UnlessStopped}
+use Rattle.just_value.specs.Outcome.{Outcome, Gave, Refused, Stopped}
 use Rattle.just_host.specs.Question.{Question, Answer, Failed}
 
--- what evaluation reaches: a variable is read, a call is entered, a command stands there, also in a dry run
+-- What evaluation reaches, each with the token where it stands: a variable is read, a call is entered, a command stands
+-- there, also in a dry run.
 pub data Note : Type 0 where
-  Read : ℕ → Note
-  Entered : Text → Note
+  Read : Token → ℕ → Note
+  Entered : Token → Note
   Command : Token → Note
 
 -- what happens, in order
@@ -36,14 +37,22 @@ gives a = done (Gave a)
 abbrev pub refuses : {A : Type 0} → Refusal → Tree A
 refuses r = done (Refused r)
 
--- A path down a tree: these events, and then this outcome. For want of memory it may be stopped at any point.
-abbrev pub Path : {A : Type 0} → Tree A → List Event → Outcome A → Type 0
-Path (done wanted) [] o = UnlessStopped o wanted
-Path (ask q next) [] o = o ≡ Stopped
-Path (ask q next) (Asked p a ∷ events) o = (q ≡ p) × Path (next a) events o
-Path (note x rest) [] o = o ≡ Stopped
-Path (note x rest) (Noted y ∷ events) o = (x ≡ y) × Path rest events o
-Path _ _ _ = ⊥
+-- what is refused of that which evaluation reaches
+abbrev pub Rules : Type 0
+Rules = Note → Option Refusal
+
+-- nothing is
+abbrev pub freely : Rules
+freely x = None
+
+-- A path down a tree by rules: these events, and then this outcome. It is refused at the first note that the rules refuse.
+-- For want of memory it may be stopped at any point.
+pub data Path {A : Type 0} (rules : Rules) : Tree A → List Event → Outcome A → Type 0 where
+  Ends : {o : Outcome A} → Path rules (done o) [] o
+  Stops : {t : Tree A} → Path rules t [] Stopped
+  Asks : {q : Question} {next : Answer → Tree A} {a : Answer} {es : List Event} {o : Outcome A} → Path rules (next a) es o → Path rules (ask q next) (Asked q a ∷ es) o
+  Notes : {x : Note} {rest : Tree A} {es : List Event} {o : Outcome A} → rules x ≡ None → Path rules rest es o → Path rules (note x rest) (Noted x ∷ es) o
+  Shuts : {x : Note} {rest : Tree A} {r : Refusal} → rules x ≡ Some r → Path rules (note x rest) [] (Refused r)
 
 -- The questions among the events lead a host from one state to another, step by step: nothing else is asked.
 abbrev pub Chain : {S : Type 0} → (S → Question → Answer → S → Type 0) → S → List Event → S → Type 0
@@ -52,9 +61,9 @@ Chain {S} step old (Asked q a ∷ events) new = (mid : S) × step old q a mid ×
 Chain step old (Noted x ∷ events) new = Chain step old events new
 
 -- Some events are a path down the tree to the outcome, and their questions lead the host from old to new.
-pub record Runs {S A : Type 0} (step : S → Question → Answer → S → Type 0) (old : S) (tree : Tree A) (outcome : Outcome A) (new : S) : Type 0 where
+pub record Runs {S A : Type 0} (rules : Rules) (step : S → Question → Answer → S → Type 0) (old : S) (tree : Tree A) (outcome : Outcome A) (new : S) : Type 0 where
   pub events : List Event
-  pub path : Path tree events outcome
+  pub path : Path rules tree events outcome
   pub chain : Chain step old events new
 
 -- Answered questions, and nothing else, lead the host from old to new.

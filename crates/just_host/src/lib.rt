@@ -1,4 +1,5 @@
-// What evaluation stands in, and whom it asks: configuration, settings, modules, contexts, and hosts.
+// What evaluation stands in, and whom it asks: configuration, settings, modules, contexts, questions and hosts; and trees of
+// questions, with the lemmas of the paths down them. It leans on syntax, values and texts.
 #![tactic(auto)]
 
 pub mod ask;
@@ -13,7 +14,5 @@ pub mod justfile;
 pub mod number_question;
 pub mod search;
 pub mod settings;
-#[cfg(test)]
-mod tests;
 pub mod text_answer;
 pub mod text_question;

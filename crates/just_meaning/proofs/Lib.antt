@@ -1,7 +1,2 @@
-pub mod Counts
-pub mod Bound
-pub mod Overlays
+pub mod Callees
 pub mod Reached
-pub mod Lexical
-pub mod Internal
-pub mod Alike

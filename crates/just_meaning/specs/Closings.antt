@@ -3,7 +3,7 @@ use Rattle.std.specs.Prelude.{ℕ, zero, suc, List, [], ◌∷◌}
 use Rattle.just_syntax.specs.Plain.{Token, Function}
 use Rattle.just_value.specs.Value.{Value, Names}
 use Rattle.just_value.specs.Frames.{Frame, over, value_in, with_bound, plainly_bound}
-use Rattle.just_meaning.specs.Meaning.{Context, Situation, Deeper, AtLimit, Room, eval}
+use Rattle.just_meaning.specs.Meaning.{Program, Situation, Deeper, AtLimit, Room, eval}
 
 -- a frame with parameters put in, each with its value
 abbrev pub with_parameters : Frame → List (Token × ℕ) → List Value → Frame
@@ -18,11 +18,11 @@ inside names s f vs =
     record { names = over frame names; environment = []; recipe = s.recipe; is_dependency = s.is_dependency; lists = s.lists; shown = frame ∷ s.below; below = frame ∷ s.below }
 
 -- by the lexical rules: a body reads its own parameters and the base, and nothing of its caller
-abbrev pub lexical : Context → Names → ℕ → Deeper
+abbrev pub lexical : Program → Names → ℕ → Deeper
 lexical c base zero = AtLimit
 lexical c base (suc n) = Room (λ f s vs. eval c (lexical c base n) (inside base s f vs) f.body)
 
--- by the chain of frames: below its own parameters a body reads the frames that its own is put on
-abbrev pub chained : Context → ℕ → Deeper
-chained c zero = AtLimit
-chained c (suc n) = Room (λ f s vs. eval c (chained c n) (inside (value_in s.below) s f vs) f.body)
+-- by dynamic scoping: below its own parameters a body reads the frames that its own is put on
+abbrev pub dynamic : Program → ℕ → Deeper
+dynamic c zero = AtLimit
+dynamic c (suc n) = Room (λ f s vs. eval c (dynamic c n) (inside (value_in s.below) s f vs) f.body)

@@ -1,6 +1,11 @@
+pub mod Reaches
+pub mod Callee
+pub mod Assignments
+pub mod Resolved
 pub mod Messages
 pub mod Meaning
 pub mod Closings
+pub mod Constant
 pub mod Module
 pub mod Internal
-pub mod Laws
+pub mod View

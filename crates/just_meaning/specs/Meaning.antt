@@ -23,11 +23,11 @@ use Rattle.just_builtins.specs.Called.{Called, Returned, Said, tree}
 use Rattle.just_builtins.specs.Meaning.{reply}
 use Rattle.just_builtins.specs.Shape.{builtin_of, is_text}
 use Rattle.just_builtins.specs.declared.function.Function as built_in
-use Rattle.just_resolution.specs.Callee.{Callee, Defined, BuiltIn, LeftOut, Unknown, accepts, callee}
+use Rattle.just_meaning.specs.Callee.{Callee, Defined, BuiltIn, LeftOut, Unknown, accepts, callee}
 use Rattle.just_meaning.specs.Messages.{unresolved_text, unevaluated_text, unknown_function_text, miscounted_text}
 
 -- what stays the same in all of a run: the fixed context, and the functions that the file defines
-pub record Context : Type 0 where
+pub record Program : Type 0 where
   pub fixed : Fixed
   pub functions : List Function
 
@@ -48,10 +48,6 @@ pub data Deeper : Type 0 where
   AtLimit : Deeper
   Room : (Function → Situation → List Value → Tree Value) → Deeper
 
-abbrev pub when : {X : Type 0} → Bool → X → X → X
-when true first second = first
-when false first second = second
-
 -- the value of a name, or a refusal where it has none
 abbrev pub named : Token → Option Value → Outcome Value
 named t (Some v) = Gave v
@@ -59,7 +55,7 @@ named t None = Refused (Internal (unevaluated_text t.lexeme) t)
 
 abbrev pub variable : Token → Option ℕ → Names → Tree Value
 variable t None names = refuses (Internal (unresolved_text t.lexeme) t)
-variable t (Some n) names = note (Read n) (done (named t (names n)))
+variable t (Some n) names = note (Read t n) (done (named t (names n)))
 
 -- what a command expression's fault ends with
 abbrev pub faulted : Token → Fault → Outcome Value
@@ -74,13 +70,12 @@ answered t (Failed f) = faulted t f
 -- no host answers a command in another way
 answered t _ = Stopped
 
--- a command expression: its text in backticks in a dry run, else what the host answers
+-- what a command expression gives: its text in backticks in a dry run, else what the host answers
+abbrev pub written : Fixed → List (Text × Text) → Frames → Text → Token → Tree Value
+written f environment shown text t = if f.config.dry_run then gives (((96 ∷ text) ++ 96 ∷ []) ∷ []) else ask (command_question f environment shown text None) (λ a. done (answered t a))
+
 abbrev pub command : Fixed → Situation → Text → Token → Tree Value
-command f s text t =
-    note (Command t)
-    (when f.config.dry_run
-    (gives (((96 ∷ text) ++ 96 ∷ []) ∷ []))
-    (ask (command_question f s.environment s.shown text None) (λ a. done (answered t a))))
+command f s text t = note (Command t) (written f s.environment s.shown text t)
 
 -- a value as a text argument of a function: its one element
 abbrev pub one_text : Token → Value → Tree Value
@@ -89,10 +84,10 @@ one_text t v = refuses (refusal.ListInStringContext (contexts.Function t) v)
 
 -- a text where one is wanted, and else any value
 abbrev pub argument : Bool → Token → Value → Tree Value
-argument is_text t v = when is_text (one_text t v) (gives v)
+argument is_text t v = if is_text then one_text t v else gives v
 
 -- what a built-in function is called in
-abbrev pub built_in_context : Context → Situation → Token → function.Context
+abbrev pub built_in_context : Program → Situation → Token → function.Context
 built_in_context c s t = record { environment = s.environment; fixed = c.fixed; is_dependency = s.is_dependency; name = t; recipe = s.recipe }
 
 -- a built-in function's own message is a refusal
@@ -101,30 +96,41 @@ returned t (Returned v) = gives v
 returned t (Said message) = refuses (refusal.FunctionCall t message)
 
 -- what a built-in function answers, shown the frames that can be seen
-abbrev pub built_in_call : Context → Situation → Token → built_in.Function → List Value → Tree Value
+abbrev pub built_in_call : Program → Situation → Token → built_in.Function → List Value → Tree Value
 built_in_call c s t f vs = bind (tree s.shown (reply (builtin_of f) (built_in_context c s t) vs)) (returned t)
 
--- A call with so many arguments, and the same arguments where those at a built-in function's text positions are to be
--- texts. It is refused for what its name stands for, at the recursion limit, then for the number of its arguments, each
--- before they are evaluated.
-abbrev pub called : Context → Token → Callee → Deeper → Situation → ℕ → Tree (List Value) → (built_in.Function → Tree (List Value)) → Tree Value
-called c t (Defined f) AtLimit s n arguments checked = refuses (refusal.RecursionLimit f.name)
-called c t (Defined f) (Room run) s n arguments checked = when (nat_eq n (length f.parameters)) (bind arguments (run f s)) (refuses (Internal (miscounted_text t.lexeme) t))
-called c t (BuiltIn f) d s n arguments checked = when (accepts (BuiltIn f) n) (bind (checked f) (built_in_call c s t f)) (refuses (Internal (miscounted_text t.lexeme) t))
-called c t LeftOut d s n arguments checked = refuses (refusal.LeftOut t)
-called c t Unknown d s n arguments checked = refuses (Internal (unknown_function_text t.lexeme) t)
+-- A row of values, of which each is looked at, with its index from 0, before the next is evaluated.
+abbrev pub Row : Type 0
+Row = (ℕ → Value → Tree Value) → Tree (List Value)
+
+-- nothing is looked at
+abbrev pub as_it_is : ℕ → Value → Tree Value
+as_it_is i v = gives v
+
+-- the arguments at a built-in function's text positions are to be texts
+abbrev pub texts_of : built_in.Function → Token → ℕ → Value → Tree Value
+texts_of f t i v = argument (is_text f i) t v
+
+-- A call with so many arguments. It is refused for what its name stands for, at the recursion limit, then for the number
+-- of its arguments, each before they are evaluated.
+abbrev pub called : Program → Token → Callee → Deeper → Situation → ℕ → Row → Tree Value
+called c t (Defined f) AtLimit s n row = refuses (refusal.RecursionLimit f.name)
+called c t (Defined f) (Room run) s n row = if nat_eq n (length f.parameters) then bind (row as_it_is) (run f s) else refuses (Internal (miscounted_text t.lexeme) t)
+called c t (BuiltIn f) d s n row = if accepts (BuiltIn f) n then bind (row (texts_of f t)) (built_in_call c s t f) else refuses (Internal (miscounted_text t.lexeme) t)
+called c t LeftOut d s n row = refuses (refusal.LeftOut t)
+called c t Unknown d s n row = refuses (Internal (unknown_function_text t.lexeme) t)
 
 -- the second value if the first is truthy, else no element
 abbrev pub conjunction : Tree Value → Tree Value → Tree Value
-conjunction l r = bind l (λ v. when (is_truthy v) r (gives []))
+conjunction l r = bind l (λ v. if is_truthy v then r else gives [])
 
 -- the first value if it is truthy, else the second
 abbrev pub disjunction : Tree Value → Tree Value → Tree Value
-disjunction l r = bind l (λ v. when (is_truthy v) (gives v) r)
+disjunction l r = bind l (λ v. if is_truthy v then gives v else r)
 
 -- the one branch or the other, by the truth of the condition
 abbrev pub choice : Tree Value → Tree Value → Tree Value → Tree Value
-choice condition consequence otherwise = bind condition (λ v. when (is_truthy v) consequence otherwise)
+choice condition consequence otherwise = bind condition (λ v. if is_truthy v then consequence else otherwise)
 
 -- both values, put together
 abbrev pub combination : ListOperator → Tree Value → Token → Tree Value → Tree Value
@@ -149,7 +155,7 @@ compared _ v w = from_condition (is_same v w)
 
 -- whether two values are the same or differ; a regular expression is refused before its operands
 abbrev pub comparison : ConditionalOperator → Token → Tree Value → Tree Value → Tree Value
-comparison o t l r = when (is_regex o) (refuses (refusal.LeftOutRegex t)) (bind l (λ v. bind r (λ w. gives (compared o v w))))
+comparison o t l r = if is_regex o then refuses (refusal.LeftOutRegex t) else bind l (λ v. bind r (λ w. gives (compared o v w)))
 
 -- what an assertion that holds gives: the condition's value with lists, one empty text without
 abbrev pub asserted : Bool → Value → Value
@@ -158,7 +164,7 @@ asserted false v = [] ∷ []
 
 -- a condition that is to be truthy, else a refusal with the message
 abbrev pub assertion : Bool → Token → Tree Value → Tree Text → Tree Value
-assertion lists t condition message = bind condition (λ v. when (is_truthy v) (gives (asserted lists v)) (bind message (λ text. refuses (refusal.Assert text t))))
+assertion lists t condition message = bind condition (λ v. if is_truthy v then gives (asserted lists v) else bind message (λ text. refuses (refusal.Assert text t)))
 
 abbrev pub unindented_if : Bool → Text → Text
 unindented_if indented text = if indented then unindented text else text
@@ -172,12 +178,12 @@ abbrev pub flatten : List Value → Value
 flatten vs = flat_map (λ v. v) vs
 
 abbrev mutual
-  pub eval : Context → Deeper → Situation → Expr → Tree Value
+  pub eval : Program → Deeper → Situation → Expr → Tree Value
   eval c d s (And l r) = conjunction (eval c d s l) (eval c d s r)
   eval c d s (Assert e m t) = assertion s.lists t (eval c d s e) (bind (eval c d s m) (λ w. gives (joined w)))
   eval c d s (AssertOnly e t) = assertion s.lists t (eval c d s e) (gives ((96 ∷ printed e) ++ 96 ∷ []))
   eval c d s (Backtick text t) = command c.fixed s text t
-  eval c d s (Call t es) = note (Entered t.lexeme) (called c t (callee c.functions t.lexeme) d s (count es) (eval_all c d s es) (λ f. eval_arguments c d s t (is_text f) 0 es))
+  eval c d s (Call t es) = note (Entered t) (called c t (callee c.functions t.lexeme) d s (count es) (eval_row c d s 0 es))
   eval c d s (Comparison l o r t) = comparison o t (eval c d s l) (eval c d s r)
   eval c d s (Concatenation l t r) = combination operators.Concatenate (eval c d s l) t (eval c d s r)
   eval c d s (Conditional e a b) = choice (eval c d s e) (eval c d s a) (eval c d s b)
@@ -186,36 +192,31 @@ abbrev mutual
   eval c d s (Group e) = eval c d s e
   eval c d s (Join l t r) = combination operators.Join (eval c d s l) t (eval c d s r)
   eval c d s (JoinOnly t r) = combination operators.Join (gives ([] ∷ [])) t (eval c d s r)
-  eval c d s (ListOf es t) = bind (eval_all c d s es) (λ vs. gives (flatten vs))
+  eval c d s (ListOf es t) = bind (eval_row c d s 0 es as_it_is) (λ vs. gives (flatten vs))
   eval c d s (ListConcatenation l t r) = succession (eval c d s l) (eval c d s r)
   eval c d s (Not e) = negation (eval c d s e)
   eval c d s (Or l r) = disjunction (eval c d s l) (eval c d s r)
   eval c d s (StringLiteral literal) = gives (literal.cooked ∷ [])
   eval c d s (Variable t number) = variable t number s.names
 
-  -- the values of all, in their order
-  pub eval_all : Context → Deeper → Situation → Exprs → Tree (List Value)
-  eval_all c d s Nil = gives []
-  eval_all c d s (Cons e es) = bind (eval c d s e) (λ v. bind (eval_all c d s es) (λ vs. gives (v ∷ vs)))
-
-  -- the same, from a position on, where a value at a text position is to be a text, and is refused at once
-  pub eval_arguments : Context → Deeper → Situation → Token → (ℕ → Bool) → ℕ → Exprs → Tree (List Value)
-  eval_arguments c d s t is_text i Nil = gives []
-  eval_arguments c d s t is_text i (Cons e es) = bind (bind (eval c d s e) (argument (is_text i) t)) (λ v. bind (eval_arguments c d s t is_text (suc i) es) (λ vs. gives (v ∷ vs)))
+  -- the values of all, in their order, from an index on
+  pub eval_row : Program → Deeper → Situation → ℕ → Exprs → Row
+  eval_row c d s i Nil look = gives []
+  eval_row c d s i (Cons e es) look = bind (bind (eval c d s e) (look i)) (λ v. bind (eval_row c d s (suc i) es look) (λ vs. gives (v ∷ vs)))
 
   -- each interpolation joined, and the text behind it
-  pub eval_pieces : Context → Deeper → Situation → Pieces → Tree Text
+  pub eval_pieces : Program → Deeper → Situation → Pieces → Tree Text
   eval_pieces c d s NoPiece = gives []
   eval_pieces c d s (Piece e literal pieces) = bind (eval c d s e) (λ v. bind (eval_pieces c d s pieces) (λ text. gives ((joined v ++ literal.cooked) ++ text)))
 
 -- ---- parts that may be left out
 
 -- the branch, or no element
-abbrev pub branch : Context → Deeper → Situation → Option Expr → Tree Value
+abbrev pub branch : Program → Deeper → Situation → Option Expr → Tree Value
 branch c d s None = gives []
 branch c d s (Some e) = eval c d s e
 
 -- the message joined, or the printed condition in backticks
-abbrev pub assertion_text : Context → Deeper → Situation → Expr → Option Expr → Tree Text
+abbrev pub assertion_text : Program → Deeper → Situation → Expr → Option Expr → Tree Text
 assertion_text c d s condition None = gives ((96 ∷ printed condition) ++ 96 ∷ [])
 assertion_text c d s condition (Some e) = bind (eval c d s e) (λ w. gives (joined w))

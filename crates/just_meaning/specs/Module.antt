@@ -6,21 +6,21 @@ use Rattle.just_value.specs.Frames.{Bound, Frames, innermost, value_in, bound_in
 use Rattle.just_value.specs.Refusal.{Refusal, Internal}
 use Rattle.just_value.specs.Outcome.{Outcome, Gave, Refused, Stopped}
 use Rattle.just_host.specs.Question.{Question, Answer}
-use Rattle.just_host.specs.Interaction.{Event, Tree, gives, Path, Chain}
-use Rattle.just_resolution.specs.Assignments.{Assignments, assignment_at}
+use Rattle.just_host.specs.Interaction.{Event, Tree, gives, Path, Chain, freely}
+use Rattle.just_meaning.specs.Assignments.{Assignments, assignment_at}
 use Rattle.just_meaning.specs.Messages.{unknown_assignment_text}
-use Rattle.just_meaning.specs.Meaning.{Context, Situation, Deeper, eval}
-use Rattle.just_meaning.specs.Closings.{lexical, chained}
+use Rattle.just_meaning.specs.Meaning.{Program, Situation, Deeper, eval}
+use Rattle.just_meaning.specs.Closings.{lexical, dynamic}
 
 -- what a run is given besides its frames
 pub record Module : Type 0 where
-  pub context : Context
+  pub program : Program
   pub assignments : Assignments
   pub limit : ℕ
   pub overrides : ℕ → Option Text
 
 -- an assignment reads what is bound so far; a called body's frame is put on all of it
-abbrev pub situation_at : Context → Frames → Situation
+abbrev pub situation_at : Program → Frames → Situation
 situation_at c frames = record { names = value_in frames; environment = []; recipe = None; is_dependency = false; lists = c.fixed.settings.lists; shown = frames; below = frames }
 
 -- what is bound for an assignment
@@ -38,15 +38,15 @@ Closing = Module → Frames → Deeper
 
 -- a body reads its own parameters and the values bound so far
 abbrev pub lexically : Closing
-lexically m frames = lexical m.context (value_in frames) (m.limit - 1)
+lexically m frames = lexical m.program (value_in frames) (m.limit - 1)
 
 -- below its own parameters a body reads the frames that its own is put on
-abbrev pub by_chain : Closing
-by_chain m frames = chained m.context (m.limit - 1)
+abbrev pub dynamically : Closing
+dynamically m frames = dynamic m.program (m.limit - 1)
 
 -- the value of an assignment, from the frames so far
 abbrev pub assigned : Closing → Module → Frames → Assignment → Tree Value
-assigned closing m frames a = or_override (m.overrides a.number) (eval m.context (closing m frames) (situation_at m.context frames) a.value)
+assigned closing m frames a = or_override (m.overrides a.number) (eval m.program (closing m frames) (situation_at m.program frames) a.value)
 
 -- one assignment that was evaluated: its number, its events, and how it ended
 pub record Block : Type 0 where
@@ -76,13 +76,13 @@ pub data Run (closing : Closing) (m : Module) : Frames → List Token → List B
   -- it is bound already
   Skips : {frames : Frames} {t : Token} {left : List Token} {bs : List Block} {o : Outcome Frames} → (a : Assignment) (b : Bound) → assignment_at m.assignments t.lexeme ≡ Some a → m.assignments.referenced a.number ≡ true → innermost a.number frames ≡ Some b → Run closing m frames left bs o → Run closing m frames (t ∷ left) bs o
   -- its value is bound
-  Binds : {frames : Frames} {t : Token} {left : List Token} {bs : List Block} {o : Outcome Frames} → (a : Assignment) (es : List Event) (v : Value) → IsTaken m frames t a → Path (assigned closing m frames a) es (Gave v)
-      → Run closing m (bound_in_front frames (bound_of m.context.fixed.settings.export a v)) left bs o → Run closing m frames (t ∷ left) (record { number = a.number; events = es; outcome = Gave v } ∷ bs) o
+  Binds : {frames : Frames} {t : Token} {left : List Token} {bs : List Block} {o : Outcome Frames} → (a : Assignment) (es : List Event) (v : Value) → IsTaken m frames t a → Path freely (assigned closing m frames a) es (Gave v)
+      → Run closing m (bound_in_front frames (bound_of m.program.fixed.settings.export a v)) left bs o → Run closing m frames (t ∷ left) (record { number = a.number; events = es; outcome = Gave v } ∷ bs) o
   -- it is refused
-  Breaks : {frames : Frames} {t : Token} {left : List Token} → (a : Assignment) (es : List Event) (r : Refusal) → IsTaken m frames t a → Path (assigned closing m frames a) es (Refused r)
+  Breaks : {frames : Frames} {t : Token} {left : List Token} → (a : Assignment) (es : List Event) (r : Refusal) → IsTaken m frames t a → Path freely (assigned closing m frames a) es (Refused r)
       → Run closing m frames (t ∷ left) (record { number = a.number; events = es; outcome = Refused r } ∷ []) (Refused r)
   -- it is stopped
-  Halts : {frames : Frames} {t : Token} {left : List Token} → (a : Assignment) (es : List Event) → IsTaken m frames t a → Path (assigned closing m frames a) es Stopped
+  Halts : {frames : Frames} {t : Token} {left : List Token} → (a : Assignment) (es : List Event) → IsTaken m frames t a → Path freely (assigned closing m frames a) es Stopped
       → Run closing m frames (t ∷ left) (record { number = a.number; events = es; outcome = Stopped } ∷ []) Stopped
 
 -- Some blocks are a run to the outcome, and their questions lead the host from old to new.

@@ -1,4 +1,3 @@
-// What evaluation means, and laws that hold of it. The definitions are in `specs/`; there is nothing to run here.
+// What evaluation means: of expressions, calls and whole runs, and when a module is resolved. The definitions are in
+// `specs/`, and there is nothing to run here. It leans on syntax, values, hosts and the built-in functions.
 #![tactic(auto)]
-
-pub mod laws;

@@ -7,21 +7,11 @@ use Rattle.std.specs.Str.{bytes_eq}
 use Rattle.std.proofs.lemmas.Bool.{cases_eq, or_cases, or_left, or_right}
 use Rattle.std.proofs.lemmas.Slice.Eq.{bytes_eq-Decides}
 use Rattle.just_syntax.specs.Plain.{Text, Token, Function, Expr}
-use Rattle.just_host.specs.Interaction.{Read, Entered}
 use Rattle.just_resolution.specs.Admitted.{IsAdmitted}
 use Rattle.just_resolution.specs.Mentions.{called_names, calls_of, mentions, nothing}
-use Rattle.just_resolution.specs.Reaches.{IsAmong, Reaches, Here, Later, Reads, Stands, function_at}
-use Rattle.just_resolution.proofs.Standing.{IsNamed, all_called}
-
--- ---- names in lists
-
-pub named_append : (xs ys : List Text) (t : Text) → IsNamed (xs ++ ys) t ↔ (IsNamed xs t ⊎ IsNamed ys t)
-named_append [] ys t = ((λ h. inr h), (λ h. ⊎_elim (λ k. absurd k) (λ k. k) h))
-named_append (x ∷ xs) ys t =
-    let rest = named_append xs ys t in (
-      (λ h. ⊎_elim (λ k. inl (inl k)) (λ k. ⊎_elim (λ j. inl (inr j)) (λ j. inr j) (rest.0 k)) h),
-      (λ h. ⊎_elim (λ k. ⊎_elim (λ j. inl j) (λ j. inr (rest.1 (inl j))) k) (λ k. inr (rest.1 (inr k))) h),
-    )
+use Rattle.just_meaning.proofs.Reached.{reaches_on}
+use Rattle.just_meaning.specs.Reaches.{VariableOf, CallOf, IsAmong, Reaches, Here, Later, Reads, Stands, function_at}
+use Rattle.just_resolution.proofs.Standing.{IsIn, all_called, in_append}
 
 -- a set that holds one name more
 abbrev pub Adds : (Text → Bool) → (Text → Bool) → Text → Type 0
@@ -29,16 +19,16 @@ Adds old new name = (t : Text) → IsTrue (new t) ↔ ((name ≡ t) ⊎ IsTrue (
 
 -- a name is admitted or pending
 abbrev pub IsSettled : (Text → Bool) → List Text → Text → Type 0
-IsSettled admitted pending t = IsTrue (admitted t) ⊎ IsNamed pending t
+IsSettled admitted pending t = IsTrue (admitted t) ⊎ IsIn pending t
 
 -- What an expression calls, and what admitted functions call, is settled; what is pending is reached. The
 -- expression and the admitted functions read nothing but what they may.
 pub record IsWalked (functions : List Function) (e : Expr) (readable : ℕ → Bool) (admitted : Text → Bool) (pending : List Text) : Type 0 where
-  pub start : (name : Text) → Stands e (Entered name) → IsSettled admitted pending name
-  pub own : (n : ℕ) → Stands e (Read n) → IsTrue (readable n)
-  pub reads : (name : Text) (f : Function) → IsTrue (admitted name) → function_at functions name ≡ Some f → (n : ℕ) → Stands f.body (Read n) → IsAmong f.parameters n ⊎ IsTrue (readable n)
-  pub calls : (name : Text) (f : Function) → IsTrue (admitted name) → function_at functions name ≡ Some f → (further : Text) → Stands f.body (Entered further) → IsSettled admitted pending further
-  pub reached : (name : Text) → IsNamed pending name → Reaches functions e name
+  pub start : (name : Text) (n : ℕ) → Stands e (CallOf name n) → IsSettled admitted pending name
+  pub own : (n : ℕ) → Stands e (VariableOf (Some n)) → IsTrue (readable n)
+  pub reads : (name : Text) (f : Function) → IsTrue (admitted name) → function_at functions name ≡ Some f → (n : ℕ) → Stands f.body (VariableOf (Some n)) → IsAmong f.parameters n ⊎ IsTrue (readable n)
+  pub calls : (name : Text) (f : Function) → IsTrue (admitted name) → function_at functions name ≡ Some f → (further : Text) (n : ℕ) → Stands f.body (CallOf further n) → IsSettled admitted pending further
+  pub reached : (name : Text) → IsIn pending name → Reaches functions e name
 
 -- whether a number is a parameter's
 among_cases : (ps : List (Token × ℕ)) (n : ℕ) → IsAmong ps n ⊎ (IsAmong ps n → ⊥)
@@ -47,52 +37,47 @@ among_cases (p ∷ ps) n =
     ⊎_elim (λ e. inl (inl e)) (λ e. ⊎_elim (λ k. inl (inr k)) (λ k. inr (λ h. ⊎_elim (λ j. e j) (λ j. k j) h)) (among_cases ps n)) (cases_eq p.1 n)
 
 -- the body of the function that was found decides
-pub body_decided : (o : Option Function) (f : Function) (own readable : ℕ → Bool) (A : Type 0) → o ≡ Some f → ((n : ℕ) → IsTrue (own n) ↔ IsAmong f.parameters n) → A ↔ ((n : ℕ) → Stands f.body (Read n) → IsTrue (own n || readable n)) →
-    A ↔ ((g : Function) → o ≡ Some g → (n : ℕ) → Stands g.body (Read n) → IsAmong g.parameters n ⊎ IsTrue (readable n))
+pub body_decided : (o : Option Function) (f : Function) (own readable : ℕ → Bool) (A : Type 0) → o ≡ Some f → ((n : ℕ) → IsTrue (own n) ↔ IsAmong f.parameters n) → A ↔ ((n : ℕ) → Stands f.body (VariableOf (Some n)) → IsTrue (own n || readable n)) →
+    A ↔ ((g : Function) → o ≡ Some g → (n : ℕ) → Stands g.body (VariableOf (Some n)) → IsAmong g.parameters n ⊎ IsTrue (readable n))
 body_decided o f own readable A found owns body = (
   (λ a g found_g n.
       let same : f ≡ g = (let e = sym found ∙ found_g in cc) in
-      subst (λ (h : Function). Stands h.body (Read n) → IsAmong h.parameters n ⊎ IsTrue (readable n)) same
+      subst (λ (h : Function). Stands h.body (VariableOf (Some n)) → IsAmong h.parameters n ⊎ IsTrue (readable n)) same
       (λ s. ⊎_elim (λ k. inl ((owns n).0 k)) (λ r. inr r) (or_cases (own n) (readable n) (body.0 a n s)))),
   (λ h. body.1 (λ n s. ⊎_elim (λ k. or_left (own n) (readable n) ((owns n).1 k)) (λ r. or_right (own n) (readable n) r) (h f found n s))),
 )
 
 module _ (functions : List Function) where
-  -- what the body of a reached function calls is reached
-  reaches_on : {e : Expr} {name : Text} → Reaches functions e name → (f : Function) → function_at functions name ≡ Some f → (further : Text) → Stands f.body (Entered further) → Reaches functions e further
-  reaches_on (Here {name = name} s) f found further there = Later name s f found (Here there)
-  reaches_on (Later name s g found rest) f found_last further there = Later name s g found (reaches_on rest f found_last further there)
-
   -- a closed set that holds what an expression calls holds what it reaches
-  reached_admitted : {e : Expr} {name : Text} (readable : ℕ → Bool) (admitted : Text → Bool) → IsAdmitted functions readable admitted → ((t : Text) → Stands e (Entered t) → IsTrue (admitted t)) → Reaches functions e name → IsTrue (admitted name)
-  reached_admitted {name = name} readable admitted closed start (Here s) = start name s
-  reached_admitted readable admitted closed start (Later mid s f found rest) =
-      reached_admitted readable admitted closed (λ t there. closed.calls mid f (start mid s) found t there) rest
+  reached_admitted : {e : Expr} {name : Text} (readable : ℕ → Bool) (admitted : Text → Bool) → IsAdmitted functions readable admitted → ((t : Text) (n : ℕ) → Stands e (CallOf t n) → IsTrue (admitted t)) → Reaches functions e name → IsTrue (admitted name)
+  reached_admitted {name = name} readable admitted closed start (Here n s) = start name n s
+  reached_admitted readable admitted closed start (Later mid n s f found rest) =
+      reached_admitted readable admitted closed (λ t k there. closed.calls mid f (start mid n s) found t k there) rest
 
   module _ (e : Expr) (readable : ℕ → Bool) where
     abbrev pub AllReadable : Type 0
     AllReadable = (n : ℕ) → Reads functions e n → IsTrue (readable n)
 
     -- nothing is admitted yet but what was, and what the expression calls is pending
-    pub begins : (admitted : Text → Bool) (pending : List Text) → IsAdmitted functions readable admitted → pending ≡ called_names (mentions nothing e) → ((n : ℕ) → Stands e (Read n) → IsTrue (readable n)) → IsWalked functions e readable admitted pending
+    pub begins : (admitted : Text → Bool) (pending : List Text) → IsAdmitted functions readable admitted → pending ≡ called_names (mentions nothing e) → ((n : ℕ) → Stands e (VariableOf (Some n)) → IsTrue (readable n)) → IsWalked functions e readable admitted pending
     begins admitted pending closed is own = record {
-      start = λ name s. inr (subst (λ names. IsNamed names name) (sym is) ((all_called e name).1 s));
+      start = λ name n s. inr (subst (λ names. IsIn names name) (sym is) ((all_called e name).1 (n, s)));
       own = own;
       reads = closed.reads;
-      calls = λ name f h found further there. inl (closed.calls name f h found further there);
-      reached = λ name h. Here ((all_called e name).0 (subst (λ names. IsNamed names name) is h));
+      calls = λ name f h found further n s. inl (closed.calls name f h found further n s);
+      reached = λ name h. let call = (all_called e name).0 (subst (λ names. IsIn names name) is h) in Here call.0 call.1;
     }
 
     -- a reached function reads nothing but what it may
     refused_within : (admitted : Text → Bool) (front : List Text) (name : Text) → IsWalked functions e readable admitted (front ++ name ∷ []) → AllReadable →
-        (f : Function) → function_at functions name ≡ Some f → (n : ℕ) → Stands f.body (Read n) → IsAmong f.parameters n ⊎ IsTrue (readable n)
+        (f : Function) → function_at functions name ≡ Some f → (n : ℕ) → Stands f.body (VariableOf (Some n)) → IsAmong f.parameters n ⊎ IsTrue (readable n)
     refused_within admitted front name w all f found n s =
         ⊎_elim (λ own. inl own)
-        (λ beyond. inr (all n (inr (record { name = name; function = f; reached = w.reached name ((named_append front (name ∷ []) name).1 (inr (inl refl))); found = found; stands = s; beyond = beyond }))))
+        (λ beyond. inr (all n (inr (record { name = name; function = f; reached = w.reached name ((in_append front (name ∷ []) name).1 (inr (inl refl))); found = found; stands = s; beyond = beyond }))))
         (among_cases f.parameters n)
 
     -- the answer, where the expression itself reads something else
-    pub refuses_at_once : (own : ℕ → Bool) (answer : Bool) → answer ≡ false → (answer ≡ true) ↔ ((n : ℕ) → Stands e (Read n) → IsTrue (own n || readable n)) → (false ≡ true) ↔ AllReadable
+    pub refuses_at_once : (own : ℕ → Bool) (answer : Bool) → answer ≡ false → (answer ≡ true) ↔ ((n : ℕ) → Stands e (VariableOf (Some n)) → IsTrue (own n || readable n)) → (false ≡ true) ↔ AllReadable
     refuses_at_once own answer off decides = (
       (λ h. absurd (cc)),
       (λ all. absurd (let h : answer ≡ true = decides.1 (λ n s. or_right (own n) (readable n) (all n (inl s))) in cc)),
@@ -100,26 +85,26 @@ module _ (functions : List Function) where
 
     -- the answer, where the body of a reached function does
     pub refuses_within : (admitted : Text → Bool) (front pending : List Text) (name : Text) (answer : Bool) → IsWalked functions e readable admitted pending → pending ≡ front ++ name ∷ [] → answer ≡ false →
-        (answer ≡ true) ↔ ((f : Function) → function_at functions name ≡ Some f → (n : ℕ) → Stands f.body (Read n) → IsAmong f.parameters n ⊎ IsTrue (readable n)) → (false ≡ true) ↔ AllReadable
+        (answer ≡ true) ↔ ((f : Function) → function_at functions name ≡ Some f → (n : ℕ) → Stands f.body (VariableOf (Some n)) → IsAmong f.parameters n ⊎ IsTrue (readable n)) → (false ≡ true) ↔ AllReadable
     refuses_within admitted front pending name answer w is off decides = (
       (λ h. absurd (cc)),
       (λ all. absurd (let h : answer ≡ true = decides.1 (refused_within admitted front name (subst (IsWalked functions e readable admitted) is w) all) in cc)),
     )
 
-    module _ (admitted next_admitted : Text → Bool) (front next : List Text) (name : Text) (w : IsWalked functions e readable admitted (front ++ name ∷ [])) (adds : Adds admitted next_admitted name) (kept : (t : Text) → IsNamed front t → IsNamed next t) where
+    module _ (admitted next_admitted : Text → Bool) (front next : List Text) (name : Text) (w : IsWalked functions e readable admitted (front ++ name ∷ [])) (adds : Adds admitted next_admitted name) (kept : (t : Text) → IsIn front t → IsIn next t) where
       settled_on : (t : Text) → IsSettled admitted (front ++ name ∷ []) t → IsSettled next_admitted next t
       settled_on t h = ⊎_elim (λ a. inl ((adds t).1 (inr a)))
-          (λ k. ⊎_elim (λ j. inr (kept t j)) (λ j. ⊎_elim (λ same. inl ((adds t).1 (inl same))) (λ bad. absurd bad) j) ((named_append front (name ∷ []) t).0 k)) h
+          (λ k. ⊎_elim (λ j. inr (kept t j)) (λ j. ⊎_elim (λ same. inl ((adds t).1 (inl same))) (λ bad. absurd bad) j) ((in_append front (name ∷ []) t).0 k)) h
 
       -- one name more is admitted, whose function reads nothing but what it may, and what it calls is settled
-      step : ((f : Function) → function_at functions name ≡ Some f → (n : ℕ) → Stands f.body (Read n) → IsAmong f.parameters n ⊎ IsTrue (readable n)) →
-          ((f : Function) → function_at functions name ≡ Some f → (further : Text) → Stands f.body (Entered further) → IsSettled next_admitted next further) →
-          ((t : Text) → IsNamed next t → Reaches functions e t) → IsWalked functions e readable next_admitted next
+      step : ((f : Function) → function_at functions name ≡ Some f → (n : ℕ) → Stands f.body (VariableOf (Some n)) → IsAmong f.parameters n ⊎ IsTrue (readable n)) →
+          ((f : Function) → function_at functions name ≡ Some f → (further : Text) (n : ℕ) → Stands f.body (CallOf further n) → IsSettled next_admitted next further) →
+          ((t : Text) → IsIn next t → Reaches functions e t) → IsWalked functions e readable next_admitted next
       step reads calls reached = record {
-        start = λ t s. settled_on t (w.start t s);
+        start = λ t n s. settled_on t (w.start t n s);
         own = w.own;
         reads = λ t f h found n s. ⊎_elim (λ same. reads f (ap (function_at functions) same ∙ found) n s) (λ old. w.reads t f old found n s) ((adds t).0 h);
-        calls = λ t f h found further s. ⊎_elim (λ same. calls f (ap (function_at functions) same ∙ found) further s) (λ old. settled_on further (w.calls t f old found further s)) ((adds t).0 h);
+        calls = λ t f h found further n s. ⊎_elim (λ same. calls f (ap (function_at functions) same ∙ found) further n s) (λ old. settled_on further (w.calls t f old found further n s)) ((adds t).0 h);
         reached = reached;
       }
 
@@ -129,38 +114,38 @@ module _ (functions : List Function) where
     passes admitted next_admitted front name w adds there =
         step admitted next_admitted front front name w adds (λ t h. h)
         (λ f found n s. w.reads name f there found n s)
-        (λ f found further s. settled_on admitted next_admitted front front name w adds (λ t h. h) further (w.calls name f there found further s))
-        (λ t h. w.reached t ((named_append front (name ∷ []) t).1 (inl h)))
+        (λ f found further n s. settled_on admitted next_admitted front front name w adds (λ t h. h) further (w.calls name f there found further n s))
+        (λ t h. w.reached t ((in_append front (name ∷ []) t).1 (inl h)))
 
     -- the last of what is pending is admitted now, and what its body calls is pending
     pub admits : (admitted next_admitted : Text → Bool) (front next : List Text) (name : Text) → IsWalked functions e readable admitted (front ++ name ∷ []) → Adds admitted next_admitted name →
-        ((f : Function) → function_at functions name ≡ Some f → (n : ℕ) → Stands f.body (Read n) → IsAmong f.parameters n ⊎ IsTrue (readable n)) →
+        ((f : Function) → function_at functions name ≡ Some f → (n : ℕ) → Stands f.body (VariableOf (Some n)) → IsAmong f.parameters n ⊎ IsTrue (readable n)) →
         next ≡ front ++ calls_of (function_at functions name) → IsWalked functions e readable next_admitted next
     admits admitted next_admitted front next name w adds reads is =
         step admitted next_admitted front next name w adds
-        (λ t h. subst (λ names. IsNamed names t) (sym is) ((named_append front (calls_of (function_at functions name)) t).1 (inl h)))
+        (λ t h. subst (λ names. IsIn names t) (sym is) ((in_append front (calls_of (function_at functions name)) t).1 (inl h)))
         reads
-        (λ f found further s. inr (subst (λ names. IsNamed names further) (sym is) ((named_append front (calls_of (function_at functions name)) further).1
-        (inr (subst (λ o. IsNamed (calls_of o) further) (sym found) ((all_called f.body further).1 s))))))
-        (λ t h. ⊎_elim (λ old. w.reached t ((named_append front (name ∷ []) t).1 (inl old))) (λ new. called_reached (function_at functions name) refl t new)
-        ((named_append front (calls_of (function_at functions name)) t).0 (subst (λ names. IsNamed names t) is h)))
+        (λ f found further n s. inr (subst (λ names. IsIn names further) (sym is) ((in_append front (calls_of (function_at functions name)) further).1
+        (inr (subst (λ o. IsIn (calls_of o) further) (sym found) ((all_called f.body further).1 (n, s)))))))
+        (λ t h. ⊎_elim (λ old. w.reached t ((in_append front (name ∷ []) t).1 (inl old))) (λ new. called_reached (function_at functions name) refl t new)
+        ((in_append front (calls_of (function_at functions name)) t).0 (subst (λ names. IsIn names t) is h)))
       where
-        called_reached : (o : Option Function) → function_at functions name ≡ o → (t : Text) → IsNamed (calls_of o) t → Reaches functions e t
+        called_reached : (o : Option Function) → function_at functions name ≡ o → (t : Text) → IsIn (calls_of o) t → Reaches functions e t
         called_reached None found t h = absurd h
-        called_reached (Some f) found t h = reaches_on (w.reached name ((named_append front (name ∷ []) name).1 (inr (inl refl)))) f found t ((all_called f.body t).0 h)
+        called_reached (Some f) found t h = let call = (all_called f.body t).0 h in reaches_on functions f call.0 (w.reached name ((in_append front (name ∷ []) name).1 (inr (inl refl)))) found call.1
 
     -- nothing is pending
     pub closes : (admitted : Text → Bool) → IsWalked functions e readable admitted [] → IsAdmitted functions readable admitted
     closes admitted w = record {
       reads = w.reads;
-      calls = λ name f h found further s. ⊎_elim (λ k. k) (λ k. absurd k) (w.calls name f h found further s);
+      calls = λ name f h found further n s. ⊎_elim (λ k. k) (λ k. absurd k) (w.calls name f h found further n s);
     }
 
     pub all_readable : (admitted : Text → Bool) → IsWalked functions e readable admitted [] → AllReadable
     all_readable admitted w n r = ⊎_elim (λ s. w.own n s)
         (λ b. ⊎_elim (λ k. absurd (b.beyond k)) (λ k. k)
         (w.reads b.name b.function
-        (reached_admitted readable admitted (closes admitted w) (λ t s. ⊎_elim (λ k. k) (λ k. absurd k) (w.start t s)) b.reached)
+        (reached_admitted readable admitted (closes admitted w) (λ t k s. ⊎_elim (λ a. a) (λ bad. absurd bad) (w.start t k s)) b.reached)
         b.found n b.stands)) r
 
 -- ---- why the walk ends

@@ -1,6 +1,5 @@
 -- What an order takes, one name after another.
 use Rattle.std.proofs.Common.{◌≡◌, ◌↔◌, ◌⊎◌, inl, inr, ⊎_elim, ℕ, Bool, true, false, cond, List, [], ◌∷◌, ◌++◌, map, Option, Some, None, is_some, Bor, refl, ap, sym, ◌∙◌, subst, IsTrue, IfOk, Result, Ok, Err}
-use Rattle.std.specs.Str.{bytes_eq}
 use Rattle.std.proofs.lemmas.Bool.{or_cases, or_left, or_right}
 use Rattle.just_syntax.specs.Keyed.{value_at}
 use Rattle.just_syntax.specs.Plain.{Text, Token, Assignment, Function}
@@ -9,40 +8,32 @@ use Rattle.just_value.specs.Frames.{Frames, value_in}
 use Rattle.just_value.specs.View.{frames_view}
 use Rattle.just_value.specs.declared.scope.Scope.{Scope}
 use Rattle.just_resolution.specs.Admitted.{IsAdmitted, IsNumberOf, IsTakenBy, MayFollow, ReadsReadable}
-use Rattle.just_resolution.specs.Assignments.{Assignments, assignment_at}
-use Rattle.just_resolution.specs.Reaches.{Reads}
+use Rattle.just_meaning.specs.Assignments.{Assignments, assignment_at}
+use Rattle.just_meaning.specs.Reaches.{Reads}
 use Rattle.just_resolution.specs.Seen.{is_readable, is_taken}
 use Rattle.just_resolution.specs.declared.readable.Readable.{Readable}
-use Rattle.just_resolution.specs.Resolved.{AreAssignments, AreDistinct, AreInOrder, IsBound, IsOneOf, with_taken}
+use Rattle.just_meaning.specs.Resolved.{AreAssignments, AreDistinct, AreInOrder, HasValue, IsOneOf, with_taken}
+use Rattle.just_syntax.proofs.Tables.{found_is}
+use Rattle.just_resolution.proofs.Standing.{IsIn}
 
 -- ---- numbers that are distinct
 
-one_of_found : (name : Text) (vs : List Assignment) (a : Assignment) → value_at (λ v. v.name.lexeme) name vs ≡ Some a → IsOneOf (map (λ v. v.number) vs) a.number
-one_of_found name [] a found = absurd (cc)
-one_of_found name (v ∷ vs) a found = by (bytes_eq name v.name.lexeme) found (λ later. one_of_found name vs a later)
-  where
-    by : (b : Bool) → cond b (Some v) (value_at (λ v. v.name.lexeme) name vs) ≡ Some a → (value_at (λ v. v.name.lexeme) name vs ≡ Some a → IsOneOf (map (λ v. v.number) vs) a.number) → IsOneOf (map (λ v. v.number) (v ∷ vs)) a.number
-    by true is again = inl (let same : v ≡ a = cc in ap (λ (w : Assignment). w.number) same)
-    by false is again = inr (again is)
+-- what is found in a table stands there
+found_in : (name : Text) (vs : List Assignment) (a : Assignment) → value_at (λ v. v.name.lexeme) name vs ≡ Some a → IsIn vs a
+found_in name vs a found = found_is (λ v. v.name.lexeme) name (λ xs. (b : Assignment) → IsIn xs b → IsIn vs b) (IsIn vs) (λ v xs h. h v (inl refl)) (λ v xs h b later. h b (inr later)) vs a (λ b h. h) found
+
+number_in : (vs : List Assignment) (a : Assignment) → IsIn vs a → IsOneOf (map (λ v. v.number) vs) a.number
+number_in [] a h = absurd h
+number_in (v ∷ vs) a (inl same) = inl (ap (λ (w : Assignment). w.number) same)
+number_in (v ∷ vs) a (inr later) = inr (number_in vs a later)
 
 -- two assignments of one number are one
-pub one_assignment : (vs : List Assignment) → AreDistinct (map (λ v. v.number) vs) → (x y : Text) (a b : Assignment) → value_at (λ v. v.name.lexeme) x vs ≡ Some a → value_at (λ v. v.name.lexeme) y vs ≡ Some b →
-    a.number ≡ b.number → a ≡ b
-one_assignment [] distinct x y a b found_a found_b same = absurd (cc)
-one_assignment (v ∷ vs) distinct x y a b found_a found_b same = by (bytes_eq x v.name.lexeme) (bytes_eq y v.name.lexeme) found_a found_b (λ late_a late_b. one_assignment vs distinct.1 x y a b late_a late_b same)
-  where
-    by : (p q : Bool) → cond p (Some v) (value_at (λ v. v.name.lexeme) x vs) ≡ Some a → cond q (Some v) (value_at (λ v. v.name.lexeme) y vs) ≡ Some b →
-        (value_at (λ v. v.name.lexeme) x vs ≡ Some a → value_at (λ v. v.name.lexeme) y vs ≡ Some b → a ≡ b) → a ≡ b
-    by true true is_a is_b again = cc
-    by true false is_a is_b again =
-        let first : v ≡ a = cc in
-        let number : b.number ≡ v.number = sym same ∙ ap (λ (w : Assignment). w.number) (sym first) in
-        absurd (distinct.0 (subst (IsOneOf (map (λ v. v.number) vs)) number (one_of_found y vs b is_b)))
-    by false true is_a is_b again =
-        let first : v ≡ b = cc in
-        let number : a.number ≡ v.number = same ∙ ap (λ (w : Assignment). w.number) (sym first) in
-        absurd (distinct.0 (subst (IsOneOf (map (λ v. v.number) vs)) number (one_of_found x vs a is_a)))
-    by false false is_a is_b again = again is_a is_b
+one_assignment : (vs : List Assignment) → AreDistinct (map (λ v. v.number) vs) → (a b : Assignment) → IsIn vs a → IsIn vs b → a.number ≡ b.number → a ≡ b
+one_assignment [] distinct a b h k same = absurd h
+one_assignment (v ∷ vs) distinct a b (inl h) (inl k) same = sym h ∙ k
+one_assignment (v ∷ vs) distinct a b (inl h) (inr k) same = absurd (distinct.0 (subst (IsOneOf (map (λ v. v.number) vs)) (sym (ap (λ (w : Assignment). w.number) h ∙ same)) (number_in vs b k)))
+one_assignment (v ∷ vs) distinct a b (inr h) (inl k) same = absurd (distinct.0 (subst (IsOneOf (map (λ v. v.number) vs)) (same ∙ ap (λ (w : Assignment). w.number) (sym k)) (number_in vs a h)))
+one_assignment (v ∷ vs) distinct a b (inr h) (inr k) same = one_assignment vs distinct.1 a b h k same
 
 one_left : (xs ys : List ℕ) (n : ℕ) → IsOneOf xs n → IsOneOf (xs ++ ys) n
 one_left [] ys n h = absurd h
@@ -60,12 +51,12 @@ bound_if None = ((λ h. absurd (let e : false ≡ true = h in cc)), (λ h. absur
 bound_if (Some v) = ((λ h. (v, refl)), (λ h. refl))
 
 -- what is taken or bound outside
-pub readable_if : (r : Readable) (outer : Frames) → frames_view r.outer.now ≡ outer → (n : ℕ) → IsTrue (is_readable r n) ↔ (IsTrue (is_taken r n) ⊎ IsBound outer n)
+pub readable_if : (r : Readable) (outer : Frames) → frames_view r.outer.now ≡ outer → (n : ℕ) → IsTrue (is_readable r n) ↔ (IsTrue (is_taken r n) ⊎ HasValue (value_in outer) n)
 readable_if r outer is n =
     let bound = bound_if (value_in (frames_view r.outer.now) n) in (
-      (λ h. ⊎_elim (λ k. inl k) (λ k. inr (subst (λ frames. IsBound frames n) is (bound.0 k))) (or_cases (is_taken r n) (is_some (value_in (frames_view r.outer.now) n)) h)),
+      (λ h. ⊎_elim (λ k. inl k) (λ k. inr (subst (λ frames. HasValue (value_in frames) n) is (bound.0 k))) (or_cases (is_taken r n) (is_some (value_in (frames_view r.outer.now) n)) h)),
       (λ h. ⊎_elim (λ k. or_left (is_taken r n) (is_some (value_in (frames_view r.outer.now) n)) k)
-          (λ k. or_right (is_taken r n) (is_some (value_in (frames_view r.outer.now) n)) (bound.1 (subst (λ frames. IsBound frames n) (sym is) k))) h),
+          (λ k. or_right (is_taken r n) (is_some (value_in (frames_view r.outer.now) n)) (bound.1 (subst (λ frames. HasValue (value_in frames) n) (sym is) k))) h),
     )
 
 -- where more is taken, more is readable
@@ -95,20 +86,6 @@ module _ (functions : List Function) (assignments : Assignments) where
         ((adds n).0 h);
   }
 
-  -- a number that was taken before is the number of this assignment
-  pub may_come_again : (t : Token) (a : Assignment) (taken readable : ℕ → Bool) (admitted : Text → Bool) → AreDistinct (map (λ v. v.number) assignments.all) → IsTakenBy functions assignments taken readable admitted →
-      assignment_at assignments t.lexeme ≡ Some a → IsTrue (taken a.number) → ReadsReadable functions readable a
-  may_come_again t a taken readable admitted distinct by_now found there n r =
-      let was = by_now.origin a.number there in
-      let same : was.1 ≡ a = one_assignment assignments.all distinct was.0 t.lexeme was.1 a was.2 found was.3 in
-      was.4 n (subst (λ (b : Assignment). Reads functions b.value n) (sym same) r)
-
-  -- the assignment that was found decides
-  pub may_follow_found : (t : Token) (a : Assignment) (readable : ℕ → Bool) → assignment_at assignments t.lexeme ≡ Some a → (assignments.referenced a.number ≡ true → ReadsReadable functions readable a) → MayFollow functions assignments readable t
-  may_follow_found t a readable found reads =
-      let one : (b : Assignment) → assignment_at assignments t.lexeme ≡ Some b → a ≡ b = λ b found_b. (let e = sym found ∙ found_b in cc) in
-      ((a, found), (λ b found_b referenced. subst (ReadsReadable functions readable) (one b found_b) (reads (ap (λ (c : Assignment). assignments.referenced c.number) (one b found_b) ∙ referenced))))
-
   -- ---- what one name does
 
   abbrev Changes : (ℕ → Bool) → (ℕ → Bool) → Token → Type 0
@@ -122,10 +99,19 @@ module _ (functions : List Function) (assignments : Assignments) where
     is_the_one : (b : Assignment) → assignment_at assignments t.lexeme ≡ Some b → a ≡ b
     is_the_one b found_b = let e = sym found ∙ found_b in cc
 
+    -- it decides
+    may_follow_found : (readable : ℕ → Bool) → (assignments.referenced a.number ≡ true → ReadsReadable functions readable a) → MayFollow functions assignments readable t
+    may_follow_found readable reads = (
+      (a, found),
+      (λ b found_b referenced.
+          let one = is_the_one b found_b in
+          subst (ReadsReadable functions readable) one (reads (ap (λ (c : Assignment). assignments.referenced c.number) one ∙ referenced))),
+    )
+
     -- it is not referenced
     pub passed_over : (readable : ℕ → Bool) → assignments.referenced a.number ≡ false → (true ≡ true) ↔ MayFollow functions assignments readable t
     passed_over readable off = (
-      (λ h. may_follow_found t a readable found (λ on. absurd (let e : false ≡ true = sym off ∙ on in cc))),
+      (λ h. may_follow_found readable (λ on. absurd (let e : false ≡ true = sym off ∙ on in cc))),
       (λ m. refl),
     )
 
@@ -139,7 +125,11 @@ module _ (functions : List Function) (assignments : Assignments) where
     pub comes_again : (taken readable : ℕ → Bool) (admitted : Text → Bool) → AreDistinct (map (λ v. v.number) assignments.all) → IsTakenBy functions assignments taken readable admitted → IsTrue (taken a.number) →
         (true ≡ true) ↔ MayFollow functions assignments readable t
     comes_again taken readable admitted distinct by_now there = (
-      (λ h. may_follow_found t a readable found (λ on. may_come_again t a taken readable admitted distinct by_now found there)),
+      (λ h. may_follow_found readable
+          (λ on n r.
+          let was = by_now.origin a.number there in
+          let same = one_assignment assignments.all distinct was.1 a (found_in was.0 assignments.all was.1 was.2) (found_in t.lexeme assignments.all a found) was.3 in
+          was.4 n (subst (λ (b : Assignment). Reads functions b.value n) (sym same) r))),
       (λ m. refl),
     )
 
@@ -152,7 +142,7 @@ module _ (functions : List Function) (assignments : Assignments) where
     -- it is taken now
     pub comes_now : (readable : ℕ → Bool) (A : Type 0) → assignments.referenced a.number ≡ true → A ↔ ReadsReadable functions readable a → A ↔ MayFollow functions assignments readable t
     comes_now readable A on reads = (
-      (λ h. may_follow_found t a readable found (λ referenced. reads.0 h)),
+      (λ h. may_follow_found readable (λ referenced. reads.0 h)),
       (λ m. reads.1 (m.1 a found on)),
     )
 
@@ -168,17 +158,17 @@ module _ (functions : List Function) (assignments : Assignments) where
   -- it is.
   pub record IsWalkedTo (outer : Frames) (taken readable : ℕ → Bool) (admitted : Text → Bool) (left all : List Token) : Type 0 where
     pub by_now : IsTakenBy functions assignments taken readable admitted
-    pub readable_if : (n : ℕ) → IsTrue (readable n) ↔ (IsTrue (taken n) ⊎ IsBound outer n)
+    pub readable_if : (n : ℕ) → IsTrue (readable n) ↔ (IsTrue (taken n) ⊎ HasValue (value_in outer) n)
     pub numbers : List ℕ
     pub same : (n : ℕ) → IsOneOf numbers n ↔ IsTrue (taken n)
     pub decides : (AreAssignments assignments left × AreInOrder functions assignments outer numbers left) ↔ (AreAssignments assignments all × AreInOrder functions assignments outer [] all)
 
   module _ (outer : Frames) where
     abbrev LooksBack : List ℕ → Token → Type 0
-    LooksBack numbers t = (a : Assignment) → assignment_at assignments t.lexeme ≡ Some a → assignments.referenced a.number ≡ true → (n : ℕ) → Reads functions a.value n → IsOneOf numbers n ⊎ IsBound outer n
+    LooksBack numbers t = (a : Assignment) → assignment_at assignments t.lexeme ≡ Some a → assignments.referenced a.number ≡ true → (n : ℕ) → Reads functions a.value n → IsOneOf numbers n ⊎ HasValue (value_in outer) n
 
     -- what may follow is the test of the order
-    looks_back : (taken readable : ℕ → Bool) (numbers : List ℕ) (t : Token) → ((n : ℕ) → IsTrue (readable n) ↔ (IsTrue (taken n) ⊎ IsBound outer n)) → ((n : ℕ) → IsOneOf numbers n ↔ IsTrue (taken n)) →
+    looks_back : (taken readable : ℕ → Bool) (numbers : List ℕ) (t : Token) → ((n : ℕ) → IsTrue (readable n) ↔ (IsTrue (taken n) ⊎ HasValue (value_in outer) n)) → ((n : ℕ) → IsOneOf numbers n ↔ IsTrue (taken n)) →
         MayFollow functions assignments readable t ↔ (((a : Assignment) × (assignment_at assignments t.lexeme ≡ Some a)) × LooksBack numbers t)
     looks_back taken readable numbers t readable_if same = (
       (λ h. (h.0, λ a found referenced n r. ⊎_elim (λ k. inl ((same n).1 k)) (λ k. inr k) ((readable_if n).0 (h.1 a found referenced n r)))),
@@ -201,7 +191,7 @@ module _ (functions : List Function) (assignments : Assignments) where
 
     module _ (taken readable : ℕ → Bool) (admitted : Text → Bool) (t : Token) (left all : List Token) (w : IsWalkedTo outer taken readable admitted (t ∷ left) all) where
       -- one name more was taken
-      pub walks_on : (next more : ℕ → Bool) (admits : Text → Bool) → IsTakenBy functions assignments next more admits → ((n : ℕ) → IsTrue (more n) ↔ (IsTrue (next n) ⊎ IsBound outer n)) →
+      pub walks_on : (next more : ℕ → Bool) (admits : Text → Bool) → IsTakenBy functions assignments next more admits → ((n : ℕ) → IsTrue (more n) ↔ (IsTrue (next n) ⊎ HasValue (value_in outer) n)) →
           ((n : ℕ) → IsTrue (next n) ↔ (IsTrue (taken n) ⊎ IsNumberOf assignments t n)) → MayFollow functions assignments readable t → IsWalkedTo outer next more admits left all
       walks_on next more admits by_then more_if number follows =
           let back = (looks_back taken readable w.numbers t w.readable_if w.same).0 follows in
@@ -239,13 +229,13 @@ module _ (functions : List Function) (assignments : Assignments) where
         ((λ h. ended.decides.0 (tt, tt)), (λ whole. refl))
 
     -- nothing is taken yet
-    pub walks_from : (taken readable : ℕ → Bool) (admitted : Text → Bool) (all : List Token) → ((n : ℕ) → taken n ≡ false) → ((name : Text) → admitted name ≡ false) → ((n : ℕ) → IsTrue (readable n) ↔ (IsTrue (taken n) ⊎ IsBound outer n)) →
+    pub walks_from : (taken readable : ℕ → Bool) (admitted : Text → Bool) (all : List Token) → ((n : ℕ) → taken n ≡ false) → ((name : Text) → admitted name ≡ false) → ((n : ℕ) → IsTrue (readable n) ↔ (IsTrue (taken n) ⊎ HasValue (value_in outer) n)) →
         IsWalkedTo outer taken readable admitted all all
     walks_from taken readable admitted all none nothing readable_if = record {
       by_now = record {
         closed = record {
           reads = λ name f h found n s. absurd (let e : false ≡ true = sym (nothing name) ∙ h in cc);
-          calls = λ name f h found further s. absurd (let e : false ≡ true = sym (nothing name) ∙ h in cc);
+          calls = λ name f h found further n s. absurd (let e : false ≡ true = sym (nothing name) ∙ h in cc);
         };
         origin = λ n h. absurd (let e : false ≡ true = sym (none n) ∙ h in cc);
       };

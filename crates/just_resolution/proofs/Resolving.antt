@@ -1,9 +1,9 @@
 -- What the parts of a test decide.
 use Rattle.std.proofs.Common.{◌≡◌, ◌↔◌, ◌++◌, ℕ, List, [], map, Bool, true, false}
 use Rattle.just_syntax.specs.Plain.{Function}
-use Rattle.just_value.specs.Frames.{Frames}
-use Rattle.just_resolution.specs.Assignments.{Assignments}
-use Rattle.just_resolution.specs.Resolved.{AllKnown, AreAssignments, AreDistinct, AreInOrder, IsBound, IsOneOf, IsResolved, parameter_numbers}
+use Rattle.just_value.specs.Frames.{Frames, value_in}
+use Rattle.just_meaning.specs.Assignments.{Assignments}
+use Rattle.just_meaning.specs.Resolved.{AllKnown, AreAssignments, AreDistinct, AreInOrder, HasValue, IsOneOf, IsResolved, parameter_numbers}
 
 -- a part that does not hold refuses the whole
 pub refuses : {P R : Type 0} (b : Bool) → b ≡ false → (b ≡ true) ↔ P → (R → P) → (false ≡ true) ↔ R
@@ -14,7 +14,7 @@ refuses b off decides implies = (
 
 -- all the other parts hold, and the order decides
 pub is_resolved : (functions : List Function) (assignments : Assignments) (outer : Frames) (A : Type 0) → AreDistinct (map (λ a. a.number) assignments.all ++ parameter_numbers functions) →
-    ((n : ℕ) → IsOneOf (parameter_numbers functions) n → IsBound outer n → ⊥) → AllKnown functions (map (λ a. a.value) assignments.all) → AllKnown functions (map (λ f. f.body) functions) →
+    ((n : ℕ) → IsOneOf (parameter_numbers functions) n → HasValue (value_in outer) n → ⊥) → AllKnown functions (map (λ a. a.value) assignments.all) → AllKnown functions (map (λ f. f.body) functions) →
     A ↔ (AreAssignments assignments assignments.order × AreInOrder functions assignments outer [] assignments.order) → A ↔ IsResolved functions assignments outer
 is_resolved functions assignments outer A distinct unbound values bodies order = (
   (λ a. let h = order.0 a in record { distinct = distinct; unbound = unbound; values = values; bodies = bodies; named = h.0; in_order = h.1 }),

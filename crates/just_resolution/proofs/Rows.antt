@@ -1,8 +1,8 @@
 -- Expressions whose parts are no boxes.
-use Rattle.std.proofs.Common.{◌≡◌, ℕ, List, [], ◌∷◌, ◌++◌, map, refl, ap, ◌∙◌, rules, Option, Bor}
+use Rattle.std.proofs.Common.{◌≡◌, ℕ, List, [], ◌∷◌, ◌++◌, map, refl, ap, ◌∙◌, Option, Bor}
 use Rattle.std.proofs.lemmas.List.{map-append}
 use Rattle.just_syntax.specs.declared.expression.Expression.TheViews as expressions
-use Rattle.just_syntax.specs.Plain.{Text, Call, FormatString}
+use Rattle.just_syntax.specs.Plain.{Text}
 use Rattle.just_syntax.specs.View.{name_view, view, views, piece_views}
 use Rattle.just_syntax.proofs.Rows.{view_list, view_call, view_format_string}
 use Rattle.just_resolution.specs.Mentions.{Mentions, mentions, mentions_of_call, mentions_of_row, mentions_of_pieces, with_call}

@@ -16,8 +16,8 @@ use Rattle.std.proofs.lemmas.Slice.Eq.{bytes_eq-Decides}
 use Rattle.just_syntax.specs.Plain.{Text, Token}
 use Rattle.just_value.specs.Value.{Value}
 use Rattle.just_value.specs.Frames.{Frames, value_in}
-use Rattle.just_resolution.specs.Reaches.{IsAmong}
-use Rattle.just_resolution.specs.Resolved.{AreDistinct, IsBound, IsOneOf}
+use Rattle.just_meaning.specs.Reaches.{IsAmong}
+use Rattle.just_meaning.specs.Resolved.{AreDistinct, HasValue, IsOneOf}
 use Rattle.just_resolution.specs.Seen.{is_name_in, is_number_in}
 
 number_decides : (k n : ℕ) → Decides (eq_by_cmp nat_cmp k n) (k ≡ n)
@@ -118,19 +118,19 @@ unbound_if : (o : Option Value) → (is_none o ≡ true) ↔ (((v : Value) × (o
 unbound_if None = ((λ h k. absurd (let e : None ≡ Some k.0 = k.1 in cc)), (λ h. refl))
 unbound_if (Some v) = ((λ h. absurd (let e : false ≡ true = h in cc)), (λ h. absurd (h (v, refl))))
 
-pub all_unbound : (outer : Frames) (ns : List ℕ) → (list_all (λ n. is_none (value_in outer n)) ns ≡ true) ↔ ((n : ℕ) → IsOneOf ns n → IsBound outer n → ⊥)
+pub all_unbound : (outer : Frames) (ns : List ℕ) → (list_all (λ n. is_none (value_in outer n)) ns ≡ true) ↔ ((n : ℕ) → IsOneOf ns n → HasValue (value_in outer) n → ⊥)
 all_unbound outer [] = ((λ h n k b. k), (λ h. refl))
 all_unbound outer (m ∷ ms) =
     let rest = all_unbound outer ms in
     let here = unbound_if (value_in outer m) in (
       (λ h n one b.
           let p = and_parts (is_none (value_in outer m)) (list_all (λ n. is_none (value_in outer n)) ms) h in
-          ⊎_elim (λ e. here.0 p.0 (subst (IsBound outer) (sym e) b)) (λ more. rest.0 p.1 n more b) one),
+          ⊎_elim (λ e. here.0 p.0 (subst (HasValue (value_in outer)) (sym e) b)) (λ more. rest.0 p.1 n more b) one),
       (λ h. and_from (is_none (value_in outer m)) (list_all (λ n. is_none (value_in outer n)) ms) (here.1 (λ b. h m (inl refl) b)) (rest.1 (λ n one b. h n (inr one) b))),
     )
 
 -- a parameter is bound outside
-pub bound_outside : (outer : Frames) (ps slice : List ℕ) (D : Type 0) → slice ≡ ps → false ≡ list_all (λ n. is_none (value_in outer n)) slice → (false ≡ true) ↔ (D × ((n : ℕ) → IsOneOf ps n → IsBound outer n → ⊥))
+pub bound_outside : (outer : Frames) (ps slice : List ℕ) (D : Type 0) → slice ≡ ps → false ≡ list_all (λ n. is_none (value_in outer n)) slice → (false ≡ true) ↔ (D × ((n : ℕ) → IsOneOf ps n → HasValue (value_in outer) n → ⊥))
 bound_outside outer ps slice D is bound = (
   (λ h. absurd (cc)),
   (λ h. absurd (let e : false ≡ true = bound ∙ ap (list_all (λ n. is_none (value_in outer n))) is ∙ (all_unbound outer ps).1 h.1 in cc)),
@@ -138,7 +138,7 @@ bound_outside outer ps slice D is bound = (
 
 -- no parameter is bound outside
 pub unbound_outside : (outer : Frames) (ps slice all whole : List ℕ) (answer : Bool) → slice ≡ ps → true ≡ list_all (λ n. is_none (value_in outer n)) slice → all ≡ whole → (answer ≡ true) ↔ AreDistinct all →
-    (answer ≡ true) ↔ (AreDistinct whole × ((n : ℕ) → IsOneOf ps n → IsBound outer n → ⊥))
+    (answer ≡ true) ↔ (AreDistinct whole × ((n : ℕ) → IsOneOf ps n → HasValue (value_in outer) n → ⊥))
 unbound_outside outer ps slice all whole answer is unbound same decides = (
   (λ h. (subst AreDistinct same (decides.0 h), (all_unbound outer ps).0 (sym (unbound ∙ ap (list_all (λ n. is_none (value_in outer n))) is)))),
   (λ h. decides.1 (subst AreDistinct (sym same) h.0)),

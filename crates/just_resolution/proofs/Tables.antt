@@ -1,33 +1,24 @@
 -- What is found in tables.
-use Rattle.std.proofs.Common.{◌≡◌, ℕ, nat_eq, length, Bool, true, false, cond, List, [], ◌∷◌, map, Option, Some, None, Bor, refl, sym, ap, ◌∙◌}
+use Rattle.std.proofs.Common.{◌≡◌, ℕ, nat_eq, length, List, map, Option, Some, None, Bor, refl, sym, ap, ◌∙◌}
 use Rattle.std.specs.Option.{option_map}
 use Rattle.std.proofs.lemmas.List.{length-map}
-use Rattle.std.specs.Str.{bytes_eq}
 use Rattle.just_syntax.specs.Plain.{Text, Function, Assignment}
 use Rattle.just_syntax.specs.Keyed.{value_at}
 use Rattle.just_syntax.specs.View.{assignment_view, function_view, parameter_view}
 use Rattle.just_syntax.specs.declared.assignment.Assignment as assignment
 use Rattle.just_syntax.specs.declared.function_definition.FunctionDefinition.{FunctionDefinition}
-use Rattle.just_resolution.specs.Callee.{Callee, accepts, defined_or}
-use Rattle.just_resolution.specs.Reaches.{function_at}
+use Rattle.just_syntax.proofs.Tables.{seen_at}
+use Rattle.just_meaning.specs.Callee.{Callee, accepts, defined_or}
+use Rattle.just_meaning.specs.Reaches.{function_at}
 
 module _ {X Y : Type 0} (f : X → Y) (key : Y → Text) where
-  of_choice : (b : Bool) (x : X) (o : Option X) → cond b (Some (f x)) (option_map f o) ≡ option_map f (cond b (Some x) o)
-  of_choice true x o = refl
-  of_choice false x o = refl
-
-  -- a value that is seen by f stands where it stood
-  seen_at : (name : Text) (xs : List X) → value_at key name (map f xs) ≡ option_map f (value_at (λ x. key (f x)) name xs)
-  seen_at name [] = refl
-  seen_at name (x ∷ xs) = ap (cond (bytes_eq name (key (f x))) (Some (f x))) (seen_at name xs) ∙ of_choice (bytes_eq name (key (f x))) x (value_at (λ x. key (f x)) name xs)
-
   behind : (r : Option (Bor X)) → option_map f (option_map (λ v. v.now) r) ≡ option_map (λ v. f v.now) r
   behind None = refl
   behind (Some v) = refl
 
   -- what a look-up found, as plain data
   pub found_at : (name : Text) (xs : List X) (r : Option (Bor X)) → option_map (λ v. v.now) r ≡ value_at (λ x. key (f x)) name xs → value_at key name (map f xs) ≡ option_map (λ v. f v.now) r
-  found_at name xs r is = seen_at name xs ∙ ap (option_map f) (sym is) ∙ behind r
+  found_at name xs r is = seen_at f key name xs ∙ ap (option_map f) (sym is) ∙ behind r
 
 pub function_found : (name : Text) (fs : List FunctionDefinition) (r : Option (Bor FunctionDefinition)) → option_map (λ v. v.now) r ≡ value_at (λ f. f.name.token.lexeme.now) name fs
     → function_at (map function_view fs) name ≡ option_map (λ v. function_view v.now) r

@@ -1,9 +1,8 @@
 -- Functions that need not be looked through again, and what follows in an order.
 use Rattle.std.specs.Prelude.{◌≡◌, ◌⊎◌, ℕ, Bool, true, List, Option, Some, None, IsTrue}
 use Rattle.just_syntax.specs.Plain.{Text, Token, Assignment, Function}
-use Rattle.just_host.specs.Interaction.{Read, Entered}
-use Rattle.just_resolution.specs.Assignments.{Assignments, assignment_at}
-use Rattle.just_resolution.specs.Reaches.{IsAmong, Reads, Stands, function_at}
+use Rattle.just_meaning.specs.Assignments.{Assignments, assignment_at}
+use Rattle.just_meaning.specs.Reaches.{VariableOf, CallOf, IsAmong, Reads, Stands, function_at}
 
 -- whether a variable's number passes a test, if it has one
 abbrev pub may_stand : (ℕ → Bool) → Option ℕ → Bool
@@ -12,8 +11,8 @@ may_stand test (Some n) = test n
 
 -- an admitted function reads nothing but its own parameters and what is readable, and calls admitted functions alone
 pub record IsAdmitted (functions : List Function) (readable : ℕ → Bool) (admitted : Text → Bool) : Type 0 where
-  pub reads : (name : Text) (f : Function) → IsTrue (admitted name) → function_at functions name ≡ Some f → (n : ℕ) → Stands f.body (Read n) → IsAmong f.parameters n ⊎ IsTrue (readable n)
-  pub calls : (name : Text) (f : Function) → IsTrue (admitted name) → function_at functions name ≡ Some f → (further : Text) → Stands f.body (Entered further) → IsTrue (admitted further)
+  pub reads : (name : Text) (f : Function) → IsTrue (admitted name) → function_at functions name ≡ Some f → (n : ℕ) → Stands f.body (VariableOf (Some n)) → IsAmong f.parameters n ⊎ IsTrue (readable n)
+  pub calls : (name : Text) (f : Function) → IsTrue (admitted name) → function_at functions name ≡ Some f → (further : Text) (n : ℕ) → Stands f.body (CallOf further n) → IsTrue (admitted further)
 
 -- an assignment reads nothing but what is readable
 abbrev pub ReadsReadable : List Function → (ℕ → Bool) → Assignment → Type 0

@@ -4,10 +4,9 @@ ghost use Rattle.std.specs.Prelude.{◌≡◌, ◌↔◌, ◌⊎◌, ◌++◌, �
 ghost use Rattle.std.specs.List.{list_all};
 ghost use Rattle.just_syntax.specs.Plain.{Function};
 ghost use Rattle.just_syntax.specs.View.{function_view, parameter_view, view};
-ghost use Rattle.just_host.specs.Interaction.{Read};
 ghost use Rattle.just_resolution.specs.Admitted.{IsAdmitted, may_stand};
 ghost use Rattle.just_resolution.specs.Mentions.{calls_of, called_names, mentions, nothing};
-ghost use Rattle.just_resolution.specs.Reaches.{IsAmong, Reads, Stands, function_at};
+ghost use Rattle.just_meaning.specs.Reaches.{IsAmong, Reads, Stands, VariableOf, function_at};
 ghost use Rattle.just_resolution.specs.Seen.{is_name_in, is_number_in, is_readable, texts};
 
 use crate::mentions::mentions_in;
@@ -72,7 +71,7 @@ fn look_through_function<'src>(
     pending: &mut Vec<&'src str>,
     name: &str,
 ) -> Result<bool, OutOfMemory>
-    ensures reads { IfOk result (λ answer. IsTrue answer ↔ ((f : Function) → function_at (map function_view functions.now) name.now ≡ Some f → (n : ℕ) → Stands f.body (Read n) → IsAmong f.parameters n ⊎ IsTrue (is_readable readable.now n))) }
+    ensures reads { IfOk result (λ answer. IsTrue answer ↔ ((f : Function) → function_at (map function_view functions.now) name.now ≡ Some f → (n : ℕ) → Stands f.body (VariableOf (Some n)) → IsAmong f.parameters n ⊎ IsTrue (is_readable readable.now n))) }
     ensures calls { IfOk result (λ answer. IsTrue answer → texts pending.new.items ≡ texts pending.old.items ++ calls_of (function_at (map function_view functions.now) name.now)) }
 {
     match functions.get(name) {
@@ -107,7 +106,7 @@ fn look_through<'src>(
     pending: &mut Vec<&'src str>,
     expression: &Expression<'src>,
 ) -> Result<bool, OutOfMemory>
-    ensures reads { IfOk result (λ answer. IsTrue answer ↔ ((n : ℕ) → Stands (view expression.now) (Read n) → IsTrue (is_number_in own.now n || is_readable readable.now n))) }
+    ensures reads { IfOk result (λ answer. IsTrue answer ↔ ((n : ℕ) → Stands (view expression.now) (VariableOf (Some n)) → IsTrue (is_number_in own.now n || is_readable readable.now n))) }
     ensures calls { IfOk result (λ answer. IsTrue answer → texts pending.new.items ≡ texts pending.old.items ++ called_names (mentions nothing (view expression.now))) }
 {
     let mentions = mentions_in(alloc, expression)?;

@@ -3,8 +3,9 @@
 ghost use Rattle.std.specs.Prelude.{◌≡◌, ◌↔◌, IfOk, IsTrue, is_some, map};
 ghost use Rattle.std.specs.List.{list_all};
 ghost use Rattle.just_syntax.specs.View.{assignment_view, function_view, view};
-ghost use Rattle.just_resolution.specs.Callee.{accepts, callee, undefined};
-ghost use Rattle.just_resolution.specs.Resolved.{AllKnown, IsKnown};
+ghost use Rattle.just_meaning.specs.Callee.{accepts, callee, undefined};
+ghost use Rattle.just_meaning.specs.Reaches.{Mention, Stands};
+ghost use Rattle.just_meaning.specs.Resolved.{AllKnown, IsKnown};
 
 use crate::mentions::mentions_in;
 use just_builtins::function::{get, is_left_out};
@@ -57,7 +58,7 @@ fn is_expression_known(
     functions: &Table<FunctionDefinition>,
     expression: &Expression,
 ) -> Result<bool, OutOfMemory>
-    ensures { IfOk result (λ answer. IsTrue answer ↔ IsKnown (map function_view functions.now) (view expression.now)) }
+    ensures { IfOk result (λ answer. IsTrue answer ↔ ((x : Mention) → Stands (view expression.now) x → IsKnown (map function_view functions.now) x)) }
 {
     let mentions = mentions_in(alloc, expression)?;
     if !are_numbered(&mentions.variables) {

@@ -5,8 +5,8 @@ ghost use Rattle.std.specs.List.{list_all};
 ghost use Rattle.just_syntax.specs.View.{assignment_view, function_view, parameter_view};
 ghost use Rattle.just_value.specs.View.{frames_view};
 ghost use Rattle.just_value.specs.Frames.{value_in};
-ghost use Rattle.just_resolution.specs.Resolved.{AreDistinct, IsBound, IsOneOf, parameter_numbers};
-ghost use Rattle.just_resolution.specs.View.{functions_view};
+ghost use Rattle.just_meaning.specs.Resolved.{AreDistinct, HasValue, IsOneOf, parameter_numbers};
+ghost use Rattle.just_meaning.specs.View.{functions_view};
 
 use just_host::justfile::Justfile;
 use just_syntax::assignment::Assignment;
@@ -26,7 +26,7 @@ pub(crate) fn are_numbers_apart(
     parent: &Scope,
 ) -> Result<bool, OutOfMemory>
     ensures { let functions = functions_view «module».now in let assignments = map assignment_view «module».now.assignments in
-        IfOk result (λ answer. IsTrue answer ↔ (AreDistinct (map (λ a. a.number) assignments ++ parameter_numbers functions) × ((n : ℕ) → IsOneOf (parameter_numbers functions) n → IsBound (frames_view parent.now) n → ⊥))) }
+        IfOk result (λ answer. IsTrue answer ↔ (AreDistinct (map (λ a. a.number) assignments ++ parameter_numbers functions) × ((n : ℕ) → IsOneOf (parameter_numbers functions) n → HasValue (value_in (frames_view parent.now)) n → ⊥))) }
 {
     let mut numbers = assignment_numbers(alloc, &module.assignments)?;
     let first_parameter = numbers.len();

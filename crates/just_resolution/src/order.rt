@@ -4,9 +4,9 @@ ghost use Rattle.std.specs.Prelude.{◌≡◌, ◌↔◌, ◌⊎◌, ℕ, [], If
 ghost use Rattle.just_syntax.specs.View.{assignment_view, function_view, name_view};
 ghost use Rattle.just_value.specs.View.{frames_view};
 ghost use Rattle.just_resolution.specs.Admitted.{IsAdmitted, IsNumberOf, IsTakenBy, MayFollow, ReadsReadable};
-ghost use Rattle.just_resolution.specs.Resolved.{AreAssignments, AreDistinct, AreInOrder};
+ghost use Rattle.just_meaning.specs.Resolved.{AreAssignments, AreDistinct, AreInOrder};
 ghost use Rattle.just_resolution.specs.Seen.{is_name_in, is_readable, is_taken};
-ghost use Rattle.just_resolution.specs.View.{assignments_view, functions_view};
+ghost use Rattle.just_meaning.specs.View.{assignments_view, functions_view};
 
 use crate::admitted::reads_readable;
 use crate::readable::Readable;

@@ -2,8 +2,8 @@
 
 ghost use Rattle.std.specs.Prelude.{◌↔◌, IfOk, IsTrue};
 ghost use Rattle.just_value.specs.View.{frames_view};
-ghost use Rattle.just_resolution.specs.Resolved.{IsResolved};
-ghost use Rattle.just_resolution.specs.View.{assignments_view, functions_view};
+ghost use Rattle.just_meaning.specs.Resolved.{IsResolved};
+ghost use Rattle.just_meaning.specs.View.{assignments_view, functions_view};
 
 use crate::known::{are_bodies_known, are_values_known};
 use crate::numbers::are_numbers_apart;

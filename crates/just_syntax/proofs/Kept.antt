@@ -1,5 +1,5 @@
 -- Entries that each stand at their value's own key.
-use Rattle.std.proofs.Common.{◌≡◌, ℕ, Bool, true, false, cond, List, [], ◌∷◌, map, refl, ap, sym, ◌∙◌, subst, Option, Some, string_bytes}
+use Rattle.std.proofs.Common.{◌≡◌, ℕ, cond, List, [], ◌∷◌, map, refl, ap, sym, ◌∙◌, subst, Some, string_bytes}
 use Rattle.std.specs.declared.cmp.Ordering.{Ordering}
 use Rattle.std.specs.declared.cmp.Ordering.TheVariants.{Less, Equal, Greater}
 use Rattle.std.specs.declared.string.String.{String}
@@ -7,7 +7,6 @@ use Rattle.std.specs.Ordering.{nat_cmp, match_ordering}
 use Rattle.std.specs.Cmp.Lexicographic.{slice_cmp}
 use Rattle.std.specs.Str.{bytes_eq}
 use Rattle.std.specs.String.{string_cmp}
-use Rattle.std.specs.Option.{option_map}
 use Rattle.std.specs.Map.{lookup, keys_of, values_of}
 use Rattle.std.specs.BTreeMap.{insert_entry, is_at}
 use Rattle.std.specs.List.{AllByRecursion}
@@ -15,11 +14,6 @@ use Rattle.std.specs.List.Sorted.{IsStrictlySortedBy}
 use Rattle.std.proofs.lemmas.Map.Text.{is_eq-slice_cmp}
 use Rattle.std.proofs.lemmas.Map.Lookups.{exact_bytes}
 use Rattle.just_syntax.specs.Keyed.{IsKeyed, IsInOrder, value_at, with_value}
-
--- an option of a choice
-pub map_cond : {X Y : Type 0} (f : X → Y) (t : Bool) (a b : Option X) → option_map f (cond t a b) ≡ cond t (option_map f a) (option_map f b)
-map_cond f true a b = refl
-map_cond f false a b = refl
 
 module _ {A V : Type 0} (key : V → List ℕ) where
   -- the keys' bytes are the keys of the values

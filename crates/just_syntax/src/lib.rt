@@ -1,4 +1,5 @@
-// The syntax that evaluation goes over: names, expressions, assignments, functions, and tables of them.
+// The syntax that evaluation goes over: names, expressions, assignments, functions, and tables of them, each with its view
+// as plain data. It leans on std alone, and general lemmas of lists, tables and texts stand in its `proofs/`.
 #![tactic(auto)]
 
 pub mod assignment;
@@ -22,7 +23,5 @@ mod printed;
 pub mod string_context;
 pub mod string_literal;
 pub mod table;
-#[cfg(test)]
-mod tests;
 pub mod token;
 pub mod unindent;

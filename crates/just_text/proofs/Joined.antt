@@ -1,20 +1,11 @@
 -- Texts put together.
-use Rattle.std.proofs.Common.{◌≡◌, ℕ, ◌<◌, List, [], ◌∷◌, ◌++◌, length, map, refl, ap, arith}
+use Rattle.std.proofs.Common.{◌≡◌, ℕ, ◌<◌, List, [], ◌∷◌, ◌++◌, length, refl, ap, arith}
 use Rattle.std.specs.List.{flat_map, join_by, onto_first}
 use Rattle.std.proofs.lemmas.List.{append_assoc}
 
 -- the texts with the separator between them
 abbrev pub joined : List ℕ → List (List ℕ) → List ℕ
 joined separator texts = join_by (λ text. text) separator texts
-
-others : {A : Type 0} (f : A → List ℕ) (separator : List ℕ) (xs : List A) → flat_map (λ y. separator ++ f y) xs ≡ flat_map (λ y. separator ++ y) (map f xs)
-others f separator [] = refl
-others f separator (x ∷ xs) = ap (λ t. (separator ++ f x) ++ t) (others f separator xs)
-
--- the texts of things, joined
-pub joined_texts : {A : Type 0} (f : A → List ℕ) (separator : List ℕ) (xs : List A) → join_by f separator xs ≡ joined separator (map f xs)
-joined_texts f separator [] = refl
-joined_texts f separator (x ∷ xs) = ap (λ t. f x ++ t) (others f separator xs)
 
 -- a text put before the others
 pub joined_more : (separator x : List ℕ) (ps : List (List ℕ)) → 0 < length ps → joined separator (x ∷ ps) ≡ x ++ (separator ++ joined separator ps)

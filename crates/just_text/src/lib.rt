@@ -1,4 +1,5 @@
-// Texts and paths: what built-in functions do with them.
+// Texts and paths: what built-in functions do with them, each function equal to its definition. It leans on syntax and on
+// the kit's `percent_encoding`.
 #![tactic(auto)]
 
 pub mod affix;
@@ -10,6 +11,4 @@ pub mod pattern;
 pub mod quote;
 pub mod replace;
 pub mod split;
-#[cfg(test)]
-mod tests;
 pub mod uri;

@@ -26,7 +26,7 @@ again false false y z w e = refl
 at_number : (n k : ℕ) → is_at (nat_cmp n) k ≡ eqb n k
 at_number n k = unsigned_tied n k
 
-number_at : (n k : ℕ) → is_at (nat_cmp n) k ≡ true → n ≡ k
+pub number_at : (n k : ℕ) → is_at (nat_cmp n) k ≡ true → n ≡ k
 number_at n k e = eqb-true n k (sym (at_number n k) ∙ e)
 
 insert_step : {X : Type 0} (n k : ℕ) (b : X) (x : ℕ × X) (xs more : List (ℕ × X)) (o : Ordering) → o ≡ nat_cmp k x.0 → lookup (is_at (nat_cmp n)) more ≡ cond (is_at (nat_cmp n) k) (Some b) (lookup (is_at (nat_cmp n)) xs)
@@ -39,7 +39,7 @@ insert_step n k b x xs more Greater e rest =
     ∙ both (is_at (nat_cmp n) x.0) (is_at (nat_cmp n) k) (Some x.1) (Some b) (lookup (is_at (nat_cmp n)) xs) (λ p q. absurd (omega (arith, number_at n x.0 p, number_at n k q)))
 
 -- a look-up once a number is bound
-found_insert : {X : Type 0} (n k : ℕ) (b : X) (es : List (ℕ × X)) → lookup (is_at (nat_cmp n)) (insert_entry nat_cmp es k b) ≡ cond (is_at (nat_cmp n) k) (Some b) (lookup (is_at (nat_cmp n)) es)
+pub found_insert : {X : Type 0} (n k : ℕ) (b : X) (es : List (ℕ × X)) → lookup (is_at (nat_cmp n)) (insert_entry nat_cmp es k b) ≡ cond (is_at (nat_cmp n) k) (Some b) (lookup (is_at (nat_cmp n)) es)
 found_insert n k b [] = refl
 found_insert n k b (x ∷ xs) = insert_step n k b x xs (insert_entry nat_cmp xs k b) (nat_cmp k x.0) refl (found_insert n k b xs)
 

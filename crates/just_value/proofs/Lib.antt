@@ -1,4 +1,4 @@
-mod Bound
+pub mod Bound
 mod Cuts
 mod Examples
 mod Numbering

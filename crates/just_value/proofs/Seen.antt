@@ -1,5 +1,5 @@
 -- A map's entries and what is seen of them.
-use Rattle.std.proofs.Common.{◌≡◌, ℕ, Bool, true, false, cond, List, [], ◌∷◌, map, refl, ap, ◌∙◌, Option, Some, None}
+use Rattle.std.proofs.Common.{◌≡◌, ℕ, cond, List, [], ◌∷◌, map, refl, ap, ◌∙◌, Option, Some, None}
 use Rattle.std.specs.declared.cmp.Ordering.{Ordering}
 use Rattle.std.specs.declared.cmp.Ordering.TheVariants.{Less, Equal, Greater}
 use Rattle.std.specs.Ordering.{nat_cmp, match_ordering}
@@ -7,15 +7,12 @@ use Rattle.std.specs.Option.{option_map, option_copied}
 use Rattle.std.specs.Borrow.{Bor}
 use Rattle.std.specs.Map.{lookup, values_of}
 use Rattle.std.specs.BTreeMap.{insert_entry, is_at}
+use Rattle.just_syntax.proofs.Tables.{map_cond}
 
 map_choice : {X Y : Type 0} (f : X → Y) (o : Ordering) (a b c : List X) → map f (match_ordering o a b c) ≡ match_ordering o (map f a) (map f b) (map f c)
 map_choice f Less a b c = refl
 map_choice f Equal a b c = refl
 map_choice f Greater a b c = refl
-
-map_cond : {X Y : Type 0} (f : X → Y) (t : Bool) (a b : Option X) → option_map f (cond t a b) ≡ cond t (option_map f a) (option_map f b)
-map_cond f true a b = refl
-map_cond f false a b = refl
 
 pub seen_copied : {X Y : Type 0} (f : X → Y) (r : Option (Bor X)) → option_map (λ b. f b.now) r ≡ option_map f (option_copied r)
 seen_copied f None = refl

@@ -2,22 +2,13 @@
 use Rattle.std.proofs.Common.{◌≡◌, ◌≢◌, ℕ, ◌+◌, ◌<◌, cond, eqb, nat_eq, ◌&&◌, List, [], ◌∷◌, ◌++◌, length, take, map, get_or, refl, ap, sym, ◌∙◌, codes, arith, String, string_bytes}
 use Rattle.std.specs.Ordering.{nat_cmp, ordering_then}
 use Rattle.std.specs.Cmp.Lexicographic.{pointwise, pointwise_decides, bytes_decides, slice_cmp}
-use Rattle.std.specs.List.{flat_map, join_by}
+use Rattle.std.specs.List.{join_by}
 use Rattle.std.specs.String.{string_cmp, string_eq}
 use Rattle.just_value.specs.Shown.{quoted, shown}
 use Rattle.just_value.specs.Value.{SameExactlyIfEqual}
 use Rattle.std.proofs.lemmas.List.{append-nil, append_assoc, length-map, map_more, length-take-le}
 use Rattle.std.proofs.lemmas.Bool.{ne_eqb}
 use Rattle.std.proofs.lemmas.List.Concat.{flat_map-append}
-
-others : {A : Type 0} (f : A → List ℕ) (separator : List ℕ) (xs : List A) → flat_map (λ y. separator ++ f y) xs ≡ flat_map (λ y. separator ++ y) (map f xs)
-others f separator [] = refl
-others f separator (x ∷ xs) = ap (λ t. (separator ++ f x) ++ t) (others f separator xs)
-
--- the texts of things, joined
-pub joined_texts : {A : Type 0} (f : A → List ℕ) (separator : List ℕ) (xs : List A) → join_by f separator xs ≡ join_by (λ text. text) separator (map f xs)
-joined_texts f separator [] = refl
-joined_texts f separator (x ∷ xs) = ap (λ t. f x ++ t) (others f separator xs)
 
 -- strings compared are their bytes compared
 pub same_texts : {A : Type 0} (xs ys : List (String A)) → pointwise string_eq xs ys ≡ pointwise (pointwise nat_eq) (map string_bytes xs) (map string_bytes ys)

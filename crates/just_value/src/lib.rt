@@ -1,4 +1,5 @@
-// Values, bindings, frames, scopes, and what evaluation is refused with.
+// Values, bindings, frames, scopes, and what evaluation is refused with, each with its view as plain data. It leans on
+// syntax alone.
 #![tactic(auto)]
 
 pub mod binding;
@@ -13,6 +14,4 @@ pub mod laws;
 pub mod list;
 pub mod positional;
 pub mod scope;
-#[cfg(test)]
-mod tests;
 pub mod value;

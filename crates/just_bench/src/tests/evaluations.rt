@@ -1,11 +1,11 @@
 // Evaluations in a scope that binds something.
 
-use crate::case::{Case, build};
 use crate::context::{case_config, case_module, case_search};
-use crate::line::parse_lines;
 use crate::print::{print_bindings, print_refusal};
 use crate::program::evaluate_in;
-use crate::token::{name, token};
+use just_case_lines::case::{Case, build};
+use just_case_lines::line::parse_lines;
+use just_case_lines::token::{name, token};
 use just_eval::evaluator::Evaluator;
 use just_host::command_question::CommandQuestion;
 use just_host::host::Host;

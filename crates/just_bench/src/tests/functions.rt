@@ -1,10 +1,10 @@
 // Functions that a case defines.
 
-use crate::case::{Case, build};
 use crate::context::{case_config, case_module, case_search};
-use crate::line::parse_lines;
 use crate::tests::cases::answers;
 use crate::tests::evaluations::{answers_outside_nothing, outer};
+use just_case_lines::case::{Case, build};
+use just_case_lines::line::parse_lines;
 use just_eval::evaluator::Evaluator;
 use just_host::command_question::CommandQuestion;
 use just_host::host::Host;

@@ -2,8 +2,6 @@
 
 use crate::context::case_config;
 use crate::print::print_questions;
-use crate::recording_host::RecordingHost;
-use crate::scripted_host::ScriptedHost;
 use just_host::command_question::CommandQuestion;
 use just_host::config::Config;
 use just_host::directory_kind::DirectoryKind;
@@ -12,6 +10,8 @@ use just_host::number_question::NumberQuestion;
 use just_host::settings::Settings;
 use just_host::text_answer::TextAnswer;
 use just_host::text_question::TextQuestion;
+use just_script::recording_host::RecordingHost;
+use just_script::scripted_host::ScriptedHost;
 use just_syntax::out_of_memory::OutOfMemory;
 use just_value::error::CommandFault;
 use just_value::scope::Scope;

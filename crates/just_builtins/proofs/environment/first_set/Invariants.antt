@@ -1,7 +1,7 @@
 use Rattle.std.proofs.Common.{drop, map, string_bytes}
 use Rattle.just_value.specs.Frames.{Frames}
 use Rattle.just_value.specs.Outcome.{Outcome}
-use Rattle.just_host.specs.Interaction.{Runs}
+use Rattle.just_host.specs.Interaction.{Runs, freely}
 use Rattle.just_host.specs.View.{pairs_view}
 use Rattle.just_builtins.specs.Asking.{first_set}
 use Rattle.just_builtins.specs.Called.{Called, tree}
@@ -11,5 +11,5 @@ use Rattle.just_builtins.proofs.environment.first_set.Given as goal
 -- whatever the keys that are left come to from here is what all come to from the start
 abbrev pub invariant-loop-key : goal.invariant-loop-key
 invariant-loop-key g l = (shown : Frames) (rest : Reply) (o : Outcome Called) (last : g.row.H.Denot)
-    → Runs g.H.Host.step l.host (tree shown (first_set (pairs_view l.dotenv) rest (map string_bytes (drop l.key-index l.keys)))) o last
-    → Runs g.H.Host.step l.fn.host (tree shown (first_set (pairs_view l.dotenv) rest (map string_bytes l.keys))) o last
+    → Runs freely g.H.Host.step l.host (tree shown (first_set (pairs_view l.dotenv) rest (map string_bytes (drop l.key-index l.keys)))) o last
+    → Runs freely g.H.Host.step l.fn.host (tree shown (first_set (pairs_view l.dotenv) rest (map string_bytes l.keys))) o last

@@ -1,10 +1,17 @@
-use Rattle.std.proofs.Common.{◌≡◌, ◌∙◌, sym, ap, Ok, Some, None, option_map, string_bytes, ◌∷◌, []}
+use Rattle.std.proofs.lemmas.Result.{err_from_is_err_and}
+use Rattle.std.proofs.Common.{◌≡◌, ◌∙◌, sym, ap, Ok, Err, Some, None, option_map, string_bytes, ◌∷◌, []}
 use Rattle.std.specs.Option.{option_copied}
 use Rattle.just_host.specs.View.{pairs_view}
 use Rattle.just_builtins.specs.Asking.{entry, variable}
+use Rattle.just_builtins.specs.declared.call_fault.CallFault.TheVariants.{OutOfMemory}
 use Rattle.just_builtins.proofs.Calls.{told}
 use Rattle.just_builtins.proofs.Variables.{asked_variable, entry_is, from_dotenv}
 use Rattle.just_builtins.proofs.environment.variable.Goals as goal
+
+pub returns-in_err-from_text-in-Some : goal.returns-in_err-from_text-in-Some
+returns-in_err-from_text-in-Some g c = λ shown.
+    let p = err_from_is_err_and c.from_residual.result c.from_residual.ensures.1 in
+    rw (p.1, p.2) (λ rest. told shown _ (Err OutOfMemory) tt)
 
 pub returns-in_ok-from_text-in-Some : goal.returns-in_ok-from_text-in-Some
 returns-in_ok-from_text-in-Some g c = λ shown rest.

@@ -1,11 +1,15 @@
-use Rattle.std.proofs.Common.{ap, ◌∙◌}
+use Rattle.std.proofs.lemmas.Result.{err_from_is_err_and}
+use Rattle.std.proofs.Common.{ap, ◌∙◌, Err}
 use Rattle.just_host.specs.Question.{Canonicalize}
 use Rattle.just_host.specs.View.{function_context_view}
 use Rattle.just_builtins.specs.Asking.{in_working_directory}
 use Rattle.just_builtins.specs.Message.{canonical_not_unicode, not_canonicalized, not_found}
 use Rattle.just_builtins.specs.Reply.{Fails}
-use Rattle.just_builtins.proofs.Calls.{asked_text}
+use Rattle.just_builtins.proofs.Calls.{asked_text, at_once}
 use Rattle.just_builtins.proofs.file.canonicalize.Goals as goal
+
+pub returns-in_err-place : goal.returns-in_err-place
+returns-in_err-place g c = λ shown. let p = err_from_is_err_and c.from_residual.result c.from_residual.ensures.1 in at_once _ (p.1 ∙ ap Err p.2)
 
 pub returns : goal.returns
 returns g c = λ shown.

@@ -1,12 +1,21 @@
-use Rattle.std.proofs.Common.{sym, subst, ◌∙◌}
+use Rattle.std.proofs.lemmas.Result.{err_from_is_err_and}
+use Rattle.std.proofs.Common.{sym, subst, ◌∙◌, ap, Err}
 use Rattle.just_host.specs.Question.{ExistsAt, frameless}
 use Rattle.just_host.specs.View.{found, function_context_view}
 use Rattle.just_builtins.specs.Asking.{existence_answered, in_working_directory}
 use Rattle.just_builtins.specs.Called.{Asked}
 use Rattle.just_builtins.specs.Meaning.{has_lists, truth}
-use Rattle.just_builtins.proofs.Calls.{asked}
-use Rattle.just_builtins.proofs.Commands.{existence_is}
+use Rattle.just_builtins.proofs.Calls.{asked, at_once}
+use Rattle.just_builtins.proofs.Commands.{existence_is, existence_told}
 use Rattle.just_builtins.proofs.file.path_exists.Goals as goal
+
+pub returns-then-is_empty : goal.returns-then-is_empty
+returns-then-is_empty g c = λ shown.
+    let context = function_context_view c.args.context.now in
+    existence_told shown context (truth (has_lists context)) c.args.path.now c.is_empty.result _ c.is_empty.ensures c.if-is_empty.true c.nowhere.ensures
+
+pub returns-in_err-place : goal.returns-in_err-place
+returns-in_err-place g c = λ shown. let p = err_from_is_err_and c.from_residual.result c.from_residual.ensures.1 in at_once _ (p.1 ∙ ap Err p.2)
 
 pub returns : goal.returns
 returns g c = λ shown.

@@ -1,11 +1,15 @@
-use Rattle.std.proofs.Common.{ap, ◌∙◌}
+use Rattle.std.proofs.lemmas.Result.{err_from_is_err_and}
+use Rattle.std.proofs.Common.{ap, ◌∙◌, Err}
 use Rattle.just_host.specs.Fixed.{working_directory}
 use Rattle.just_host.specs.Question.{Which}
 use Rattle.just_host.specs.View.{fixed_view}
 use Rattle.just_builtins.specs.Message.{no_executable}
 use Rattle.just_builtins.specs.Reply.{Fails}
-use Rattle.just_builtins.proofs.Calls.{asked_text}
+use Rattle.just_builtins.proofs.Calls.{asked_text, at_once}
 use Rattle.just_builtins.proofs.lookup.require.Goals as goal
+
+pub returns-in_err-working_directory : goal.returns-in_err-working_directory
+returns-in_err-working_directory g c = λ shown. let p = err_from_is_err_and c.from_residual.result c.from_residual.ensures.1 in at_once _ (p.1 ∙ ap Err p.2)
 
 pub returns : goal.returns
 returns g c = λ shown.

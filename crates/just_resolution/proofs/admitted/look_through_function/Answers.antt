@@ -6,7 +6,7 @@ use Rattle.just_syntax.specs.Plain.{Function}
 use Rattle.just_syntax.specs.View.{function_view, parameter_view}
 use Rattle.just_syntax.specs.declared.function_definition.FunctionDefinition.{FunctionDefinition}
 use Rattle.just_resolution.specs.Mentions.{calls_of}
-use Rattle.just_resolution.specs.Reaches.{IsAmong, function_at}
+use Rattle.just_meaning.specs.Reaches.{IsAmong, function_at}
 use Rattle.just_resolution.specs.Seen.{is_number_in, is_readable, texts}
 use Rattle.just_resolution.proofs.Closure.{body_decided}
 use Rattle.just_resolution.proofs.Tables.{function_found}

@@ -1,6 +1,6 @@
 use Rattle.std.proofs.Common.{◌↔◌, map}
 use Rattle.just_syntax.specs.View.{function_view}
-use Rattle.just_resolution.specs.Resolved.{AllKnown}
+use Rattle.just_meaning.specs.Resolved.{AllKnown}
 use Rattle.just_resolution.proofs.known.are_bodies_known.Given as goal
 
 -- all bodies are known exactly if those that are left are

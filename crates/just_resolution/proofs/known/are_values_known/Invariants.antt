@@ -1,6 +1,6 @@
 use Rattle.std.proofs.Common.{◌↔◌, map}
 use Rattle.just_syntax.specs.View.{assignment_view, function_view}
-use Rattle.just_resolution.specs.Resolved.{AllKnown}
+use Rattle.just_meaning.specs.Resolved.{AllKnown}
 use Rattle.just_resolution.proofs.known.are_values_known.Given as goal
 
 -- all values are known exactly if those that are left are

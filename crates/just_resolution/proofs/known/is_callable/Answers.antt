@@ -3,7 +3,7 @@ use Rattle.std.specs.Option.{option_map}
 use Rattle.just_syntax.specs.Plain.{Function}
 use Rattle.just_syntax.specs.View.{function_view}
 use Rattle.just_syntax.specs.declared.function_definition.FunctionDefinition.{FunctionDefinition}
-use Rattle.just_resolution.specs.Callee.{accepts, defined_or, undefined}
+use Rattle.just_meaning.specs.Callee.{accepts, defined_or, undefined}
 use Rattle.just_resolution.proofs.Tables.{function_found, accepts_found}
 use Rattle.just_resolution.proofs.known.is_callable.Goals as goal
 

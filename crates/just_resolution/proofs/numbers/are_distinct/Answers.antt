@@ -1,4 +1,4 @@
-use Rattle.just_resolution.specs.Resolved.{AreDistinct}
+use Rattle.just_meaning.specs.Resolved.{AreDistinct}
 use Rattle.just_resolution.proofs.Sets.{new_at_first, new_at_last, new_off, new_on, no_number, number_added}
 use Rattle.just_resolution.proofs.numbers.are_distinct.Goals as goal
 

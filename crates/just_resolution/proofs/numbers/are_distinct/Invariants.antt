@@ -1,5 +1,5 @@
 use Rattle.std.proofs.Common.{◌↔◌, drop}
-use Rattle.just_resolution.specs.Resolved.{AreDistinct}
+use Rattle.just_meaning.specs.Resolved.{AreDistinct}
 use Rattle.just_resolution.proofs.Sets.{AreNew}
 use Rattle.just_resolution.proofs.numbers.are_distinct.Given as goal
 

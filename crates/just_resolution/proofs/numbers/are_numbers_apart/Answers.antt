@@ -2,8 +2,8 @@ use Rattle.std.proofs.Common.{◌≡◌, ◌∙◌, ◌++◌, ℕ, List, ◌-◌
 use Rattle.std.proofs.lemmas.Result.{IfOk-weaker}
 use Rattle.just_syntax.specs.View.{assignment_view}
 use Rattle.just_value.specs.View.{frames_view}
-use Rattle.just_resolution.specs.Resolved.{AreDistinct, parameter_numbers}
-use Rattle.just_resolution.specs.View.{functions_view}
+use Rattle.just_meaning.specs.Resolved.{AreDistinct, parameter_numbers}
+use Rattle.just_meaning.specs.View.{functions_view}
 use Rattle.just_resolution.proofs.Sets.{behind_slice, bound_outside, unbound_outside}
 use Rattle.just_resolution.proofs.numbers.are_numbers_apart.Goals as goal
 

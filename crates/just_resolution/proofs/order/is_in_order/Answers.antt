@@ -6,7 +6,7 @@ use Rattle.just_syntax.specs.View.{name_view}
 use Rattle.just_value.specs.View.{frames_view}
 use Rattle.just_value.specs.declared.scope.Scope.{Scope}
 use Rattle.just_resolution.specs.Seen.{is_name_in, is_readable, is_taken}
-use Rattle.just_resolution.specs.View.{assignments_view, functions_view}
+use Rattle.just_meaning.specs.View.{assignments_view, functions_view}
 use Rattle.just_resolution.proofs.Ordering.{IsWalkedTo, decides_all, readable_if, spoils, walks_from, walks_on}
 use Rattle.just_resolution.proofs.Sets.{front_at, no_name}
 use Rattle.just_resolution.proofs.order.is_in_order.Goals.{After-takes_next}

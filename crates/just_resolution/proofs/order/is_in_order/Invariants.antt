@@ -2,7 +2,7 @@ use Rattle.std.proofs.Common.{◌≡◌, map, drop}
 use Rattle.just_syntax.specs.View.{name_view}
 use Rattle.just_value.specs.View.{frames_view}
 use Rattle.just_resolution.specs.Seen.{is_name_in, is_readable, is_taken}
-use Rattle.just_resolution.specs.View.{assignments_view, functions_view}
+use Rattle.just_meaning.specs.View.{assignments_view, functions_view}
 use Rattle.just_resolution.proofs.Ordering.{IsWalkedTo}
 use Rattle.just_resolution.proofs.order.is_in_order.Given as goal
 

@@ -2,9 +2,9 @@ use Rattle.std.proofs.Common.{◌≡◌, ap, sym, inl, IsTrue, Some, None, Bor}
 use Rattle.std.proofs.lemmas.Result.{IfOk-weaker}
 use Rattle.just_syntax.specs.Plain.{Text}
 use Rattle.just_syntax.specs.View.{assignment_view, name_view}
-use Rattle.just_resolution.specs.Assignments.{assignment_at}
+use Rattle.just_meaning.specs.Assignments.{assignment_at}
 use Rattle.just_resolution.specs.Seen.{is_readable, is_taken}
-use Rattle.just_resolution.specs.View.{assignments_view, functions_view}
+use Rattle.just_meaning.specs.View.{assignments_view, functions_view}
 use Rattle.just_resolution.proofs.Ordering.{all_three, comes_again, comes_again_takes_none, comes_now, comes_now_takes_one, more_readable, names_none, passed_over, passed_over_takes_none, takes_one}
 use Rattle.just_resolution.proofs.Tables.{assignment_seen}
 use Rattle.just_resolution.proofs.order.takes_next.Goals.{In-None, In-Some}

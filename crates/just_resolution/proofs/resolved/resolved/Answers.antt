@@ -2,8 +2,8 @@ use Rattle.std.proofs.Common.{◌≡◌, true, map}
 use Rattle.std.proofs.lemmas.Result.{IfOk-weaker}
 use Rattle.just_syntax.specs.View.{assignment_view}
 use Rattle.just_value.specs.View.{frames_view}
-use Rattle.just_resolution.specs.Resolved.{parameter_numbers}
-use Rattle.just_resolution.specs.View.{assignments_view, functions_view}
+use Rattle.just_meaning.specs.Resolved.{parameter_numbers}
+use Rattle.just_meaning.specs.View.{assignments_view, functions_view}
 use Rattle.just_resolution.proofs.Ordering.{distinct_front}
 use Rattle.just_resolution.proofs.Resolving.{refuses, is_resolved}
 use Rattle.just_resolution.proofs.resolved.resolved.Goals as goal

@@ -1,5 +1,5 @@
 use Rattle.std.proofs.Common.{◌∙◌, string_bytes}
-use Rattle.just_text.proofs.Joined.{joined_texts}
+use Rattle.just_syntax.proofs.Joined.{joined_texts}
 use Rattle.just_text.proofs.join_list.join_list.Goals as goal
 
 pub returns : goal.returns

@@ -3,22 +3,16 @@ use Rattle.std.proofs.lemmas.Result.{err_from_is_err_and}
 use Rattle.just_syntax.specs.View.{assignment_view, name_view}
 use Rattle.just_value.specs.Frames.{bound_in_front, innermost}
 use Rattle.just_value.specs.View.{frames_view}
-use Rattle.just_meaning.specs.Messages.{unknown_assignment_text}
-use Rattle.just_resolution.specs.View.{is_referenced_in}
-use Rattle.just_eval.proofs.Tables.{found_at, none_there, some_there}
-use Rattle.just_eval.proofs.Module.{ran_binds, ran_cut, ran_exit, ran_fails, ran_passes, ran_skips, ran_stops, ran_unknown}
+use Rattle.just_meaning.specs.View.{is_referenced_in}
+use Rattle.just_syntax.proofs.Tables.{found_at}
+use Rattle.just_eval.proofs.There.{none_there, some_there}
+use Rattle.just_eval.proofs.Module.{ran_binds, ran_cut, ran_exit, ran_fails, ran_passes, ran_skips, ran_unknown}
 use Rattle.just_eval.proofs.evaluator.Evaluator.evaluate_assignment.Goals as goal
-
-pub returns-in_err-message-clause-ran : goal.returns-in_err-message-clause-ran
-returns-in_err-message-clause-ran g c =
-    let p = err_from_is_err_and c.from_residual.result c.from_residual.ensures.1 in
-    rw (p.1, p.2) (ran_stops _ _)
 
 pub returns-in_default-clause-ran : goal.returns-in_default-clause-ran
 returns-in_default-clause-ran g c =
     ran_unknown (frames_view c.args.self.now.scope) (name_view c.args.name) _
-    (found_at assignment_view (λ a. a.name.lexeme) _ _ _ None c.in_default.ensures (ap (λ l. l.now) c.lexeme.ensures))
-    (c.in_ok-message.ensures ∙ ap (λ l. unknown_assignment_text l.now) c.lexeme-in_default.ensures)
+    (found_at assignment_view (λ a. a.name.lexeme) _ _ _ None c.in_default.ensures (ap (λ l. l.now) c.lexeme.ensures)) c.unknown_assignment.ensures
 
 pub returns-then-not-is_referenced-clause-ran : goal.returns-then-not-is_referenced-clause-ran
 returns-then-not-is_referenced-clause-ran g c =
@@ -35,7 +29,7 @@ returns-then-is_bound-clause-ran g c =
 
 pub returns-in_err-value-clause-ran : goal.returns-in_err-value-clause-ran
 returns-in_err-value-clause-ran g c =
-    let p = err_from_is_err_and c.from_residual-in_err-value.result c.from_residual-in_err-value.ensures.1 in
+    let p = err_from_is_err_and c.from_residual.result c.from_residual.ensures.1 in
     ran_exit _ _ _ _ p.1 p.2 (ran_fails (frames_view c.args.self.now.scope) (name_view c.args.name) (assignment_view c.in-Some.assignment.now)
     (record {
       found = found_at assignment_view (λ a. a.name.lexeme) _ _ _ (Some c.in-Some.assignment.now) c.in-Some.ensures (ap (λ l. l.now) c.lexeme.ensures);

@@ -1,5 +1,5 @@
 use Rattle.just_value.specs.View.{frames_view}
-use Rattle.just_meaning.proofs.Internal.{resolved_is_never_internal}
+use Rattle.just_laws.proofs.Internal.{resolved_is_never_internal}
 use Rattle.just_eval.proofs.Module.{ran_lexical}
 use Rattle.just_eval.proofs.evaluator.Evaluator.evaluate_assignments.Goals as goal
 

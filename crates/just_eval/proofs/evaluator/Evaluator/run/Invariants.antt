@@ -3,8 +3,9 @@ use Rattle.just_syntax.specs.View.{name_view}
 use Rattle.just_value.specs.Frames.{Frames}
 use Rattle.just_value.specs.Outcome.{Outcome}
 use Rattle.just_value.specs.View.{frames_view}
-use Rattle.just_meaning.specs.Module.{Ran, by_chain}
-use Rattle.just_eval.specs.View.{IsAtStart, module_view}
+use Rattle.just_meaning.specs.Module.{Ran, dynamically}
+use Rattle.just_meaning.specs.View.{module_view}
+use Rattle.just_eval.specs.View.{IsAtStart}
 use Rattle.just_eval.proofs.evaluator.Evaluator.run.Given as goal
 
 -- whatever the names that are left come to from here is what all come to from the start
@@ -14,6 +15,6 @@ invariant-loop-name g l =
     record {
       same : l.evaluator.context ≡ l.context;
       start : IsAtStart l.evaluator;
-      rest : (o : Outcome Frames) (new : g.row.H.Denot) → Ran g.H.Host.step l.host by_chain m (frames_view l.evaluator.scope) (map name_view (drop l.name-index l.names)) o new
-          → Ran g.H.Host.step l.fn.host by_chain m ([] ∷ frames_view l.context.scope.now) (map name_view l.names) o new;
+      rest : (o : Outcome Frames) (new : g.row.H.Denot) → Ran g.H.Host.step l.host dynamically m (frames_view l.evaluator.scope) (map name_view (drop l.name-index l.names)) o new
+          → Ran g.H.Host.step l.fn.host dynamically m ([] ∷ frames_view l.context.scope.now) (map name_view l.names) o new;
     }

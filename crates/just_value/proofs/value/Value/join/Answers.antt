@@ -1,5 +1,5 @@
 use Rattle.std.proofs.Common.{◌∙◌, refl, string_bytes, codes}
-use Rattle.just_value.proofs.Texts.{joined_texts}
+use Rattle.just_syntax.proofs.Joined.{joined_texts}
 use Rattle.just_value.proofs.value.Value.join.Goals as goal
 
 pub returns : goal.returns

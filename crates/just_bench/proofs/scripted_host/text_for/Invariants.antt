@@ -1,9 +1,0 @@
-use Rattle.std.proofs.Common.{◌≡◌, drop, map}
-use Rattle.std.specs.Option.{option_map}
-use Rattle.just_bench.specs.Script.{text_after, text_for}
-use Rattle.just_bench.specs.View.{pair_view}
-use Rattle.just_bench.proofs.scripted_host.text_for.Given as goal
-
--- what is found so far, and then behind it, is what is found in all
-abbrev pub invariant-loop-other : goal.invariant-loop-other
-invariant-loop-other l = text_after (option_map (λ text. text.now) l.found) l.command (map pair_view (drop l.other-index l.always)) ≡ text_for l.command (map pair_view l.always)

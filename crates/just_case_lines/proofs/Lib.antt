@@ -1,0 +1,5 @@
+mod Split
+pub mod Lines
+pub mod Texts
+pub mod Names
+pub mod Numbers

@@ -1,0 +1,13 @@
+-- Bytes without a byte are one piece.
+use Rattle.std.proofs.Common.{◌≡◌, ℕ, suc, ◌+◌, ◌≤◌, Bool, true, false, not, cond, eqb, List, [], ◌∷◌, length, refl, ap, arith}
+use Rattle.std.specs.List.{onto_first, position_or_len, slice_split}
+
+-- the step of it, by whether the first byte is the one
+whole_step : (t : Bool) (b n : ℕ) (bytes : List ℕ) (pieces : List (List ℕ)) → suc (length bytes) ≤ cond (not t) (1 + n) 0 → (length bytes ≤ n → pieces ≡ bytes ∷ []) → cond t ([] ∷ pieces) (onto_first b pieces) ≡ (b ∷ bytes) ∷ []
+whole_step true b n bytes pieces none whole = absurd (omega (arith, none))
+whole_step false b n bytes pieces none whole = ap (onto_first b) (whole (omega (arith, none)))
+
+pub split_whole : (byte : ℕ) (bytes : List ℕ) → length bytes ≤ position_or_len (λ b. eqb b byte) bytes → slice_split (λ b. eqb b byte) bytes ≡ bytes ∷ []
+split_whole byte [] none = refl
+split_whole byte (b ∷ bytes) none =
+    whole_step (eqb b byte) b (position_or_len (λ b. eqb b byte) bytes) bytes (slice_split (λ b. eqb b byte) bytes) none (split_whole byte bytes)

@@ -1,0 +1,85 @@
+// What a case describes.
+
+use crate::builder::Builder;
+use crate::line::Line;
+use crate::line_error::LineError;
+use just_syntax::assignment::Assignment;
+use just_syntax::function_definition::FunctionDefinition;
+use just_syntax::name::Name;
+use just_syntax::number::Number;
+use just_syntax::table::Table;
+use just_value::error::CommandFault;
+use std::alloc::Global;
+use std::collections::{BTreeMap, HashMap, HashSet};
+
+// How many calls may be pending, and one more, where a case does not say it.
+const RECURSION_LIMIT: usize = 100;
+
+/// What a case describes.
+#[derive(Drop)]
+pub struct Case<'src> {
+    pub assignments: Table<Assignment<'src>>,
+    /// The names of assignments, in the order in which they are evaluated.
+    pub evaluation_order: Vec<Name<'src>>,
+    pub functions: Table<FunctionDefinition<'src>>,
+    pub overrides: HashMap<Number, String>,
+    /// The numbers of the variables that are referenced, where they are told.
+    pub references: Option<HashSet<Number>>,
+    pub dotenv: BTreeMap<String, String>,
+    /// Commands, and the texts that they are always answered with. Of one command the last pair counts.
+    pub always: Vec<(String, String)>,
+    /// How other commands are answered, in their order.
+    pub replies: Vec<Result<String, CommandFault>>,
+    pub lists: bool,
+    pub dry_run: bool,
+    /// How many calls may be pending, and one more.
+    pub recursion_limit: usize,
+}
+
+impl<'src> Case<'src> {
+    /// A case that describes nothing. It takes no memory.
+    pub(crate) fn new(alloc: Global) -> Case<'src> {
+        Case {
+            assignments: Table::new(alloc),
+            evaluation_order: Vec::new(alloc),
+            functions: Table::new(alloc),
+            overrides: HashMap::new(alloc),
+            references: None,
+            dotenv: BTreeMap::new(alloc),
+            always: Vec::new(alloc),
+            replies: Vec::new(alloc),
+            lists: false,
+            dry_run: false,
+            recursion_limit: RECURSION_LIMIT,
+        }
+    }
+}
+
+/// Why there is no case.
+#[derive(Debug, Drop)]
+pub enum CaseError {
+    /// The place of the first bad line, from 1.
+    BadLine(usize),
+    OutOfMemory,
+}
+
+/// The case that lines describe.
+///
+/// # Errors
+///
+/// `BadLine` with the place of the first bad line. A case that does not end with `run` is bad at the line
+/// after its last.
+pub fn build<'src>(alloc: Global, lines: &'src [Line<'src>]) -> Result<Case<'src>, CaseError> {
+    let mut builder = Builder::new(alloc);
+    for (index, line) in lines.iter().enumerate() {
+        match builder.take(alloc, line) {
+            Ok(()) => {}
+            Err(LineError::Bad) => return Err(CaseError::BadLine(index.saturating_add(1))),
+            Err(LineError::OutOfMemory) => return Err(CaseError::OutOfMemory),
+        }
+    }
+    match builder.finished() {
+        Some(case) => Ok(case),
+        None => Err(CaseError::BadLine(lines.len().saturating_add(1))),
+    }
+}

@@ -1,0 +1,325 @@
+// The lines of a case, each read by itself.
+
+ghost use Rattle.std.specs.Prelude.{◌≡◌, ◌==◌, Some, IfOk, codes, if◌then◌else◌, length, map, position};
+ghost use Rattle.std.specs.List.{after_first, before_first};
+ghost use Rattle.just_case_lines.specs.Line.{Assign, Bad, Function, bare_line, is_skipped, led, line_of, line_of_text, line_of_word, lines_of, named, operator_line, simple_line};
+ghost use Rattle.just_case_lines.specs.View.{line_view};
+
+use crate::operator::{BinaryOperator, UnaryOperator};
+use crate::rest::{is_name, parse_names, parse_number, split_word};
+use just_syntax::out_of_memory::OutOfMemory;
+use std::alloc::Global;
+use std::str;
+
+/// A line of a case. It owns what is no piece of the case's bytes.
+#[derive(Drop)]
+pub enum Line<'case> {
+    /// An empty line, or one that begins with `#`.
+    Skipped,
+    /// What is no line of a case.
+    Bad,
+    /// `str T`: a literal is pushed.
+    Literal { text: &'case str, lexeme: String },
+    /// `cmd T`: a command is pushed.
+    Command { text: &'case str, lexeme: String },
+    /// `var N`: a variable is pushed.
+    Variable { name: &'case str },
+    /// The expression on top becomes a part of another.
+    Unary(UnaryOperator),
+    /// The two expressions on top are put together.
+    Binary(BinaryOperator),
+    /// `if`: a condition, a consequence and an otherwise are put together.
+    If,
+    /// `list K`: so many expressions become a list.
+    List { count: u16 },
+    /// `call N K`: so many expressions become the arguments of a call.
+    Call { name: &'case str, count: u16 },
+    /// `assign N` or `export N`: the expression on top is assigned.
+    Assign { name: &'case str, export: bool },
+    /// `fun N P ..`: the expression on top is a function's body.
+    Function { names: &'case str },
+    /// `override N T`: a variable's value is given from outside.
+    Override { name: &'case str, text: &'case str },
+    /// `dotenv N T`: a variable of the dotenv map.
+    Dotenv { name: &'case str, text: &'case str },
+    /// `order N ..`: the order of evaluation.
+    Order { names: &'case str },
+    /// `only N ..`: the variables that are referenced.
+    Only { names: &'case str },
+    /// `reply T`: the next command gives a text.
+    Reply { text: &'case str },
+    /// `fail K`: the next command ends with a status.
+    Fail { code: u16 },
+    /// `always T`: the last command gives a text, whenever it comes.
+    Always { text: &'case str },
+    /// `lists`: lists are on.
+    Lists,
+    /// `dry`: commands are shown, and none is run.
+    Dry,
+    /// `limit K`: how many calls may be pending, and one more.
+    Limit { limit: u16 },
+    /// `run`: the assignments are evaluated.
+    Run,
+}
+
+/// The lines of a case. Each ends with a newline, which the last may lack.
+pub fn parse_lines<'case>(alloc: Global, case: &'case [u8]) -> Result<Vec<Line<'case>>, OutOfMemory>
+    ensures { IfOk result (λ lines. map line_view lines.items ≡ map line_of (lines_of case.now)) }
+{
+    let mut lines = Vec::new(alloc);
+    let mut rest = case;
+    while !rest.is_empty() {
+        let (line, after) = split_line(rest);
+        lines.push(parse_line(alloc, line)?)?;
+        rest = after;
+    }
+    Ok(lines)
+}
+
+// One line, without its newline.
+fn parse_line<'case>(alloc: Global, bytes: &'case [u8]) -> Result<Line<'case>, OutOfMemory>
+    ensures { IfOk result (λ line. line_view line ≡ line_of bytes.now) }
+{
+    match str::from_utf8(bytes) {
+        Ok(text) => parse_text(alloc, text),
+        Err(_) => Ok(Line::Bad),
+    }
+}
+
+// One line that is a text.
+fn parse_text<'case>(alloc: Global, text: &'case str) -> Result<Line<'case>, OutOfMemory>
+    ensures { IfOk result (λ line. line_view line ≡ line_of_text text.now) }
+{
+    if is_skipped(text) {
+        return Ok(Line::Skipped);
+    }
+    let (word, rest) = split_word(text);
+    parse_word(alloc, word, rest)
+}
+
+// Whether a line is empty or a comment.
+fn is_skipped(text: &str) -> bool
+    ensures { result ≡ is_skipped text.now }
+{
+    match text.as_bytes().split_first() {
+        Some((first, _)) => *first == b'#',
+        None => true,
+    }
+}
+
+// A line by its word and what stands behind it.
+fn parse_word<'case>(
+    alloc: Global,
+    word: &str,
+    rest: &'case str,
+) -> Result<Line<'case>, OutOfMemory>
+    ensures { IfOk result (λ line. line_view line ≡ line_of_word word.now rest.now) }
+{
+    Ok(match word {
+        "str" => Line::Literal {
+            text: rest,
+            lexeme: format!(in alloc; "'{rest}'")?,
+        },
+        "cmd" => Line::Command {
+            text: rest,
+            lexeme: format!(in alloc; "`{rest}`")?,
+        },
+        "fun" => match parse_names(alloc, rest)? {
+            Some(names) => function_line(rest, &names),
+            None => Line::Bad,
+        },
+        "order" => match parse_names(alloc, rest)? {
+            Some(_) => Line::Order { names: rest },
+            None => Line::Bad,
+        },
+        "only" => match parse_names(alloc, rest)? {
+            Some(_) => Line::Only { names: rest },
+            None => Line::Bad,
+        },
+        _ => simple_line(word, rest),
+    })
+}
+
+// `fun` with what stands behind it, which is these names.
+fn function_line<'case>(rest: &'case str, names: &[&str]) -> Line<'case>
+    ensures { line_view result ≡ led (Some (map (λ name. name.now) names.now)) (Function rest.now) }
+{
+    if names.is_empty() {
+        Line::Bad
+    } else {
+        Line::Function { names: rest }
+    }
+}
+
+// A line that has no literal, no command and no list of names.
+fn simple_line<'case>(word: &str, rest: &'case str) -> Line<'case>
+    ensures { line_view result ≡ simple_line word.now rest.now }
+{
+    match word {
+        "var" => variable_line(rest),
+        "assign" => assign_line(rest, false),
+        "export" => assign_line(rest, true),
+        "list" => list_line(rest),
+        "call" => call_line(rest),
+        "override" => override_line(rest),
+        "dotenv" => dotenv_line(rest),
+        "reply" => Line::Reply { text: rest },
+        "fail" => fail_line(rest),
+        "always" => Line::Always { text: rest },
+        "limit" => limit_line(rest),
+        _ => closed_line(word, rest),
+    }
+}
+
+// A line that is bad if anything stands behind its word.
+fn closed_line<'case>(word: &str, rest: &str) -> Line<'case>
+    ensures { line_view result ≡ (if length rest.now == 0 then bare_line word.now else Bad) }
+{
+    if rest.is_empty() {
+        bare_line(word)
+    } else {
+        Line::Bad
+    }
+}
+
+// `var` with what stands behind it.
+fn variable_line(rest: &str) -> Line<'_>
+    ensures { line_view result ≡ simple_line (codes "var") rest.now }
+{
+    if is_name(rest) {
+        Line::Variable { name: rest }
+    } else {
+        Line::Bad
+    }
+}
+
+// `assign`, or `export`, with what stands behind it.
+fn assign_line(rest: &str, export: bool) -> Line<'_>
+    ensures { line_view result ≡ named rest.now (Assign rest.now export) }
+{
+    if is_name(rest) {
+        Line::Assign { name: rest, export }
+    } else {
+        Line::Bad
+    }
+}
+
+// `list` with what stands behind it.
+fn list_line(rest: &str) -> Line<'_>
+    ensures { line_view result ≡ simple_line (codes "list") rest.now }
+{
+    match parse_number(rest) {
+        Some(count) => Line::List { count },
+        None => Line::Bad,
+    }
+}
+
+// `call` with what stands behind it.
+fn call_line(rest: &str) -> Line<'_>
+    ensures { line_view result ≡ simple_line (codes "call") rest.now }
+{
+    let (name, count) = split_word(rest);
+    match parse_number(count) {
+        Some(count) if is_name(name) => Line::Call { name, count },
+        _ => Line::Bad,
+    }
+}
+
+// `override` with what stands behind it.
+fn override_line(rest: &str) -> Line<'_>
+    ensures { line_view result ≡ simple_line (codes "override") rest.now }
+{
+    let (name, text) = split_word(rest);
+    if is_name(name) {
+        Line::Override { name, text }
+    } else {
+        Line::Bad
+    }
+}
+
+// `dotenv` with what stands behind it.
+fn dotenv_line(rest: &str) -> Line<'_>
+    ensures { line_view result ≡ simple_line (codes "dotenv") rest.now }
+{
+    let (name, text) = split_word(rest);
+    if is_name(name) {
+        Line::Dotenv { name, text }
+    } else {
+        Line::Bad
+    }
+}
+
+// `limit` with what stands behind it.
+fn limit_line(rest: &str) -> Line<'_>
+    ensures { line_view result ≡ simple_line (codes "limit") rest.now }
+{
+    match parse_number(rest) {
+        None | Some(0) => Line::Bad,
+        Some(limit) => Line::Limit { limit },
+    }
+}
+
+// `fail` with what stands behind it.
+fn fail_line(rest: &str) -> Line<'_>
+    ensures { line_view result ≡ simple_line (codes "fail") rest.now }
+{
+    match parse_number(rest) {
+        Some(code) => Line::Fail { code },
+        None => Line::Bad,
+    }
+}
+
+// A line whose word has nothing behind it.
+fn bare_line<'case>(word: &str) -> Line<'case>
+    ensures { line_view result ≡ bare_line word.now }
+{
+    match word {
+        "if" => Line::If,
+        "lists" => Line::Lists,
+        "dry" => Line::Dry,
+        "run" => Line::Run,
+        _ => operator_line(word),
+    }
+}
+
+// A line that puts the expressions on top together.
+fn operator_line<'case>(word: &str) -> Line<'case>
+    ensures { line_view result ≡ operator_line word.now }
+{
+    match word {
+        "root" => Line::Unary(UnaryOperator::Root),
+        "not" => Line::Unary(UnaryOperator::Not),
+        "group" => Line::Unary(UnaryOperator::Group),
+        "assert" => Line::Unary(UnaryOperator::Assert),
+        "add" => Line::Binary(BinaryOperator::Add),
+        "join" => Line::Binary(BinaryOperator::Join),
+        "cat" => Line::Binary(BinaryOperator::Cat),
+        "and" => Line::Binary(BinaryOperator::And),
+        "or" => Line::Binary(BinaryOperator::Or),
+        "eq" => Line::Binary(BinaryOperator::Equal),
+        "ne" => Line::Binary(BinaryOperator::NotEqual),
+        "match" => Line::Binary(BinaryOperator::Match),
+        "mismatch" => Line::Binary(BinaryOperator::Mismatch),
+        "assertm" => Line::Binary(BinaryOperator::AssertMessage),
+        "when" => Line::Binary(BinaryOperator::When),
+        _ => Line::Bad,
+    }
+}
+
+// Bytes up to their first newline, and what stands behind that. With no newline the second part is empty.
+fn split_line(bytes: &[u8]) -> (&[u8], &[u8])
+    ensures line { result.0.now ≡ before_first (λ byte. byte == 10) bytes.now }
+    ensures rest { result.1.now ≡ after_first (λ byte. byte == 10) bytes.now }
+{
+    match newline_place(bytes) {
+        Some(end) => (&bytes[..end], &bytes[end + 1..]),
+        None => (bytes, &[]),
+    }
+}
+
+// Where the first newline stands.
+fn newline_place(bytes: &[u8]) -> Option<usize>
+    ensures { result ≡ position (λ byte. byte == 10) bytes.now }
+{
+    bytes.iter().position(|byte| *byte == b'\n')
+}

@@ -1,0 +1,41 @@
+// What the words without a rest make of expressions.
+
+/// What is made of one expression.
+#[derive(Clone, Copy, Debug, PartialEq, Eq)]
+pub enum UnaryOperator {
+    /// `root`: a join without a left side.
+    Root,
+    /// `not`
+    Not,
+    /// `group`: parentheses.
+    Group,
+    /// `assert`: an assertion without a message.
+    Assert,
+}
+
+/// What is made of two expressions.
+#[derive(Clone, Copy, Debug, PartialEq, Eq)]
+pub enum BinaryOperator {
+    /// `add`: a concatenation.
+    Add,
+    /// `join`
+    Join,
+    /// `cat`: a concatenation of lists.
+    Cat,
+    /// `and`
+    And,
+    /// `or`
+    Or,
+    /// `eq`
+    Equal,
+    /// `ne`
+    NotEqual,
+    /// `match`
+    Match,
+    /// `mismatch`
+    Mismatch,
+    /// `assertm`: an assertion, of a condition and a message.
+    AssertMessage,
+    /// `when`: a conditional without its last part, of a condition and a consequence.
+    When,
+}

@@ -1,0 +1,65 @@
+// The tokens of a case.
+
+ghost use Rattle.std.specs.Prelude.{◌≡◌, IfOk, map};
+ghost use Rattle.just_syntax.specs.View.{name_view, token_view};
+ghost use Rattle.just_case_lines.specs.Case.{token_of};
+
+use just_syntax::name::Name;
+use just_syntax::number::Number;
+use just_syntax::out_of_memory::OutOfMemory;
+use just_syntax::token::Token;
+use std::alloc::Global;
+
+/// A token of a case: all of them stand at the start of one file.
+pub fn token(lexeme: &str) -> Token<'_>
+    ensures { token_view result ≡ token_of lexeme.now }
+{
+    Token {
+        column: 0,
+        line: 0,
+        offset: 0,
+        lexeme,
+        path: "justfile",
+    }
+}
+
+/// A name of a case.
+pub fn name(lexeme: &str) -> Name<'_>
+    ensures { name_view result ≡ token_of lexeme.now }
+{
+    Name {
+        token: token(lexeme),
+    }
+}
+
+/// Names of a case, in their order.
+pub(crate) fn names<'src>(
+    alloc: Global,
+    lexemes: &[&'src str],
+) -> Result<Vec<Name<'src>>, OutOfMemory>
+    ensures { IfOk result (λ names. map name_view names.items ≡ map token_of (map (λ lexeme. lexeme.now) lexemes.now)) }
+{
+    let mut names = Vec::with_capacity(alloc, lexemes.len())?;
+    for lexeme in lexemes {
+        names.push(name(lexeme))?;
+    }
+    Ok(names)
+}
+
+/// Parameters of a case: names, each with its number.
+pub(crate) fn parameters<'src>(
+    alloc: Global,
+    lexemes: &[&'src str],
+    numbers: &[Number],
+) -> Result<Vec<(Name<'src>, Number)>, OutOfMemory> {
+    let mut parameters = Vec::with_capacity(alloc, lexemes.len())?;
+    for (lexeme, number) in lexemes.iter().zip(numbers) {
+        parameters.extend_from_slice(&[parameter(lexeme, *number)])?;
+    }
+    Ok(parameters)
+}
+
+// A parameter of a case.
+fn parameter(lexeme: &str, number: Number) -> (Name<'_>, Number) {
+    (name(lexeme), number)
+}

@@ -1,0 +1,5 @@
+mod Calls
+mod Leaves
+mod Measure
+mod Rows
+mod Texts

@@ -1,0 +1,83 @@
+-- What an evaluator of expressions stands in, as plain data, and what an expression means there.
+use Rattle.std.specs.Prelude.{ℕ, Bool, false, List, [], Option, Some, None, Result, nat_eq}
+use Rattle.std.specs.List.{list_any}
+use Rattle.std.specs.Option.{option_map}
+use Rattle.just_syntax.specs.Plain.{Text, Expr}
+use Rattle.just_syntax.specs.Keyed.{value_at}
+use Rattle.just_syntax.specs.View.{name_view, views}
+use Rattle.just_syntax.specs.declared.expression.Expression.{Expression}
+use Rattle.just_syntax.specs.declared.function_definition.FunctionDefinition.{FunctionDefinition}
+use Rattle.just_syntax.specs.declared.name.Name.{Name}
+use Rattle.just_value.specs.Frames.{value_in}
+use Rattle.just_value.specs.Value.{Value}
+use Rattle.just_value.specs.View.{ended, frames_view}
+use Rattle.just_value.specs.declared.error.Error.{Error}
+use Rattle.just_host.specs.Interaction.{Rules, Runs, Tree, freely}
+use Rattle.just_host.specs.Question.{Question, Answer}
+use Rattle.just_host.specs.View.{pairs_view}
+use Rattle.just_host.specs.declared.execution_context.ExecutionContext.{ExecutionContext}
+use Rattle.just_meaning.specs.Closings.{dynamic}
+use Rattle.just_meaning.specs.Constant.{constantly, nowhere}
+use Rattle.just_meaning.specs.Meaning.{Program, Deeper, Row, Situation, eval, eval_row}
+use Rattle.just_meaning.specs.View.{program_view}
+use Rattle.just_expression.specs.declared.evaluator.ExpressionEvaluator.{ExpressionEvaluator}
+
+abbrev pub program_of : Option ExecutionContext → Program
+program_of (Some c) = program_view c
+program_of None = nowhere
+
+-- Without a context some variables may be open.
+abbrev pub open_in : Option ExecutionContext → (ℕ → Bool) → ℕ → Bool
+open_in (Some c) is_open n = false
+open_in None is_open n = is_open n
+
+-- With a context nothing is refused; without one the const rules hold.
+abbrev pub rules_in : Option ExecutionContext → (ℕ → Bool) → Rules
+rules_in (Some c) is_open = freely
+rules_in None is_open = constantly is_open
+
+-- what an evaluator evaluates in
+abbrev pub situation : ExpressionEvaluator → Situation
+situation e = record {
+  names = value_in (frames_view e.scope.now);
+  environment = pairs_view e.env.now;
+  recipe = option_map (λ (n : Name). (name_view n).lexeme) e.recipe;
+  is_dependency = e.is_dependency;
+  lists = e.lists;
+  shown = frames_view e.scope.now;
+  below = frames_view e.below.now;
+}
+
+abbrev pub program : ExpressionEvaluator → Program
+program e = program_of e.context
+
+abbrev pub deeper : ExpressionEvaluator → Deeper
+deeper e = dynamic (program e) e.calls_left
+
+-- whether a variable has no constant value
+abbrev pub is_non_const : ExpressionEvaluator → ℕ → Bool
+is_non_const e n = list_any (nat_eq n) e.non_const_assignments.now.keys
+
+abbrev pub rules : ExpressionEvaluator → Rules
+rules e = rules_in e.context (is_non_const e)
+
+-- what an expression means here
+abbrev pub meaning : ExpressionEvaluator → Expr → Tree Value
+meaning e x = eval (program e) (deeper e) (situation e) x
+
+-- what a row of expressions means here
+abbrev pub row : ExpressionEvaluator → List Expression → Row
+row e xs = eval_row (program e) (deeper e) (situation e) 0 (views xs)
+
+-- the tree's questions, answered, and its end are what is answered here
+abbrev pub Answers : {S : Type 0} → ExpressionEvaluator → (S → Question → Answer → S → Type 0) → S → Tree Value → Result Value Error → S → Type 0
+Answers e step old tree result new = Runs (rules e) step old tree (ended (λ v. v) result) new
+
+-- the functions that a module's file defines; without a context there are none
+abbrev pub functions_of : Option ExecutionContext → List FunctionDefinition
+functions_of (Some c) = c.module.now.functions
+functions_of None = []
+
+-- the function of the file with a name
+abbrev pub function_of : ExpressionEvaluator → Text → Option FunctionDefinition
+function_of e name = value_at (λ f. f.name.token.lexeme.now) name (functions_of e.context)

@@ -1,0 +1,390 @@
+// Evaluates expressions, in the order of their parts.
+
+ghost use Rattle.std.specs.Prelude.{Some, [], ◌∷◌, ◌≡◌};
+ghost use Rattle.std.specs.Option.{option_map};
+ghost use Rattle.just_syntax.specs.View.{name_view, token_view, view};
+ghost use Rattle.just_syntax.specs.declared.list_operator.ListOperator.TheVariants.{Concatenate, Join};
+ghost use Rattle.just_host.specs.Interaction.{gives};
+ghost use Rattle.just_meaning.specs.Meaning.{assertion, assertion_text, branch, choice, combination, command, comparison, conjunction, disjunction, negation, succession, variable};
+ghost use Rattle.just_expression.specs.View.{Answers, deeper, is_non_const, meaning, open_in, program, situation};
+
+mod call;
+mod row;
+
+use just_forms::{command, form, internal, variable};
+use just_host::execution_context::ExecutionContext;
+use just_host::host::Host;
+use just_syntax::conditional_operator::ConditionalOperator;
+use just_syntax::expression::Expression;
+use just_syntax::list_operator::ListOperator;
+use just_syntax::name::Name;
+use just_syntax::number::Number;
+use just_syntax::token::Token;
+use just_value::const_error::ConstError;
+use just_value::error::Error;
+use just_value::scope::Scope;
+use just_value::value::Value;
+use std::alloc::Global;
+use std::collections::{BTreeMap, HashSet};
+
+/// Evaluates expressions in a situation.
+#[derive(Clone, Copy)]
+pub struct ExpressionEvaluator<'src, 'run, 'here> {
+    /// What stays the same in a run. Without it nothing may be called and no command be run: the const rules hold.
+    pub context: Option<ExecutionContext<'src, 'run>>,
+    /// How many further calls may be pending.
+    pub calls_left: usize,
+    /// The recipe's environment.
+    pub env: &'here BTreeMap<String, String>,
+    /// Whether the recipe runs as another one's dependency.
+    pub is_dependency: bool,
+    /// Whether values may be lists.
+    pub lists: bool,
+    /// The variables that have no constant value, where the const rules hold.
+    pub non_const_assignments: &'here HashSet<Number>,
+    /// The recipe that is run, if any.
+    pub recipe: Option<Name<'src>>,
+    /// What can be read, and what commands are shown.
+    pub scope: &'here Scope<'src, 'here>,
+    /// What the scope of a called body is put on.
+    pub below: &'here Scope<'src, 'here>,
+}
+
+impl<'src, 'run, 'here> ExpressionEvaluator<'src, 'run, 'here> {
+    /// The value of an expression, by what it asks of the host.
+    ///
+    /// Each form is a function of its own, so that the frame of this one stays small: expressions may nest as deep as
+    /// the stack has room.
+    ///
+    /// # Errors
+    ///
+    /// The first refusal of a part, in the order of the parts; `OutOfMemory` where memory was asked for and refused, or
+    /// where the host says so. Without a context `Const` at the first call, command or variable with no constant value.
+    #[cycle(evaluate)]
+    pub fn evaluate_value<H: Host>(
+        &self,
+        alloc: Global,
+        host: &mut H,
+        expression: &Expression<'src>,
+    ) -> Result<Value, Error<'src>>
+        ensures { Answers self.now H.step host.old (meaning self.now (view expression.now)) result host.new }
+    {
+        match expression {
+            Expression::And { lhs, rhs } => self.evaluate_and(alloc, host, lhs, rhs),
+            Expression::Assert {
+                condition,
+                message,
+                name,
+            } => self.evaluate_assert(alloc, host, condition, message.as_deref(), name),
+            Expression::Backtick { contents, token } => {
+                self.evaluate_backtick(alloc, host, contents, token)
+            }
+            Expression::Call { arguments, name } => {
+                self.evaluate_call(alloc, host, name, arguments)
+            }
+            Expression::Comparison {
+                lhs,
+                operator,
+                rhs,
+                token,
+            } => self.evaluate_comparison(alloc, host, lhs, *operator, rhs, token),
+            Expression::Concatenation { lhs, operator, rhs } => {
+                self.evaluate_concatenation(alloc, host, lhs, operator, rhs)
+            }
+            Expression::Conditional {
+                condition,
+                consequence,
+                otherwise,
+            } => {
+                self.evaluate_conditional(alloc, host, condition, consequence, otherwise.as_deref())
+            }
+            Expression::FormatString { start, expressions } => {
+                self.evaluate_format_string(alloc, host, start, expressions)
+            }
+            Expression::Group { contents } => self.evaluate_group(alloc, host, contents),
+            Expression::Join { lhs, operator, rhs } => match lhs {
+                Some(lhs) => self.evaluate_join(alloc, host, lhs, operator, rhs),
+                None => self.evaluate_root(alloc, host, operator, rhs),
+            },
+            Expression::List { elements, token: _ } => self.evaluate_list(alloc, host, elements),
+            Expression::ListConcatenation {
+                lhs,
+                operator: _,
+                rhs,
+            } => self.evaluate_list_concatenation(alloc, host, lhs, rhs),
+            Expression::Not { operand } => self.evaluate_not(alloc, host, operand),
+            Expression::Or { lhs, rhs } => self.evaluate_or(alloc, host, lhs, rhs),
+            Expression::StringLiteral { string_literal } => {
+                form::string_literal(alloc, string_literal)
+            }
+            Expression::Variable { name, number } => {
+                self.evaluate_variable(alloc, host, name, *number)
+            }
+        }
+    }
+
+    // The value of `(contents)`.
+    #[cycle(evaluate)]
+    #[inline(never)]
+    fn evaluate_group<H: Host>(
+        &self,
+        alloc: Global,
+        host: &mut H,
+        contents: &Expression<'src>,
+    ) -> Result<Value, Error<'src>>
+        ensures { Answers self.now H.step host.old (meaning self.now (view contents.now)) result host.new }
+    {
+        self.evaluate_value(alloc, host, contents)
+    }
+
+    // The value of `lhs && rhs`.
+    #[cycle(evaluate)]
+    #[inline(never)]
+    fn evaluate_and<H: Host>(
+        &self,
+        alloc: Global,
+        host: &mut H,
+        lhs: &Expression<'src>,
+        rhs: &Expression<'src>,
+    ) -> Result<Value, Error<'src>>
+        ensures { Answers self.now H.step host.old (conjunction (meaning self.now (view lhs.now)) (meaning self.now (view rhs.now))) result host.new }
+    {
+        let value = self.evaluate_value(alloc, host, lhs)?;
+        if value.is_truthy() {
+            self.evaluate_value(alloc, host, rhs)
+        } else {
+            Ok(Value::new(alloc))
+        }
+    }
+
+    // The value of `lhs || rhs`.
+    #[cycle(evaluate)]
+    #[inline(never)]
+    fn evaluate_or<H: Host>(
+        &self,
+        alloc: Global,
+        host: &mut H,
+        lhs: &Expression<'src>,
+        rhs: &Expression<'src>,
+    ) -> Result<Value, Error<'src>>
+        ensures { Answers self.now H.step host.old (disjunction (meaning self.now (view lhs.now)) (meaning self.now (view rhs.now))) result host.new }
+    {
+        let value = self.evaluate_value(alloc, host, lhs)?;
+        if value.is_truthy() {
+            Ok(value)
+        } else {
+            self.evaluate_value(alloc, host, rhs)
+        }
+    }
+
+    // The value of `!operand`.
+    #[cycle(evaluate)]
+    #[inline(never)]
+    fn evaluate_not<H: Host>(
+        &self,
+        alloc: Global,
+        host: &mut H,
+        operand: &Expression<'src>,
+    ) -> Result<Value, Error<'src>>
+        ensures { Answers self.now H.step host.old (negation (meaning self.now (view operand.now))) result host.new }
+    {
+        let value = self.evaluate_value(alloc, host, operand)?;
+        Ok(Value::from_bool(alloc, !value.is_truthy())?)
+    }
+
+    // The value of a comparison.
+    #[cycle(evaluate)]
+    #[inline(never)]
+    fn evaluate_comparison<H: Host>(
+        &self,
+        alloc: Global,
+        host: &mut H,
+        lhs: &Expression<'src>,
+        operator: ConditionalOperator,
+        rhs: &Expression<'src>,
+        token: &Token<'src>,
+    ) -> Result<Value, Error<'src>>
+        ensures { Answers self.now H.step host.old (comparison operator (token_view token.now) (meaning self.now (view lhs.now)) (meaning self.now (view rhs.now))) result host.new }
+    {
+        if form::is_regex(operator) {
+            return Err(Error::LeftOutRegex { token: *token });
+        }
+        let left = self.evaluate_value(alloc, host, lhs)?;
+        let right = self.evaluate_value(alloc, host, rhs)?;
+        Ok(Value::from_bool(alloc, form::compares(operator, &left, &right))?)
+    }
+
+    // The value of a conditional.
+    #[cycle(evaluate)]
+    #[inline(never)]
+    fn evaluate_conditional<H: Host>(
+        &self,
+        alloc: Global,
+        host: &mut H,
+        condition: &Expression<'src>,
+        consequence: &Expression<'src>,
+        otherwise: Option<&Expression<'src>>,
+    ) -> Result<Value, Error<'src>>
+        ensures { Answers self.now H.step host.old (choice (meaning self.now (view condition.now)) (meaning self.now (view consequence.now)) (branch (program self.now) (deeper self.now) (situation self.now) (option_map (λ e. view e.now) otherwise.entry))) result host.new }
+    {
+        let value = self.evaluate_value(alloc, host, condition)?;
+        let taken = if value.is_truthy() {
+            Some(consequence)
+        } else {
+            otherwise
+        };
+        match taken {
+            Some(taken) => self.evaluate_value(alloc, host, taken),
+            None => Ok(Value::new(alloc)),
+        }
+    }
+
+    // The value of `lhs + rhs`.
+    #[cycle(evaluate)]
+    #[inline(never)]
+    fn evaluate_concatenation<H: Host>(
+        &self,
+        alloc: Global,
+        host: &mut H,
+        lhs: &Expression<'src>,
+        operator: &Token<'src>,
+        rhs: &Expression<'src>,
+    ) -> Result<Value, Error<'src>>
+        ensures { Answers self.now H.step host.old (combination Concatenate (meaning self.now (view lhs.now)) (token_view operator.now) (meaning self.now (view rhs.now))) result host.new }
+    {
+        let left = self.evaluate_value(alloc, host, lhs)?;
+        let right = self.evaluate_value(alloc, host, rhs)?;
+        left.apply(alloc, &right, ListOperator::Concatenate, *operator)
+    }
+
+    // The value of `lhs / rhs`.
+    #[cycle(evaluate)]
+    #[inline(never)]
+    fn evaluate_join<H: Host>(
+        &self,
+        alloc: Global,
+        host: &mut H,
+        lhs: &Expression<'src>,
+        operator: &Token<'src>,
+        rhs: &Expression<'src>,
+    ) -> Result<Value, Error<'src>>
+        ensures { Answers self.now H.step host.old (combination Join (meaning self.now (view lhs.now)) (token_view operator.now) (meaning self.now (view rhs.now))) result host.new }
+    {
+        let left = self.evaluate_value(alloc, host, lhs)?;
+        let right = self.evaluate_value(alloc, host, rhs)?;
+        left.apply(alloc, &right, ListOperator::Join, *operator)
+    }
+
+    // The value of `/ rhs`, whose left side is one empty text.
+    #[cycle(evaluate)]
+    #[inline(never)]
+    fn evaluate_root<H: Host>(
+        &self,
+        alloc: Global,
+        host: &mut H,
+        operator: &Token<'src>,
+        rhs: &Expression<'src>,
+    ) -> Result<Value, Error<'src>>
+        ensures { Answers self.now H.step host.old (combination Join (gives ([] ∷ [])) (token_view operator.now) (meaning self.now (view rhs.now))) result host.new }
+    {
+        let right = self.evaluate_value(alloc, host, rhs)?;
+        let left = form::empty_text(alloc)?;
+        left.apply(alloc, &right, ListOperator::Join, *operator)
+    }
+
+    // The value of `lhs ++ rhs`.
+    #[cycle(evaluate)]
+    #[inline(never)]
+    fn evaluate_list_concatenation<H: Host>(
+        &self,
+        alloc: Global,
+        host: &mut H,
+        lhs: &Expression<'src>,
+        rhs: &Expression<'src>,
+    ) -> Result<Value, Error<'src>>
+        ensures { Answers self.now H.step host.old (succession (meaning self.now (view lhs.now)) (meaning self.now (view rhs.now))) result host.new }
+    {
+        let left = self.evaluate_value(alloc, host, lhs)?;
+        let right = self.evaluate_value(alloc, host, rhs)?;
+        Ok(form::extended(left, right)?)
+    }
+
+    // The value of an assertion. One that fails says its message joined, or its condition in backticks.
+    #[cycle(evaluate)]
+    #[inline(never)]
+    fn evaluate_assert<H: Host>(
+        &self,
+        alloc: Global,
+        host: &mut H,
+        condition: &Expression<'src>,
+        message: Option<&Expression<'src>>,
+        name: &Name<'src>,
+    ) -> Result<Value, Error<'src>>
+        ensures { Answers self.now H.step host.old (assertion (situation self.now).lists (name_view name.now) (meaning self.now (view condition.now)) (assertion_text (program self.now) (deeper self.now) (situation self.now) (view condition.now) (option_map (λ e. view e.now) message.entry))) result host.new }
+    {
+        let value = self.evaluate_value(alloc, host, condition)?;
+        if value.is_truthy() {
+            return Ok(form::asserted(alloc, self.lists, value)?);
+        }
+        let message = match message {
+            Some(message) => {
+                let value = self.evaluate_value(alloc, host, message)?;
+                value.join(alloc)?
+            }
+            None => form::in_backticks(alloc, condition)?,
+        };
+        Err(Error::Assert {
+            message,
+            name: *name,
+        })
+    }
+
+    // The value of a variable. The host is not asked.
+    #[inline(never)]
+    fn evaluate_variable<H: Host>(
+        &self,
+        alloc: Global,
+        host: &H,
+        name: &Name<'src>,
+        number: Option<Number>,
+    ) -> Result<Value, Error<'src>>
+        ensures { Answers self.now H.step host.now (variable (name_view name.now) number (situation self.now).names) result host.now }
+    {
+        let Some(number) = number else {
+            return Err(internal::unresolved(alloc, name));
+        };
+        if self.is_open(number) {
+            return Err(Error::Const(ConstError::Variable(*name)));
+        }
+        variable::value_of(alloc, self.scope, name, number)
+    }
+
+    // Whether a variable is open: the const rules hold, and it has no constant value.
+    fn is_open(&self, number: Number) -> bool
+        ensures { result ≡ open_in self.now.context (is_non_const self.now) number }
+    {
+        match self.context {
+            Some(_) => false,
+            None => self.non_const_assignments.contains(&number),
+        }
+    }
+
+    // The value of a command expression.
+    #[inline(never)]
+    fn evaluate_backtick<H: Host>(
+        &self,
+        alloc: Global,
+        host: &mut H,
+        contents: &str,
+        token: &Token<'src>,
+    ) -> Result<Value, Error<'src>>
+        ensures { Answers self.now H.step host.old (command (program self.now).fixed (situation self.now) contents.now (token_view token.now)) result host.new }
+    {
+        match &self.context {
+            Some(context) => {
+                command::written(alloc, host, context, self.env, self.scope, contents, token)
+            }
+            None => Err(Error::Const(ConstError::Backtick(*token))),
+        }
+    }
+}

@@ -1,0 +1,187 @@
+// Evaluates calls.
+
+ghost use Rattle.std.specs.Prelude.{Some, length, ◌≡◌};
+ghost use Rattle.std.specs.Option.{option_map};
+ghost use Rattle.just_syntax.specs.Keyed.{value_at};
+ghost use Rattle.just_syntax.specs.View.{function_view, name_view};
+ghost use Rattle.just_value.specs.Frames.{value_in};
+ghost use Rattle.just_host.specs.Interaction.{Entered, note};
+ghost use Rattle.just_builtins.specs.Argument.{HasTexts, IsExpected};
+ghost use Rattle.just_builtins.specs.Table.{function_named};
+ghost use Rattle.just_meaning.specs.Callee.{Defined, callee, undefined};
+ghost use Rattle.just_meaning.specs.Closings.{dynamic, inside};
+ghost use Rattle.just_meaning.specs.Meaning.{built_in_call, called, eval};
+ghost use Rattle.just_expression.specs.View.{Answers, deeper, function_of, program, row, situation};
+
+use super::ExpressionEvaluator;
+use just_builtins::function::Function;
+use just_forms::builtin;
+use just_forms::defined::calls_left_inside;
+use just_forms::parameters::called_scope;
+use just_host::execution_context::ExecutionContext;
+use just_host::function::Context;
+use just_host::host::Host;
+use just_syntax::expression::Expression;
+use just_syntax::function_definition::FunctionDefinition;
+use just_syntax::name::Name;
+use just_value::const_error::ConstError;
+use just_value::error::Error;
+use just_value::value::Value;
+use std::alloc::Global;
+use std::collections::BTreeMap;
+
+impl<'src, 'run, 'here> ExpressionEvaluator<'src, 'run, 'here> {
+    // The value of a call.
+    #[cycle(evaluate)]
+    #[inline(never)]
+    pub(crate) fn evaluate_call<H: Host>(
+        &self,
+        alloc: Global,
+        host: &mut H,
+        name: &Name<'src>,
+        arguments: &[Expression<'src>],
+    ) -> Result<Value, Error<'src>>
+        ensures { let t = name_view name.now in let p = program self.now in
+            Answers self.now H.step host.old (note (Entered t) (called p t (callee p.functions t.lexeme) (deeper self.now) (situation self.now) (length arguments.now) (row self.now arguments.now))) result host.new }
+    {
+        let Some(context) = &self.context else {
+            return Err(Error::Const(ConstError::FunctionCall(*name)));
+        };
+        match function_at(context, name) {
+            Some(function) => {
+                self.evaluate_defined_function(alloc, host, name, function, arguments)
+            }
+            None => self.evaluate_builtin_function(alloc, host, context, name, arguments),
+        }
+    }
+
+    // The value of a call of a function of the file.
+    #[cycle(evaluate)]
+    #[inline(never)]
+    fn evaluate_defined_function<H: Host>(
+        &self,
+        alloc: Global,
+        host: &mut H,
+        name: &Name<'src>,
+        function: &FunctionDefinition<'src>,
+        arguments: &[Expression<'src>],
+    ) -> Result<Value, Error<'src>>
+        requires found { function_of self.now (name_view name.now).lexeme ≡ Some function.now }
+        ensures { let t = name_view name.now in
+            Answers self.now H.step host.old (called (program self.now) t (Defined (function_view function.now)) (deeper self.now) (situation self.now) (length arguments.now) (row self.now arguments.now)) result host.new }
+    {
+        let calls_left = calls_left_inside(
+            alloc,
+            name,
+            function,
+            self.calls_left,
+            arguments.len(),
+        )?;
+        let mut values = Vec::new(alloc);
+        for argument in arguments {
+            values.push(self.evaluate_value(alloc, host, argument)?)?;
+        }
+        self.evaluate_body(alloc, host, function, calls_left, values)
+    }
+
+    // The value of a function's body, one call deeper, its parameters bound to as many values. It is entered after the
+    // arguments, so that they nest without the room of its scope.
+    #[cycle(evaluate)]
+    #[inline(never)]
+    fn evaluate_body<H: Host>(
+        &self,
+        alloc: Global,
+        host: &mut H,
+        function: &FunctionDefinition<'src>,
+        calls_left: usize,
+        values: Vec<Value>,
+    ) -> Result<Value, Error<'src>>
+        requires count { length function.now.parameters.items ≡ length values.items }
+        ensures { let p = program self.now in let f = function_view function.now in let s = situation self.now in
+            Answers self.now H.step host.old (eval p (dynamic p calls_left) (inside (value_in s.below) s f values.items) f.body) result host.new }
+    {
+        let scope = called_scope(alloc, &function.parameters, values, self.below)?;
+        let env = BTreeMap::new(alloc);
+        let evaluator = ExpressionEvaluator {
+            context: self.context,
+            calls_left,
+            env: &env,
+            is_dependency: self.is_dependency,
+            lists: self.lists,
+            non_const_assignments: self.non_const_assignments,
+            recipe: self.recipe,
+            scope: &scope,
+            below: &scope,
+        };
+        evaluator.evaluate_value(alloc, host, &function.body)
+    }
+
+    // The value of a call of a name that the file does not define. Those of its arguments at text positions are to be
+    // texts.
+    #[cycle(evaluate)]
+    #[inline(never)]
+    fn evaluate_builtin_function<H: Host>(
+        &self,
+        alloc: Global,
+        host: &mut H,
+        context: &ExecutionContext<'src, 'run>,
+        name: &Name<'src>,
+        arguments: &[Expression<'src>],
+    ) -> Result<Value, Error<'src>>
+        requires here { self.now.context ≡ Some context.now }
+        ensures { let t = name_view name.now in
+            Answers self.now H.step host.old (called (program self.now) t (undefined t.lexeme) (deeper self.now) (situation self.now) (length arguments.now) (row self.now arguments.now)) result host.new }
+    {
+        let Some(function) = builtin::named(name, arguments.len()) else {
+            return builtin::refuse(alloc, name);
+        };
+        let mut values = Vec::new(alloc);
+        for argument in arguments {
+            let value = self.evaluate_value(alloc, host, argument)?;
+            if !builtin::takes(function, values.len(), &value) {
+                return builtin::refuse_list(name, value);
+            }
+            values.push(value)?;
+        }
+        self.call_builtin_function(alloc, host, context, name, function, values)
+    }
+
+    // What a built-in function answers here.
+    #[inline(never)]
+    fn call_builtin_function<H: Host>(
+        &self,
+        alloc: Global,
+        host: &mut H,
+        context: &ExecutionContext<'src, 'run>,
+        name: &Name<'src>,
+        function: Function,
+        values: Vec<Value>,
+    ) -> Result<Value, Error<'src>>
+        requires here { self.now.context ≡ Some context.now }
+        requires named { function_named (name_view name.now).lexeme ≡ Some function }
+        requires count { IsExpected function (length values.items) }
+        requires texts { HasTexts function values.items }
+        ensures { Answers self.now H.step host.old (built_in_call (program self.now) (situation self.now) (name_view name.now) function values.items) result host.new }
+    {
+        let context = Context {
+            env: self.env,
+            execution_context: context,
+            is_dependency: self.is_dependency,
+            name: *name,
+            recipe: self.recipe,
+            scope: self.scope,
+        };
+        builtin::call(alloc, host, &context, function, &values)
+    }
+}
+
+// The function of the file with a name.
+#[inline(never)]
+fn function_at<'src, 'run>(
+    context: &ExecutionContext<'src, 'run>,
+    name: &Name<'src>,
+) -> Option<&'run FunctionDefinition<'src>>
+    ensures { option_map (λ f. f.now) result ≡ value_at (λ f. f.name.token.lexeme.now) (name_view name.now).lexeme context.now.module.now.functions }
+{
+    context.module.functions.get(name.lexeme())
+}

@@ -1,0 +1,93 @@
+// What forms make of the values of their parts.
+
+ghost use Rattle.std.specs.Prelude.{IfOk, [], string_bytes, ◌++◌, ◌∷◌, ◌≡◌};
+ghost use Rattle.just_syntax.specs.Printed.{printed};
+ghost use Rattle.just_syntax.specs.View.{literal_view, view};
+ghost use Rattle.just_value.specs.Outcome.{Gave, UnlessStopped};
+ghost use Rattle.just_value.specs.Value.{from_condition};
+ghost use Rattle.just_value.specs.View.{ended};
+ghost use Rattle.just_meaning.specs.Meaning.{asserted, compared, is_regex, unindented_if};
+
+use just_syntax::conditional_operator::ConditionalOperator;
+use just_syntax::expression::Expression;
+use just_syntax::out_of_memory::OutOfMemory;
+use just_syntax::string_literal::StringLiteral;
+use just_syntax::unindent::unindent;
+use just_value::error::Error;
+use just_value::value::Value;
+use std::alloc::Global;
+
+/// The elements of both. Those of the second are moved behind those of the first.
+pub fn extended(first: Value, second: Value) -> Result<Value, OutOfMemory>
+    ensures { IfOk result (λ v. v ≡ first ++ second) }
+{
+    let mut elements = first.into_elements();
+    let mut others = second.into_elements();
+    elements.append(&mut others)?;
+    Ok(Value::from_elements(elements))
+}
+
+/// Whether an operator takes a regular expression.
+pub fn is_regex(operator: ConditionalOperator) -> bool
+    ensures { result ≡ is_regex operator }
+{
+    match operator {
+        ConditionalOperator::RegexMatch | ConditionalOperator::RegexMismatch => true,
+        ConditionalOperator::Equality | ConditionalOperator::Inequality => false,
+    }
+}
+
+/// Whether two values are the same, or differ, as the operator asks.
+pub fn compares(operator: ConditionalOperator, left: &Value, right: &Value) -> bool
+    ensures { from_condition result ≡ compared operator left.now right.now }
+{
+    match operator {
+        ConditionalOperator::Inequality => *left != *right,
+        _ => *left == *right,
+    }
+}
+
+/// What an assertion that holds gives: the condition's value with lists, one empty text without.
+pub fn asserted(alloc: Global, lists: bool, value: Value) -> Result<Value, OutOfMemory>
+    ensures { IfOk result (λ v. v ≡ asserted lists value) }
+{
+    if lists { Ok(value) } else { empty_text(alloc) }
+}
+
+/// One empty text. It is made out of line, so that its frame is no part of a form's.
+#[inline(never)]
+pub fn empty_text(alloc: Global) -> Result<Value, OutOfMemory>
+    ensures { IfOk result (λ v. v ≡ [] ∷ []) }
+{
+    Value::from_text(alloc, "")
+}
+
+/// What an assertion without a message says: its condition, in backticks.
+#[inline(never)]
+pub fn in_backticks(alloc: Global, condition: &Expression) -> Result<String, OutOfMemory>
+    ensures { IfOk result (λ text. string_bytes text ≡ (96 ∷ printed (view condition.now)) ++ 96 ∷ []) }
+{
+    Ok(format!(in alloc; "`{condition}`")?)
+}
+
+/// A format string's text, unindented if its start is.
+pub fn formatted(alloc: Global, indented: bool, text: String) -> Result<String, OutOfMemory>
+    ensures { IfOk result (λ t. string_bytes t ≡ unindented_if indented (string_bytes text)) }
+{
+    if indented {
+        unindent(alloc, &text)
+    } else {
+        Ok(text)
+    }
+}
+
+/// The value of a string literal. It is made out of line, so that its frame is no part of every form's.
+#[inline(never)]
+pub fn string_literal<'src>(
+    alloc: Global,
+    literal: &StringLiteral<'src>,
+) -> Result<Value, Error<'src>>
+    ensures { UnlessStopped (ended (λ v. v) result) (Gave ((literal_view literal.now).cooked ∷ [])) }
+{
+    Ok(Value::from_text(alloc, &literal.cooked)?)
+}

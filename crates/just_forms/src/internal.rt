@@ -1,0 +1,111 @@
+// What is said of a module that is not resolved.
+
+ghost use Rattle.std.specs.Prelude.{IfErr, IfOk, Some, None, string_bytes, ◌≡◌};
+ghost use Rattle.just_syntax.specs.View.{name_view};
+ghost use Rattle.just_value.specs.Refusal.{Internal};
+ghost use Rattle.just_value.specs.View.{refusal};
+ghost use Rattle.just_meaning.specs.Messages.{miscounted_text, shapeless_text, unevaluated_text, unknown_assignment_text, unknown_function_text, unresolved_text};
+ghost use Rattle.just_forms.specs.Call.{Says};
+
+use just_syntax::name::Name;
+use just_syntax::out_of_memory::OutOfMemory;
+use just_value::error::Error;
+use std::alloc::Global;
+
+/// Of a variable with no number.
+#[inline(never)]
+pub fn unresolved<'src>(alloc: Global, name: &Name<'src>) -> Error<'src>
+    ensures { Says (refusal result) (Internal (unresolved_text (name_view name.now).lexeme) (name_view name.now)) }
+{
+    internal(name, unresolved_text(alloc, name.lexeme()))
+}
+
+/// Of a variable with no value.
+#[inline(never)]
+pub fn unevaluated<'src>(alloc: Global, name: &Name<'src>) -> Error<'src>
+    ensures { Says (refusal result) (Internal (unevaluated_text (name_view name.now).lexeme) (name_view name.now)) }
+{
+    internal(name, unevaluated_text(alloc, name.lexeme()))
+}
+
+/// Of a call of what is no function.
+#[inline(never)]
+pub fn unknown_function<'src>(alloc: Global, name: &Name<'src>) -> Error<'src>
+    ensures { Says (refusal result) (Internal (unknown_function_text (name_view name.now).lexeme) (name_view name.now)) }
+{
+    internal(name, unknown_function_text(alloc, name.lexeme()))
+}
+
+/// Of a call with another number of arguments than the function takes.
+#[inline(never)]
+pub fn miscounted<'src>(alloc: Global, name: &Name<'src>) -> Error<'src>
+    ensures { Says (refusal result) (Internal (miscounted_text (name_view name.now).lexeme) (name_view name.now)) }
+{
+    internal(name, miscounted_text(alloc, name.lexeme()))
+}
+
+/// Of a built-in function that has another shape than its tag.
+#[inline(never)]
+pub fn shapeless<'src>(alloc: Global, name: &Name<'src>) -> Error<'src>
+    ensures { Says (refusal result) (Internal (shapeless_text (name_view name.now).lexeme) (name_view name.now)) }
+{
+    internal(name, shapeless_text(alloc, name.lexeme()))
+}
+
+/// Of a name in the order that is no assignment's.
+#[inline(never)]
+pub fn unknown_assignment<'src>(alloc: Global, name: &Name<'src>) -> Error<'src>
+    ensures { Says (refusal result) (Internal (unknown_assignment_text (name_view name.now).lexeme) (name_view name.now)) }
+{
+    internal(name, unknown_assignment_text(alloc, name.lexeme()))
+}
+
+// A refusal at a name, if there was memory for what it says.
+fn internal<'src>(name: &Name<'src>, message: Result<String, OutOfMemory>) -> Error<'src>
+    ensures said { IfOk message (λ text. refusal result ≡ Some (Internal (string_bytes text) (name_view name.now))) }
+    ensures wanting { IfErr message (λ _. refusal result ≡ None) }
+{
+    match message {
+        Ok(message) => Error::Internal {
+            message,
+            token: name.token,
+        },
+        Err(_) => Error::OutOfMemory,
+    }
+}
+
+fn unresolved_text(alloc: Global, name: &str) -> Result<String, OutOfMemory>
+    ensures { IfOk result (λ text. string_bytes text ≡ unresolved_text name.now) }
+{
+    Ok(format!(in alloc; "attempted to evaluate unresolved variable `{name}`")?)
+}
+
+fn unevaluated_text(alloc: Global, name: &str) -> Result<String, OutOfMemory>
+    ensures { IfOk result (λ text. string_bytes text ≡ unevaluated_text name.now) }
+{
+    Ok(format!(in alloc; "attempted to evaluate unevaluated variable `{name}`")?)
+}
+
+fn unknown_function_text(alloc: Global, name: &str) -> Result<String, OutOfMemory>
+    ensures { IfOk result (λ text. string_bytes text ≡ unknown_function_text name.now) }
+{
+    Ok(format!(in alloc; "unknown function `{name}`")?)
+}
+
+fn miscounted_text(alloc: Global, name: &str) -> Result<String, OutOfMemory>
+    ensures { IfOk result (λ text. string_bytes text ≡ miscounted_text name.now) }
+{
+    Ok(format!(in alloc; "function `{name}` called with a wrong number of arguments")?)
+}
+
+fn shapeless_text(alloc: Global, name: &str) -> Result<String, OutOfMemory>
+    ensures { IfOk result (λ text. string_bytes text ≡ shapeless_text name.now) }
+{
+    Ok(format!(in alloc; "function `{name}` has no such shape")?)
+}
+
+fn unknown_assignment_text(alloc: Global, name: &str) -> Result<String, OutOfMemory>
+    ensures { IfOk result (λ text. string_bytes text ≡ unknown_assignment_text name.now) }
+{
+    Ok(format!(in alloc; "unknown assignment `{name}`")?)
+}

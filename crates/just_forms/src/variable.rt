@@ -1,0 +1,30 @@
+// What variables hold.
+
+ghost use Rattle.just_syntax.specs.View.{name_view};
+ghost use Rattle.just_value.specs.Frames.{value_in};
+ghost use Rattle.just_value.specs.Outcome.{UnlessStopped};
+ghost use Rattle.just_value.specs.View.{ended, frames_view};
+ghost use Rattle.just_meaning.specs.Meaning.{named};
+
+use crate::internal;
+use just_syntax::name::Name;
+use just_syntax::number::Number;
+use just_value::error::Error;
+use just_value::scope::Scope;
+use just_value::value::Value;
+use std::alloc::Global;
+
+/// The value that a scope has for a number. Without one the variable is refused as `Internal`.
+pub fn value_of<'src>(
+    alloc: Global,
+    scope: &Scope<'src, '_>,
+    name: &Name<'src>,
+    number: Number,
+) -> Result<Value, Error<'src>>
+    ensures { UnlessStopped (ended (λ v. v) result) (named (name_view name.now) (value_in (frames_view scope.now) number)) }
+{
+    match scope.value(number) {
+        Some(value) => Ok(value.try_clone(alloc)?),
+        None => Err(internal::unevaluated(alloc, name)),
+    }
+}

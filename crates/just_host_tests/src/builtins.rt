@@ -1,0 +1,175 @@
+// Names, shapes, and what the built-in functions answer.
+
+mod around;
+mod questions;
+mod rows;
+mod scripted;
+mod silent;
+
+use around::{Around, answer, asked_and_answered, name};
+use just_builtins::function::{get, is_left_out};
+use just_builtins::path;
+use questions::{
+    COMMANDS, DIRECTORIES, DRY_COMMANDS, EXECUTABLES, FILES, FILES_WITH_LISTS, Question, SYSTEM,
+    VARIABLES,
+};
+use rows::{
+    LEFT_OUT_NAMES, LISTS, NAMES, OTHER_SURROUNDINGS, PATHS, Row, SHAPES, SURROUNDINGS, TEXTS,
+    TRUTHS, TRUTHS_WITHOUT_LISTS, WITHOUT_LISTS,
+};
+use std::alloc::Global;
+use std::process::Abort;
+use std::test::Fail;
+
+#[test]
+fn names(rt: HostRuntime) {
+    for (name, function) in NAMES {
+        assert_eq!(rt; get(name), *function, "{name}");
+    }
+}
+
+#[test]
+fn left_out_names(rt: HostRuntime) {
+    for (name, left_out) in LEFT_OUT_NAMES {
+        assert_eq!(rt; is_left_out(name), *left_out, "{name}");
+    }
+}
+
+#[test]
+fn shapes(rt: HostRuntime) {
+    for (function, fewest, most, texts) in SHAPES {
+        let expected = function.expected_arguments();
+        assert_eq!(rt; *expected.start(), *fewest, "{function:?}");
+        assert_eq!(rt; *expected.end(), *most, "{function:?}");
+        for i in 0..texts.len() {
+            assert_eq!(rt; function.is_text(i), texts[i], "{function:?} {i}");
+        }
+    }
+}
+
+// Compares what functions answer with what is wanted.
+fn compare(rt: &impl Abort, alloc: Global, around: &Around, rows: &[Row]) -> Result<(), Fail> {
+    for (function, arguments, wanted) in rows {
+        let given = answer(alloc, around, name(function), arguments)?;
+        assert_eq!(rt; given.as_str(), *wanted, "{function}");
+    }
+    Ok(())
+}
+
+// The same of calls in a module with lists, or without.
+fn compare_calls(rt: &impl Abort, alloc: Global, lists: bool, rows: &[Row]) -> Result<(), Fail> {
+    compare(rt, alloc, &Around::new(alloc, lists)?, rows)
+}
+
+// Compares what functions ask and answer with what is wanted.
+fn compare_questions(
+    rt: &impl Abort,
+    alloc: Global,
+    around: &Around,
+    rows: &[Question],
+) -> Result<(), Fail> {
+    for (function, arguments, given, asked, wanted) in rows {
+        let (questions, answer) = asked_and_answered(
+            alloc,
+            *given,
+            around,
+            name(function),
+            arguments,
+        )?;
+        assert_eq!(rt; questions.as_str(), *asked, "{function} {given:?}");
+        assert_eq!(rt; answer.as_str(), *wanted, "{function} {given:?}");
+    }
+    Ok(())
+}
+
+// The same of calls in a module with lists, or without.
+fn compare_questions_of(
+    rt: &impl Abort,
+    alloc: Global,
+    lists: bool,
+    rows: &[Question],
+) -> Result<(), Fail> {
+    compare_questions(rt, alloc, &Around::new(alloc, lists)?, rows)
+}
+
+#[test]
+fn system(rt: HostRuntime) -> Result<(), Fail> {
+    let alloc = rt.alloc();
+    compare_questions_of(&rt, alloc, true, SYSTEM)?;
+    compare_questions_of(&rt, alloc, true, DIRECTORIES)
+}
+
+#[test]
+fn files(rt: HostRuntime) -> Result<(), Fail> {
+    let alloc = rt.alloc();
+    compare_questions_of(&rt, alloc, false, FILES)?;
+    compare_questions_of(&rt, alloc, true, FILES_WITH_LISTS)
+}
+
+#[test]
+fn executables(rt: HostRuntime) -> Result<(), Fail> {
+    let alloc = rt.alloc();
+    compare_questions_of(&rt, alloc, true, EXECUTABLES)
+}
+
+#[test]
+fn variables(rt: HostRuntime) -> Result<(), Fail> {
+    let alloc = rt.alloc();
+    let mut around = Around::new(alloc, true)?;
+    let key = String::from_str(alloc, "set")?;
+    around.dotenv.insert(key, String::from_str(alloc, "dot")?)?;
+    compare_questions(&rt, alloc, &around, VARIABLES)
+}
+
+#[test]
+fn commands(rt: HostRuntime) -> Result<(), Fail> {
+    let alloc = rt.alloc();
+    let mut around = Around::new(alloc, true)?;
+    compare_questions(&rt, alloc, &around, COMMANDS)?;
+    around.config.dry_run = true;
+    compare_questions(&rt, alloc, &around, DRY_COMMANDS)
+}
+
+#[test]
+fn text_built_ins(rt: HostRuntime) -> Result<(), Fail> {
+    let alloc = rt.alloc();
+    compare_calls(&rt, alloc, true, TEXTS)
+}
+
+#[test]
+fn path_texts(rt: HostRuntime) -> Result<(), Fail> {
+    let alloc = rt.alloc();
+    compare_calls(&rt, alloc, false, PATHS)
+}
+
+#[test]
+fn lists(rt: HostRuntime) -> Result<(), Fail> {
+    let alloc = rt.alloc();
+    compare_calls(&rt, alloc, true, LISTS)?;
+    compare_calls(&rt, alloc, false, WITHOUT_LISTS)
+}
+
+#[test]
+fn bool_texts(rt: HostRuntime) -> Result<(), Fail> {
+    let alloc = rt.alloc();
+    compare_calls(&rt, alloc, true, TRUTHS)?;
+    compare_calls(&rt, alloc, false, TRUTHS_WITHOUT_LISTS)
+}
+
+#[test]
+fn surroundings(rt: HostRuntime) -> Result<(), Fail> {
+    let alloc = rt.alloc();
+    compare_calls(&rt, alloc, true, SURROUNDINGS)?;
+    compare(&rt, alloc, &Around::at_the_root(alloc)?, OTHER_SURROUNDINGS)
+}
+
+#[test]
+fn paths_passed_on(rt: HostRuntime) -> Result<(), Fail> {
+    let alloc = rt.alloc();
+    assert_eq!(rt; path::join(alloc, "a", "b")?.as_str(), "a/b");
+    assert_eq!(rt; path::parent("a/b"), Some("a"));
+    assert_eq!(rt; path::file_name("a/b.c"), Some("b.c"));
+    assert_eq!(rt; path::file_stem("a/b.c"), Some("b"));
+    assert_eq!(rt; path::extension("a/b.c"), Some("c"));
+    Ok(())
+}

@@ -1,0 +1,8 @@
+// Tests of what asks a host: contexts, hosts, and built-in functions. They stand in a crate of their own since a crate
+// with tests is proved twice.
+#![tactic(auto)]
+
+#[cfg(test)]
+mod builtins;
+#[cfg(test)]
+mod host;

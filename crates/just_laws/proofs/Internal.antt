@@ -1,0 +1,259 @@
+-- A resolved module meets no refusal that is Internal.
+use Rattle.std.proofs.Common.{◌≡◌, ⊎_elim, inl, inr, ◌⊎◌, ℕ, zero, suc, ◌-◌, Bool, true, false, List, [], ◌∷◌, ◌++◌, length, map, nat_eq, if◌then◌else◌, Option, Some, None, refl, sym, ap, ◌∙◌, subst, arith}
+use Rattle.std.proofs.lemmas.Bool.Decides.{nat_tests}
+use Rattle.just_syntax.specs.Plain.{Text, Token, Assignment, Function, Expr, And, Assert, AssertOnly, Backtick, Call, Comparison, Concatenation, Conditional, ConditionalOnly, FormatString, Group, Join, JoinOnly, ListOf, ListConcatenation, Not, Or, StringLiteral, Variable, Exprs, Nil, Cons, count, Pieces, NoPiece, Piece}
+use Rattle.just_syntax.specs.Printed.{printed}
+use Rattle.just_syntax.specs.declared.list_operator.ListOperator.{ListOperator}
+use Rattle.just_syntax.specs.declared.list_operator.ListOperator.TheVariants as operators
+use Rattle.just_syntax.specs.ListOperator.{separator}
+use Rattle.just_value.specs.Value.{Value, Names, is_truthy, joined}
+use Rattle.just_value.specs.Frames.{Bound, Frame, Frames, value_in, value_of}
+use Rattle.just_value.specs.Applied.{applied, value_or_lists}
+use Rattle.just_value.specs.Refusal.{Code, Internal, Message, NoMemory}
+use Rattle.just_value.specs.Outcome.{Outcome, Gave, Refused, Stopped}
+use Rattle.just_value.proofs.Values.{value_innermost}
+use Rattle.just_host.specs.Question.{Answer, Replied, Failed}
+use Rattle.just_host.specs.Interaction.{Tree, done, bind, gives, refuses}
+use Rattle.just_builtins.specs.Called.{Called, Returned, Said, tree}
+use Rattle.just_builtins.specs.Meaning.{reply}
+use Rattle.just_builtins.specs.Reply as replies
+use Rattle.just_builtins.specs.Reply.{Reply}
+use Rattle.just_builtins.specs.Shape.{builtin_of, is_text}
+use Rattle.just_builtins.specs.Table.{function_named, is_left_out}
+use Rattle.just_builtins.specs.declared.function.Function as built_in
+use Rattle.just_meaning.specs.Callee.{Defined, BuiltIn, LeftOut, Accepts, accepts, built_in_or_unknown, callee, defined_or, undefined}
+use Rattle.just_meaning.specs.Assignments.{assignment_at}
+use Rattle.just_meaning.specs.Reaches.{Mention, VariableOf, CallOf, function_at, IsAmong, Stands, StandsIn, StandsInPieces, Reaches, Here, Reads}
+use Rattle.just_meaning.specs.Resolved.{IsKnown, AllKnown, IsOneOf, HasValue, AreAssignments, AreInOrder, with_taken, IsResolved}
+use Rattle.just_meaning.specs.Messages.{miscounted_text}
+use Rattle.just_meaning.specs.Meaning.{Program, Situation, Deeper, AtLimit, Room, Row, answered, argument, as_it_is, assertion, built_in_call, built_in_context, called, combination, eval, eval_row, eval_pieces, is_regex, named, returned, texts_of}
+use Rattle.just_meaning.specs.Closings.{inside, lexical}
+use Rattle.just_meaning.specs.Module.{Module, Block, Run, Finished, Stops, Unknown, Passes, Skips, Binds, Breaks, Halts, assigned, bound_of, lexically, or_override, situation_at}
+use Rattle.just_meaning.specs.Internal.{IsNotInternal}
+use Rattle.just_meaning.proofs.Callees.{callable}
+use Rattle.just_laws.specs.Laws.{ResolvedIsNeverInternal}
+use Rattle.just_laws.proofs.Ends.{AllEnd, HasCount, ends_bind, ends_both, ends_path, row_counts}
+use Rattle.just_laws.proofs.Bound.{has_put}
+use Rattle.just_laws.proofs.Overlays.{parameters_have}
+use Rattle.just_meaning.proofs.Reached.{reaches_on}
+use Rattle.just_laws.proofs.Reached.{known_found}
+
+-- ---- trees
+
+-- no end of the tree is such a refusal
+abbrev IsNeverInternal : {A : Type 0} → Tree A → Type 0
+IsNeverInternal t = AllEnd IsNotInternal t
+
+-- on from the values that satisfy more
+bind_such : {A B : Type 0} (P : Outcome A → Type 0) (t : Tree A) (go : A → Tree B) → AllEnd P t → IsNeverInternal t → ((a : A) → P (Gave a) → IsNeverInternal (go a)) → IsNeverInternal (bind t go)
+bind_such {A = A} P t go p h k = ends_bind (λ o. P o × IsNotInternal o) IsNotInternal t go (ends_both P IsNotInternal t p h) on
+  where
+    on : (o : Outcome A) → P o × IsNotInternal o → IsNeverInternal (bind (done o) go)
+    on (Gave a) h = k a h.0
+    on (Refused r) h = h.1
+    on Stopped h = tt
+
+bind_never : {A B : Type 0} (t : Tree A) (go : A → Tree B) → IsNeverInternal t → ((a : A) → IsNeverInternal (go a)) → IsNeverInternal (bind t go)
+bind_never t go h k = bind_such IsNotInternal t go h h (λ a such. k a)
+
+two_never : {A B D : Type 0} (t : Tree A) (u : Tree B) (go : A → B → Tree D) → IsNeverInternal t → IsNeverInternal u → ((v : A) (w : B) → IsNeverInternal (go v w)) → IsNeverInternal (bind t (λ v. bind u (go v)))
+two_never t u go h k l = bind_never t _ h (λ v. bind_never u (go v) k (l v))
+
+if_never : {A : Type 0} (b : Bool) (x y : Tree A) → IsNeverInternal x → IsNeverInternal y → IsNeverInternal (if b then x else y)
+if_never true x y h k = h
+if_never false x y h k = k
+
+-- ---- expressions
+
+answered_not : (t : Token) (a : Answer) → IsNotInternal (answered t a)
+answered_not t (Replied text) = tt
+answered_not t (Failed (Code n)) = λ none. none
+answered_not t (Failed (Message text)) = λ none. none
+answered_not t (Failed NoMemory) = tt
+answered_not t _ = tt
+
+lists_not : (o : Option Value) (xs : Value) (k : ListOperator) (ys : Value) (t : Token) → IsNotInternal (value_or_lists o xs k ys t)
+lists_not (Some v) xs k ys t = tt
+lists_not None xs k ys t = λ none. none
+
+both_never : (o : ListOperator) (l r : Tree Value) (t : Token) → IsNeverInternal l → IsNeverInternal r → IsNeverInternal (combination o l t r)
+both_never o l r t h k = two_never l r _ h k (λ v w. lists_not (applied (separator o) v w) v o w t)
+
+assertion_never : (lists : Bool) (t : Token) (e : Tree Value) (m : Tree Text) → IsNeverInternal e → IsNeverInternal m → IsNeverInternal (assertion lists t e m)
+assertion_never lists t e m h k = bind_never e _ h (λ v. if_never (is_truthy v) _ _ tt (bind_never m _ k (λ text none. none)))
+
+reply_never : (shown : Frames) (r : Reply) → IsNeverInternal (tree shown r)
+reply_never shown (replies.Answers v) = tt
+reply_never shown (replies.Fails message) = tt
+reply_never shown (replies.Asks q next) = λ a. reply_never shown (next a)
+reply_never shown replies.Stops = tt
+
+returned_never : (t : Token) (r : Called) → IsNeverInternal (returned t r)
+returned_never t (Returned v) = tt
+returned_never t (Said message) = λ none. none
+
+argument_never : (is_text : Bool) (t : Token) (v : Value) → IsNeverInternal (argument is_text t v)
+argument_never false t v = tt
+argument_never true t [] = λ none. none
+argument_never true t (text ∷ []) = tt
+argument_never true t (text ∷ next ∷ texts) = λ none. none
+
+-- what a call may still do is never refused so, of these functions and so many values
+abbrev IsSound : (Text → Type 0) → List Function → Situation → Deeper → Type 0
+IsSound C functions s AtLimit = Unit {0}
+IsSound C functions s (Room run) = (name : Text) (f : Function) (vs : List Value) → C name → function_at functions name ≡ Some f → length f.parameters ≡ length vs → IsNeverInternal (run f s vs)
+
+-- what is read has a value, and what is called is among these and takes the arguments
+abbrev Holds : (Text → Type 0) → List Function → Names → Mention → Type 0
+Holds C functions names (VariableOf None) = ⊥
+Holds C functions names (VariableOf (Some n)) = HasValue names n
+Holds C functions names (CallOf f n) = C f × Accepts (callee functions f) n
+
+module _ (c : Program) (d : Deeper) (s : Situation) (C : Text → Type 0) (sound : IsSound C c.functions s d) where
+  abbrev Has : (Mention → Type 0) → Type 0
+  Has stands = (x : Mention) → stands x → Holds C c.functions s.names x
+
+  -- however its values are looked at, unless a look at a value refuses so
+  abbrev IsRowNever : Row → Type 0
+  IsRowNever row = (look : ℕ → Value → Tree Value) → ((i : ℕ) (v : Value) → IsNeverInternal (look i v)) → IsNeverInternal (row look)
+
+  defined_never : (t : Token) (n : ℕ) (row : Row) → C t.lexeme → AllEnd (HasCount n) (row as_it_is) → IsRowNever row →
+      (f : Function) → function_at c.functions t.lexeme ≡ Some f → n ≡ length f.parameters → (d' : Deeper) → IsSound C c.functions s d' → IsNeverInternal (called c t (Defined f) d' s n row)
+  defined_never t n row reached counted h f e count AtLimit sound' = λ none. none
+  defined_never t n row reached counted h f e count (Room run) sound' =
+      let yes' : nat_eq n (length f.parameters) ≡ true = grind (arith, nat_tests) in
+      subst (λ b. IsNeverInternal (if b then bind (row as_it_is) (run f s) else refuses (Internal (miscounted_text t.lexeme) t))) (sym yes')
+      (bind_such (HasCount n) (row as_it_is) (run f s) counted (h as_it_is (λ i v. tt)) (λ vs l. sound' t.lexeme f vs reached e (sym count ∙ sym l)))
+
+  undefined_never : (t : Token) (n : ℕ) (row : Row) → IsRowNever row → (out : Bool) (found : Option built_in.Function) → let other = if out then LeftOut else built_in_or_unknown found in Accepts other n → IsNeverInternal (called c t other d s n row)
+  undefined_never t n row h true found fits = λ none. none
+  undefined_never t n row h false None fits = absurd fits
+  undefined_never t n row h false (Some f) fits =
+      let yes' : accepts (BuiltIn f) n ≡ true = (callable (BuiltIn f) n).1 fits in
+      subst (λ b. IsNeverInternal (if b then bind (row (texts_of f t)) (built_in_call c s t f) else refuses (Internal (miscounted_text t.lexeme) t))) (sym yes')
+      (bind_never (row (texts_of f t)) _ (h (texts_of f t) (λ i v. argument_never (is_text f i) t v))
+      (λ vs. let r = reply (builtin_of f) (built_in_context c s t) vs in bind_never (tree s.shown r) (returned t) (reply_never s.shown r) (λ r. returned_never t r)))
+
+  called_never : (t : Token) (n : ℕ) (row : Row) → C t.lexeme → AllEnd (HasCount n) (row as_it_is) → IsRowNever row →
+      (found : Option Function) → function_at c.functions t.lexeme ≡ found → Accepts (defined_or found (undefined t.lexeme)) n → IsNeverInternal (called c t (defined_or found (undefined t.lexeme)) d s n row)
+  called_never t n row reached counted h None e fits = undefined_never t n row h (is_left_out t.lexeme) (function_named t.lexeme) fits
+  called_never t n row reached counted h (Some f) e fits = defined_never t n row reached counted h f e fits d sound
+
+  mutual
+    -- where all that stands in it holds
+    eval_never : (e : Expr) → Has (Stands e) → IsNeverInternal (eval c d s e)
+    eval_never (And l r) has = bind_never (eval c d s l) _ (eval_never l (λ x y. has x (inl y))) (λ v. if_never (is_truthy v) _ _ (eval_never r (λ x y. has x (inr y))) tt)
+    eval_never (Assert e m t) has =
+        assertion_never s.lists t (eval c d s e) (bind (eval c d s m) (λ w. gives (joined w))) (eval_never e (λ x y. has x (inl y)))
+        (bind_never (eval c d s m) _ (eval_never m (λ x y. has x (inr y))) (λ w. tt))
+    eval_never (AssertOnly e t) has = assertion_never s.lists t (eval c d s e) (gives ((96 ∷ printed e) ++ 96 ∷ [])) (eval_never e has) tt
+    eval_never (Backtick text t) has = if_never c.fixed.config.dry_run _ _ tt (λ a. answered_not t a)
+    eval_never (Call t es) has =
+        let call = has (CallOf t.lexeme (count es)) (inl refl) in
+        called_never t (count es) (eval_row c d s 0 es) call.0 (row_counts c d s 0 es as_it_is) (λ look h. row_never 0 es look h (λ x y. has x (inr y))) (function_at c.functions t.lexeme) refl call.1
+    eval_never (Comparison l o r t) has = if_never (is_regex o) _ _ (λ none. none) (two_never (eval c d s l) (eval c d s r) _ (eval_never l (λ x y. has x (inl y))) (eval_never r (λ x y. has x (inr y))) (λ v w. tt))
+    eval_never (Concatenation l t r) has = both_never operators.Concatenate (eval c d s l) (eval c d s r) t (eval_never l (λ x y. has x (inl y))) (eval_never r (λ x y. has x (inr y)))
+    eval_never (Conditional e a b) has =
+        bind_never (eval c d s e) _ (eval_never e (λ x y. has x (inl y))) (λ v. if_never (is_truthy v) _ _ (eval_never a (λ x y. has x (inr (inl y)))) (eval_never b (λ x y. has x (inr (inr y)))))
+    eval_never (ConditionalOnly e a) has = bind_never (eval c d s e) _ (eval_never e (λ x y. has x (inl y))) (λ v. if_never (is_truthy v) _ _ (eval_never a (λ x y. has x (inr y))) tt)
+    eval_never (FormatString start pieces) has = bind_never (eval_pieces c d s pieces) _ (pieces_never pieces has) (λ text. tt)
+    eval_never (Group e) has = eval_never e has
+    eval_never (Join l t r) has = both_never operators.Join (eval c d s l) (eval c d s r) t (eval_never l (λ x y. has x (inl y))) (eval_never r (λ x y. has x (inr y)))
+    eval_never (JoinOnly t r) has = both_never operators.Join (gives ([] ∷ [])) (eval c d s r) t tt (eval_never r has)
+    eval_never (ListOf es t) has = bind_never (eval_row c d s 0 es as_it_is) _ (row_never 0 es as_it_is (λ i v. tt) has) (λ vs. tt)
+    eval_never (ListConcatenation l t r) has = two_never (eval c d s l) (eval c d s r) _ (eval_never l (λ x y. has x (inl y))) (eval_never r (λ x y. has x (inr y))) (λ v w. tt)
+    eval_never (Not e) has = bind_never (eval c d s e) _ (eval_never e has) (λ v. tt)
+    eval_never (Or l r) has = bind_never (eval c d s l) _ (eval_never l (λ x y. has x (inl y))) (λ v. if_never (is_truthy v) _ _ tt (eval_never r (λ x y. has x (inr y))))
+    eval_never (StringLiteral literal) has = tt
+    eval_never (Variable t None) has = absurd (has (VariableOf None) refl)
+    eval_never (Variable t (Some n)) has = let v = has (VariableOf (Some n)) refl in subst (λ o. IsNotInternal (named t o)) (sym v.1) tt
+
+    row_never : (i : ℕ) (es : Exprs) (look : ℕ → Value → Tree Value) → ((i : ℕ) (v : Value) → IsNeverInternal (look i v)) → Has (StandsIn es) → IsNeverInternal (eval_row c d s i es look)
+    row_never i Nil look h has = tt
+    row_never i (Cons e es) look h has =
+        bind_never (bind (eval c d s e) (look i)) _ (bind_never (eval c d s e) (look i) (eval_never e (λ x y. has x (inl y))) (λ v. h i v))
+        (λ v. bind_never (eval_row c d s (suc i) es look) _ (row_never (suc i) es look h (λ x y. has x (inr y))) (λ vs. tt))
+
+    pieces_never : (pieces : Pieces) → Has (StandsInPieces pieces) → IsNeverInternal (eval_pieces c d s pieces)
+    pieces_never NoPiece has = tt
+    pieces_never (Piece e literal pieces) has = bind_never (eval c d s e) _ (eval_never e (λ x y. has x (inl y))) (λ v. bind_never (eval_pieces c d s pieces) _ (pieces_never pieces (λ x y. has x (inr y))) (λ text. tt))
+
+-- ---- by the number of calls left
+
+module _ (c : Program) (base : Names) (C : Text → Type 0) (known : AllKnown c.functions (map (λ f. f.body) c.functions))
+    (closed : (name further : Text) (f : Function) (n : ℕ) → C name → function_at c.functions name ≡ Some f → Stands f.body (CallOf further n) → C further)
+    (held : (name : Text) (f : Function) (n : ℕ) → C name → function_at c.functions name ≡ Some f → Stands f.body (VariableOf (Some n)) → (IsAmong f.parameters n → ⊥) → HasValue base n) where
+  -- what is called may be called by the lexical rules
+  lexical_sound : (k : ℕ) (s : Situation) → IsSound C c.functions s (lexical c base k)
+  lexical_sound zero s = tt
+  lexical_sound (suc k) s = λ name f vs reached found fits.
+      let inner = inside base s f vs in
+      eval_never c (lexical c base k) inner C (lexical_sound k inner) f.body
+      (λ x h. of_mention name f vs reached found fits x h (known_found c.functions (λ f. f.name.lexeme) (λ f. f.body) name c.functions f known found x h))
+    where
+      of_mention : (name : Text) (f : Function) (vs : List Value) → C name → function_at c.functions name ≡ Some f → length f.parameters ≡ length vs →
+          (x : Mention) → Stands f.body x → IsKnown c.functions x → Holds C c.functions (inside base s f vs).names x
+      of_mention name f vs reached found fits (VariableOf None) h is = is
+      of_mention name f vs reached found fits (VariableOf (Some n)) h is = parameters_have f.parameters vs base n fits (λ beyond. held name f n reached found h beyond)
+      of_mention name f vs reached found fits (CallOf further n) h is = (closed name further f n reached found h, is)
+
+-- ---- runs
+
+override_never : (o : Option Text) (t : Tree Value) → IsNeverInternal t → IsNeverInternal (or_override o t)
+override_never (Some text) t h = tt
+override_never None t h = h
+
+module _ (m : Module) (outer : Frames) (resolved : IsResolved m.program.functions m.assignments outer) where
+  -- what was taken, and what is bound outside, has a value
+  abbrev AllHave : Frame → List ℕ → Type 0
+  AllHave frame taken = (n : ℕ) → IsOneOf taken n ⊎ HasValue (value_in outer) n → HasValue (value_in (frame ∷ outer)) n
+
+  assigned_never : (frame : Frame) (taken : List ℕ) (a : Assignment) → AllHave frame taken → ((x : Mention) → Stands a.value x → IsKnown m.program.functions x) →
+      ((n : ℕ) → Reads m.program.functions a.value n → IsOneOf taken n ⊎ HasValue (value_in outer) n) → IsNeverInternal (assigned lexically m (frame ∷ outer) a)
+  assigned_never frame taken a have known reads =
+      override_never (m.overrides a.number) _
+      (eval_never m.program (lexically m (frame ∷ outer)) (situation_at m.program (frame ∷ outer)) (Reaches m.program.functions a.value) sound a.value (λ x h. of_mention x h (known x h)))
+    where
+      sound : IsSound (Reaches m.program.functions a.value) m.program.functions (situation_at m.program (frame ∷ outer)) (lexically m (frame ∷ outer))
+      sound = lexical_sound m.program (value_in (frame ∷ outer)) (Reaches m.program.functions a.value) resolved.bodies
+          (λ name further f n reached found stands. reaches_on m.program.functions f n reached found stands)
+          (λ name f n reached found stands beyond. have n (reads n (inr (record { name = name; function = f; reached = reached; found = found; stands = stands; beyond = beyond }))))
+          (m.limit - 1) (situation_at m.program (frame ∷ outer))
+
+      of_mention : (x : Mention) → Stands a.value x → IsKnown m.program.functions x → Holds (Reaches m.program.functions a.value) m.program.functions (value_in (frame ∷ outer)) x
+      of_mention (VariableOf None) h is = is
+      of_mention (VariableOf (Some n)) h is = have n (reads n (inl h))
+      of_mention (CallOf f n) h is = (Here n h, is)
+
+  passed : (taken : List ℕ) (t : Token) (left : List Token) (a : Assignment) (b : Bool) → assignment_at m.assignments t.lexeme ≡ Some a → m.assignments.referenced a.number ≡ b → AreInOrder m.program.functions m.assignments outer (with_taken m.assignments (assignment_at m.assignments t.lexeme) taken) left
+      → AreInOrder m.program.functions m.assignments outer (if b then a.number ∷ taken else taken) left
+  passed taken t left a b found e h = rw (found, e) at h
+
+  run_not : (frame : Frame) (taken : List ℕ) {left : List Token} {bs : List Block} {o : Outcome Frames} → AreAssignments m.assignments left → AreInOrder m.program.functions m.assignments outer taken left → AllHave frame taken → Run lexically m (frame ∷ outer) left bs o → IsNotInternal o
+  run_not frame taken named h have Finished = tt
+  run_not frame taken named h have Stops = tt
+  run_not frame taken named h have (Unknown f) = let some = named.0.1 in absurd (cc)
+  run_not frame taken {left = t ∷ left} named h have (Passes a f e r) = run_not frame taken named.1 (passed taken t left a false f e h.1) have r
+  run_not frame taken {left = t ∷ left} named h have (Skips a b f e g r) = run_not frame (a.number ∷ taken) named.1 (passed taken t left a true f e h.1) more r
+    where
+      more : AllHave frame (a.number ∷ taken)
+      more n (inl (inl same)) = subst (HasValue (value_in (frame ∷ outer))) same (b.value, sym (value_innermost a.number (frame ∷ outer)) ∙ ap value_of g)
+      more n (inl (inr among)) = have n (inl among)
+      more n (inr bound) = have n (inr bound)
+  run_not frame taken {left = t ∷ left} named h have (Binds a es v k p r) = run_not _ (a.number ∷ taken) named.1 (passed taken t left a true k.found k.referenced h.1) (λ n some. has_put frame (value_in outer) b n (either n some)) r
+    where
+      b : Bound
+      b = bound_of m.program.fixed.settings.export a v
+
+      either : (n : ℕ) → IsOneOf (a.number ∷ taken) n ⊎ HasValue (value_in outer) n → (a.number ≡ n) ⊎ HasValue (value_in (frame ∷ outer)) n
+      either n (inl (inl same)) = inl same
+      either n (inl (inr among)) = inr (have n (inl among))
+      either n (inr bound) = inr (have n (inr bound))
+  run_not frame taken {left = t ∷ left} named h have (Breaks a es s k p) =
+      ends_path IsNotInternal tt (assigned lexically m (frame ∷ outer) a)
+      (assigned_never frame taken a have (known_found m.program.functions (λ a. a.name.lexeme) (λ a. a.value) t.lexeme m.assignments.all a resolved.values k.found) (h.0 a k.found k.referenced)) p
+  run_not frame taken named h have (Halts a es k p) = tt
+
+-- a run of a resolved module is not refused as Internal
+pub resolved_is_never_internal : ResolvedIsNeverInternal
+resolved_is_never_internal m outer bs o resolved r = run_not m outer resolved [] [] resolved.named resolved.in_order (λ n known. ⊎_elim (λ none. absurd none) (λ bound. bound) known) r

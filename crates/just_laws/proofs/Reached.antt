@@ -1,0 +1,54 @@
+-- What is found, and numbers that are apart.
+use Rattle.std.proofs.Common.{◌≡◌, inl, inr, ℕ, Bool, true, false, List, [], ◌∷◌, ◌++◌, map, Option, Some, None, if◌then◌else◌, refl, sym, subst}
+use Rattle.just_syntax.specs.Plain.{Text, Token, Assignment, Function, Expr}
+use Rattle.just_syntax.specs.Keyed.{value_at}
+use Rattle.just_syntax.proofs.Tables.{found_is}
+use Rattle.just_meaning.specs.Assignments.{Assignments, assignment_at}
+use Rattle.just_meaning.specs.Reaches.{Mention, function_at, IsAmong, Stands}
+use Rattle.just_meaning.specs.Resolved.{IsKnown, AllKnown, IsOneOf, AreDistinct, parameter_numbers, with_taken}
+
+-- ---- numbers
+
+one_behind : (xs ys : List ℕ) (n : ℕ) → IsOneOf ys n → IsOneOf (xs ++ ys) n
+one_behind [] ys n h = h
+one_behind (x ∷ xs) ys n h = inr (one_behind xs ys n h)
+
+-- of distinct numbers none stands in both parts
+pub apart_numbers : (xs ys : List ℕ) (n : ℕ) → AreDistinct (xs ++ ys) → IsOneOf xs n → IsOneOf ys n → ⊥
+apart_numbers [] ys n h one other = one
+apart_numbers (x ∷ xs) ys n h (inl same) other = h.0 (subst (IsOneOf (xs ++ ys)) (sym same) (one_behind xs ys n other))
+apart_numbers (x ∷ xs) ys n h (inr later) other = apart_numbers xs ys n h.1 later other
+
+among_one : (ps : List (Token × ℕ)) (ys : List ℕ) (n : ℕ) → IsAmong ps n → IsOneOf (map (λ p. p.1) ps ++ ys) n
+among_one [] ys n h = absurd h
+among_one (p ∷ ps) ys n (inl same) = inl same
+among_one (p ∷ ps) ys n (inr later) = inr (among_one ps ys n later)
+
+-- a found function's parameter is among all parameters
+pub among_all : (functions : List Function) (name : Text) (f : Function) (n : ℕ) → function_at functions name ≡ Some f → IsAmong f.parameters n → IsOneOf (parameter_numbers functions) n
+among_all functions name f n found =
+    found_is (λ f. f.name.lexeme) name (λ fs. IsOneOf (parameter_numbers fs) n → IsOneOf (parameter_numbers functions) n) (λ g. IsAmong g.parameters n → IsOneOf (parameter_numbers functions) n)
+    (λ g gs h among. h (among_one g.parameters (parameter_numbers gs) n among)) (λ g gs h one. h (one_behind (map (λ p. p.1) g.parameters) (parameter_numbers gs) n one)) functions f (λ one. one) found
+
+-- what is taken is assigned
+pub taken_assigned : (assignments : Assignments) (name : Text) (taken : List ℕ) (n : ℕ) → ((n : ℕ) → IsOneOf taken n → IsOneOf (map (λ a. a.number) assignments.all) n) → IsOneOf (with_taken assignments (assignment_at assignments name) taken) n → IsOneOf (map (λ a. a.number) assignments.all) n
+taken_assigned assignments name taken n assigned one = by (assignment_at assignments name) refl one
+  where
+    own : (a : Assignment) → assignment_at assignments name ≡ Some a → IsOneOf (map (λ a. a.number) assignments.all) a.number
+    own a found = found_is (λ a. a.name.lexeme) name (λ xs. (k : ℕ) → IsOneOf (map (λ a. a.number) xs) k → IsOneOf (map (λ a. a.number) assignments.all) k) (λ a. IsOneOf (map (λ a. a.number) assignments.all) a.number)
+        (λ a xs h. h a.number (inl refl)) (λ a xs h k one. h k (inr one)) assignments.all a (λ k one. one) found
+
+    more : (a : Assignment) → assignment_at assignments name ≡ Some a → (b : Bool) → IsOneOf (if b then a.number ∷ taken else taken) n → IsOneOf (map (λ a. a.number) assignments.all) n
+    more a found true (inl same) = subst (IsOneOf (map (λ a. a.number) assignments.all)) same (own a found)
+    more a found true (inr before) = assigned n before
+    more a found false before = assigned n before
+
+    by : (o : Option Assignment) → assignment_at assignments name ≡ o → IsOneOf (with_taken assignments o taken) n → IsOneOf (map (λ a. a.number) assignments.all) n
+    by None found h = assigned n h
+    by (Some a) found h = more a found (assignments.referenced a.number) h
+
+-- ---- what is known
+
+-- what stands in the expression of a value that is found is known
+pub known_found : {V : Type 0} (functions : List Function) (key : V → Text) (expression : V → Expr) (name : Text) (vs : List V) (v : V) → AllKnown functions (map expression vs) → value_at key name vs ≡ Some v → (x : Mention) → Stands (expression v) x → IsKnown functions x
+known_found functions key expression name = found_is key name (λ vs. AllKnown functions (map expression vs)) (λ v. (x : Mention) → Stands (expression v) x → IsKnown functions x) (λ v vs h. h.0) (λ v vs h. h.1)

@@ -1,0 +1,31 @@
+-- What is constant: the rules of evaluation where no command may be run and no function be called.
+use Rattle.std.specs.Prelude.{ℕ, Bool, false, [], Some, None, if◌then◌else◌}
+use Rattle.just_value.specs.ConstRefusal.{Backtick, FunctionCall, Variable}
+use Rattle.just_value.specs.Refusal.{Const}
+use Rattle.just_host.specs.Interaction.{Rules, Read, Entered, Command}
+use Rattle.just_host.specs.Settings.{unset}
+use Rattle.just_meaning.specs.Meaning.{Program}
+
+-- a call, a command and the reading of an open variable are refused
+abbrev pub constantly : (ℕ → Bool) → Rules
+constantly is_open (Read t n) = if is_open n then Some (Const (Variable t)) else None
+constantly is_open (Entered t) = Some (Const (FunctionCall t))
+constantly is_open (Command t) = Some (Const (Backtick t))
+
+-- The program that constants are evaluated in. By these rules nothing looks at it.
+abbrev pub nowhere : Program
+nowhere = record {
+  fixed = record {
+    config = record { dry_run = false; invocation_directory = []; jobs = None; quiet = false; shell = None; shell_args = None; shell_command = false };
+    dotenv = [];
+    justfile = [];
+    search_directory = [];
+    settings = unset;
+    unexports = [];
+    source = [];
+    module_path = [];
+    module_directory = [];
+    is_submodule = false;
+  };
+  functions = [];
+}

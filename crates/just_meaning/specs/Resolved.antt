@@ -1,0 +1,64 @@
+-- When a module is resolved.
+use Rattle.std.specs.Prelude.{◌≡◌, ◌⊎◌, ℕ, true, List, [], ◌∷◌, ◌++◌, map, Option, Some, None, if◌then◌else◌}
+use Rattle.just_syntax.specs.Plain.{Token, Assignment, Function, Expr}
+use Rattle.just_value.specs.Value.{Value, Names}
+use Rattle.just_value.specs.Frames.{Frames, value_in}
+use Rattle.just_meaning.specs.Assignments.{Assignments, assignment_at}
+use Rattle.just_meaning.specs.Callee.{Accepts, callee}
+use Rattle.just_meaning.specs.Reaches.{Mention, VariableOf, CallOf, Stands, Reads}
+
+-- the variable has a number, or the name that is called takes as many arguments
+abbrev pub IsKnown : List Function → Mention → Type 0
+IsKnown functions (VariableOf None) = ⊥
+IsKnown functions (VariableOf (Some n)) = Unit {0}
+IsKnown functions (CallOf name n) = Accepts (callee functions name) n
+
+-- all that stands in each of these expressions is known
+abbrev pub AllKnown : List Function → List Expr → Type 0
+AllKnown functions [] = Unit {0}
+AllKnown functions (e ∷ es) = ((x : Mention) → Stands e x → IsKnown functions x) × AllKnown functions es
+
+abbrev pub IsOneOf : List ℕ → ℕ → Type 0
+IsOneOf [] n = ⊥
+IsOneOf (m ∷ ms) n = (m ≡ n) ⊎ IsOneOf ms n
+
+-- no number stands there twice
+abbrev pub AreDistinct : List ℕ → Type 0
+AreDistinct [] = Unit {0}
+AreDistinct (n ∷ ns) = (IsOneOf ns n → ⊥) × AreDistinct ns
+
+-- the numbers of all parameters
+abbrev pub parameter_numbers : List Function → List ℕ
+parameter_numbers [] = []
+parameter_numbers (f ∷ fs) = map (λ p. p.1) f.parameters ++ parameter_numbers fs
+
+-- a name has a value
+abbrev pub HasValue : Names → ℕ → Type 0
+HasValue names n = (v : Value) × (names n ≡ Some v)
+
+-- each of these names is an assignment's
+abbrev pub AreAssignments : Assignments → List Token → Type 0
+AreAssignments assignments [] = Unit {0}
+AreAssignments assignments (t ∷ left) = ((a : Assignment) × (assignment_at assignments t.lexeme ≡ Some a)) × AreAssignments assignments left
+
+abbrev pub with_taken : Assignments → Option Assignment → List ℕ → List ℕ
+with_taken assignments None taken = taken
+with_taken assignments (Some a) taken = if assignments.referenced a.number then a.number ∷ taken else taken
+
+-- What each assignment that is taken reads, overridden or not, by itself or through functions, is taken earlier or
+-- bound outside.
+abbrev pub AreInOrder : List Function → Assignments → Frames → List ℕ → List Token → Type 0
+AreInOrder functions assignments outer taken [] = Unit {0}
+AreInOrder functions assignments outer taken (t ∷ left) =
+    ((a : Assignment) → assignment_at assignments t.lexeme ≡ Some a → assignments.referenced a.number ≡ true → (n : ℕ) → Reads functions a.value n → IsOneOf taken n ⊎ HasValue (value_in outer) n)
+    × AreInOrder functions assignments outer (with_taken assignments (assignment_at assignments t.lexeme) taken) left
+
+-- Numbers are distinct, no parameter is bound outside, every variable has a number, every call has arguments that its
+-- name takes, the order names assignments alone, and all is taken before it is read.
+pub record IsResolved (functions : List Function) (assignments : Assignments) (outer : Frames) : Type 0 where
+  pub distinct : AreDistinct (map (λ a. a.number) assignments.all ++ parameter_numbers functions)
+  pub unbound : (n : ℕ) → IsOneOf (parameter_numbers functions) n → HasValue (value_in outer) n → ⊥
+  pub values : AllKnown functions (map (λ a. a.value) assignments.all)
+  pub bodies : AllKnown functions (map (λ f. f.body) functions)
+  pub named : AreAssignments assignments assignments.order
+  pub in_order : AreInOrder functions assignments outer [] assignments.order

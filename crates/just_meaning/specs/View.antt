@@ -1,0 +1,57 @@
+-- What modules and what they are evaluated in are as plain data.
+use Rattle.std.specs.Prelude.{ℕ, Bool, true, List, Option, Some, None, map, nat_eq, string_bytes}
+use Rattle.std.specs.Borrow.{Bor}
+use Rattle.std.specs.BTreeMap.{BTreeMap}
+use Rattle.std.specs.Global.{Global}
+use Rattle.std.specs.HashMap.{HashMap}
+use Rattle.std.specs.HashSet.{HashSet}
+use Rattle.std.specs.List.{list_any}
+use Rattle.std.specs.Map.{lookup}
+use Rattle.std.specs.Option.{option_map}
+use Rattle.std.specs.declared.hash.FoldHasher.{FoldHasher}
+use Rattle.std.specs.declared.hash.BuildHasherDefault.{BuildHasherDefault}
+use Rattle.std.specs.declared.string.String.{String}
+use Rattle.just_syntax.specs.Plain.{Text, Function}
+use Rattle.just_syntax.specs.View.{assignment_view, function_view, name_view}
+use Rattle.just_value.specs.declared.scope.Scope.{Scope}
+use Rattle.just_host.specs.declared.config.Config.{Config}
+use Rattle.just_host.specs.declared.execution_context.ExecutionContext.{ExecutionContext}
+use Rattle.just_host.specs.declared.justfile.Justfile.{Justfile}
+use Rattle.just_host.specs.declared.search.Search.{Search}
+use Rattle.just_host.specs.View.{fixed_view}
+use Rattle.just_meaning.specs.Assignments.{Assignments}
+use Rattle.just_meaning.specs.Meaning.{Program}
+use Rattle.just_meaning.specs.Module.{Module}
+
+-- the functions that a module's file defines
+abbrev pub functions_view : Justfile → List Function
+functions_view justfile = map function_view justfile.functions
+
+-- each number is referenced where no set is given
+abbrev pub is_referenced_in : {S : Type 0} → Option (Bor (HashSet ℕ S)) → ℕ → Bool
+is_referenced_in None n = true
+is_referenced_in (Some set) n = list_any (nat_eq n) set.now.keys
+
+-- the assignments of a module, where these variables are referenced
+abbrev pub assignments_view : {S : Type 0} → Justfile → Option (Bor (HashSet ℕ S)) → Assignments
+assignments_view justfile references = record { all = map assignment_view justfile.assignments; order = map name_view justfile.evaluation_order.items; referenced = is_referenced_in references }
+
+abbrev pub program_view : ExecutionContext → Program
+program_view c = record { fixed = fixed_view c; functions = functions_view c.module.now }
+
+abbrev pub override_of : {A S : Type 0} → HashMap ℕ (String A) S → ℕ → Option Text
+override_of overrides n = option_map string_bytes (lookup (nat_eq n) overrides.entries)
+
+-- what a run in a context is given, where these variables are referenced
+abbrev pub module_view : {S : Type 0} → ExecutionContext → Option (Bor (HashSet ℕ S)) → Module
+module_view c references = record {
+  program = program_view c;
+  assignments = assignments_view c.module.now references;
+  limit = c.recursion_limit;
+  overrides = override_of c.overrides.now;
+}
+
+-- what a run is given, by the arguments of its call
+abbrev pub run_of : {S : Type 0} → Bor Config → Bor (BTreeMap (String Global) (String Global)) → Bor Justfile → Bor (HashMap ℕ (String Global) (BuildHasherDefault FoldHasher)) → Bor Scope → Bor Search → ℕ → Option (Bor (HashSet ℕ S)) → Module
+run_of config dotenv justfile overrides parent search limit references =
+    module_view (record { config = config; dotenv = dotenv; «module» = justfile; overrides = overrides; recursion_limit = limit; scope = parent; search = search }) references

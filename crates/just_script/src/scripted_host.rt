@@ -1,0 +1,115 @@
+// A host that answers by a script.
+
+ghost use Rattle.std.specs.Prelude.{◌≡◌, map, string_bytes};
+ghost use Rattle.std.specs.Option.{option_map};
+ghost use Rattle.just_host.specs.Question.{Replied, UnlessNoMemory};
+ghost use Rattle.just_host.specs.View.{replied, text_replied};
+ghost use Rattle.just_script.specs.Script.{text_for};
+ghost use Rattle.just_script.specs.View.{pair_view, script_view};
+
+use just_host::command_question::CommandQuestion;
+use just_host::host::Host;
+use just_host::number_question::NumberQuestion;
+use just_host::text_answer::TextAnswer;
+use just_host::text_question::TextQuestion;
+use just_syntax::out_of_memory::OutOfMemory;
+use just_value::error::CommandFault;
+use std::alloc::Global;
+use std::vec::IntoIter;
+
+/// A host that answers by a script. A command that is always answered gets its text, and any other the next of
+/// the replies, and then the fault `no reply`. Each other kind of question has a list of answers, taken in their
+/// order, and then gets `Absent`, `false` or 0.
+#[derive(Drop)]
+pub struct ScriptedHost {
+    always: Vec<(String, String)>,
+    replies: IntoIter<Result<String, CommandFault>>,
+    texts: IntoIter<TextAnswer>,
+    exists: IntoIter<bool>,
+    numbers: IntoIter<u64>,
+}
+
+impl ScriptedHost {
+    /// A host with these answers to come. `always` has commands and the texts that they are always answered with,
+    /// of one command the last. It takes no memory, so a command is looked for among all of `always`, one by one.
+    pub fn new(
+        always: Vec<(String, String)>,
+        replies: Vec<Result<String, CommandFault>>,
+        texts: Vec<TextAnswer>,
+        exists: Vec<bool>,
+        numbers: Vec<u64>,
+    ) -> ScriptedHost
+        ensures always { (script_view result).always ≡ map pair_view always.items }
+        ensures replies { (script_view result).replies ≡ map replied replies.items }
+        ensures texts { (script_view result).texts ≡ map text_replied texts.items }
+        ensures exists { (script_view result).exists ≡ exists.items }
+        ensures numbers { (script_view result).numbers ≡ numbers.items }
+    {
+        ScriptedHost {
+            always,
+            replies: replies.into_iter(),
+            texts: texts.into_iter(),
+            exists: exists.into_iter(),
+            numbers: numbers.into_iter(),
+        }
+    }
+}
+
+impl Host for ScriptedHost {
+    ghost use Rattle.just_script.specs.Script.{AnswersByScript};
+    ghost use Rattle.just_script.specs.View.{script_view};
+
+    ghost step = { λ old question answer new. AnswersByScript (script_view old) question.blind answer (script_view new) };
+
+    fn command(
+        &mut self,
+        alloc: Global,
+        question: &CommandQuestion,
+    ) -> Result<String, CommandFault> {
+        if let Some(text) = text_for(&self.always, question.command) {
+            return copied(alloc, text);
+        }
+        match self.replies.next() {
+            Some(reply) => reply,
+            None => match String::from_str(alloc, "no reply") {
+                Ok(text) => Err(CommandFault::Fault(text)),
+                Err(_) => Err(CommandFault::OutOfMemory),
+            },
+        }
+    }
+
+    fn text(&mut self, _alloc: Global, _question: TextQuestion) -> TextAnswer {
+        self.texts.next().unwrap_or(TextAnswer::Absent)
+    }
+
+    fn exists(&mut self, _alloc: Global, _path: &str) -> Result<bool, OutOfMemory> {
+        Ok(self.exists.next().unwrap_or(false))
+    }
+
+    fn number(&mut self, _alloc: Global, _question: NumberQuestion) -> Result<u64, OutOfMemory> {
+        Ok(self.numbers.next().unwrap_or(0))
+    }
+}
+
+// The text of the last pair with a command.
+fn text_for<'a>(always: &'a [(String, String)], command: &str) -> Option<&'a str>
+    ensures { option_map (λ text. text.now) result ≡ text_for command.now (map pair_view always.now) }
+{
+    let mut found: Option<&'a str> = None;
+    for (other, text) in always {
+        if other.as_str() == command {
+            found = Some(text.as_str());
+        }
+    }
+    found
+}
+
+// A text once more, as what a command wrote.
+fn copied(alloc: Global, text: &str) -> Result<String, CommandFault>
+    ensures { UnlessNoMemory (replied result) (Replied text.now) }
+{
+    match String::from_str(alloc, text) {
+        Ok(text) => Ok(text),
+        Err(_) => Err(CommandFault::OutOfMemory),
+    }
+}

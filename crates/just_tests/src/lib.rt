@@ -1,0 +1,12 @@
+// Tests of what asks no host: syntax, texts, values, and whether a module is resolved. They stand in a crate of their
+// own since a crate with tests is proved twice.
+#![tactic(auto)]
+
+#[cfg(test)]
+mod resolution;
+#[cfg(test)]
+mod syntax;
+#[cfg(test)]
+mod text;
+#[cfg(test)]
+mod value;

@@ -1,0 +1,330 @@
+// Modules that are resolved, and modules that are not.
+
+use just_host::justfile::Justfile;
+use just_host::settings::Settings;
+use just_resolution::resolved::resolved;
+use just_syntax::assignment::Assignment;
+use just_syntax::attribute_set::AttributeSet;
+use just_syntax::expression::Expression;
+use just_syntax::function_definition::FunctionDefinition;
+use just_syntax::name::Name;
+use just_syntax::number::Number;
+use just_syntax::out_of_memory::OutOfMemory;
+use just_syntax::table::Table;
+use just_syntax::token::Token;
+use just_value::binding::Binding;
+use just_value::scope::Scope;
+use just_value::value::Value;
+use std::alloc::Global;
+use std::collections::HashSet;
+use std::process::Abort;
+use std::test::Fail;
+
+// What stands in an expression.
+#[derive(Clone, Copy)]
+enum Part<'a> {
+    // A variable with a number.
+    Read(u64),
+    // A variable without one.
+    Unnumbered,
+    // A call, its arguments variables with these numbers.
+    Call(&'a str, &'a [u64]),
+}
+
+use Part::{Call, Read, Unnumbered};
+
+// A function of the file: its name, the numbers of its parameters, and what stands in its body.
+type Function<'a> = (&'a str, &'a [u64], &'a [Part<'a>]);
+
+// An assignment: its name, its number, and what stands in its value.
+type Variable<'a> = (&'a str, u64, &'a [Part<'a>]);
+
+fn name(lexeme: &str) -> Name<'_> {
+    Name {
+        token: Token {
+            column: 0,
+            line: 0,
+            offset: 0,
+            lexeme,
+            path: "justfile",
+        },
+    }
+}
+
+fn variable<'a>(number: Option<u64>) -> Expression<'a> {
+    Expression::Variable {
+        name: name("v"),
+        number: number.map(Number::new),
+    }
+}
+
+fn made<'a>(alloc: Global, part: Part<'a>) -> Result<Expression<'a>, OutOfMemory> {
+    match part {
+        Read(number) => Ok(variable(Some(number))),
+        Unnumbered => Ok(variable(None)),
+        Call(callee, numbers) => {
+            let mut arguments = Vec::new(alloc);
+            for number in numbers {
+                arguments.push(variable(Some(*number)))?;
+            }
+            Ok(Expression::Call {
+                arguments,
+                name: name(callee),
+            })
+        }
+    }
+}
+
+fn expression<'a>(alloc: Global, parts: &[Part<'a>]) -> Result<Expression<'a>, OutOfMemory> {
+    let mut elements = Vec::new(alloc);
+    for part in parts {
+        elements.push(made(alloc, *part)?)?;
+    }
+    Ok(Expression::List {
+        elements,
+        token: name("[").token,
+    })
+}
+
+fn functions<'a>(
+    alloc: Global,
+    all: &[Function<'a>],
+) -> Result<Table<FunctionDefinition<'a>>, OutOfMemory> {
+    let mut table = Table::new(alloc);
+    for (lexeme, numbers, body) in all {
+        let mut parameters = Vec::new(alloc);
+        for number in *numbers {
+            parameters.extend_from_slice(&[(name("p"), Number::new(*number))])?;
+        }
+        let body = expression(alloc, body)?;
+        table.insert(FunctionDefinition {
+            body,
+            name: name(lexeme),
+            parameters,
+        })?;
+    }
+    Ok(table)
+}
+
+fn assignments<'a>(
+    alloc: Global,
+    all: &[Variable<'a>],
+) -> Result<Table<Assignment<'a>>, OutOfMemory> {
+    let mut table = Table::new(alloc);
+    for (lexeme, number, value) in all {
+        let value = expression(alloc, value)?;
+        table.insert(Assignment {
+            eager: false,
+            export: false,
+            name: name(lexeme),
+            number: Number::new(*number),
+            private: false,
+            value,
+        })?;
+    }
+    Ok(table)
+}
+
+fn module<'a>(
+    alloc: Global,
+    functions: Table<FunctionDefinition<'a>>,
+    assignments: Table<Assignment<'a>>,
+    order: &[&'a str],
+) -> Result<Justfile<'a>, OutOfMemory> {
+    let mut evaluation_order = Vec::new(alloc);
+    for lexeme in order {
+        evaluation_order.push(name(lexeme))?;
+    }
+    Ok(Justfile {
+        assignments,
+        evaluation_order,
+        functions,
+        module_path: String::new(alloc),
+        settings: Settings::new(alloc),
+        source: String::new(alloc),
+        submodule: false,
+        unexports: Vec::new(alloc),
+        working_directory: String::new(alloc),
+    })
+}
+
+fn bind(alloc: Global, scope: &mut Scope, number: u64) -> Result<(), OutOfMemory> {
+    scope.bind(Binding {
+        attributes: AttributeSet::new(alloc),
+        eager: false,
+        export: false,
+        file_depth: 0,
+        name: name("outer"),
+        number: Number::new(number),
+        prelude: false,
+        private: false,
+        value: Value::new(alloc),
+    })
+}
+
+// The tests' modules stand below a scope that binds this number.
+const OUTER: u64 = 100;
+
+fn references(alloc: Global, numbers: &[u64]) -> Result<HashSet<Number>, OutOfMemory> {
+    let mut referenced = HashSet::new(alloc);
+    for number in numbers {
+        referenced.insert(Number::new(*number))?;
+    }
+    Ok(referenced)
+}
+
+// Whether such a module is resolved, where these numbers are referenced: each, where none are given.
+fn is_resolved<'a>(
+    rt: &impl Abort,
+    alloc: Global,
+    functions_of: &[Function<'a>],
+    assignments_of: &[Variable<'a>],
+    order: &[&'a str],
+    referenced: Option<&[u64]>,
+    expected: bool,
+) -> Result<(), OutOfMemory> {
+    let functions = functions(alloc, functions_of)?;
+    let assignments = assignments(alloc, assignments_of)?;
+    let module = module(alloc, functions, assignments, order)?;
+    let mut outer = Scope::root(alloc, &[])?;
+    bind(alloc, &mut outer, OUTER)?;
+    let parent = outer.child(alloc)?;
+    let answer = match referenced {
+        Some(numbers) => {
+            let referenced = references(alloc, numbers)?;
+            resolved(alloc, &module, &parent, Some(&referenced))?
+        }
+        None => resolved(alloc, &module, &parent, None)?,
+    };
+    assert_eq!(rt; answer, expected, "{order:?} {referenced:?}");
+    Ok(())
+}
+
+#[test]
+fn orders(rt: HostRuntime) -> Result<(), Fail> {
+    let alloc = rt.alloc();
+    let chain: &[Variable] = &[
+        ("a", 1, &[Read(OUTER)]),
+        ("b", 2, &[Read(1)]),
+        ("c", 3, &[Read(2), Read(1)]),
+    ];
+    let cycle: &[Variable] = &[("a", 1, &[Read(2)]), ("b", 2, &[Read(1)])];
+    let itself: &[Variable] = &[("a", 1, &[Read(1)])];
+    let same_number: &[Variable] = &[("a", 1, &[]), ("b", 1, &[])];
+    let unnumbered: &[Variable] = &[("a", 1, &[Unnumbered])];
+    for (variables, order, expected) in [
+        (chain, ["a", "b", "c"].as_slice(), true),
+        (chain, ["a", "b", "a", "c", "b"].as_slice(), true),
+        (chain, ["a"].as_slice(), true),
+        (chain, [].as_slice(), true),
+        (chain, ["b", "a", "c"].as_slice(), false),
+        (chain, ["a", "c", "b"].as_slice(), false),
+        (chain, ["a", "d"].as_slice(), false),
+        (cycle, ["a", "b"].as_slice(), false),
+        (cycle, ["b", "a"].as_slice(), false),
+        (itself, ["a"].as_slice(), false),
+        (same_number, [].as_slice(), false),
+        (unnumbered, [].as_slice(), false),
+    ] {
+        is_resolved(&rt, alloc, &[], variables, order, None, expected)?;
+    }
+    Ok(())
+}
+
+#[test]
+fn functions_and_orders(rt: HostRuntime) -> Result<(), Fail> {
+    let alloc = rt.alloc();
+    let reads_first: &[Function] = &[
+        ("f", &[9], &[Read(9), Call("g", &[])]),
+        ("g", &[], &[Read(1)]),
+    ];
+    let forever: &[Function] = &[("f", &[], &[Call("g", &[])]), ("g", &[], &[Call("f", &[])])];
+    let callers: &[Function] = &[("f", &[9], &[Call("g", &[])]), ("g", &[], &[Read(9)])];
+    let bound: &[Function] = &[("f", &[OUTER], &[])];
+    let none: &[Function] = &[];
+    let twice: &[Variable] = &[("a", 1, &[]), ("b", 2, &[Call("f", &[1])])];
+    let empty: &[Variable] = &[("a", 1, &[]), ("b", 2, &[Call("f", &[])])];
+    let plain: &[Variable] = &[("a", 1, &[])];
+    for (functions, variables, order, expected) in [
+        (none, plain, ["a"].as_slice(), true),
+        (reads_first, twice, ["a", "b"].as_slice(), true),
+        (reads_first, twice, ["b", "a"].as_slice(), false),
+        (reads_first, empty, ["a", "b"].as_slice(), false),
+        (none, empty, ["a", "b"].as_slice(), false),
+        (forever, empty, ["a", "b"].as_slice(), true),
+        (callers, twice, ["a", "b"].as_slice(), false),
+        (bound, plain, ["a"].as_slice(), false),
+    ] {
+        is_resolved(&rt, alloc, functions, variables, order, None, expected)?;
+    }
+    Ok(())
+}
+
+#[test]
+fn unreferenced_assignments(rt: HostRuntime) -> Result<(), Fail> {
+    let alloc = rt.alloc();
+    let functions: &[Function] = &[("f", &[], &[Read(1)])];
+    let readers: &[Variable] = &[
+        ("a", 1, &[]),
+        ("b", 2, &[Read(1)]),
+        ("c", 3, &[Call("f", &[])]),
+    ];
+    let unnumbered: &[Variable] = &[("a", 1, &[Unnumbered])];
+    for (variables, order, referenced, expected) in [
+        // What is not referenced may read what is not taken, by itself or through a function.
+        (readers, ["b", "a"].as_slice(), [1].as_slice(), true),
+        (readers, ["b", "a"].as_slice(), [1, 2].as_slice(), false),
+        (readers, ["b", "a"].as_slice(), [].as_slice(), true),
+        (readers, ["c", "a"].as_slice(), [1].as_slice(), true),
+        (readers, ["c", "a"].as_slice(), [1, 3].as_slice(), false),
+        // It is not taken, so what is referenced may not read it.
+        (readers, ["a", "b"].as_slice(), [1, 2].as_slice(), true),
+        (readers, ["a", "b"].as_slice(), [2].as_slice(), false),
+        (readers, ["a", "c"].as_slice(), [1, 3].as_slice(), true),
+        (readers, ["a", "c"].as_slice(), [3].as_slice(), false),
+        // All else is asked of it too.
+        (readers, ["d"].as_slice(), [].as_slice(), false),
+        (unnumbered, ["a"].as_slice(), [].as_slice(), false),
+    ] {
+        is_resolved(
+            &rt,
+            alloc,
+            functions,
+            variables,
+            order,
+            Some(referenced),
+            expected,
+        )?;
+    }
+    Ok(())
+}
+
+// Calls of names that the file does not define, and of a built-in function's name that it does.
+#[test]
+fn built_in_names(rt: HostRuntime) -> Result<(), Fail> {
+    let alloc = rt.alloc();
+    let none: &[Function] = &[];
+    let hidden: &[Function] = &[("len", &[8, 9], &[])];
+    let len: &[Variable] = &[("a", 1, &[]), ("b", 2, &[Call("len", &[1])])];
+    let len_of_two: &[Variable] = &[("a", 1, &[]), ("b", 2, &[Call("len", &[1, 1])])];
+    let alias: &[Variable] = &[("a", 1, &[]), ("b", 2, &[Call("justfile_dir", &[])])];
+    let shell: &[Variable] = &[("a", 1, &[]), ("b", 2, &[Call("shell", &[1, 1, 1])])];
+    let shell_of_none: &[Variable] = &[("a", 1, &[]), ("b", 2, &[Call("shell", &[])])];
+    let left_out: &[Variable] = &[("a", 1, &[]), ("b", 2, &[Call("sha256", &[1, 1])])];
+    let unknown: &[Variable] = &[("a", 1, &[]), ("b", 2, &[Call("nope", &[])])];
+    for (functions, variables, expected) in [
+        (none, len, true),
+        (none, len_of_two, false),
+        (hidden, len, false),
+        (hidden, len_of_two, true),
+        (none, alias, true),
+        (none, shell, true),
+        (none, shell_of_none, false),
+        (none, left_out, true),
+        (none, unknown, false),
+    ] {
+        let order = ["a", "b"].as_slice();
+        is_resolved(&rt, alloc, functions, variables, order, None, expected)?;
+    }
+    Ok(())
+}
