@@ -1,12 +1,10 @@
 -- What an evaluator of expressions stands in, as plain data, and what an expression means there.
-use Rattle.std.specs.Prelude.{ℕ, Bool, false, List, [], Option, Some, None, Result, nat_eq}
+use Rattle.std.specs.Prelude.{ℕ, Bool, false, List, Option, Some, None, Result, nat_eq}
 use Rattle.std.specs.List.{list_any}
 use Rattle.std.specs.Option.{option_map}
-use Rattle.just_syntax.specs.Plain.{Text, Expr}
-use Rattle.just_syntax.specs.Keyed.{value_at}
+use Rattle.just_syntax.specs.Plain.{Expr}
 use Rattle.just_syntax.specs.View.{name_view, views}
 use Rattle.just_syntax.specs.declared.expression.Expression.{Expression}
-use Rattle.just_syntax.specs.declared.function_definition.FunctionDefinition.{FunctionDefinition}
 use Rattle.just_syntax.specs.declared.name.Name.{Name}
 use Rattle.just_value.specs.Frames.{value_in}
 use Rattle.just_value.specs.Value.{Value}
@@ -72,12 +70,3 @@ row e xs = eval_row (program e) (deeper e) (situation e) 0 (views xs)
 -- the tree's questions, answered, and its end are what is answered here
 abbrev pub Answers : {S : Type 0} → ExpressionEvaluator → (S → Question → Answer → S → Type 0) → S → Tree Value → Result Value Error → S → Type 0
 Answers e step old tree result new = Runs (rules e) step old tree (ended (λ v. v) result) new
-
--- the functions that a module's file defines; without a context there are none
-abbrev pub functions_of : Option ExecutionContext → List FunctionDefinition
-functions_of (Some c) = c.module.now.functions
-functions_of None = []
-
--- the function of the file with a name
-abbrev pub function_of : ExpressionEvaluator → Text → Option FunctionDefinition
-function_of e name = value_at (λ f. f.name.token.lexeme.now) name (functions_of e.context)

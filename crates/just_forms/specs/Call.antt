@@ -1,31 +1,64 @@
--- Calls that end before their arguments are evaluated.
-use Rattle.std.specs.Prelude.{◌≡◌, ◌≢◌, ℕ, zero, suc, length, Option, Some, None, if◌then◌else◌}
+-- Calls, up to where what they reach is entered.
+use Rattle.std.specs.Prelude.{◌≡◌, ℕ, suc, false, Bool, List, length, Option, Some, None}
+use Rattle.just_syntax.specs.Keyed.{value_at}
 use Rattle.just_syntax.specs.Plain as plain
-use Rattle.just_syntax.specs.Plain.{Token}
-use Rattle.just_value.specs.Refusal as refusal
-use Rattle.just_value.specs.Refusal.{Refusal, Internal, RecursionLimit}
-use Rattle.just_builtins.specs.declared.function.Function.{Function}
-use Rattle.just_meaning.specs.Callee.{Callee, BuiltIn, LeftOut, Unknown, accepts}
-use Rattle.just_meaning.specs.Messages.{miscounted_text, unknown_function_text}
+use Rattle.just_syntax.specs.Plain.{Text, Token}
+use Rattle.just_syntax.specs.View.{function_view}
+use Rattle.just_syntax.specs.declared.function_definition.FunctionDefinition.{FunctionDefinition}
+use Rattle.just_value.specs.Frames.{value_in}
+use Rattle.just_value.specs.Refusal.{Refusal}
+use Rattle.just_value.specs.Value.{Value}
+use Rattle.just_host.specs.Interaction.{Tree, bind, refuses}
+use Rattle.just_builtins.specs.Argument.{IsExpected}
+use Rattle.just_builtins.specs.Shape.{is_text}
+use Rattle.just_builtins.specs.Table.{function_named}
+use Rattle.just_builtins.specs.declared.function.Function as built_in
+use Rattle.just_meaning.specs.Callee as meant
+use Rattle.just_meaning.specs.Closings.{dynamic, inside}
+use Rattle.just_meaning.specs.Meaning.{Program, Row, Situation, as_it_is, built_in_call, called, eval, texts_of}
+use Rattle.just_forms.specs.declared.callee.Callee.{Callee}
+use Rattle.just_forms.specs.declared.callee.Callee.TheVariants as reached
 
--- the built-in function that a call with so many arguments reaches, by what its name stands for
-abbrev pub reached : Callee → ℕ → Option Function
-reached (BuiltIn f) n = if accepts (BuiltIn f) n then Some f else None
-reached _ n = None
+-- what a call reaches: a built-in function, or one of the file, with how many calls may still be pending in its body
+pub data Reached : Type 0 where
+  BuiltIn : built_in.Function → Reached
+  Defined : plain.Function → ℕ → Reached
 
--- why a call is refused that reaches none
-abbrev pub unreached : Callee → Token → Refusal
-unreached LeftOut t = refusal.LeftOut t
-unreached Unknown t = Internal (unknown_function_text t.lexeme) t
-unreached _ t = Internal (miscounted_text t.lexeme) t
+abbrev pub reached_view : Callee → Reached
+reached_view (reached.BuiltIn f) = BuiltIn f
+reached_view (reached.Defined f left) = Defined (function_view f.now) left
+
+-- whether the argument with an index is to be a text
+abbrev pub wants_text : Reached → ℕ → Bool
+wants_text (BuiltIn f) i = is_text f i
+wants_text (Defined f left) i = false
+
+-- how its arguments are looked at
+abbrev pub look : Reached → Token → ℕ → Value → Tree Value
+look (BuiltIn f) t = texts_of f t
+look (Defined f left) t = as_it_is
+
+-- what it means with its arguments
+abbrev pub entered : Program → Situation → Token → Reached → List Value → Tree Value
+entered p s t (BuiltIn f) vs = built_in_call p s t f vs
+entered p s t (Defined f left) vs = eval p (dynamic p left) (inside (value_in s.below) s f vs) f.body
+
+-- A call with so many arguments of what a name stands for, where so many calls may still be pending, is its arguments, and
+-- then what it reaches.
+abbrev pub Enters : Program → Token → meant.Callee → ℕ → ℕ → Reached → Type 0
+Enters p t c calls n r = (s : Situation) (row : Row) → called p t c (dynamic p calls) s n row ≡ bind (row (look r t)) (entered p s t r)
+
+-- It is refused before its arguments, or memory ran out.
+abbrev pub EndsBefore : Program → Token → meant.Callee → ℕ → ℕ → Option Refusal → Type 0
+EndsBefore p t c calls n (Some e) = (s : Situation) (row : Row) → called p t c (dynamic p calls) s n row ≡ refuses e
+EndsBefore p t c calls n None = Unit {0}
+
+-- What is reached is what has the name, takes so many arguments, and leaves one call fewer.
+abbrev pub Fits : List FunctionDefinition → Text → ℕ → ℕ → Callee → Type 0
+Fits functions name calls n (reached.BuiltIn f) = (function_named name ≡ Some f) × IsExpected f n
+Fits functions name calls n (reached.Defined f left) = (value_at (λ g. g.name.token.lexeme.now) name functions ≡ Some f.now) × (calls ≡ suc left) × (length f.now.parameters.items ≡ n)
 
 -- it is this refusal, or want of memory
 abbrev pub Says : Option Refusal → Refusal → Type 0
 Says (Some s) r = s ≡ r
 Says None r = Unit {0}
-
--- A call of a function of the file is refused where no further call may be pending, and then for the number of its
--- arguments.
-abbrev pub WouldRefuse : Token → plain.Function → ℕ → ℕ → Option Refusal → Type 0
-WouldRefuse t f zero n r = Says r (RecursionLimit f.name)
-WouldRefuse t f (suc calls) n r = (n ≢ length f.parameters) × Says r (Internal (miscounted_text t.lexeme) t)

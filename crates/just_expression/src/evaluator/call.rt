@@ -1,22 +1,20 @@
 // Evaluates calls.
 
 ghost use Rattle.std.specs.Prelude.{Some, length, ◌≡◌};
-ghost use Rattle.std.specs.Option.{option_map};
-ghost use Rattle.just_syntax.specs.Keyed.{value_at};
 ghost use Rattle.just_syntax.specs.View.{function_view, name_view};
 ghost use Rattle.just_value.specs.Frames.{value_in};
 ghost use Rattle.just_host.specs.Interaction.{Entered, note};
 ghost use Rattle.just_builtins.specs.Argument.{HasTexts, IsExpected};
 ghost use Rattle.just_builtins.specs.Table.{function_named};
-ghost use Rattle.just_meaning.specs.Callee.{Defined, callee, undefined};
+ghost use Rattle.just_meaning.specs.Callee.{callee};
 ghost use Rattle.just_meaning.specs.Closings.{dynamic, inside};
 ghost use Rattle.just_meaning.specs.Meaning.{built_in_call, called, eval};
-ghost use Rattle.just_expression.specs.View.{Answers, deeper, function_of, program, row, situation};
+ghost use Rattle.just_expression.specs.View.{Answers, deeper, program, row, situation};
 
 use super::ExpressionEvaluator;
 use just_builtins::function::Function;
 use just_forms::builtin;
-use just_forms::defined::calls_left_inside;
+use just_forms::callee::{Callee, reached};
 use just_forms::parameters::called_scope;
 use just_host::execution_context::ExecutionContext;
 use just_host::function::Context;
@@ -31,7 +29,7 @@ use std::alloc::Global;
 use std::collections::BTreeMap;
 
 impl<'src, 'run, 'here> ExpressionEvaluator<'src, 'run, 'here> {
-    // The value of a call.
+    // The value of a call: of its arguments, and then of what it reaches.
     #[cycle(evaluate)]
     #[inline(never)]
     pub(crate) fn evaluate_call<H: Host>(
@@ -47,41 +45,23 @@ impl<'src, 'run, 'here> ExpressionEvaluator<'src, 'run, 'here> {
         let Some(context) = &self.context else {
             return Err(Error::Const(ConstError::FunctionCall(*name)));
         };
-        match function_at(context, name) {
-            Some(function) => {
-                self.evaluate_defined_function(alloc, host, name, function, arguments)
-            }
-            None => self.evaluate_builtin_function(alloc, host, context, name, arguments),
-        }
-    }
-
-    // The value of a call of a function of the file.
-    #[cycle(evaluate)]
-    #[inline(never)]
-    fn evaluate_defined_function<H: Host>(
-        &self,
-        alloc: Global,
-        host: &mut H,
-        name: &Name<'src>,
-        function: &FunctionDefinition<'src>,
-        arguments: &[Expression<'src>],
-    ) -> Result<Value, Error<'src>>
-        requires found { function_of self.now (name_view name.now).lexeme ≡ Some function.now }
-        ensures { let t = name_view name.now in
-            Answers self.now H.step host.old (called (program self.now) t (Defined (function_view function.now)) (deeper self.now) (situation self.now) (length arguments.now) (row self.now arguments.now)) result host.new }
-    {
-        let calls_left = calls_left_inside(
-            alloc,
-            name,
-            function,
-            self.calls_left,
-            arguments.len(),
-        )?;
+        let callee = reached(alloc, context, name, self.calls_left, arguments.len())?;
         let mut values = Vec::new(alloc);
         for argument in arguments {
-            values.push(self.evaluate_value(alloc, host, argument)?)?;
+            let value = self.evaluate_value(alloc, host, argument)?;
+            if !callee.takes(values.len(), &value) {
+                return builtin::refuse_list(name, value);
+            }
+            values.push(value)?;
         }
-        self.evaluate_body(alloc, host, function, calls_left, values)
+        match callee {
+            Callee::BuiltIn(function) => {
+                self.call_builtin_function(alloc, host, context, name, function, values)
+            }
+            Callee::Defined(function, calls_left) => {
+                self.evaluate_body(alloc, host, function, calls_left, values)
+            }
+        }
     }
 
     // The value of a function's body, one call deeper, its parameters bound to as many values. It is entered after the
@@ -116,36 +96,6 @@ impl<'src, 'run, 'here> ExpressionEvaluator<'src, 'run, 'here> {
         evaluator.evaluate_value(alloc, host, &function.body)
     }
 
-    // The value of a call of a name that the file does not define. Those of its arguments at text positions are to be
-    // texts.
-    #[cycle(evaluate)]
-    #[inline(never)]
-    fn evaluate_builtin_function<H: Host>(
-        &self,
-        alloc: Global,
-        host: &mut H,
-        context: &ExecutionContext<'src, 'run>,
-        name: &Name<'src>,
-        arguments: &[Expression<'src>],
-    ) -> Result<Value, Error<'src>>
-        requires here { self.now.context ≡ Some context.now }
-        ensures { let t = name_view name.now in
-            Answers self.now H.step host.old (called (program self.now) t (undefined t.lexeme) (deeper self.now) (situation self.now) (length arguments.now) (row self.now arguments.now)) result host.new }
-    {
-        let Some(function) = builtin::named(name, arguments.len()) else {
-            return builtin::refuse(alloc, name);
-        };
-        let mut values = Vec::new(alloc);
-        for argument in arguments {
-            let value = self.evaluate_value(alloc, host, argument)?;
-            if !builtin::takes(function, values.len(), &value) {
-                return builtin::refuse_list(name, value);
-            }
-            values.push(value)?;
-        }
-        self.call_builtin_function(alloc, host, context, name, function, values)
-    }
-
     // What a built-in function answers here.
     #[inline(never)]
     fn call_builtin_function<H: Host>(
@@ -173,15 +123,4 @@ impl<'src, 'run, 'here> ExpressionEvaluator<'src, 'run, 'here> {
         };
         builtin::call(alloc, host, &context, function, &values)
     }
-}
-
-// The function of the file with a name.
-#[inline(never)]
-fn function_at<'src, 'run>(
-    context: &ExecutionContext<'src, 'run>,
-    name: &Name<'src>,
-) -> Option<&'run FunctionDefinition<'src>>
-    ensures { option_map (λ f. f.now) result ≡ value_at (λ f. f.name.token.lexeme.now) (name_view name.now).lexeme context.now.module.now.functions }
-{
-    context.module.functions.get(name.lexeme())
 }

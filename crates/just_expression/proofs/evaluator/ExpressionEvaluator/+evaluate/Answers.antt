@@ -1,6 +1,6 @@
 use Rattle.std.proofs.Common.{◌≡◌, ◌∙◌, ◌++◌, ◌∷◌, [], true, false, not, ap, arith, length, map, None, Some, sym, refl, subst, string_bytes}
 use Rattle.std.proofs.lemmas.Grind.{common_steps}
-use Rattle.std.proofs.lemmas.List.{append_assoc, append-nil, length-map}
+use Rattle.std.proofs.lemmas.List.{append_assoc, append-nil}
 use Rattle.std.proofs.lemmas.Result.{err_from_is_err_and}
 use Rattle.just_syntax.specs.Printed.{printed}
 use Rattle.just_syntax.specs.StringContext as contexts
@@ -9,13 +9,13 @@ use Rattle.just_value.specs.Value.{from_condition, is_truthy, joined}
 use Rattle.just_value.specs.Outcome.{Gave}
 use Rattle.just_value.specs.Refusal.{ListInStringContext}
 use Rattle.just_value.specs.View.{frames_view}
-use Rattle.just_host.proofs.Paths.{runs_done, runs_else, runs_ends, runs_exit, runs_gives, runs_note, runs_on, runs_shut, runs_stopped, runs_then}
-use Rattle.just_builtins.specs.Shape.{is_text}
+use Rattle.just_host.proofs.Paths.{runs_done, runs_else, runs_ends, runs_exit, runs_gives, runs_on, runs_shut, runs_stopped, runs_then}
 use Rattle.just_meaning.specs.Closings.{with_parameters}
-use Rattle.just_meaning.specs.Meaning.{as_it_is, is_regex, texts_of, unindented_if}
-use Rattle.just_expression.specs.View.{deeper, functions_of, is_non_const, meaning, program, row, situation}
-use Rattle.just_expression.proofs.Calls.{body_runs, builtin_ends, builtin_refused, builtin_runs, callee_is, defined_ends, defined_refused, defined_runs, inside_is, is_reached, looked_at}
-use Rattle.just_expression.proofs.Leaves.{not_both, passes}
+use Rattle.just_meaning.specs.Meaning.{as_it_is, is_regex, unindented_if}
+use Rattle.just_forms.specs.Call.{BuiltIn, Defined, look, reached_view, wants_text}
+use Rattle.just_expression.specs.View.{meaning, program, row, situation}
+use Rattle.just_expression.proofs.Calls.{body_runs, call_ends, call_refused, call_runs, inside_is, looked_at}
+use Rattle.just_expression.proofs.Leaves.{not_both}
 use Rattle.just_expression.proofs.Measure.{one_fewer}
 use Rattle.just_expression.proofs.Rows.{call_is, flatten_more, format_string_is, left_all, list_is, pieces_all, pieces_cut, pieces_end, pieces_next, row_all, row_cut, row_ends, row_next}
 use Rattle.just_expression.proofs.Texts.{more_texts}
@@ -345,58 +345,79 @@ evaluate_value-returns-in-Call g t c = rw (c.in-Call.is, call_is, ← c.deref-in
 pub evaluate_call-returns-in_default : goal.evaluate_call-returns-in_default
 evaluate_call-returns-in_default g t c = rw c.in_default.is (runs_shut refl)
 
-pub evaluate_call-returns-in-Some-function_at : goal.evaluate_call-returns-in-Some-function_at
-evaluate_call-returns-in-Some-function_at g t c =
-    let self = c.args.self.now in
-    runs_note (passes self.context (is_non_const self) c.in-Some.context _ c.in-Some.is)
-    (rw (callee_is self.context c.in-Some.context c.in-Some.is (name_view c.args.name.now).lexeme (Some c.in-Some-function_at.function.now) c.in-Some-function_at.ensures) c.evaluate_defined_function.ensures)
-
-pub evaluate_call-returns-in-None : goal.evaluate_call-returns-in-None
-evaluate_call-returns-in-None g t c =
-    let self = c.args.self.now in
-    runs_note (passes self.context (is_non_const self) c.in-Some.context _ c.in-Some.is)
-    (rw (callee_is self.context c.in-Some.context c.in-Some.is (name_view c.args.name.now).lexeme None c.in-None.ensures) c.evaluate_builtin_function.ensures)
-
--- ---- calls of the file's functions
-
-pub evaluate_defined_function-returns-in_err-calls_left : goal.evaluate_defined_function-returns-in_err-calls_left
-evaluate_defined_function-returns-in_err-calls_left g t c =
-    let self = c.args.self.now in
+pub evaluate_call-returns-in_err-callee : goal.evaluate_call-returns-in_err-callee
+evaluate_call-returns-in_err-callee g t c =
     let p = err_from_is_err_and c.from_residual.result c.from_residual.ensures.1 in
-    rw (p.1, p.2) (defined_refused (program self) (name_view c.args.name.now) (function_view c.args.function.now) (situation self) _ (row self c.args.arguments.now) self.calls_left _ c.in_err-calls_left.ensures.refused)
+    rw (p.1, p.2) (call_refused _ c.args.self.now c.in-Some.context c.in-Some.is (name_view c.args.name.now) c.args.arguments.now _ c.in_err-callee.ensures.refused)
 
-pub evaluate_defined_function-returns-in_err-evaluate_value : goal.evaluate_defined_function-returns-in_err-evaluate_value
-evaluate_defined_function-returns-in_err-evaluate_value g t c =
+pub evaluate_call-returns-in_err-value : goal.evaluate_call-returns-in_err-value
+evaluate_call-returns-in_err-value g t c =
     let self = c.args.self.now in
-    let same : length c.args.arguments.now ≡ length (map parameter_view c.args.function.now.parameters.items) = omega (arith, c.in_ok-calls_left.ensures.count, length-map c.args.function.now.parameters.items parameter_view) in
-    let p = err_from_is_err_and c.from_residual-in_err-evaluate_value.result c.from_residual-in_err-evaluate_value.ensures.1 in
-    rw (p.1, p.2) (defined_ends (program self) (name_view c.args.name.now) (situation self) _ (row self c.args.arguments.now) (function_view c.args.function.now) self.calls_left c.in_ok-calls_left.calls_left c.in_ok-calls_left.ensures.fewer same _ (row_ends _ self c.args.host.now as_it_is c.args.arguments.now c.loop-argument.argument-index c.argument-item.result c.loop-argument-test.true c.argument-item.is c.loop-argument.values.items c.loop-argument.invariant.rest _ (runs_ends _ _ _ c.in_err-evaluate_value.ensures)))
+    let name = name_view c.args.name.now in
+    let r = reached_view c.in_ok-callee.callee in
+    let p = err_from_is_err_and c.from_residual-in_err-value.result c.from_residual-in_err-value.ensures.1 in
+    rw (p.1, p.2) (call_ends _ self c.in-Some.context c.in-Some.is name c.args.arguments.now r c.in_ok-callee.ensures.enters _
+    (row_ends _ self c.args.host.now (look r name) c.args.arguments.now c.loop-argument.argument-index c.argument-item.result c.loop-argument-test.true c.argument-item.is c.loop-argument.values.items c.loop-argument.invariant.rest _ (runs_ends _ _ _ c.in_err-value.ensures)))
 
-pub evaluate_defined_function-returns-in_err-push : goal.evaluate_defined_function-returns-in_err-push
-evaluate_defined_function-returns-in_err-push g t c =
+pub evaluate_call-returns-then-not-takes : goal.evaluate_call-returns-then-not-takes
+evaluate_call-returns-then-not-takes g t c =
     let self = c.args.self.now in
-    let same : length c.args.arguments.now ≡ length (map parameter_view c.args.function.now.parameters.items) = omega (arith, c.in_ok-calls_left.ensures.count, length-map c.args.function.now.parameters.items parameter_view) in
+    let name = name_view c.args.name.now in
+    let r = reached_view c.in_ok-callee.callee in
+    let here = c.len.ensures ∙ (c.loop-argument.values.ok.0 ∙ c.loop-argument.invariant.count) in
+    let refused = Some (ListInStringContext (contexts.Function name) c.in_ok-value.value) in
+    rw c.refuse_list.ensures (call_ends _ self c.in-Some.context c.in-Some.is name c.args.arguments.now r c.in_ok-callee.ensures.enters refused
+    (row_ends _ self c.args.host.now (look r name) c.args.arguments.now c.loop-argument.argument-index c.argument-item.result c.loop-argument-test.true c.argument-item.is c.loop-argument.values.items c.loop-argument.invariant.rest refused
+    (looked_at _ (look r name) _ _ c.in_ok-value.value _ here c.in_ok-value.ensures (c.takes.ensures.refused c.if-not-takes.true name))))
+
+pub evaluate_call-returns-in_err-push : goal.evaluate_call-returns-in_err-push
+evaluate_call-returns-in_err-push g t c =
+    let self = c.args.self.now in
+    let name = name_view c.args.name.now in
+    let r = reached_view c.in_ok-callee.callee in
+    let here = c.len.ensures ∙ (c.loop-argument.values.ok.0 ∙ c.loop-argument.invariant.count) in
     let p = err_from_is_err_and c.from_residual-in_err-push.result c.from_residual-in_err-push.ensures.1 in
-    rw (p.1, p.2) (defined_ends (program self) (name_view c.args.name.now) (situation self) _ (row self c.args.arguments.now) (function_view c.args.function.now) self.calls_left c.in_ok-calls_left.calls_left c.in_ok-calls_left.ensures.fewer same None (row_cut _ self c.args.host.now as_it_is c.args.arguments.now c.loop-argument.argument-index c.argument-item.result c.loop-argument-test.true c.argument-item.is c.loop-argument.values.items c.loop-argument.invariant.rest _ (runs_on _ _ c.in_ok-evaluate_value.ensures (runs_gives _))))
+    rw (p.1, p.2) (call_ends _ self c.in-Some.context c.in-Some.is name c.args.arguments.now r c.in_ok-callee.ensures.enters None
+    (row_cut _ self c.args.host.now (look r name) c.args.arguments.now c.loop-argument.argument-index c.argument-item.result c.loop-argument-test.true c.argument-item.is c.loop-argument.values.items c.loop-argument.invariant.rest c.in_ok-value.value
+    (looked_at _ (look r name) _ _ c.in_ok-value.value _ here c.in_ok-value.ensures (c.takes.ensures.given c.if-not-takes.false name))))
 
-pub evaluate_defined_function-loop-argument-preserved : goal.evaluate_defined_function-loop-argument-preserved
-evaluate_defined_function-loop-argument-preserved g t c = record {
-  count = rw c.in_ok-push.ensures.items (grind (arith, common_steps));
-  rest = rw c.in_ok-push.ensures.items (row_next _ c.args.self.now c.args.host.now as_it_is c.args.arguments.now c.loop-argument.argument-index c.argument-item.result c.loop-argument-test.true c.argument-item.is c.loop-argument.values.items c.loop-argument.invariant.rest c.in_ok-evaluate_value.field-0 (runs_on _ _ c.in_ok-evaluate_value.ensures (runs_gives _)));
-}
-
-pub evaluate_defined_function-evaluate_body-requires : goal.evaluate_defined_function-evaluate_body-requires
-evaluate_defined_function-evaluate_body-requires g t c κs within =
+pub evaluate_call-loop-argument-preserved : goal.evaluate_call-loop-argument-preserved
+evaluate_call-loop-argument-preserved g t c =
     let self = c.args.self.now in
-    let h = one_fewer self.calls_left c.in_ok-calls_left.calls_left (functions_of self.context) (name_view c.args.name.now).lexeme c.args.function.now c.requires.found c.in_ok-calls_left.ensures.fewer in
-    (omega (arith, h), (within, omega (arith, c.in_ok-calls_left.ensures.count, c.loop-argument.invariant.count)))
+    let name = name_view c.args.name.now in
+    let r = reached_view c.in_ok-callee.callee in
+    let made = c.loop-argument.values.items in
+    let value = c.in_ok-value.value in
+    let len : c.len.result ≡ length made = c.len.ensures ∙ c.loop-argument.values.ok.0 in
+    record {
+      count = rw c.in_ok-push.ensures.items (grind (arith, common_steps));
+      texts = rw c.in_ok-push.ensures.items (more_texts (wants_text r) value made c.loop-argument.invariant.texts (subst (λ i. wants_text r i ≡ true → length value ≡ 1) len (c.takes.ensures.text c.if-not-takes.false)));
+      rest = rw c.in_ok-push.ensures.items (row_next _ self c.args.host.now (look r name) c.args.arguments.now c.loop-argument.argument-index c.argument-item.result c.loop-argument-test.true c.argument-item.is made c.loop-argument.invariant.rest value
+          (looked_at _ (look r name) _ _ value _ (len ∙ c.loop-argument.invariant.count) c.in_ok-value.ensures (c.takes.ensures.given c.if-not-takes.false name)));
+    }
 
-pub evaluate_defined_function-returns : goal.evaluate_defined_function-returns
-evaluate_defined_function-returns g t c =
+pub evaluate_call-evaluate_body-requires : goal.evaluate_call-evaluate_body-requires
+evaluate_call-evaluate_body-requires g t c κs within =
     let self = c.args.self.now in
-    let same : length c.args.arguments.now ≡ length (map parameter_view c.args.function.now.parameters.items) = omega (arith, c.in_ok-calls_left.ensures.count, length-map c.args.function.now.parameters.items parameter_view) in
-    defined_runs (program self) (name_view c.args.name.now) (situation self) _ (row self c.args.arguments.now) (function_view c.args.function.now) self.calls_left c.in_ok-calls_left.calls_left c.in_ok-calls_left.ensures.fewer same c.loop-argument.values.items _
-    (row_all _ self c.args.host.now as_it_is c.args.arguments.now c.loop-argument.argument-index c.loop-argument.values.items c.loop-argument-test.false c.loop-argument.invariant.rest) c.evaluate_body.ensures
+    let fits = rw c.in-Defined.is at c.in_ok-callee.ensures.fits in
+    let h = one_fewer self.context c.in-Some.context c.in-Some.is self.calls_left c.in-Defined.calls_left (name_view c.args.name.now).lexeme c.in-Defined.function.now fits.0 fits.1 in
+    (omega (arith, h), (within, omega (arith, fits.2, c.loop-argument.invariant.count)))
+
+pub evaluate_call-returns-in-BuiltIn : goal.evaluate_call-returns-in-BuiltIn
+evaluate_call-returns-in-BuiltIn g t c =
+    let self = c.args.self.now in
+    let name = name_view c.args.name.now in
+    let r = BuiltIn c.in-BuiltIn.function in
+    call_runs _ self c.in-Some.context c.in-Some.is name c.args.arguments.now r (rw c.in-BuiltIn.is at c.in_ok-callee.ensures.enters) c.loop-argument.values.items _
+    (row_all _ self c.args.host.now (look r name) c.args.arguments.now c.loop-argument.argument-index c.loop-argument.values.items c.loop-argument-test.false (rw c.in-BuiltIn.is at c.loop-argument.invariant.rest)) c.call_builtin_function.ensures
+
+pub evaluate_call-returns-in-Defined : goal.evaluate_call-returns-in-Defined
+evaluate_call-returns-in-Defined g t c =
+    let self = c.args.self.now in
+    let name = name_view c.args.name.now in
+    let r = Defined (function_view c.in-Defined.function.now) c.in-Defined.calls_left in
+    call_runs _ self c.in-Some.context c.in-Some.is name c.args.arguments.now r (rw c.in-Defined.is at c.in_ok-callee.ensures.enters) c.loop-argument.values.items _
+    (row_all _ self c.args.host.now (look r name) c.args.arguments.now c.loop-argument.argument-index c.loop-argument.values.items c.loop-argument-test.false (rw c.in-Defined.is at c.loop-argument.invariant.rest)) c.evaluate_body.ensures
 
 pub evaluate_body-returns-in_err-scope : goal.evaluate_body-returns-in_err-scope
 evaluate_body-returns-in_err-scope g t c =
@@ -410,58 +431,3 @@ evaluate_body-returns g t c =
     let bound : frames_view c.in_ok-scope.scope ≡ with_parameters [] (map parameter_view function.parameters.items) c.args.values.items ∷ frames_view self.below.now = rw (c.in_ok-scope.ensures, c.deref.ensures.value) refl in
     body_runs (program self) c.args.calls_left _ _ (view function.body) _
     (inside_is (frames_view c.in_ok-scope.scope) (situation self) _ (function_view function) c.args.values.items bound (rw c.new-env.ensures.empty refl)) c.evaluate_value.ensures
-
--- ---- calls of built-in functions
-
-pub evaluate_builtin_function-returns-in_default : goal.evaluate_builtin_function-returns-in_default
-evaluate_builtin_function-returns-in_default g t c =
-    let self = c.args.self.now in
-    rw (builtin_refused (program self) (name_view c.args.name.now) (deeper self) (situation self) _ (row self c.args.arguments.now) (sym c.in_default.ensures)) (runs_done _ _ c.refuse.ensures)
-
-pub evaluate_builtin_function-returns-in_err-value : goal.evaluate_builtin_function-returns-in_err-value
-evaluate_builtin_function-returns-in_err-value g t c =
-    let self = c.args.self.now in
-    let p = err_from_is_err_and c.from_residual.result c.from_residual.ensures.1 in
-    rw (p.1, p.2) (builtin_ends (program self) (name_view c.args.name.now) (situation self) _ (row self c.args.arguments.now) c.in-Some.function (sym c.in-Some.ensures) (deeper self) _ (row_ends _ self c.args.host.now (texts_of c.in-Some.function (name_view c.args.name.now)) c.args.arguments.now c.loop-argument.argument-index c.argument-item.result c.loop-argument-test.true c.argument-item.is c.loop-argument.values.items c.loop-argument.invariant.rest _ (runs_ends _ _ _ c.in_err-value.ensures)))
-
-pub evaluate_builtin_function-returns-then-not-takes : goal.evaluate_builtin_function-returns-then-not-takes
-evaluate_builtin_function-returns-then-not-takes g t c =
-    let self = c.args.self.now in
-    let here = c.len.ensures ∙ (c.loop-argument.values.ok.0 ∙ c.loop-argument.invariant.count) in
-    let name = name_view c.args.name.now in
-    let refused = Some (ListInStringContext (contexts.Function name) c.in_ok-value.value) in
-    rw c.refuse_list.ensures (builtin_ends (program self) (name_view c.args.name.now) (situation self) _ (row self c.args.arguments.now) c.in-Some.function (sym c.in-Some.ensures) (deeper self) refused (row_ends _ self c.args.host.now (texts_of c.in-Some.function (name_view c.args.name.now)) c.args.arguments.now c.loop-argument.argument-index c.argument-item.result c.loop-argument-test.true c.argument-item.is c.loop-argument.values.items c.loop-argument.invariant.rest refused
-    (looked_at _ (texts_of c.in-Some.function (name_view c.args.name.now)) _ _ c.in_ok-value.value _ here c.in_ok-value.ensures (c.takes.ensures.refused c.if-not-takes.true name))))
-
-pub evaluate_builtin_function-returns-in_err-push : goal.evaluate_builtin_function-returns-in_err-push
-evaluate_builtin_function-returns-in_err-push g t c =
-    let self = c.args.self.now in
-    let here = c.len.ensures ∙ (c.loop-argument.values.ok.0 ∙ c.loop-argument.invariant.count) in
-    let p = err_from_is_err_and c.from_residual-in_err-push.result c.from_residual-in_err-push.ensures.1 in
-    rw (p.1, p.2) (builtin_ends (program self) (name_view c.args.name.now) (situation self) _ (row self c.args.arguments.now) c.in-Some.function (sym c.in-Some.ensures) (deeper self) None (row_cut _ self c.args.host.now (texts_of c.in-Some.function (name_view c.args.name.now)) c.args.arguments.now c.loop-argument.argument-index c.argument-item.result c.loop-argument-test.true c.argument-item.is c.loop-argument.values.items c.loop-argument.invariant.rest c.in_ok-value.value
-    (looked_at _ (texts_of c.in-Some.function (name_view c.args.name.now)) _ _ c.in_ok-value.value _ here c.in_ok-value.ensures (c.takes.ensures.given c.if-not-takes.false (name_view c.args.name.now)))))
-
-pub evaluate_builtin_function-loop-argument-preserved : goal.evaluate_builtin_function-loop-argument-preserved
-evaluate_builtin_function-loop-argument-preserved g t c =
-    let self = c.args.self.now in
-    let here = c.len.ensures ∙ (c.loop-argument.values.ok.0 ∙ c.loop-argument.invariant.count) in
-    let function = c.in-Some.function in
-    let made = c.loop-argument.values.items in
-    let value = c.in_ok-value.value in
-    let len : c.len.result ≡ length made = c.len.ensures ∙ c.loop-argument.values.ok.0 in
-    record {
-      count = rw c.in_ok-push.ensures.items (grind (arith, common_steps));
-      texts = rw c.in_ok-push.ensures.items (more_texts function made value c.loop-argument.invariant.texts (subst (λ i. is_text function i ≡ true → length value ≡ 1) len (c.takes.ensures.text c.if-not-takes.false)));
-      rest = rw c.in_ok-push.ensures.items (row_next _ self c.args.host.now (texts_of c.in-Some.function (name_view c.args.name.now)) c.args.arguments.now c.loop-argument.argument-index c.argument-item.result c.loop-argument-test.true c.argument-item.is c.loop-argument.values.items c.loop-argument.invariant.rest value
-          (looked_at _ (texts_of c.in-Some.function (name_view c.args.name.now)) _ _ value _ here c.in_ok-value.ensures (c.takes.ensures.given c.if-not-takes.false (name_view c.args.name.now))));
-    }
-
-pub evaluate_builtin_function-call_builtin_function-requires-clause-named : goal.evaluate_builtin_function-call_builtin_function-requires-clause-named
-evaluate_builtin_function-call_builtin_function-requires-clause-named g t c =
-    (is_reached (name_view c.args.name.now) _ c.in-Some.function (sym c.in-Some.ensures)).0
-
-pub evaluate_builtin_function-returns : goal.evaluate_builtin_function-returns
-evaluate_builtin_function-returns g t c =
-    let self = c.args.self.now in
-    builtin_runs (program self) (name_view c.args.name.now) (situation self) _ (row self c.args.arguments.now) c.in-Some.function (sym c.in-Some.ensures) (deeper self) c.loop-argument.values.items _
-    (row_all _ self c.args.host.now (texts_of c.in-Some.function (name_view c.args.name.now)) c.args.arguments.now c.loop-argument.argument-index c.loop-argument.values.items c.loop-argument-test.false c.loop-argument.invariant.rest) c.call_builtin_function.ensures

@@ -3,11 +3,11 @@ use Rattle.just_syntax.specs.declared.expression.Expression.{Expression, size-Ex
 use Rattle.just_syntax.specs.Plain.{Text}
 use Rattle.just_syntax.specs.View.{name_view}
 use Rattle.just_value.specs.Value.{Value}
-use Rattle.just_builtins.specs.Argument.{HasTexts}
-use Rattle.just_meaning.specs.Meaning.{as_it_is, flatten, texts_of}
-use Rattle.just_expression.proofs.Measure.{calls_room, room}
+use Rattle.just_meaning.specs.Meaning.{as_it_is, flatten}
+use Rattle.just_forms.specs.Call.{look, reached_view, wants_text}
+use Rattle.just_expression.proofs.Measure.{calls_room, functions_of, room}
 use Rattle.just_expression.proofs.Rows.{PiecesLeft, RowLeft}
-use Rattle.just_expression.specs.View.{functions_of}
+use Rattle.just_expression.proofs.Texts.{AreTexts}
 use Rattle.just_expression.proofs.evaluator.ExpressionEvaluator.+evaluate.Given as goal
 
 abbrev size_of : Option (Bor Expression) → ℕ
@@ -16,77 +16,64 @@ size_of (Some e) = size-Expression e.now
 
 -- the size of what is left, and one more where there are several parts, or two
 abbrev pub decreases-evaluate_value : goal.decreases-evaluate_value
-decreases-evaluate_value g l = calls_room l.self.now + (4 * size-Expression l.expression.now)
+decreases-evaluate_value g l = calls_room l.self.now + (2 * size-Expression l.expression.now)
 
 abbrev pub decreases-evaluate_and : goal.decreases-evaluate_and
-decreases-evaluate_and g l = calls_room l.self.now + (suc (4 * max (size-Expression l.lhs.now) (size-Expression l.rhs.now)))
+decreases-evaluate_and g l = calls_room l.self.now + (suc (2 * max (size-Expression l.lhs.now) (size-Expression l.rhs.now)))
 
 abbrev pub decreases-evaluate_assert : goal.decreases-evaluate_assert
-decreases-evaluate_assert g l = calls_room l.self.now + (suc (4 * max (size-Expression l.condition.now) (size_of l.message)))
+decreases-evaluate_assert g l = calls_room l.self.now + (suc (2 * max (size-Expression l.condition.now) (size_of l.message)))
 
 abbrev pub decreases-evaluate_group : goal.decreases-evaluate_group
-decreases-evaluate_group g l = calls_room l.self.now + (suc (4 * size-Expression l.contents.now))
+decreases-evaluate_group g l = calls_room l.self.now + (suc (2 * size-Expression l.contents.now))
 
 abbrev pub decreases-evaluate_call : goal.decreases-evaluate_call
-decreases-evaluate_call g l = calls_room l.self.now + suc (suc (suc (4 * goal.size-evaluate_call g l)))
-
-abbrev pub decreases-evaluate_defined_function : goal.decreases-evaluate_defined_function
-decreases-evaluate_defined_function g l = calls_room l.self.now + suc (suc (4 * goal.size-evaluate_defined_function g l))
+decreases-evaluate_call g l = calls_room l.self.now + suc (2 * goal.size-evaluate_call g l)
 
 -- a body, with one further call fewer
 abbrev pub decreases-evaluate_body : goal.decreases-evaluate_body
-decreases-evaluate_body g l = room l.calls_left (functions_of l.self.now.context) + suc (4 * size-Expression l.function.now.body)
-
-abbrev pub decreases-evaluate_builtin_function : goal.decreases-evaluate_builtin_function
-decreases-evaluate_builtin_function g l = calls_room l.self.now + suc (suc (4 * goal.size-evaluate_builtin_function g l))
+decreases-evaluate_body g l = room l.calls_left (functions_of l.self.now.context) + suc (2 * size-Expression l.function.now.body)
 
 abbrev pub decreases-evaluate_comparison : goal.decreases-evaluate_comparison
-decreases-evaluate_comparison g l = calls_room l.self.now + (suc (4 * max (size-Expression l.lhs.now) (size-Expression l.rhs.now)))
+decreases-evaluate_comparison g l = calls_room l.self.now + (suc (2 * max (size-Expression l.lhs.now) (size-Expression l.rhs.now)))
 
 abbrev pub decreases-evaluate_concatenation : goal.decreases-evaluate_concatenation
-decreases-evaluate_concatenation g l = calls_room l.self.now + (suc (4 * max (size-Expression l.lhs.now) (size-Expression l.rhs.now)))
+decreases-evaluate_concatenation g l = calls_room l.self.now + (suc (2 * max (size-Expression l.lhs.now) (size-Expression l.rhs.now)))
 
 abbrev pub decreases-evaluate_conditional : goal.decreases-evaluate_conditional
-decreases-evaluate_conditional g l = calls_room l.self.now + (suc (4 * max (max (size-Expression l.condition.now) (size-Expression l.consequence.now)) (size_of l.otherwise)))
+decreases-evaluate_conditional g l = calls_room l.self.now + (suc (2 * max (max (size-Expression l.condition.now) (size-Expression l.consequence.now)) (size_of l.otherwise)))
 
 abbrev pub decreases-evaluate_format_string : goal.decreases-evaluate_format_string
-decreases-evaluate_format_string g l = calls_room l.self.now + (suc (4 * goal.size-evaluate_format_string g l))
+decreases-evaluate_format_string g l = calls_room l.self.now + (suc (2 * goal.size-evaluate_format_string g l))
 
 abbrev pub decreases-evaluate_join : goal.decreases-evaluate_join
-decreases-evaluate_join g l = calls_room l.self.now + suc (4 * max (size-Expression l.lhs.now) (size-Expression l.rhs.now))
+decreases-evaluate_join g l = calls_room l.self.now + suc (2 * max (size-Expression l.lhs.now) (size-Expression l.rhs.now))
 
 abbrev pub decreases-evaluate_root : goal.decreases-evaluate_root
-decreases-evaluate_root g l = calls_room l.self.now + suc (4 * size-Expression l.rhs.now)
+decreases-evaluate_root g l = calls_room l.self.now + suc (2 * size-Expression l.rhs.now)
 
 abbrev pub decreases-evaluate_list : goal.decreases-evaluate_list
-decreases-evaluate_list g l = calls_room l.self.now + (suc (4 * goal.size-evaluate_list g l))
+decreases-evaluate_list g l = calls_room l.self.now + (suc (2 * goal.size-evaluate_list g l))
 
 abbrev pub decreases-evaluate_list_concatenation : goal.decreases-evaluate_list_concatenation
-decreases-evaluate_list_concatenation g l = calls_room l.self.now + (suc (4 * max (size-Expression l.lhs.now) (size-Expression l.rhs.now)))
+decreases-evaluate_list_concatenation g l = calls_room l.self.now + (suc (2 * max (size-Expression l.lhs.now) (size-Expression l.rhs.now)))
 
 abbrev pub decreases-evaluate_not : goal.decreases-evaluate_not
-decreases-evaluate_not g l = calls_room l.self.now + (suc (4 * size-Expression l.operand.now))
+decreases-evaluate_not g l = calls_room l.self.now + (suc (2 * size-Expression l.operand.now))
 
 abbrev pub decreases-evaluate_or : goal.decreases-evaluate_or
-decreases-evaluate_or g l = calls_room l.self.now + (suc (4 * max (size-Expression l.lhs.now) (size-Expression l.rhs.now)))
+decreases-evaluate_or g l = calls_room l.self.now + (suc (2 * max (size-Expression l.lhs.now) (size-Expression l.rhs.now)))
 
 -- the elements of the values so far
 abbrev pub invariant-evaluate_list-loop-element : goal.invariant-evaluate_list-loop-element
 invariant-evaluate_list-loop-element g l = (made : List Value) × (l.all ≡ flatten made) × RowLeft g.H.Host.step l.self l.fn.host as_it_is l.elements l.element-index l.host made
 
--- the values of the arguments so far
-abbrev pub invariant-evaluate_defined_function-loop-argument : goal.invariant-evaluate_defined_function-loop-argument
-invariant-evaluate_defined_function-loop-argument g l = record {
+-- the values of the arguments so far, of which each is a text where one is wanted
+abbrev pub invariant-evaluate_call-loop-argument : goal.invariant-evaluate_call-loop-argument
+invariant-evaluate_call-loop-argument g l = record {
   count : length l.values.items ≡ l.argument-index;
-  rest : RowLeft g.H.Host.step l.self l.fn.host as_it_is l.arguments l.argument-index l.host l.values.items;
-}
-
--- the same, of which each is a text where one is wanted
-abbrev pub invariant-evaluate_builtin_function-loop-argument : goal.invariant-evaluate_builtin_function-loop-argument
-invariant-evaluate_builtin_function-loop-argument g l = record {
-  count : length l.values.items ≡ l.argument-index;
-  texts : HasTexts l.function l.values.items;
-  rest : RowLeft g.H.Host.step l.self l.fn.host (texts_of l.function (name_view l.name)) l.arguments l.argument-index l.host l.values.items;
+  texts : AreTexts (wants_text (reached_view l.callee)) l.values.items;
+  rest : RowLeft g.H.Host.step l.self l.fn.host (look (reached_view l.callee) (name_view l.name)) l.arguments l.argument-index l.host l.values.items;
 }
 
 -- the text behind the start so far
