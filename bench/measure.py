@@ -64,6 +64,12 @@ def assignments_in_a_row(n):
     return lines, "".join(f'a{i} = "x"\n' for i in range(n))
 
 
+def constants_in_a_row(n):
+    """The same before any run."""
+    lines, answer = assignments_in_a_row(n)
+    return lines[:-1] + ["const"], answer
+
+
 def commands_with_replies(n):
     """n assignments of commands, and as many replies."""
     lines = []
@@ -135,6 +141,7 @@ def calls_of_one_function(n):
 FAMILIES = [
     (chain_of_additions, 2_500),
     (assignments_in_a_row, 4_000),
+    (constants_in_a_row, 4_000),
     (commands_with_replies, 3_000),
     (commands_under_always, 4_000),
     (overrides, 3_000),
@@ -337,8 +344,15 @@ CASES = {
     "unevaluated": "var x\nassign a\nrun\n",
     "calls": "var n\ncmd c\nadd\nfun f n\nstr x\ncall f 1\nassign a\nstr y\ncall f 1\nassign b\nreply r\nreply s\nrun\n",
     "limit": "call f 0\nfun f\ncall f 0\nassign a\nlimit 3\nrun\n",
+    "constants": "str x\nassign a\ncmd c\nassign b\nvar b\nassign d\nvar a\nstr z\nadd\nassign e\noverride e 1\nonly a b d e\nconst\n",
+    "refused constant": "str a\nstr a\nne\nassert\nassign x\nconst\n",
+    "unevaluated constant": "var x\nassign a\nconst\n",
     "bad line": "str a\nassign a\nadd\n",
 }
+
+
+# what is printed where memory is wanted in a run, and before any
+WANTS = [b"refused 12 OutOfMemory", b"refused: OutOfMemory"]
 
 
 def is_told(run, whole):
@@ -349,7 +363,7 @@ def is_told(run, whole):
         return whole.output.startswith(run.output)
     *questions, last, end = run.output.split(b"\n")
     asked = whole.output.split(b"\n")[: len(questions)]
-    return run.status == 2 and last == b"refused 12 OutOfMemory" and end == b"" and questions == asked
+    return run.status == 2 and last in WANTS and end == b"" and questions == asked
 
 
 def measure_memory(program):

@@ -1,14 +1,21 @@
-// What is printed of a run.
+// What is printed of an evaluation.
 
 use just_builtins::directory::directory_word;
+use just_eval::evaluator::Evaluator;
 use just_host::fault::fault_text;
 use just_host::number_question::NumberQuestion;
 use just_script::recorded_question::{RecordedQuestion, TextKind};
+use just_syntax::assignment::Assignment;
+use just_syntax::name::Name;
+use just_syntax::number::Number;
 use just_syntax::out_of_memory::OutOfMemory;
+use just_syntax::table::Table;
+use just_value::compile_error::CompileError;
 use just_value::element::Element;
 use just_value::error::Error;
 use just_value::scope::Scope;
 use std::alloc::Global;
+use std::collections::HashSet;
 
 /// Adds the questions, each on a line: `?`, the kind, and what is asked for, its texts quoted.
 pub(crate) fn print_questions(
@@ -80,6 +87,56 @@ pub(crate) fn print_bindings(text: &mut String, scope: &Scope) -> Result<(), Out
         let name = binding.name;
         let value = &binding.value;
         writeln!(text, "{name} = {value}")?;
+    }
+    Ok(())
+}
+
+/// Adds the names of an order whose assignments are referenced, each on a line at its first place: the name, and its
+/// value or that it is open.
+pub(crate) fn print_settled(
+    alloc: Global,
+    text: &mut String,
+    assignments: &Table<Assignment>,
+    order: &[Name],
+    references: &HashSet<Number>,
+    evaluator: &Evaluator,
+) -> Result<(), OutOfMemory> {
+    let mut printed = HashSet::new(alloc);
+    for name in order {
+        let Some(assignment) = assignments.get(name.lexeme()) else {
+            continue;
+        };
+        let number = assignment.number;
+        if references.contains(&number) && printed.insert(number)? {
+            print_standing(text, name, number, evaluator)?;
+        }
+    }
+    Ok(())
+}
+
+// Adds a line on a variable: its name, and its value or that it is open.
+fn print_standing(
+    text: &mut String,
+    name: &Name,
+    number: Number,
+    evaluator: &Evaluator,
+) -> Result<(), OutOfMemory> {
+    if evaluator.is_open(number) {
+        writeln!(text, "{name} open")?;
+    } else if let Some(value) = evaluator.scope().value(number) {
+        writeln!(text, "{name} = {value}")?;
+    }
+    Ok(())
+}
+
+/// Adds a line on why assignments were refused before any run: what is said of it.
+pub(crate) fn print_const_refusal(
+    text: &mut String,
+    refusal: &CompileError,
+) -> Result<(), OutOfMemory> {
+    match refusal {
+        CompileError::ConstEval { error, .. } => writeln!(text, "refused: {error}")?,
+        CompileError::OutOfMemory => text.push_str("refused: OutOfMemory\n")?,
     }
     Ok(())
 }

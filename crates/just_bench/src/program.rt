@@ -4,18 +4,25 @@ ghost use Rattle.std.specs.Prelude.{◌≡◌, ◌<◌, ◌≤◌, IfOk, IfSome,
 ghost use Rattle.just_bench.specs.declared.stream.TheConstants.{LIMIT};
 
 use crate::context::{case_config, case_module, case_search};
-use crate::print::{print_bindings, print_questions, print_refusal};
+use crate::print::{
+    print_bindings, print_const_refusal, print_questions, print_refusal, print_settled,
+};
 use crate::stream::{StreamError, read_case, write_text};
 use just_case_lines::case::{Case, CaseError, build};
+use just_case_lines::evaluation::Evaluation;
 use just_case_lines::line::parse_lines;
 use just_eval::evaluator::Evaluator;
-use just_eval::resolved;
+use just_eval::{resolved, resolved_const};
 use just_script::recording_host::RecordingHost;
 use just_script::scripted_host::ScriptedHost;
+use just_syntax::assignment::Assignment;
+use just_syntax::number::Number;
 use just_syntax::out_of_memory::OutOfMemory;
+use just_syntax::table::Table;
 use just_value::error::{CommandFault, Error};
 use just_value::scope::Scope;
 use std::alloc::Global;
+use std::collections::HashSet;
 use std::io::{Read, Write};
 
 /// Reads a case, evaluates it, prints its answer, and gives the exit status: 0 for bindings, 2 for a refusal, 1
@@ -72,41 +79,96 @@ pub(crate) fn evaluate_in<'src>(
 ) -> Result<u8, OutOfMemory>
     ensures { IfOk result (λ status. status ≤ 2) }
 {
-    let Case {
-        assignments,
-        evaluation_order,
-        functions,
-        overrides,
-        references,
-        dotenv,
-        always,
-        replies,
-        lists,
-        dry_run,
-        recursion_limit,
-    } = case;
-    let module = case_module(alloc, assignments, evaluation_order, functions, lists)?;
-    let config = case_config(alloc, dry_run)?;
+    match case.evaluation {
+        Evaluation::Run => evaluate_run(alloc, text, case, parent),
+        Evaluation::Const => evaluate_const(alloc, text, case, parent),
+    }
+}
+
+// Evaluates a case in a run.
+fn evaluate_run<'src>(
+    alloc: Global,
+    text: &mut String,
+    case: Case<'src>,
+    parent: &Scope<'src, '_>,
+) -> Result<u8, OutOfMemory>
+    ensures { IfOk result (λ status. status ≤ 2) }
+{
+    let order = case.evaluation_order;
+    let module = case_module(alloc, case.assignments, order, case.functions, case.lists)?;
+    let config = case_config(alloc, case.dry_run)?;
     let search = case_search(alloc)?;
-    let script = case_script(alloc, always, replies);
+    let script = case_script(alloc, case.always, case.replies);
     let mut host = RecordingHost::new(alloc, script);
-    if !resolved(alloc, &module, parent, references.as_ref())? {
+    if !resolved(alloc, &module, parent, case.references.as_ref())? {
         text.push_str("unresolved\n")?;
     }
     let outcome = Evaluator::evaluate_assignments(
         alloc,
         &mut host,
         &config,
-        &dotenv,
+        &case.dotenv,
         &module,
-        &overrides,
+        &case.overrides,
         parent,
         &search,
-        recursion_limit.max(1),
-        references.as_ref(),
+        case.recursion_limit.max(1),
+        case.references.as_ref(),
     );
     print_questions(text, host.questions())?;
     print_outcome(alloc, text, &outcome)
+}
+
+// Evaluates a case before any run, by the const rules. No host is there, and so nothing is asked.
+fn evaluate_const<'src>(
+    alloc: Global,
+    text: &mut String,
+    case: Case<'src>,
+    parent: &Scope<'src, '_>,
+) -> Result<u8, OutOfMemory>
+    ensures { IfOk result (λ status. status ≤ 2) }
+{
+    let assignments = case.assignments;
+    let order = case.evaluation_order;
+    let references = case_references(alloc, case.references, &assignments)?;
+    if !resolved_const(alloc, &assignments, &order, parent, &references)? {
+        text.push_str("unresolved\n")?;
+    }
+    let outcome = Evaluator::evaluate_const_assignments(
+        alloc,
+        &assignments,
+        &order,
+        &case.overrides,
+        parent,
+        &references,
+        case.lists,
+    );
+    match outcome {
+        Ok(evaluator) => {
+            print_settled(alloc, text, &assignments, &order, &references, &evaluator)?;
+            Ok(0)
+        }
+        Err(refusal) => {
+            print_const_refusal(text, &refusal)?;
+            Ok(2)
+        }
+    }
+}
+
+// The variables that a case references: those that it tells, or else all that it assigns.
+fn case_references(
+    alloc: Global,
+    told: Option<HashSet<Number>>,
+    assignments: &Table<Assignment>,
+) -> Result<HashSet<Number>, OutOfMemory> {
+    if let Some(references) = told {
+        return Ok(references);
+    }
+    let mut references = HashSet::new(alloc);
+    for assignment in assignments {
+        references.insert(assignment.number)?;
+    }
+    Ok(references)
 }
 
 // Adds the bindings or the refusal, and gives the exit status.

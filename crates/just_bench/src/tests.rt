@@ -1,6 +1,7 @@
 // Cases, streams that fail, and evaluations in a scope that binds something.
 
 mod cases;
+mod constants;
 mod evaluations;
 mod fakes;
 mod functions;

@@ -34,6 +34,7 @@ pub data Line : Type 0 where
   Dry : Line
   Limit : ℕ → Line
   Run : Line
+  Const : Line
 
 -- a line whose word has nothing behind it, and which puts expressions together
 abbrev pub operator_line : Text → Line
@@ -62,6 +63,7 @@ bare_line word =
     if bytes_eq word (codes "lists") then Lists else
     if bytes_eq word (codes "dry") then Dry else
     if bytes_eq word (codes "run") then Run else
+    if bytes_eq word (codes "const") then Const else
     operator_line word
 
 -- a line that has a name, or is bad without one

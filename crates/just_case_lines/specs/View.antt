@@ -28,3 +28,4 @@ line_view lines.Lists = plain.Lists
 line_view lines.Dry = plain.Dry
 line_view (lines.Limit limit) = plain.Limit limit
 line_view lines.Run = plain.Run
+line_view lines.Const = plain.Const

@@ -10,6 +10,7 @@ ghost use Rattle.just_case_lines.specs.References.{Refers};
 ghost use Rattle.just_case_lines.specs.Rest.{names};
 
 use crate::case::Case;
+use crate::evaluation::Evaluation;
 use crate::line::Line;
 use crate::line_error::LineError;
 use crate::numbering::Numbering;
@@ -56,6 +57,7 @@ impl<'src> Builder<'src> {
         ensures over { is_some result ≡ self.entry.is_over }
         ensures order { IfSome result (λ case. case.evaluation_order ≡ unwrap_or self.entry.order self.entry.case.evaluation_order) }
         ensures references { IfSome result (λ case. case.references ≡ self.entry.case.references) }
+        ensures evaluation { IfSome result (λ case. case.evaluation ≡ self.entry.case.evaluation) }
     {
         let Builder {
             mut case,
@@ -116,7 +118,8 @@ impl<'src> Builder<'src> {
                 self.case.recursion_limit = usize::from(*limit);
                 Ok(())
             }
-            Line::Run => self.end(),
+            Line::Run => self.end(Evaluation::Run),
+            Line::Const => self.end(Evaluation::Const),
             _ => Err(LineError::Bad),
         }
     }
@@ -250,8 +253,11 @@ impl<'src> Builder<'src> {
     }
 
     // Ends the case, if each expression is assigned.
-    fn end(&mut self) -> Result<(), LineError> {
+    fn end(&mut self, evaluation: Evaluation) -> Result<(), LineError>
+        ensures { self.new.case.evaluation ≡ evaluation }
+    {
         self.is_over = true;
+        self.case.evaluation = evaluation;
         if self.stack.is_empty() {
             Ok(())
         } else {

@@ -1,6 +1,7 @@
 // What a case describes.
 
 use crate::builder::Builder;
+use crate::evaluation::Evaluation;
 use crate::line::Line;
 use crate::line_error::LineError;
 use just_syntax::assignment::Assignment;
@@ -34,6 +35,8 @@ pub struct Case<'src> {
     pub dry_run: bool,
     /// How many calls may be pending, and one more.
     pub recursion_limit: usize,
+    /// Which of the two the case ends with, `run` or `const`.
+    pub evaluation: Evaluation,
 }
 
 impl<'src> Case<'src> {
@@ -51,6 +54,7 @@ impl<'src> Case<'src> {
             lists: false,
             dry_run: false,
             recursion_limit: RECURSION_LIMIT,
+            evaluation: Evaluation::Run,
         }
     }
 }
@@ -67,8 +71,8 @@ pub enum CaseError {
 ///
 /// # Errors
 ///
-/// `BadLine` with the place of the first bad line. A case that does not end with `run` is bad at the line
-/// after its last.
+/// `BadLine` with the place of the first bad line. A case that ends with neither `run` nor `const` is bad
+/// at the line after its last.
 pub fn build<'src>(alloc: Global, lines: &'src [Line<'src>]) -> Result<Case<'src>, CaseError> {
     let mut builder = Builder::new(alloc);
     for (index, line) in lines.iter().enumerate() {

@@ -3,6 +3,7 @@
 
 mod builder;
 pub mod case;
+pub mod evaluation;
 pub mod line;
 mod line_error;
 mod numbering;

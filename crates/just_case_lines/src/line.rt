@@ -60,6 +60,8 @@ pub enum Line<'case> {
     Limit { limit: u16 },
     /// `run`: the assignments are evaluated.
     Run,
+    /// `const`: the assignments are evaluated before any run.
+    Const,
 }
 
 /// The lines of a case. Each ends with a newline, which the last may lack.
@@ -278,6 +280,7 @@ fn bare_line<'case>(word: &str) -> Line<'case>
         "lists" => Line::Lists,
         "dry" => Line::Dry,
         "run" => Line::Run,
+        "const" => Line::Const,
         _ => operator_line(word),
     }
 }

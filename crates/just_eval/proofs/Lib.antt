@@ -1,2 +1,5 @@
 mod Module
+mod Stages
+mod Constants
+mod Assigned
 mod There

@@ -50,7 +50,7 @@ events_append [] cs = refl
 events_append (b ∷ bs) cs = ap (λ es. b.events ++ es) (events_append bs cs) ∙ sym (append_assoc b.events (events_of bs) (events_of cs))
 
 -- what is left begins with the item
-front : {X : Type 0} (seen : X → Token) (items : List X) (i : ℕ) (d : X) → i < length items → map seen (drop i items) ≡ seen (get_or items i d) ∷ map seen (drop (i + 1) items)
+pub front : {X Y : Type 0} (seen : X → Y) (items : List X) (i : ℕ) (d : X) → i < length items → map seen (drop i items) ≡ seen (get_or items i d) ∷ map seen (drop (i + 1) items)
 front seen items i d fits = ap (map seen) (drop-cons items i d fits) ∙ ap (λ j. seen (get_or items i d) ∷ map seen (drop j items)) (sym (add-one i))
 
 module _ {S : Type 0} {step : S → Question → Answer → S → Type 0} {closing : Closing} {m : Module} where

@@ -1,19 +1,23 @@
 // Evaluates the assignments of a module.
 
-ghost use Rattle.std.specs.Prelude.{[], Some, map, suc, ◌-◌, ◌<◌, ◌≡◌, ◌∷◌};
-ghost use Rattle.std.specs.Option.{is_some};
+ghost use Rattle.std.specs.Prelude.{[], IfErr, OnErr, Some, map, ◌<◌, ◌≡◌, ◌∷◌};
+ghost use Rattle.std.specs.Option.{ForSome, is_some};
 ghost use Rattle.just_syntax.specs.View.{assignment_view, name_view, view};
+ghost use Rattle.just_value.specs.ConstEval.{IsConstEval};
 ghost use Rattle.just_value.specs.Frames.{innermost};
-ghost use Rattle.just_value.specs.View.{bound_view, ended, frames_view};
-ghost use Rattle.just_host.specs.Interaction.{GoesByAnswers, Runs, freely};
-ghost use Rattle.just_meaning.specs.Closings.{dynamic};
-ghost use Rattle.just_meaning.specs.Internal.{IsNotInternal};
-ghost use Rattle.just_meaning.specs.Meaning.{eval};
+ghost use Rattle.just_value.specs.Outcome.{UnlessStopped};
+ghost use Rattle.just_value.specs.View.{bound_view, ended, frames_view, refusal};
+ghost use Rattle.just_host.specs.Interaction.{GoesByAnswers, Runs};
+ghost use Rattle.just_meaning.specs.Internal.{IfRefused, IsFinal, IsNotInternal};
 ghost use Rattle.just_meaning.specs.Module.{Ran, bound_of, dynamically, lexically, or_override, situation_at};
 ghost use Rattle.just_meaning.specs.Resolved.{IsResolved};
-ghost use Rattle.just_meaning.specs.View.{module_view, override_of, program_view, run_of};
-ghost use Rattle.just_expression.specs.View.{situation};
-ghost use Rattle.just_eval.specs.View.{IsAtStart};
+ghost use Rattle.just_meaning.specs.Stage.{const_value};
+ghost use Rattle.just_meaning.specs.View.{module_view, override_of, run_of};
+ghost use Rattle.just_expression.specs.View.{program, program_of, rules, situation};
+ghost use Rattle.just_eval.specs.View.{Assigned, IsAtStart, IsConst, IsSame, calls_left_of, exports, meaning, rules_of, standing_of};
+
+mod constants;
+mod sets;
 
 use just_expression::evaluator::ExpressionEvaluator;
 use just_forms::internal;
@@ -25,6 +29,7 @@ use just_host::search::Search;
 use just_resolution::references::is_referenced;
 use just_syntax::assignment::Assignment;
 use just_syntax::attribute_set::AttributeSet;
+use just_syntax::expression::Expression;
 use just_syntax::name::Name;
 use just_syntax::number::Number;
 use just_value::binding::Binding;
@@ -37,8 +42,10 @@ use std::collections::{BTreeMap, HashMap, HashSet};
 /// Evaluates the assignments of a module, one after another, in a scope of its own.
 #[derive(Drop)]
 pub struct Evaluator<'src, 'run> {
-    context: ExecutionContext<'src, 'run>,
+    // What stays the same in a run. Before any run there is none, and the const rules hold.
+    context: Option<ExecutionContext<'src, 'run>>,
     env: BTreeMap<String, String>,
+    lists: bool,
     non_const_assignments: HashSet<Number>,
     scope: Scope<'src, 'run>,
 }
@@ -76,7 +83,8 @@ impl<'src, 'run> Evaluator<'src, 'run> {
         ensures never_internal { let m = run_of config.entry dotenv.entry «module».entry overrides.entry parent.entry search.entry recursion_limit variable_references.entry in
             IsResolved m.program.functions m.assignments (frames_view parent.entry.now) → IsNotInternal (ended frames_view result) }
 
-        // On any module nothing but answered questions leads the host on.
+        // On any module it is not refused as constant evaluation is, and nothing but answered questions leads the host on.
+        ensures never_const { IfRefused IsFinal (ended frames_view result) }
         ensures answered { GoesByAnswers H.step host.old host.new }
     {
         let context = ExecutionContext {
@@ -109,45 +117,87 @@ impl<'src, 'run> Evaluator<'src, 'run> {
         ensures { Ran H.step host.old dynamically (module_view context.entry references.entry) ([] ∷ frames_view context.entry.scope.now) (map name_view names.entry.now) (ended frames_view result) host.new }
     {
         let mut evaluator = Evaluator {
-            context,
+            context: Some(context),
             env: BTreeMap::new(alloc),
+            lists: context.module.settings.lists,
             non_const_assignments: HashSet::new(alloc),
             scope: context.scope.child(alloc)?,
         };
         for name in names {
-            evaluator.evaluate_assignment(alloc, host, references, *name)?;
+            evaluator.evaluate_named(alloc, host, context, references, *name)?;
         }
         let Evaluator {
             context: _,
             env: _,
+            lists: _,
             non_const_assignments: _,
             scope,
         } = evaluator;
         Ok(scope)
     }
 
-    // Binds the value of the assignment with a name, if it is referenced and its number is not bound.
-    fn evaluate_assignment<H: Host>(
+    // Evaluates the assignment with a name, if it is referenced.
+    fn evaluate_named<H: Host>(
         &mut self,
         alloc: Global,
         host: &mut H,
+        context: ExecutionContext<'src, 'run>,
         references: Option<&HashSet<Number>>,
         name: Name<'src>,
     ) -> Result<(), Error<'src>>
         requires start { IsAtStart self.old }
-        ensures same { (self.new.context ≡ self.old.context) × IsAtStart self.new }
-        ensures ran { Ran H.step host.old dynamically (module_view self.old.context references.entry) (frames_view self.old.scope) (name_view name.entry ∷ []) (ended (λ _. frames_view self.new.scope) result) host.new }
+        requires here { self.old.context ≡ Some context }
+        requires lists { self.old.lists ≡ context.module.now.settings.lists }
+        ensures same { IsSame self.old self.new × IsAtStart self.new }
+        ensures ran { Ran H.step host.old dynamically (module_view context.entry references.entry) (frames_view self.old.scope) (name_view name.entry ∷ []) (ended (λ _. frames_view self.new.scope) result) host.new }
     {
-        let Some(assignment) = self.context.module.assignments.get(name.lexeme()) else {
+        let Some(assignment) = context.module.assignments.get(name.lexeme()) else {
             return Err(internal::unknown_assignment(alloc, &name));
         };
         if !is_referenced(references, assignment.number) {
             return Ok(());
         }
+        self.evaluate_assignment(alloc, host, context.overrides, assignment)
+    }
+
+    /// The value of an expression before any run, with what is settled. The const rules hold, and the host is not asked.
+    ///
+    /// # Errors
+    ///
+    /// The first refusal: `Const` at the first call, command or open variable. `OutOfMemory` where memory was asked for
+    /// and refused.
+    pub fn evaluate_value<H: Host>(
+        &self,
+        alloc: Global,
+        host: &mut H,
+        expression: &Expression<'src>,
+    ) -> Result<Value, Error<'src>>
+        requires before_runs { IsConst self.now }
+        ensures constants { UnlessStopped (ended (λ v. v) result) (const_value (standing_of self.now) (view expression.now)) }
+        ensures few { IfErr result (λ e. ForSome (refusal e) IsConstEval) }
+        ensures still { host.new ≡ host.old }
+    {
+        self.evaluated(alloc, host, expression)
+    }
+
+    // Binds the value of an assignment, if its number is not bound.
+    fn evaluate_assignment<H: Host>(
+        &mut self,
+        alloc: Global,
+        host: &mut H,
+        overrides: &HashMap<Number, String>,
+        assignment: &Assignment<'src>,
+    ) -> Result<(), Error<'src>>
+        requires start { IsAtStart self.old }
+        ensures same { IsSame self.old self.new × IsAtStart self.new }
+        ensures kept { OnErr result (frames_view self.new.scope ≡ frames_view self.old.scope) }
+        ensures assigned { let a = assignment_view assignment.now in
+            Assigned (rules_of self.old) H.step host.old (or_override (override_of overrides.now a.number) (meaning self.old a.value)) (exports self.old) a (frames_view self.old.scope) (ended (λ _. frames_view self.new.scope) result) host.new }
+    {
         if self.is_bound(assignment.number) {
             return Ok(());
         }
-        let value = self.assigned_value(alloc, host, assignment)?;
+        let value = self.assigned_value(alloc, host, overrides, assignment)?;
         let binding = self.bound(alloc, assignment, value);
         self.scope.bind(binding)?;
         Ok(())
@@ -165,34 +215,45 @@ impl<'src, 'run> Evaluator<'src, 'run> {
         &self,
         alloc: Global,
         host: &mut H,
+        overrides: &HashMap<Number, String>,
         assignment: &Assignment<'src>,
     ) -> Result<Value, Error<'src>>
         requires start { IsAtStart self.now }
-        ensures { let p = program_view self.now.context in
-            let value = eval p (dynamic p (self.now.context.recursion_limit - 1)) (situation_at p (frames_view self.now.scope)) (view assignment.now.value) in
-            Runs freely H.step host.old (or_override (override_of self.now.context.overrides.now assignment.now.number) value) (ended (λ v. v) result) host.new }
+        ensures { Runs (rules_of self.now) H.step host.old (or_override (override_of overrides.now assignment.now.number) (meaning self.now (view assignment.now.value))) (ended (λ v. v) result) host.new }
     {
-        match self.context.overrides.get(&assignment.number) {
+        match overrides.get(&assignment.number) {
             Some(text) => Ok(Value::from_text(alloc, text)?),
-            None => self
-                .expressions()
-                .evaluate_value(alloc, host, &assignment.value),
+            None => self.evaluated(alloc, host, &assignment.value),
         }
+    }
+
+    // The value of an expression, with all that is bound so far.
+    fn evaluated<H: Host>(
+        &self,
+        alloc: Global,
+        host: &mut H,
+        expression: &Expression<'src>,
+    ) -> Result<Value, Error<'src>>
+        requires start { IsAtStart self.now }
+        ensures { Runs (rules_of self.now) H.step host.old (meaning self.now (view expression.now)) (ended (λ v. v) result) host.new }
+    {
+        self.expressions().evaluate_value(alloc, host, expression)
     }
 
     // Evaluates expressions with all that is bound so far. A called body's frame is put on that.
     fn expressions(&self) -> ExpressionEvaluator<'src, 'run, '_>
         requires start { IsAtStart self.now }
-        ensures context { result.context ≡ Some self.now.context }
-        ensures calls { result.calls_left ≡ self.now.context.recursion_limit - 1 }
-        ensures situation { situation result ≡ situation_at (program_view self.now.context) (frames_view self.now.scope) }
+        ensures rules { rules result ≡ rules_of self.now }
+        ensures program { program result ≡ program_of self.now.context }
+        ensures calls { result.calls_left ≡ calls_left_of self.now }
+        ensures situation { situation result ≡ situation_at self.now.lists (frames_view self.now.scope) }
     {
         ExpressionEvaluator {
-            context: Some(self.context),
-            calls_left: self.context.recursion_limit - 1,
+            context: self.context,
+            calls_left: self.calls_left(),
             env: &self.env,
             is_dependency: false,
-            lists: self.context.module.settings.lists,
+            lists: self.lists,
             non_const_assignments: &self.non_const_assignments,
             recipe: None,
             scope: &self.scope,
@@ -200,20 +261,41 @@ impl<'src, 'run> Evaluator<'src, 'run> {
         }
     }
 
-    // What is bound for an assignment.
+    // How many calls may be pending. Before any run none is entered.
+    fn calls_left(&self) -> usize
+        requires start { IsAtStart self.now }
+        ensures { result ≡ calls_left_of self.now }
+    {
+        match &self.context {
+            Some(context) => context.recursion_limit - 1,
+            None => 0,
+        }
+    }
+
+    // What is bound for an assignment. Before any run no setting exports all.
     fn bound(&self, alloc: Global, assignment: &Assignment<'src>, value: Value) -> Binding<'src>
-        ensures { bound_view result ≡ bound_of self.now.context.module.now.settings.export (assignment_view assignment.now) value }
+        ensures { bound_view result ≡ bound_of (exports self.now) (assignment_view assignment.now) value }
     {
         Binding {
             attributes: AttributeSet::new(alloc),
             eager: assignment.eager,
-            export: assignment.export || self.context.module.settings.export,
+            export: assignment.export || self.exports(),
             file_depth: 0,
             name: assignment.name,
             number: assignment.number,
             prelude: false,
             private: assignment.private,
             value,
+        }
+    }
+
+    // Whether a setting exports all.
+    fn exports(&self) -> bool
+        ensures { result ≡ exports self.now }
+    {
+        match &self.context {
+            Some(context) => context.module.settings.export,
+            None => false,
         }
     }
 }

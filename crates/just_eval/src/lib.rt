@@ -4,6 +4,8 @@
 #![tactic(auto)]
 
 pub mod evaluator;
+mod no_host;
 
 pub use just_laws::laws;
 pub use just_resolution::resolved::resolved;
+pub use just_resolution::resolved_const::resolved_const;

@@ -12,7 +12,7 @@ use just_syntax::out_of_memory::OutOfMemory;
 use just_value::error::Error;
 use std::alloc::Global;
 
-/// Of a variable with no number.
+/// The refusal of a variable with no number, or `OutOfMemory` where there was none for its message.
 #[inline(never)]
 pub fn unresolved<'src>(alloc: Global, name: &Name<'src>) -> Error<'src>
     ensures { Says (refusal result) (Internal (unresolved_text (name_view name.now).lexeme) (name_view name.now)) }
@@ -20,7 +20,7 @@ pub fn unresolved<'src>(alloc: Global, name: &Name<'src>) -> Error<'src>
     internal(name, unresolved_text(alloc, name.lexeme()))
 }
 
-/// Of a variable with no value.
+/// The refusal of a variable with no value, or `OutOfMemory`.
 #[inline(never)]
 pub fn unevaluated<'src>(alloc: Global, name: &Name<'src>) -> Error<'src>
     ensures { Says (refusal result) (Internal (unevaluated_text (name_view name.now).lexeme) (name_view name.now)) }
@@ -28,7 +28,7 @@ pub fn unevaluated<'src>(alloc: Global, name: &Name<'src>) -> Error<'src>
     internal(name, unevaluated_text(alloc, name.lexeme()))
 }
 
-/// Of a call of what is no function.
+/// The refusal of a call of what is no function, or `OutOfMemory`.
 #[inline(never)]
 pub fn unknown_function<'src>(alloc: Global, name: &Name<'src>) -> Error<'src>
     ensures { Says (refusal result) (Internal (unknown_function_text (name_view name.now).lexeme) (name_view name.now)) }
@@ -36,7 +36,7 @@ pub fn unknown_function<'src>(alloc: Global, name: &Name<'src>) -> Error<'src>
     internal(name, unknown_function_text(alloc, name.lexeme()))
 }
 
-/// Of a call with another number of arguments than the function takes.
+/// The refusal of a call with another number of arguments than the function takes, or `OutOfMemory`.
 #[inline(never)]
 pub fn miscounted<'src>(alloc: Global, name: &Name<'src>) -> Error<'src>
     ensures { Says (refusal result) (Internal (miscounted_text (name_view name.now).lexeme) (name_view name.now)) }
@@ -44,7 +44,7 @@ pub fn miscounted<'src>(alloc: Global, name: &Name<'src>) -> Error<'src>
     internal(name, miscounted_text(alloc, name.lexeme()))
 }
 
-/// Of a built-in function that has another shape than its tag.
+/// The refusal of a built-in function that has another shape than its tag, or `OutOfMemory`.
 #[inline(never)]
 pub fn shapeless<'src>(alloc: Global, name: &Name<'src>) -> Error<'src>
     ensures { Says (refusal result) (Internal (shapeless_text (name_view name.now).lexeme) (name_view name.now)) }
@@ -52,7 +52,7 @@ pub fn shapeless<'src>(alloc: Global, name: &Name<'src>) -> Error<'src>
     internal(name, shapeless_text(alloc, name.lexeme()))
 }
 
-/// Of a name in the order that is no assignment's.
+/// The refusal of a name in the order that is no assignment's, or `OutOfMemory`.
 #[inline(never)]
 pub fn unknown_assignment<'src>(alloc: Global, name: &Name<'src>) -> Error<'src>
     ensures { Says (refusal result) (Internal (unknown_assignment_text (name_view name.now).lexeme) (name_view name.now)) }

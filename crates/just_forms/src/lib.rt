@@ -9,4 +9,5 @@ pub mod command;
 pub mod form;
 pub mod internal;
 pub mod parameters;
+pub mod text;
 pub mod variable;

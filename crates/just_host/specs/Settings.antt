@@ -35,12 +35,12 @@ pub record Settings : Type 0 where
   pub no_exit_message : Bool
   pub positional_arguments : Bool
   pub quiet : Bool
-  pub script_interpreter : Option Interpreter
-  pub shell : Option Interpreter
+  pub script_interpreter : Option (Interpreter Text)
+  pub shell : Option (Interpreter Text)
   pub tempdir : Option Text
   pub unstable : Bool
   pub windows_powershell : Bool
-  pub windows_shell : Option Interpreter
+  pub windows_shell : Option (Interpreter Text)
   pub working_directory : Option Text
 
 -- what a module sets that sets nothing
@@ -84,9 +84,9 @@ default_shell_arguments = codes "-cu" ∷ []
 
 -- The command and the arguments that the program was called with, the one that is missing being the default; where it
 -- was called with neither, the shell that the module sets; else the default one.
-abbrev pub chosen : Option Text → Option (List Text) → Option Interpreter → Interpreter
+abbrev pub chosen : Option Text → Option (List Text) → Option (Interpreter Text) → Interpreter Text
 chosen None None (Some shell) = shell
 chosen command arguments _ = record { command = unwrap_or command default_shell; arguments = unwrap_or arguments default_shell_arguments }
 
-abbrev pub shell_of : Settings → Config → Interpreter
+abbrev pub shell_of : Settings → Config → Interpreter Text
 shell_of s c = chosen c.shell c.shell_args s.shell

@@ -34,7 +34,7 @@ abbrev pub config_view : Config → plain.Config
 config_view c = record { dry_run = c.dry_run; invocation_directory = string_bytes c.invocation_directory; jobs = c.jobs; quiet = c.quiet; shell = option_map string_bytes c.shell; shell_args = option_map (λ words. map string_bytes words.items) c.shell_args; shell_command = c.shell_command }
 
 -- a shell and its arguments, lent
-abbrev pub shell_view : {A : Type 0} → Bor Text × Vec (Bor Text) A → Interpreter
+abbrev pub shell_view : {A : Type 0} → Bor Text × Vec (Bor Text) A → Interpreter Text
 shell_view shell = record { command = shell.0.now; arguments = map (λ word. word.now) shell.1.items }
 
 abbrev pub settings_view : Settings → plain.Settings

@@ -212,13 +212,13 @@ module _ (m : Module) (outer : Frames) (resolved : IsResolved m.program.function
       ((n : ℕ) → Reads m.program.functions a.value n → IsOneOf taken n ⊎ HasValue (value_in outer) n) → IsNeverInternal (assigned lexically m (frame ∷ outer) a)
   assigned_never frame taken a have known reads =
       override_never (m.overrides a.number) _
-      (eval_never m.program (lexically m (frame ∷ outer)) (situation_at m.program (frame ∷ outer)) (Reaches m.program.functions a.value) sound a.value (λ x h. of_mention x h (known x h)))
+      (eval_never m.program (lexically m (frame ∷ outer)) (situation_at m.program.fixed.settings.lists (frame ∷ outer)) (Reaches m.program.functions a.value) sound a.value (λ x h. of_mention x h (known x h)))
     where
-      sound : IsSound (Reaches m.program.functions a.value) m.program.functions (situation_at m.program (frame ∷ outer)) (lexically m (frame ∷ outer))
+      sound : IsSound (Reaches m.program.functions a.value) m.program.functions (situation_at m.program.fixed.settings.lists (frame ∷ outer)) (lexically m (frame ∷ outer))
       sound = lexical_sound m.program (value_in (frame ∷ outer)) (Reaches m.program.functions a.value) resolved.bodies
           (λ name further f n reached found stands. reaches_on m.program.functions f n reached found stands)
           (λ name f n reached found stands beyond. have n (reads n (inr (record { name = name; function = f; reached = reached; found = found; stands = stands; beyond = beyond }))))
-          (m.limit - 1) (situation_at m.program (frame ∷ outer))
+          (m.limit - 1) (situation_at m.program.fixed.settings.lists (frame ∷ outer))
 
       of_mention : (x : Mention) → Stands a.value x → IsKnown m.program.functions x → Holds (Reaches m.program.functions a.value) m.program.functions (value_in (frame ∷ outer)) x
       of_mention (VariableOf None) h is = is

@@ -166,7 +166,7 @@ module _ (functions : List Function) (assignments : Assignments) (outer : Frames
 
 module _ (m : Module) where
   assigned_same : (frames : Frames) (a : Assignment) → IsApart m.program.functions a.value → assigned dynamically m frames a ≡ assigned lexically m frames a
-  assigned_same frames a apart = ap (or_override (m.overrides a.number)) (dynamic_is_lexical m.program _ (situation_at m.program frames) a.value apart)
+  assigned_same frames a apart = ap (or_override (m.overrides a.number)) (dynamic_is_lexical m.program _ (situation_at m.program.fixed.settings.lists frames) a.value apart)
 
   run_lexical : {frames : Frames} {left : List Token} {bs : List Block} {o : Outcome Frames} → AreApart m.program.functions m.assignments left → Run dynamically m frames left bs o → Run lexically m frames left bs o
   run_lexical h Finished = Finished

@@ -5,3 +5,6 @@ pub mod Reached
 pub mod Alike
 pub mod Lexical
 pub mod Internal
+pub mod Constants
+pub mod ConstInternal
+pub mod Final

@@ -1,8 +1,9 @@
 -- What is constant: the rules of evaluation where no command may be run and no function be called.
-use Rattle.std.specs.Prelude.{ℕ, Bool, false, [], Some, None, if◌then◌else◌}
+use Rattle.std.specs.Prelude.{ℕ, Bool, false, [], Option, Some, None, if◌then◌else◌}
 use Rattle.just_value.specs.ConstRefusal.{Backtick, FunctionCall, Variable}
-use Rattle.just_value.specs.Refusal.{Const}
-use Rattle.just_host.specs.Interaction.{Rules, Read, Entered, Command}
+use Rattle.just_value.specs.Refusal.{Refusal, Const}
+use Rattle.just_value.specs.Outcome.{Outcome, Refused, Stopped}
+use Rattle.just_host.specs.Interaction.{Rules, Read, Entered, Command, Tree, done, ask, note}
 use Rattle.just_host.specs.Settings.{unset}
 use Rattle.just_meaning.specs.Meaning.{Program}
 
@@ -11,6 +12,16 @@ abbrev pub constantly : (ℕ → Bool) → Rules
 constantly is_open (Read t n) = if is_open n then Some (Const (Variable t)) else None
 constantly is_open (Entered t) = Some (Const (FunctionCall t))
 constantly is_open (Command t) = Some (Const (Backtick t))
+
+abbrev pub unless_refused : {A : Type 0} → Option Refusal → Outcome A → Outcome A
+unless_refused (Some r) o = Refused r
+unless_refused None o = o
+
+-- What a tree comes to by these rules. They refuse whatever asks, so that no question is reached.
+abbrev pub constant : {A : Type 0} → (ℕ → Bool) → Tree A → Outcome A
+constant is_open (done o) = o
+constant is_open (ask q next) = Stopped
+constant is_open (note x rest) = unless_refused (constantly is_open x) (constant is_open rest)
 
 -- The program that constants are evaluated in. By these rules nothing looks at it.
 abbrev pub nowhere : Program

@@ -3,9 +3,11 @@ pub mod Callee
 pub mod Assignments
 pub mod Resolved
 pub mod Messages
+pub mod Internal
 pub mod Meaning
 pub mod Closings
 pub mod Constant
 pub mod Module
-pub mod Internal
+pub mod Stage
+pub mod Settings
 pub mod View

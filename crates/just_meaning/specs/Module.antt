@@ -20,8 +20,8 @@ pub record Module : Type 0 where
   pub overrides : ℕ → Option Text
 
 -- an assignment reads what is bound so far; a called body's frame is put on all of it
-abbrev pub situation_at : Program → Frames → Situation
-situation_at c frames = record { names = value_in frames; environment = []; recipe = None; is_dependency = false; lists = c.fixed.settings.lists; shown = frames; below = frames }
+abbrev pub situation_at : Bool → Frames → Situation
+situation_at lists frames = record { names = value_in frames; environment = []; recipe = None; is_dependency = false; lists = lists; shown = frames; below = frames }
 
 -- what is bound for an assignment
 abbrev pub bound_of : Bool → Assignment → Value → Bound
@@ -46,7 +46,7 @@ dynamically m frames = dynamic m.program (m.limit - 1)
 
 -- the value of an assignment, from the frames so far
 abbrev pub assigned : Closing → Module → Frames → Assignment → Tree Value
-assigned closing m frames a = or_override (m.overrides a.number) (eval m.program (closing m frames) (situation_at m.program frames) a.value)
+assigned closing m frames a = or_override (m.overrides a.number) (eval m.program (closing m frames) (situation_at m.program.fixed.settings.lists frames) a.value)
 
 -- one assignment that was evaluated: its number, its events, and how it ended
 pub record Block : Type 0 where

@@ -62,3 +62,21 @@ pub record IsResolved (functions : List Function) (assignments : Assignments) (o
   pub bodies : AllKnown functions (map (λ f. f.body) functions)
   pub named : AreAssignments assignments assignments.order
   pub in_order : AreInOrder functions assignments outer [] assignments.order
+
+-- ---- const stages
+
+-- each variable in an expression has a number; nothing is asked of the names that are called
+abbrev pub IsNumbered : Expr → Type 0
+IsNumbered e = Stands e (VariableOf None) → ⊥
+
+abbrev pub AllNumbered : List Expr → Type 0
+AllNumbered [] = Unit {0}
+AllNumbered (e ∷ es) = IsNumbered e × AllNumbered es
+
+-- The same before any run, where no function is entered: the numbers of assignments are distinct, every variable has a
+-- number, the order names assignments alone, and what stands in an assignment is taken before it.
+pub record IsResolvedConst (assignments : Assignments) (outer : Frames) : Type 0 where
+  pub distinct : AreDistinct (map (λ a. a.number) assignments.all)
+  pub values : AllNumbered (map (λ a. a.value) assignments.all)
+  pub named : AreAssignments assignments assignments.order
+  pub in_order : AreInOrder [] assignments outer [] assignments.order

@@ -13,6 +13,8 @@ use Rattle.std.specs.declared.hash.BuildHasherDefault.{BuildHasherDefault}
 use Rattle.std.specs.declared.string.String.{String}
 use Rattle.just_syntax.specs.Plain.{Text, Function}
 use Rattle.just_syntax.specs.View.{assignment_view, function_view, name_view}
+use Rattle.just_syntax.specs.declared.assignment.Assignment.{Assignment}
+use Rattle.just_syntax.specs.declared.name.Name.{Name}
 use Rattle.just_value.specs.declared.scope.Scope.{Scope}
 use Rattle.just_host.specs.declared.config.Config.{Config}
 use Rattle.just_host.specs.declared.execution_context.ExecutionContext.{ExecutionContext}
@@ -22,6 +24,7 @@ use Rattle.just_host.specs.View.{fixed_view}
 use Rattle.just_meaning.specs.Assignments.{Assignments}
 use Rattle.just_meaning.specs.Meaning.{Program}
 use Rattle.just_meaning.specs.Module.{Module}
+use Rattle.just_meaning.specs.Stage.{Constants}
 
 -- the functions that a module's file defines
 abbrev pub functions_view : Justfile → List Function
@@ -32,9 +35,13 @@ abbrev pub is_referenced_in : {S : Type 0} → Option (Bor (HashSet ℕ S)) → 
 is_referenced_in None n = true
 is_referenced_in (Some set) n = list_any (nat_eq n) set.now.keys
 
+-- assignments in an order, where these variables are referenced
+abbrev pub ordered_view : {S : Type 0} → List Assignment → List Name → Option (Bor (HashSet ℕ S)) → Assignments
+ordered_view assignments order references = record { all = map assignment_view assignments; order = map name_view order; referenced = is_referenced_in references }
+
 -- the assignments of a module, where these variables are referenced
 abbrev pub assignments_view : {S : Type 0} → Justfile → Option (Bor (HashSet ℕ S)) → Assignments
-assignments_view justfile references = record { all = map assignment_view justfile.assignments; order = map name_view justfile.evaluation_order.items; referenced = is_referenced_in references }
+assignments_view justfile references = ordered_view justfile.assignments justfile.evaluation_order.items references
 
 abbrev pub program_view : ExecutionContext → Program
 program_view c = record { fixed = fixed_view c; functions = functions_view c.module.now }
@@ -55,3 +62,10 @@ module_view c references = record {
 abbrev pub run_of : {S : Type 0} → Bor Config → Bor (BTreeMap (String Global) (String Global)) → Bor Justfile → Bor (HashMap ℕ (String Global) (BuildHasherDefault FoldHasher)) → Bor Scope → Bor Search → ℕ → Option (Bor (HashSet ℕ S)) → Module
 run_of config dotenv justfile overrides parent search limit references =
     module_view (record { config = config; dotenv = dotenv; «module» = justfile; overrides = overrides; recursion_limit = limit; scope = parent; search = search }) references
+
+-- what a const stage is given, by the arguments of its call
+abbrev pub constants_of : {A S T : Type 0} → List Assignment → List Name → HashMap ℕ (String A) S → HashSet ℕ T → Constants
+constants_of assignments order overrides references = record {
+  assignments = record { all = map assignment_view assignments; order = map name_view order; referenced = λ n. list_any (nat_eq n) references.keys };
+  overrides = override_of overrides;
+}

@@ -8,7 +8,7 @@ use Rattle.just_meaning.specs.Callee.{accepts, callee}
 use Rattle.just_resolution.specs.Mentions.{Mentions, nothing, with_call, with_variable, mentions, mentions_of_row, mentions_of_pieces, called_names}
 use Rattle.just_meaning.proofs.Callees.{callable}
 use Rattle.just_meaning.specs.Reaches.{Mention, VariableOf, CallOf, Stands, StandsIn, StandsInPieces}
-use Rattle.just_meaning.specs.Resolved.{IsKnown}
+use Rattle.just_meaning.specs.Resolved.{IsKnown, IsNumbered}
 
 -- ---- what is in a list
 
@@ -132,6 +132,21 @@ known_decided functions e ms is =
     known : ((number : Option ℕ) → IsIn ms.variables number → IsKnown functions (VariableOf number)) → ((name : Text) (n : ℕ) → IsIn ms.calls (name, n) → IsKnown functions (CallOf name n)) → (x : Mention) → Mentioned ms x → IsKnown functions x
     known variables calls (VariableOf number) m = variables number m
     known variables calls (CallOf name n) m = calls name n m
+
+-- ---- what has a number
+
+some_unless_none : (number : Option ℕ) → (number ≡ None → ⊥) → IsTrue (is_some number)
+some_unless_none None not_none = absurd (not_none refl)
+some_unless_none (Some n) not_none = refl
+
+-- the variables that were gathered decide
+pub numbered_decided : (e : Expr) (ms : Mentions) → ms ≡ mentions nothing e → IsTrue (list_all is_some ms.variables) ↔ IsNumbered e
+numbered_decided e ms is =
+    let variables = all_in is_some ms.variables in
+    let without = mentioned e ms is (VariableOf None) in (
+      (λ h s. let bad : false ≡ true = variables.0 h None (without.1 s) in cc),
+      (λ k. variables.1 (λ number m. some_unless_none number (λ none. k (without.0 (subst (IsIn ms.variables) none m))))),
+    )
 
 -- ---- what is read, and what is called
 

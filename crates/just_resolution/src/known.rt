@@ -5,7 +5,7 @@ ghost use Rattle.std.specs.List.{list_all};
 ghost use Rattle.just_syntax.specs.View.{assignment_view, function_view, view};
 ghost use Rattle.just_meaning.specs.Callee.{accepts, callee, undefined};
 ghost use Rattle.just_meaning.specs.Reaches.{Mention, Stands};
-ghost use Rattle.just_meaning.specs.Resolved.{AllKnown, IsKnown};
+ghost use Rattle.just_meaning.specs.Resolved.{AllKnown, AllNumbered, IsKnown, IsNumbered};
 
 use crate::mentions::mentions_in;
 use just_builtins::function::{get, is_left_out};
@@ -84,6 +84,29 @@ pub(crate) fn are_values_known(
 {
     for assignment in assignments {
         if !is_expression_known(alloc, functions, &assignment.value)? {
+            return Ok(false);
+        }
+    }
+    Ok(true)
+}
+
+// Whether each variable in an expression has a number.
+fn is_expression_numbered(alloc: Global, expression: &Expression) -> Result<bool, OutOfMemory>
+    ensures { IfOk result (λ answer. IsTrue answer ↔ IsNumbered (view expression.now)) }
+{
+    let mentions = mentions_in(alloc, expression)?;
+    Ok(are_numbered(&mentions.variables))
+}
+
+// Whether each variable in the values of assignments has a number.
+pub(crate) fn are_values_numbered(
+    alloc: Global,
+    assignments: &Table<Assignment>,
+) -> Result<bool, OutOfMemory>
+    ensures { IfOk result (λ answer. IsTrue answer ↔ AllNumbered (map (λ a. a.value) (map assignment_view assignments.now))) }
+{
+    for assignment in assignments {
+        if !is_expression_numbered(alloc, &assignment.value)? {
             return Ok(false);
         }
     }

@@ -1,6 +1,6 @@
-// The exact test whether a module is resolved: whether each name means one thing, and all is evaluated before it is
-// read. It leans on the definitions of `just_meaning` and on what lies below them, and never on the laws of evaluation
-// nor on the evaluator: what it decides is settled by the definitions alone.
+// The exact tests whether a module, or its assignments before any run, are resolved: whether each name means one thing,
+// and all is evaluated before it is read. They lean on the definitions of `just_meaning` and on what lies below them,
+// and never on the laws of evaluation nor on the evaluator: what they decide is settled by the definitions alone.
 #![tactic(auto)]
 
 mod admitted;
@@ -11,3 +11,4 @@ mod order;
 mod readable;
 pub mod references;
 pub mod resolved;
+pub mod resolved_const;

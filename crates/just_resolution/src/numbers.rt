@@ -38,7 +38,7 @@ pub(crate) fn are_numbers_apart(
 }
 
 // The numbers of assignments.
-fn assignment_numbers(
+pub(crate) fn assignment_numbers(
     alloc: Global,
     assignments: &Table<Assignment>,
 ) -> Result<Vec<Number>, OutOfMemory>
@@ -75,7 +75,7 @@ fn add_numbers(numbers: &mut Vec<Number>, parameters: &[(Name, Number)]) -> Resu
 }
 
 // Whether no number stands there twice.
-fn are_distinct(alloc: Global, numbers: &[Number]) -> Result<bool, OutOfMemory>
+pub(crate) fn are_distinct(alloc: Global, numbers: &[Number]) -> Result<bool, OutOfMemory>
     ensures { IfOk result (λ answer. IsTrue answer ↔ AreDistinct numbers.now) }
 {
     let mut seen = BTreeSet::new(alloc);

@@ -6,12 +6,11 @@ ghost use Rattle.just_value.specs.View.{frames_view};
 ghost use Rattle.just_resolution.specs.Admitted.{IsAdmitted, IsNumberOf, IsTakenBy, MayFollow, ReadsReadable};
 ghost use Rattle.just_meaning.specs.Resolved.{AreAssignments, AreDistinct, AreInOrder};
 ghost use Rattle.just_resolution.specs.Seen.{is_name_in, is_readable, is_taken};
-ghost use Rattle.just_meaning.specs.View.{assignments_view, functions_view};
+ghost use Rattle.just_meaning.specs.View.{ordered_view};
 
 use crate::admitted::reads_readable;
 use crate::readable::Readable;
 use crate::references::is_referenced;
-use just_host::justfile::Justfile;
 use just_syntax::assignment::Assignment;
 use just_syntax::function_definition::FunctionDefinition;
 use just_syntax::name::Name;
@@ -25,20 +24,23 @@ use std::collections::{BTreeSet, HashSet};
 // Whether the order names assignments alone, and what each reads is taken earlier or bound outside.
 pub(crate) fn is_in_order<'src>(
     alloc: Global,
-    module: &Justfile<'src>,
-    parent: &Scope<'src, '_>,
+    functions: &Table<FunctionDefinition<'src>>,
+    assignments: &Table<Assignment<'src>>,
+    evaluation_order: &[Name<'src>],
+    outer: &Scope<'src, '_>,
     variable_references: Option<&HashSet<Number>>,
 ) -> Result<bool, OutOfMemory>
-    requires distinct { AreDistinct (map (λ a. a.number) (map assignment_view «module».now.assignments)) }
-    ensures { let functions = functions_view «module».now in let assignments = assignments_view «module».now variable_references.entry in
-        IfOk result (λ answer. IsTrue answer ↔ (AreAssignments assignments assignments.order × AreInOrder functions assignments (frames_view parent.now) [] assignments.order)) }
+    requires distinct { AreDistinct (map (λ a. a.number) (map assignment_view assignments.now)) }
+    ensures { let ordered = ordered_view assignments.now evaluation_order.now variable_references.entry in
+        IfOk result (λ answer. IsTrue answer ↔ (AreAssignments ordered ordered.order × AreInOrder (map function_view functions.now) ordered (frames_view outer.now) [] ordered.order)) }
 {
-    let mut readable = Readable::new(alloc, parent);
+    let mut readable = Readable::new(alloc, outer);
     let mut admitted = BTreeSet::new(alloc);
-    for name in &module.evaluation_order {
+    for name in evaluation_order {
         if !takes_next(
             alloc,
-            module,
+            functions,
+            assignments,
             variable_references,
             &mut readable,
             &mut admitted,
@@ -51,27 +53,28 @@ pub(crate) fn is_in_order<'src>(
 }
 
 // Takes the assignment with a name, unless it is not referenced, and answers whether it may come next. One that
-// was taken before may come again.
+// was taken before may come again. What it takes does not depend on the rest of the order, so its clauses have none.
 fn takes_next<'src>(
     alloc: Global,
-    module: &Justfile<'src>,
+    functions: &Table<FunctionDefinition<'src>>,
+    assignments: &Table<Assignment<'src>>,
     variable_references: Option<&HashSet<Number>>,
     readable: &mut Readable,
     admitted: &mut BTreeSet<&'src str>,
     name: Name<'src>,
 ) -> Result<bool, OutOfMemory>
-    requires distinct { AreDistinct (map (λ a. a.number) (map assignment_view «module».now.assignments)) }
-    requires taken { let assignments = assignments_view «module».now variable_references in
-        IsTakenBy (functions_view «module».now) assignments (is_taken readable.old) (is_readable readable.old) (is_name_in admitted.old) }
+    requires distinct { AreDistinct (map (λ a. a.number) (map assignment_view assignments.now)) }
+    requires taken { let all = ordered_view assignments.now [] variable_references in
+        IsTakenBy (map function_view functions.now) all (is_taken readable.old) (is_readable readable.old) (is_name_in admitted.old) }
     ensures outer { readable.new.outer ≡ readable.old.outer }
-    ensures exact { let assignments = assignments_view «module».now variable_references.entry in
-        IfOk result (λ answer. IsTrue answer ↔ MayFollow (functions_view «module».now) assignments (is_readable readable.old) (name_view name.entry)) }
-    ensures number { let assignments = assignments_view «module».now variable_references.entry in
-        IfOk result (λ answer. IsTrue answer → (n : ℕ) → IsTrue (is_taken readable.new n) ↔ (IsTrue (is_taken readable.old n) ⊎ IsNumberOf assignments (name_view name.entry) n)) }
-    ensures taken { let assignments = assignments_view «module».now variable_references.entry in
-        IfOk result (λ answer. IsTrue answer → IsTakenBy (functions_view «module».now) assignments (is_taken readable.new) (is_readable readable.new) (is_name_in admitted.new)) }
+    ensures exact { let all = ordered_view assignments.now [] variable_references.entry in
+        IfOk result (λ answer. IsTrue answer ↔ MayFollow (map function_view functions.now) all (is_readable readable.old) (name_view name.entry)) }
+    ensures number { let all = ordered_view assignments.now [] variable_references.entry in
+        IfOk result (λ answer. IsTrue answer → (n : ℕ) → IsTrue (is_taken readable.new n) ↔ (IsTrue (is_taken readable.old n) ⊎ IsNumberOf all (name_view name.entry) n)) }
+    ensures taken { let all = ordered_view assignments.now [] variable_references.entry in
+        IfOk result (λ answer. IsTrue answer → IsTakenBy (map function_view functions.now) all (is_taken readable.new) (is_readable readable.new) (is_name_in admitted.new)) }
 {
-    match module.assignments.get(name.lexeme()) {
+    match assignments.get(name.lexeme()) {
         Some(assignment) => {
             if !is_referenced(variable_references, assignment.number) {
                 return Ok(true);
@@ -79,7 +82,7 @@ fn takes_next<'src>(
             if readable.has_taken(assignment.number) {
                 return Ok(true);
             }
-            takes(alloc, &module.functions, readable, admitted, assignment)
+            takes(alloc, functions, readable, admitted, assignment)
         }
         None => Ok(false),
     }

@@ -50,5 +50,12 @@ pub fn resolved<'src, 'run>(
     if !are_bodies_known(alloc, &module.functions)? {
         return Ok(false);
     }
-    is_in_order(alloc, module, parent, variable_references)
+    is_in_order(
+        alloc,
+        &module.functions,
+        &module.assignments,
+        &module.evaluation_order,
+        parent,
+        variable_references,
+    )
 }

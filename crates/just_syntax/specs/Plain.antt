@@ -1,6 +1,7 @@
 -- Plain syntax: texts are their bytes, and nothing has a place in memory.
 use Rattle.std.specs.Prelude.{ℕ, suc, Bool, List, Option}
 use Rattle.just_syntax.specs.declared.conditional_operator.ConditionalOperator.{ConditionalOperator}
+use Rattle.just_syntax.specs.declared.indentation.Indentation as declared
 use Rattle.just_syntax.specs.declared.parameter_kind.ParameterKind.{ParameterKind}
 
 abbrev pub Text : Type 0
@@ -80,9 +81,46 @@ pub data Attribute : Type 0 where
   Other : Attribute
 
 -- a command and the arguments that come before all others
-pub record Interpreter : Type 0 where
-  pub arguments : List Text
-  pub command : Text
+pub record Interpreter (A : Type 0) : Type 0 where
+  pub arguments : List A
+  pub command : A
+
+-- what a setting is set to
+pub data Setting : Type 0 where
+  AllowDuplicateRecipes : Bool → Setting
+  AllowDuplicateVariables : Bool → Setting
+  DefaultList : Bool → Setting
+  DefaultScript : Bool → Setting
+  DotenvCommand : Expr → Setting
+  DotenvFilename : Expr → Setting
+  DotenvLoad : Bool → Setting
+  DotenvOverride : Bool → Setting
+  DotenvPath : Expr → Setting
+  DotenvRequired : Bool → Setting
+  Export : Bool → Setting
+  Fallback : Bool → Setting
+  Guards : Bool → Setting
+  IgnoreComments : Bool → Setting
+  Indentation : Token → declared.Indentation → Setting
+  Lazy : Bool → Setting
+  Lists : Bool → Setting
+  MinimumVersion : Literal → Setting
+  NoCd : Bool → Setting
+  NoExitMessage : Bool → Setting
+  PositionalArguments : Bool → Setting
+  Quiet : Bool → Setting
+  ScriptInterpreter : Interpreter Expr → Setting
+  Shell : Interpreter Expr → Setting
+  Tempdir : Expr → Setting
+  Unstable : Bool → Setting
+  WindowsPowerShell : Bool → Setting
+  WindowsShell : Interpreter Expr → Setting
+  WorkingDirectory : Expr → Setting
+
+-- what `set` says: a setting by its name
+pub record Set : Type 0 where
+  pub name : Token
+  pub value : Setting
 
 -- a parameter of a recipe
 pub record Parameter : Type 0 where

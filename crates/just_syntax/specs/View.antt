@@ -14,6 +14,9 @@ use Rattle.just_syntax.specs.declared.function_definition.FunctionDefinition.{Fu
 use Rattle.just_syntax.specs.declared.enclosure.Enclosure.{Enclosure}
 use Rattle.just_syntax.specs.declared.interpreter.Interpreter.{Interpreter}
 use Rattle.just_syntax.specs.declared.parameter.Parameter.{Parameter}
+use Rattle.just_syntax.specs.declared.set.Set as declared_set
+use Rattle.just_syntax.specs.declared.setting.Setting as declared_setting
+use Rattle.just_syntax.specs.declared.setting.Setting.TheVariants as settings
 use Rattle.just_syntax.specs.declared.string_context.StringContext as declared_context
 use Rattle.just_syntax.specs.declared.string_context.StringContext.TheVariants as contexts
 use Rattle.just_syntax.specs.Plain as plain
@@ -99,8 +102,46 @@ attribute_view Other = plain.Other
 abbrev pub attributes_view : AttributeSet → List (plain.Attribute × plain.Token)
 attributes_view set = map (λ pair. (attribute_view pair.0, name_view pair.1)) set.attributes.items
 
-abbrev pub interpreter_view : {A : Type 0} → Interpreter (String A) → plain.Interpreter
+abbrev pub interpreter_view : {A : Type 0} → Interpreter (String A) → plain.Interpreter plain.Text
 interpreter_view i = record { arguments = map string_bytes i.arguments.items; command = string_bytes i.command }
+
+-- a command and its first arguments that are expressions
+abbrev pub expression_interpreter_view : Interpreter Expression → plain.Interpreter Expr
+expression_interpreter_view i = record { arguments = map view i.arguments.items; command = view i.command }
+
+abbrev pub setting_view : declared_setting.Setting → plain.Setting
+setting_view (settings.AllowDuplicateRecipes on) = plain.AllowDuplicateRecipes on
+setting_view (settings.AllowDuplicateVariables on) = plain.AllowDuplicateVariables on
+setting_view (settings.DefaultList on) = plain.DefaultList on
+setting_view (settings.DefaultScript on) = plain.DefaultScript on
+setting_view (settings.DotenvCommand e) = plain.DotenvCommand (view e)
+setting_view (settings.DotenvFilename e) = plain.DotenvFilename (view e)
+setting_view (settings.DotenvLoad on) = plain.DotenvLoad on
+setting_view (settings.DotenvOverride on) = plain.DotenvOverride on
+setting_view (settings.DotenvPath e) = plain.DotenvPath (view e)
+setting_view (settings.DotenvRequired on) = plain.DotenvRequired on
+setting_view (settings.Export on) = plain.Export on
+setting_view (settings.Fallback on) = plain.Fallback on
+setting_view (settings.Guards on) = plain.Guards on
+setting_view (settings.IgnoreComments on) = plain.IgnoreComments on
+setting_view (settings.Indentation t indentation) = plain.Indentation (token_view t) indentation
+setting_view (settings.Lazy on) = plain.Lazy on
+setting_view (settings.Lists on) = plain.Lists on
+setting_view (settings.MinimumVersion literal) = plain.MinimumVersion (literal_view literal)
+setting_view (settings.NoCd on) = plain.NoCd on
+setting_view (settings.NoExitMessage on) = plain.NoExitMessage on
+setting_view (settings.PositionalArguments on) = plain.PositionalArguments on
+setting_view (settings.Quiet on) = plain.Quiet on
+setting_view (settings.ScriptInterpreter i) = plain.ScriptInterpreter (expression_interpreter_view i)
+setting_view (settings.Shell i) = plain.Shell (expression_interpreter_view i)
+setting_view (settings.Tempdir e) = plain.Tempdir (view e)
+setting_view (settings.Unstable on) = plain.Unstable on
+setting_view (settings.WindowsPowerShell on) = plain.WindowsPowerShell on
+setting_view (settings.WindowsShell i) = plain.WindowsShell (expression_interpreter_view i)
+setting_view (settings.WorkingDirectory e) = plain.WorkingDirectory (view e)
+
+abbrev pub set_view : declared_set.Set → plain.Set
+set_view s = record { name = name_view s.name; value = setting_view s.value }
 
 -- the recipe's parameter that is handed in
 abbrev pub recipe_parameter_view : Parameter → plain.Parameter

@@ -20,6 +20,8 @@ pub mod out_of_memory;
 pub mod parameter;
 pub mod parameter_kind;
 mod printed;
+pub mod set;
+pub mod setting;
 pub mod string_context;
 pub mod string_literal;
 pub mod table;

@@ -3,10 +3,18 @@
 #![tactic(auto)]
 
 #[cfg(test)]
+mod const_errors;
+#[cfg(test)]
+mod parts;
+#[cfg(test)]
 mod resolution;
+#[cfg(test)]
+mod scope;
 #[cfg(test)]
 mod syntax;
 #[cfg(test)]
 mod text;
 #[cfg(test)]
 mod value;
+#[cfg(test)]
+mod words;

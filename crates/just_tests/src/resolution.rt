@@ -1,8 +1,10 @@
 // Modules that are resolved, and modules that are not.
 
+use crate::parts::name;
 use just_host::justfile::Justfile;
 use just_host::settings::Settings;
 use just_resolution::resolved::resolved;
+use just_resolution::resolved_const::resolved_const;
 use just_syntax::assignment::Assignment;
 use just_syntax::attribute_set::AttributeSet;
 use just_syntax::expression::Expression;
@@ -11,7 +13,6 @@ use just_syntax::name::Name;
 use just_syntax::number::Number;
 use just_syntax::out_of_memory::OutOfMemory;
 use just_syntax::table::Table;
-use just_syntax::token::Token;
 use just_value::binding::Binding;
 use just_value::scope::Scope;
 use just_value::value::Value;
@@ -38,18 +39,6 @@ type Function<'a> = (&'a str, &'a [u64], &'a [Part<'a>]);
 
 // An assignment: its name, its number, and what stands in its value.
 type Variable<'a> = (&'a str, u64, &'a [Part<'a>]);
-
-fn name(lexeme: &str) -> Name<'_> {
-    Name {
-        token: Token {
-            column: 0,
-            line: 0,
-            offset: 0,
-            lexeme,
-            path: "justfile",
-        },
-    }
-}
 
 fn variable<'a>(number: Option<u64>) -> Expression<'a> {
     Expression::Variable {
@@ -125,19 +114,23 @@ fn assignments<'a>(
     Ok(table)
 }
 
+fn names<'a>(alloc: Global, lexemes: &[&'a str]) -> Result<Vec<Name<'a>>, OutOfMemory> {
+    let mut all = Vec::new(alloc);
+    for lexeme in lexemes {
+        all.push(name(lexeme))?;
+    }
+    Ok(all)
+}
+
 fn module<'a>(
     alloc: Global,
     functions: Table<FunctionDefinition<'a>>,
     assignments: Table<Assignment<'a>>,
     order: &[&'a str],
 ) -> Result<Justfile<'a>, OutOfMemory> {
-    let mut evaluation_order = Vec::new(alloc);
-    for lexeme in order {
-        evaluation_order.push(name(lexeme))?;
-    }
     Ok(Justfile {
         assignments,
-        evaluation_order,
+        evaluation_order: names(alloc, order)?,
         functions,
         module_path: String::new(alloc),
         settings: Settings::new(alloc),
@@ -325,6 +318,63 @@ fn built_in_names(rt: HostRuntime) -> Result<(), Fail> {
     ] {
         let order = ["a", "b"].as_slice();
         is_resolved(&rt, alloc, functions, variables, order, None, expected)?;
+    }
+    Ok(())
+}
+
+// Whether such assignments are resolved before any run, where these numbers are referenced.
+fn is_resolved_const<'a>(
+    rt: &impl Abort,
+    alloc: Global,
+    assignments_of: &[Variable<'a>],
+    order: &[&'a str],
+    referenced: &[u64],
+    expected: bool,
+) -> Result<(), OutOfMemory> {
+    let all = assignments(alloc, assignments_of)?;
+    let names = names(alloc, order)?;
+    let mut outer = Scope::root(alloc, &[])?;
+    bind(alloc, &mut outer, OUTER)?;
+    let scope = outer.child(alloc)?;
+    let references = references(alloc, referenced)?;
+    let answer = resolved_const(alloc, &all, &names, &scope, &references)?;
+    assert_eq!(rt; answer, expected, "{order:?} {referenced:?}");
+    Ok(())
+}
+
+#[test]
+fn before_any_run(rt: HostRuntime) -> Result<(), Fail> {
+    let alloc = rt.alloc();
+    let none: &[Variable] = &[];
+    let outer: &[Variable] = &[("a", 1, &[Read(OUTER)])];
+    let itself: &[Variable] = &[("a", 1, &[Read(1)])];
+    let unnumbered: &[Variable] = &[("a", 1, &[Unnumbered])];
+    let unknown: &[Variable] = &[("a", 1, &[Call("nope", &[OUTER])])];
+    let called: &[Variable] = &[("a", 1, &[Call("len", &[2])]), ("b", 2, &[])];
+    let pair: &[Variable] = &[("a", 1, &[]), ("b", 2, &[Read(1)])];
+    let same_number: &[Variable] = &[("a", 1, &[]), ("b", 1, &[])];
+    for (variables, order, referenced, expected) in [
+        (none, [].as_slice(), [].as_slice(), true),
+        (none, ["a"].as_slice(), [].as_slice(), false),
+        (outer, ["a"].as_slice(), [1].as_slice(), true),
+        (itself, ["a"].as_slice(), [1].as_slice(), false),
+        // A number is asked of each variable, also where nothing is taken.
+        (unnumbered, ["a"].as_slice(), [1].as_slice(), false),
+        (unnumbered, ["a"].as_slice(), [].as_slice(), false),
+        (unnumbered, [].as_slice(), [].as_slice(), false),
+        // Nothing is asked of called names, and all of their arguments.
+        (unknown, ["a"].as_slice(), [1].as_slice(), true),
+        (called, ["b", "a"].as_slice(), [1, 2].as_slice(), true),
+        (called, ["a", "b"].as_slice(), [1, 2].as_slice(), false),
+        (pair, ["a", "b"].as_slice(), [1, 2].as_slice(), true),
+        (pair, ["a", "b", "a"].as_slice(), [1, 2].as_slice(), true),
+        (pair, ["b", "a"].as_slice(), [1, 2].as_slice(), false),
+        (pair, ["b", "a"].as_slice(), [1].as_slice(), true),
+        (pair, ["a", "b"].as_slice(), [2].as_slice(), false),
+        (pair, ["a", "c"].as_slice(), [1, 2].as_slice(), false),
+        (same_number, [].as_slice(), [].as_slice(), false),
+    ] {
+        is_resolved_const(&rt, alloc, variables, order, referenced, expected)?;
     }
     Ok(())
 }

@@ -1,5 +1,6 @@
 // Tables, what is printed, and the small calls.
 
+use crate::parts::name;
 use just_syntax::enclosure::Enclosure;
 use just_syntax::keyed::Keyed;
 use just_syntax::list_operator::ListOperator;
@@ -9,7 +10,6 @@ use just_syntax::numerator::Numerator;
 use just_syntax::parameter_kind::ParameterKind;
 use just_syntax::string_context::StringContext;
 use just_syntax::table::Table;
-use just_syntax::token::Token;
 use just_syntax::unindent::unindent;
 use std::test::Fail;
 
@@ -24,18 +24,6 @@ impl Keyed for Named<'_> {
 
     fn key(&self) -> &str {
         self.name.lexeme()
-    }
-}
-
-fn name(lexeme: &str) -> Name<'_> {
-    Name {
-        token: Token {
-            column: 0,
-            line: 0,
-            offset: 0,
-            lexeme,
-            path: "justfile",
-        },
     }
 }
 

@@ -4,6 +4,7 @@ pub mod Shown
 pub mod Listed
 pub mod ConstRefusal
 pub mod Refusal
+pub mod ConstEval
 pub mod Outcome
 pub mod Applied
 pub mod Numbered

@@ -18,3 +18,9 @@ UnlessStopped (Refused r) wanted = Refused r ≡ wanted
 abbrev pub without_value : {A : Type 0} → Option Refusal → Outcome A
 without_value (Some r) = Refused r
 without_value None = Stopped
+
+-- goes on with the value; without one it stays as it is
+abbrev pub and_then : {A B : Type 0} → Outcome A → (A → Outcome B) → Outcome B
+and_then (Gave a) go = go a
+and_then (Refused r) go = Refused r
+and_then Stopped go = Stopped

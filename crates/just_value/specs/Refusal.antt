@@ -18,6 +18,8 @@ pub data Refusal : Type 0 where
   Backtick : Token → Fault → Refusal
   Check : Text → Text → Refusal
   Const : ConstRefusal → Refusal
+  -- no run has it, since a run reads settings that are evaluated
+  EmptyInterpreter : Token → Refusal
   EmptyListArgument : Text → Text → Refusal
   FunctionCall : Token → Text → Refusal
   Internal : Text → Token → Refusal

@@ -3,7 +3,7 @@ use Rattle.std.specs.Prelude.{ℕ, List, ◌∷◌, map, Option, Some, None, str
 use Rattle.std.specs.Borrow.{Bor}
 use Rattle.std.specs.HashMap.{get_by}
 use Rattle.std.specs.Str.{bytes_eq}
-use Rattle.just_syntax.specs.Plain.{Text}
+use Rattle.just_syntax.specs.Plain.{Text, Token}
 use Rattle.just_syntax.specs.View.{token_view, name_view, string_context_view, attributes_view}
 use Rattle.std.specs.Map.Iter.{TakesFirst, deref}
 use Rattle.just_value.specs.declared.binding.Binding.{Binding}
@@ -15,8 +15,12 @@ use Rattle.just_value.specs.declared.positional.Positional as declared_positiona
 use Rattle.just_value.specs.declared.scope.Scope.{Scope}
 use Rattle.just_value.specs.declared.check_fault.CheckFault.{CheckFault}
 use Rattle.just_value.specs.declared.check_fault.CheckFault.TheVariants as checks
+use Rattle.just_value.specs.declared.compile_error.CompileError.{CompileError}
+use Rattle.just_value.specs.declared.compile_error.CompileError.TheVariants as compiles
 use Rattle.just_value.specs.declared.const_error.ConstError.{ConstError}
 use Rattle.just_value.specs.declared.const_error.ConstError.TheVariants as consts
+use Rattle.just_value.specs.declared.const_eval_error.ConstEvalError.{ConstEvalError}
+use Rattle.just_value.specs.declared.const_eval_error.ConstEvalError.TheVariants as const_evals
 use Rattle.just_value.specs.declared.error.CommandFault.{CommandFault}
 use Rattle.just_value.specs.declared.error.CommandFault.TheVariants as faults
 use Rattle.just_value.specs.declared.error.Error.{Error}
@@ -25,7 +29,7 @@ use Rattle.just_value.specs.Frames as plain
 use Rattle.just_value.specs.Frames.{Bound, Frames}
 use Rattle.just_value.specs.ConstRefusal as constant
 use Rattle.just_value.specs.Positional.{Positional}
-use Rattle.just_value.specs.Refusal.{Fault, Code, Message, NoMemory, Refusal, Assert, Backtick, Check, Const, EmptyListArgument, FunctionCall, Internal, LeftOut, LeftOutRegex, ListInStringContext, ListOperation, RecursionLimit}
+use Rattle.just_value.specs.Refusal.{Fault, Code, Message, NoMemory, Refusal, Assert, Backtick, Check, Const, EmptyInterpreter, EmptyListArgument, FunctionCall, Internal, LeftOut, LeftOutRegex, ListInStringContext, ListOperation, RecursionLimit}
 use Rattle.just_value.specs.Outcome.{Outcome, Gave, without_value}
 
 abbrev pub bound_view : Binding → Bound
@@ -66,6 +70,26 @@ const_refusal (consts.Backtick t) = constant.Backtick (token_view t)
 const_refusal (consts.FunctionCall name) = constant.FunctionCall (name_view name)
 const_refusal (consts.Variable name) = constant.Variable (name_view name)
 
+-- the refusal of constant evaluation that an error is
+abbrev pub const_eval_refusal : ConstEvalError → Refusal
+const_eval_refusal (const_evals.Assert message name) = Assert (string_bytes message) (name_view name)
+const_eval_refusal (const_evals.Const e) = Const (const_refusal e)
+const_eval_refusal (const_evals.EmptyInterpreter setting) = EmptyInterpreter (name_view setting)
+const_eval_refusal (const_evals.Internal message t) = Internal (string_bytes message) (token_view t)
+const_eval_refusal (const_evals.LeftOutRegex t) = LeftOutRegex (token_view t)
+const_eval_refusal (const_evals.ListInStringContext context value) = ListInStringContext (string_context_view context) value
+const_eval_refusal (const_evals.ListOperation l o r t) = ListOperation l o r (token_view t)
+
+-- the refusal that an error before any run is, if it is not want of memory
+abbrev pub compile_refusal : CompileError → Option Refusal
+compile_refusal (compiles.ConstEval t e) = Some (const_eval_refusal e)
+compile_refusal compiles.OutOfMemory = None
+
+-- the token that such an error has, if it is not want of memory
+abbrev pub compile_token : CompileError → Option Token
+compile_token (compiles.ConstEval t e) = Some (token_view t)
+compile_token compiles.OutOfMemory = None
+
 -- the refusal that an error is, if it is not want of memory
 abbrev pub refusal : Error → Option Refusal
 refusal (errors.Assert message name) = Some (Assert (string_bytes message) (name_view name))
@@ -86,6 +110,11 @@ refusal errors.OutOfMemory = None
 abbrev pub ended : {X A : Type 0} → (X → A) → Result X Error → Outcome A
 ended f (Ok x) = Gave (f x)
 ended f (Err e) = without_value (refusal e)
+
+-- how a call before any run ended, its value seen by f
+abbrev pub const_ended : {X A : Type 0} → (X → A) → Result X CompileError → Outcome A
+const_ended f (Ok x) = Gave (f x)
+const_ended f (Err e) = without_value (compile_refusal e)
 
 -- the word before the last item of a list
 abbrev pub conjunction_of : {T : Type 0} → list.List T → Text

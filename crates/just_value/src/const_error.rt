@@ -7,6 +7,7 @@ ghost use Rattle.just_value.specs.View.{const_refusal};
 
 use just_syntax::name::Name;
 use just_syntax::token::Token;
+use std::fmt;
 
 /// What constant evaluation does not allow.
 #[derive(Clone, Copy, Debug, PartialEq)]
@@ -27,6 +28,25 @@ impl<'src> ConstError<'src> {
         match self {
             ConstError::Backtick(token) => token,
             ConstError::FunctionCall(name) | ConstError::Variable(name) => name.token,
+        }
+    }
+}
+
+impl fmt::Display for ConstError<'_> {
+    ghost use Rattle.std.specs.Prelude.{Some};
+    ghost use Rattle.just_value.specs.ConstEval.{const_error_text};
+    ghost use Rattle.just_value.specs.View.{const_refusal};
+
+    ghost output = { λ error. Some (const_error_text (const_refusal error)) };
+
+    fn fmt<W: fmt::Write>(&self, f: &mut fmt::Formatter<W>) -> fmt::Result {
+        match self {
+            ConstError::Backtick(_) => f.write_str("cannot call backticks in const context"),
+            ConstError::FunctionCall(_) => f.write_str("cannot call functions in const context"),
+            ConstError::Variable(name) => write!(
+                f,
+                "cannot access non-const variable `{name}` in const context"
+            ),
         }
     }
 }

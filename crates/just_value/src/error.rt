@@ -1,9 +1,14 @@
 // What evaluation is refused with.
 
 ghost use Rattle.std.specs.Prelude.{◌≡◌};
+ghost use Rattle.std.specs.Option.{ForSome, option_map};
+ghost use Rattle.just_value.specs.ConstEval.{IsConstEval, const_eval_token};
+ghost use Rattle.just_value.specs.View.{compile_refusal, compile_token, refusal};
 ghost use Rattle.just_value.specs.declared.error.Error.TheVariants.{OutOfMemory as Wanted};
 
+use crate::compile_error::CompileError;
 use crate::const_error::ConstError;
+use crate::const_eval_error::ConstEvalError;
 use crate::value::Value;
 use just_syntax::list_operator::ListOperator;
 use just_syntax::name::Name;
@@ -84,6 +89,44 @@ pub enum Error<'src> {
     RecursionLimit {
         last: Name<'src>,
     },
+}
+
+impl<'src> Error<'src> {
+    /// The same refusal as one of constant evaluation, where it is one, or want of memory.
+    pub fn unwrap_const(self) -> CompileError<'src>
+        requires constant { ForSome (refusal self) IsConstEval }
+        ensures refusal { compile_refusal result ≡ refusal self.entry }
+        ensures token { compile_token result ≡ option_map const_eval_token (refusal self.entry) }
+    {
+        let error = match self {
+            Error::Assert { message, name } => ConstEvalError::Assert { message, name },
+            Error::Const(error) => ConstEvalError::Const(error),
+            Error::Internal { message, token } => ConstEvalError::Internal { message, token },
+            Error::LeftOutRegex { token } => ConstEvalError::LeftOutRegex { token },
+            Error::ListInStringContext { context, value } => {
+                ConstEvalError::ListInStringContext { context, value }
+            }
+            Error::ListOperation {
+                lhs,
+                operator,
+                rhs,
+                token,
+            } => ConstEvalError::ListOperation {
+                lhs,
+                operator,
+                rhs,
+                token,
+            },
+            Error::OutOfMemory => return CompileError::OutOfMemory,
+            Error::Backtick { .. }
+            | Error::Check { .. }
+            | Error::EmptyListArgument { .. }
+            | Error::FunctionCall { .. }
+            | Error::LeftOut { .. }
+            | Error::RecursionLimit { .. } => unreachable!(),
+        };
+        error.into_compile_error()
+    }
 }
 
 impl From<AllocError> for Error<'_> {

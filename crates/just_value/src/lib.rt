@@ -5,7 +5,9 @@
 pub mod binding;
 pub mod bindings;
 pub mod check_fault;
+pub mod compile_error;
 pub mod const_error;
+pub mod const_eval_error;
 pub mod element;
 pub mod error;
 pub mod expression_context;

@@ -64,7 +64,7 @@ fn bad_lines(rt: HostRuntime) {
         ("str a\nfun f 1", "bad line 2\n"),
         ("fun f", "bad line 1\n"),
         ("str a\nfun f\nstr b\nfun f n", "bad line 4\n"),
-        ("const", "bad line 1\n"),
+        ("consts", "bad line 1\n"),
         ("list 0\nrun", "bad line 2\n"),
         ("str a\nlist 2", "bad line 2\n"),
         ("list 1001", "bad line 1\n"),

@@ -28,5 +28,5 @@ returns c =
     record {
       exact = IfOk-weaker c.is_in_order.result _ _
           (λ answer order. is_resolved (functions_view c.args.«module».now) (assignments_view c.args.«module».now c.args.variable_references) (frames_view c.args.parent.now) (answer ≡ true)
-          apart.0 apart.1 (c.in_ok-are_values_known.ensures.0 c.if-not-branch-2.false) (c.in_ok-are_bodies_known.ensures.0 c.if-not-branch-3.false) order) c.is_in_order.ensures;
+          apart.0 apart.1 (c.in_ok-are_values_known.ensures.0 c.if-not-branch-2.false) (c.in_ok-are_bodies_known.ensures.0 c.if-not-branch-3.false) order) (rw c.deref.ensures.value at c.is_in_order.ensures);
     }

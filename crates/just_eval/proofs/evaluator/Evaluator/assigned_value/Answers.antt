@@ -12,5 +12,5 @@ returns-in_err-from_text-in-Some g c =
 
 pub returns-in_ok-from_text-in-Some : goal.returns-in_ok-from_text-in-Some
 returns-in_ok-from_text-in-Some g c =
-    let found : override_of c.args.self.now.context.overrides.now c.args.assignment.now.number ≡ Some (string_bytes c.in-Some.text.now) = sym (ap (option_map string_bytes) c.in-Some.ensures.value) in
+    let found : override_of c.args.overrides.now c.args.assignment.now.number ≡ Some (string_bytes c.in-Some.text.now) = sym (ap (option_map string_bytes) c.in-Some.ensures.value) in
     rw found (runs_done _ _ (ap Gave (c.in_ok-from_text-in-Some.ensures ∙ ap (λ text. text ∷ []) c.deref.ensures)))

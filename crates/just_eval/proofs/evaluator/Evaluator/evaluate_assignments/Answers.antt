@@ -1,4 +1,5 @@
 use Rattle.just_value.specs.View.{frames_view}
+use Rattle.just_laws.proofs.Final.{run_is_final}
 use Rattle.just_laws.proofs.Internal.{resolved_is_never_internal}
 use Rattle.just_eval.proofs.Module.{ran_lexical}
 use Rattle.just_eval.proofs.evaluator.Evaluator.evaluate_assignments.Goals as goal
@@ -10,3 +11,6 @@ pub returns-clause-never_internal : goal.returns-clause-never_internal
 returns-clause-never_internal g c = λ resolved.
     let outer = frames_view c.args.parent.now in
     resolved_is_never_internal _ outer _ _ resolved (ran_lexical _ outer _ resolved (rw c.deref.ensures.value at c.run.ensures)).run
+
+pub returns-clause-never_const : goal.returns-clause-never_const
+returns-clause-never_const g c = run_is_final _ c.run.ensures.run

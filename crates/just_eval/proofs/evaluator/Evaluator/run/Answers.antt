@@ -10,20 +10,19 @@ returns-in_err-child g c =
     let p = err_from_is_err_and c.from_residual.result c.from_residual.ensures.1 in
     rw (p.1, p.2) (ran_stops _ _)
 
-pub returns-in_err-evaluate_assignment : goal.returns-in_err-evaluate_assignment
-returns-in_err-evaluate_assignment g c =
-    let p = err_from_is_err_and c.from_residual-in_err-evaluate_assignment.result c.from_residual-in_err-evaluate_assignment.ensures.1 in
+pub returns-in_err-evaluate_named : goal.returns-in_err-evaluate_named
+returns-in_err-evaluate_named g c =
+    let p = err_from_is_err_and c.from_residual-in_err-evaluate_named.result c.from_residual-in_err-evaluate_named.ensures.1 in
     rw (p.1, p.2) (c.loop-name.invariant.rest _ _
-    (ran_last name_view c.args.names.now c.loop-name.name-index _ c.loop-name-test.true _
-    (rw c.loop-name.invariant.same at c.in_err-evaluate_assignment.ensures.ran)))
+    (ran_last name_view c.args.names.now c.loop-name.name-index _ c.loop-name-test.true _ c.in_err-evaluate_named.ensures.ran))
 
 pub loop-name-preserved : goal.loop-name-preserved
 loop-name-preserved g c = record {
-  same = c.in_ok-evaluate_assignment.ensures.same.0 ∙ c.loop-name.invariant.same;
-  start = c.in_ok-evaluate_assignment.ensures.same.1;
+  here = c.in_ok-evaluate_named.ensures.same.0.context ∙ c.loop-name.invariant.here;
+  lists = c.in_ok-evaluate_named.ensures.same.0.lists ∙ c.loop-name.invariant.lists;
+  start = c.in_ok-evaluate_named.ensures.same.1;
   rest = λ o new r. c.loop-name.invariant.rest o new
-      (ran_next name_view c.args.names.now c.loop-name.name-index _ c.loop-name-test.true
-      (rw c.loop-name.invariant.same at c.in_ok-evaluate_assignment.ensures.ran) r);
+      (ran_next name_view c.args.names.now c.loop-name.name-index _ c.loop-name-test.true c.in_ok-evaluate_named.ensures.ran r);
 }
 
 pub returns : goal.returns

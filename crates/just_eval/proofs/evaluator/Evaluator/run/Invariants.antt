@@ -1,4 +1,4 @@
-use Rattle.std.proofs.Common.{◌≡◌, drop, map, [], ◌∷◌}
+use Rattle.std.proofs.Common.{◌≡◌, drop, map, [], ◌∷◌, Some}
 use Rattle.just_syntax.specs.View.{name_view}
 use Rattle.just_value.specs.Frames.{Frames}
 use Rattle.just_value.specs.Outcome.{Outcome}
@@ -13,7 +13,8 @@ abbrev pub invariant-loop-name : goal.invariant-loop-name
 invariant-loop-name g l =
     let m = module_view l.context l.references in
     record {
-      same : l.evaluator.context ≡ l.context;
+      here : l.evaluator.context ≡ Some l.context;
+      lists : l.evaluator.lists ≡ l.context.module.now.settings.lists;
       start : IsAtStart l.evaluator;
       rest : (o : Outcome Frames) (new : g.row.H.Denot) → Ran g.H.Host.step l.host dynamically m (frames_view l.evaluator.scope) (map name_view (drop l.name-index l.names)) o new
           → Ran g.H.Host.step l.fn.host dynamically m ([] ∷ frames_view l.context.scope.now) (map name_view l.names) o new;

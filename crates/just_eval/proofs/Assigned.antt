@@ -1,0 +1,123 @@
+-- What evaluating one assignment means, in a run and in a const stage.
+use Rattle.std.proofs.Common.{◌≡◌, ℕ, Bool, true, false, cond, ◌||◌, nat_eq, [], ◌∷◌, Option, Some, None, Result, Err, refl, sym, ap, ◌∙◌, subst, arith}
+use Rattle.std.specs.List.{list_any}
+use Rattle.std.proofs.lemmas.Bool.Decides.{nat_tests}
+use mathlib.Core.Path.{fun_ext}
+use Rattle.just_syntax.specs.Plain.{Token, Assignment}
+use Rattle.just_value.specs.declared.error.Error.{Error}
+use Rattle.just_value.specs.declared.error.Error.TheVariants as errors
+use Rattle.just_value.specs.ConstEval.{IsConstEval}
+use Rattle.just_value.specs.ConstRefusal.{ConstRefusal}
+use Rattle.just_value.specs.Value.{Value}
+use Rattle.just_value.specs.Frames.{Frames, innermost}
+use Rattle.just_value.specs.Refusal.{Refusal, Const, Internal}
+use Rattle.just_value.specs.Outcome.{Outcome, Gave, Refused, Stopped, without_value}
+use Rattle.just_value.specs.View.{ended, frames_view, refusal}
+use Rattle.just_host.specs.Question.{Question, Answer}
+use Rattle.just_host.specs.Interaction.{Rules, Runs, Tree, freely}
+use Rattle.just_host.proofs.Paths.{path_cut}
+use Rattle.just_meaning.specs.Assignments.{assignment_at}
+use Rattle.just_meaning.specs.Constant.{constantly}
+use Rattle.just_meaning.specs.Module.{Module, Closing, Ran, assigned, or_override}
+use Rattle.just_meaning.specs.Internal.{IsFinal}
+use Rattle.just_meaning.specs.Stage.{Constants, Standing, IsNew, Staged, const_meaning, with_open}
+use Rattle.just_forms.specs.Call.{Says}
+use Rattle.just_laws.proofs.Constants.{IsTold, OfSome, const_override, const_told, eval_alike}
+use Rattle.just_eval.specs.View.{Assigned, WasBound, IsBound, IsRefused, IsSame, IsStopped, standing_of}
+use Rattle.just_eval.specs.declared.evaluator.Evaluator.{Evaluator}
+use Rattle.just_eval.proofs.Module.{ran_binds, ran_fails, ran_skips}
+use Rattle.just_eval.proofs.Stages.{staged_breaks, staged_opens, staged_settles, staged_skips, staged_stops}
+
+module _ {S : Type 0} {rules : Rules} {step : S → Question → Answer → S → Type 0} {old new : S} {tree : Tree Value} {export : Bool} {a : Assignment} {frames : Frames} where
+  pub assigned_none : (e : Option Refusal) → innermost a.number frames ≡ None → Runs rules step old tree (without_value e) new → Assigned rules step old tree export a frames (without_value e) new
+  assigned_none (Some r) u runs = IsRefused r u runs
+  assigned_none None u runs = IsStopped u runs
+
+  -- the exit of a `?`
+  pub assigned_exit : {X : Type 0} (f : X → Frames) (r : Result X Error) (e d : Error) → r ≡ Err d → d ≡ e → Assigned rules step old tree export a frames (without_value (refusal e)) new → Assigned rules step old tree export a frames (ended f r) new
+  assigned_exit f r e d p q h = rw (p, q) h
+
+  -- memory runs out after the value
+  pub assigned_cut : (v : Value) → innermost a.number frames ≡ None → Runs rules step old tree (Gave v) new → Assigned rules step old tree export a frames Stopped new
+  assigned_cut v u r = IsStopped u (record { events = r.events; path = path_cut r.path; chain = r.chain })
+
+-- ---- in a run
+
+module _ {S : Type 0} {step : S → Question → Answer → S → Type 0} {closing : Closing} {m : Module} where
+  pub ran_assigned : {old new : S} (frames : Frames) (t : Token) (a : Assignment) {o : Outcome Frames} → assignment_at m.assignments t.lexeme ≡ Some a → m.assignments.referenced a.number ≡ true →
+      Assigned freely step old (assigned closing m frames a) m.program.fixed.settings.export a frames o new → Ran step old closing m frames (t ∷ []) o new
+  ran_assigned frames t a found referenced (WasBound b e) = ran_skips frames t a found b referenced e
+  ran_assigned frames t a found referenced (IsBound v u r) = ran_binds frames t a (record { found = found; referenced = referenced; unbound = u }) v _ refl r
+  ran_assigned frames t a found referenced (IsRefused s u r) = ran_fails frames t a (record { found = found; referenced = referenced; unbound = u }) (Some s) r
+  ran_assigned frames t a found referenced (IsStopped u r) = ran_fails frames t a (record { found = found; referenced = referenced; unbound = u }) None r
+
+-- ---- in a const stage
+
+-- an assignment's tree
+abbrev own : Constants → Standing → Assignment → Tree Value
+own m s a = or_override (m.overrides a.number) (const_meaning s a.value)
+
+abbrev pub InStage : {S : Type 0} → (S → Question → Answer → S → Type 0) → Constants → Standing → Assignment → S → S → Outcome Frames → Type 0
+InStage step m s a old new o = Assigned (constantly s.is_open) step old (own m s a) false a s.frames o new
+
+module _ {S : Type 0} {step : S → Question → Answer → S → Type 0} (m : Constants) (s : Standing) (a : Assignment) where
+  told : {old new : S} (o : Outcome Value) → Runs (constantly s.is_open) step old (own m s a) o new → IsTold s.is_open (own m s a) o old new
+  told o r = const_told s.is_open _ o (const_override IsConstEval s.is_open (m.overrides a.number) _ (eval_alike s.is_open _ _ _ a.value)) r
+
+  -- what it is refused with is a refusal of constant evaluation
+  pub few_assigned : {old new : S} (e : Option Refusal) → InStage step m s a old new (without_value e) → OfSome IsConstEval e
+  few_assigned (Some r) (IsRefused _ u runs) = (told (Refused r) runs).few
+  few_assigned None h = tt
+
+  module _ (t : Token) (found : assignment_at m.assignments t.lexeme ≡ Some a) (referenced : m.assignments.referenced a.number ≡ true) (unopened : s.is_open a.number ≡ false) where
+    pub staged_gave : {old new : S} {frames : Frames} → InStage step m s a old new (Gave frames) → Staged m s (t ∷ []) (Gave (record { lists = s.lists; frames = frames; is_open = s.is_open }))
+    staged_gave (WasBound b e) = staged_skips s t a found referenced b e
+    staged_gave (IsBound v u r) = staged_settles s t a (record { found = found; referenced = referenced; unbound = u; unopened = unopened }) v (sym (told (Gave v) r).told)
+
+    pub staged_const : {old new : S} (c : ConstRefusal) → InStage step m s a old new (Refused (Const c)) → Staged m s (t ∷ []) (Gave (with_open s a.number))
+    staged_const c (IsRefused _ u r) = staged_opens s t a (record { found = found; referenced = referenced; unbound = u; unopened = unopened }) c (sym (told (Refused (Const c)) r).told)
+
+    pub staged_other : {old new : S} (e : Option Refusal) → OfSome IsFinal e → InStage step m s a old new (without_value e) → Staged m s (t ∷ []) (without_value e)
+    staged_other (Some r) final (IsRefused _ u runs) = staged_breaks s t a (record { found = found; referenced = referenced; unbound = u; unopened = unopened }) r final (sym (told (Refused r) runs).told)
+    staged_other None final h = staged_stops s (t ∷ [])
+
+-- ---- where an evaluator stands
+
+pub standing_same : (e f : Evaluator) → IsSame e f → standing_of f ≡ record { lists = e.lists; frames = frames_view f.scope; is_open = (standing_of e).is_open }
+standing_same e f same =
+    ap (λ l. record { lists = l; frames = frames_view f.scope; is_open = (standing_of f).is_open }) same.lists
+    ∙ ap (λ set. record { lists = e.lists; frames = frames_view f.scope; is_open = λ n. list_any (nat_eq n) set.keys }) same.open_numbers
+
+either : (n k : ℕ) (b : Bool) → cond (nat_eq n k) true b ≡ (nat_eq k n || b)
+either n k b = by (nat_eq n k) refl
+  where
+    by : (x : Bool) → nat_eq n k ≡ x → cond x true b ≡ (nat_eq k n || b)
+    by true e = let other : nat_eq k n ≡ true = grind (arith, nat_tests) in rw other refl
+    by false e = let other : nat_eq k n ≡ false = grind (arith, nat_tests) in rw other refl
+
+pub standing_opened : (e f : Evaluator) (n : ℕ) → f.lists ≡ e.lists → frames_view f.scope ≡ frames_view e.scope → ((k : ℕ) → list_any (nat_eq k) f.non_const_assignments.keys ≡ cond (nat_eq n k) true (list_any (nat_eq k) e.non_const_assignments.keys)) → standing_of f ≡ with_open (standing_of e) n
+standing_opened e f n lists frames put =
+    ap (λ l. record { lists = l; frames = frames_view f.scope; is_open = (standing_of f).is_open }) lists
+    ∙ ap (λ fs. record { lists = e.lists; frames = fs; is_open = (standing_of f).is_open }) frames
+    ∙ ap (λ is_open. record { lists = e.lists; frames = frames_view e.scope; is_open = is_open }) (fun_ext (λ k. put k ∙ either n k (list_any (nat_eq k) e.non_const_assignments.keys)))
+
+-- an error that is no `Const` ends a stage
+pub final_of : (e : Error) → ((c : _) → e ≡ errors.Const c → ⊥) → OfSome IsFinal (refusal e)
+final_of (errors.Assert message name) other = tt
+final_of (errors.Backtick t f) other = tt
+final_of (errors.Check parameter message) other = tt
+final_of (errors.Const c) other = absurd (other c refl)
+final_of (errors.EmptyListArgument parameter recipe) other = tt
+final_of (errors.FunctionCall function message) other = tt
+final_of (errors.Internal message t) other = tt
+final_of (errors.LeftOut function) other = tt
+final_of (errors.LeftOutRegex t) other = tt
+final_of (errors.ListInStringContext context value) other = tt
+final_of (errors.ListOperation l o r t) other = tt
+final_of (errors.RecursionLimit last) other = tt
+final_of errors.OutOfMemory other = tt
+
+-- so is what is said of a module that is not resolved
+pub few_said : (e : Option Refusal) (message : _) (t : Token) → Says e (Internal message t) → OfSome IsConstEval e
+few_said (Some r) message t is = subst IsConstEval (sym is) tt
+few_said None message t is = tt

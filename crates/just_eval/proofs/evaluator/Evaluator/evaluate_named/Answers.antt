@@ -1,0 +1,26 @@
+use Rattle.std.proofs.Common.{◌≡◌, ap, true, false, Some, None}
+use Rattle.just_syntax.specs.View.{assignment_view, name_view}
+use Rattle.just_syntax.proofs.Tables.{found_at}
+use Rattle.just_value.specs.View.{frames_view}
+use Rattle.just_meaning.specs.View.{is_referenced_in}
+use Rattle.just_eval.proofs.Assigned.{ran_assigned}
+use Rattle.just_eval.proofs.Module.{ran_passes, ran_unknown}
+use Rattle.just_eval.proofs.evaluator.Evaluator.evaluate_named.Goals as goal
+
+pub returns-in_default-clause-ran : goal.returns-in_default-clause-ran
+returns-in_default-clause-ran g c =
+    ran_unknown (frames_view c.args.self.now.scope) (name_view c.args.name) _
+    (found_at assignment_view (λ a. a.name.lexeme) _ _ _ None c.in_default.ensures (ap (λ l. l.now) c.lexeme.ensures)) c.unknown_assignment.ensures
+
+pub returns-then-not-is_referenced-clause-ran : goal.returns-then-not-is_referenced-clause-ran
+returns-then-not-is_referenced-clause-ran g c =
+    let b : is_referenced_in c.args.references c.in-Some.assignment.now.number ≡ false = cc in
+    ran_passes (frames_view c.args.self.now.scope) (name_view c.args.name) (assignment_view c.in-Some.assignment.now)
+    (found_at assignment_view (λ a. a.name.lexeme) _ _ _ (Some c.in-Some.assignment.now) c.in-Some.ensures (ap (λ l. l.now) c.lexeme.ensures)) b
+
+pub returns-clause-ran : goal.returns-clause-ran
+returns-clause-ran g c =
+    let b : is_referenced_in c.args.references c.in-Some.assignment.now.number ≡ true = cc in
+    ran_assigned (frames_view c.args.self.now.scope) (name_view c.args.name) (assignment_view c.in-Some.assignment.now)
+    (found_at assignment_view (λ a. a.name.lexeme) _ _ _ (Some c.in-Some.assignment.now) c.in-Some.ensures (ap (λ l. l.now) c.lexeme.ensures)) b
+    (rw (c.requires.here, c.requires.lists) at c.evaluate_assignment.ensures.assigned)

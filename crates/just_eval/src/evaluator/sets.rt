@@ -1,0 +1,167 @@
+// Evaluation of settings.
+
+ghost use Rattle.std.specs.Prelude.{map, ◌≡◌};
+ghost use Rattle.just_syntax.specs.View.{expression_interpreter_view, interpreter_view, name_view, set_view, setting_view};
+ghost use Rattle.just_value.specs.Outcome.{UnlessStopped};
+ghost use Rattle.just_value.specs.View.{const_ended};
+ghost use Rattle.just_host.specs.View.{settings_view};
+ghost use Rattle.just_meaning.specs.Settings as meant;
+ghost use Rattle.just_meaning.specs.Settings.{kept, with_setting};
+ghost use Rattle.just_meaning.specs.Stage.{const_value};
+ghost use Rattle.just_eval.specs.View.{IsConst, standing_of};
+
+use super::Evaluator;
+use just_forms::form;
+use just_host::settings::Settings;
+use just_syntax::expression::Expression;
+use just_syntax::interpreter::Interpreter;
+use just_syntax::name::Name;
+use just_syntax::set::Set;
+use just_syntax::setting::Setting;
+use just_syntax::string_context::StringContext;
+use just_syntax::table::Table;
+use just_value::compile_error::CompileError;
+use just_value::const_eval_error::ConstEvalError;
+use just_value::value::Value;
+use std::alloc::Global;
+
+impl<'src, 'run> Evaluator<'src, 'run> {
+    /// The settings that a module sets, one after another by the bytes of their names. It asks nothing. What is not set
+    /// is as in `Settings::new`.
+    ///
+    /// # Errors
+    ///
+    /// The first refusal, as `ConstEval`: `Const` at the first call, command or open variable; `ListInStringContext` where
+    /// one text is wanted; `EmptyInterpreter` where a command and its arguments have no element. `OutOfMemory` where
+    /// memory was asked for and refused.
+    pub fn evaluate_sets(
+        &self,
+        alloc: Global,
+        sets: Table<Set<'src>>,
+    ) -> Result<Settings, CompileError<'src>>
+        requires before_runs { IsConst self.now }
+        ensures { UnlessStopped (const_ended settings_view result) (meant.settings (const_value (standing_of self.now)) (map set_view sets.entry)) }
+    {
+        let mut settings = Settings::new(alloc);
+        for set in &sets {
+            self.evaluate_set(alloc, &mut settings, set)?;
+        }
+        Ok(settings)
+    }
+
+    // Puts one setting in its place.
+    fn evaluate_set(
+        &self,
+        alloc: Global,
+        settings: &mut Settings,
+        set: &Set<'src>,
+    ) -> Result<(), CompileError<'src>>
+        requires before_runs { IsConst self.now }
+        ensures { UnlessStopped (const_ended (λ _. settings_view settings.new) result) (with_setting (const_value (standing_of self.now)) (settings_view settings.old) (set_view set.now).name (set_view set.now).value) }
+    {
+        let context = StringContext::Setting(set.name);
+        match &set.value {
+            Setting::DotenvCommand(value) => {
+                settings.dotenv_command = self.evaluate_value_const(alloc, value)?;
+            }
+            Setting::DotenvFilename(value) => {
+                settings.dotenv_filename = self.evaluate_value_const(alloc, value)?;
+            }
+            Setting::DotenvPath(value) => {
+                settings.dotenv_path = self.evaluate_value_const(alloc, value)?;
+            }
+            Setting::ScriptInterpreter(value) => {
+                let command = self.evaluate_interpreter(alloc, value, set.name)?;
+                settings.script_interpreter = Some(command);
+            }
+            Setting::Shell(value) => {
+                settings.shell = Some(self.evaluate_interpreter(alloc, value, set.name)?);
+            }
+            Setting::Tempdir(value) => {
+                settings.tempdir = Some(self.evaluate_string_const(alloc, value, context)?);
+            }
+            Setting::WindowsShell(value) => {
+                settings.windows_shell = Some(self.evaluate_interpreter(alloc, value, set.name)?);
+            }
+            Setting::WorkingDirectory(value) => {
+                let directory = self.evaluate_string_const(alloc, value, context)?;
+                settings.working_directory = Some(directory);
+            }
+            value => keep(settings, value),
+        }
+        Ok(())
+    }
+
+    /// A command and its first arguments before any run: the elements of all its expressions in their order, the first
+    /// of which is the command. It asks nothing.
+    ///
+    /// # Errors
+    ///
+    /// The first refusal, as `ConstEval`: `EmptyInterpreter` where there is no element at all. `OutOfMemory` where memory
+    /// was asked for and refused.
+    pub fn evaluate_interpreter(
+        &self,
+        alloc: Global,
+        interpreter: &Interpreter<Expression<'src>>,
+        setting: Name<'src>,
+    ) -> Result<Interpreter<String>, CompileError<'src>>
+        requires before_runs { IsConst self.now }
+        ensures { UnlessStopped (const_ended interpreter_view result) (meant.interpreter (const_value (standing_of self.now)) (name_view setting.entry) (expression_interpreter_view interpreter.now)) }
+    {
+        let mut all = self.evaluate_value_const(alloc, &interpreter.command)?;
+        for argument in &interpreter.arguments {
+            let value = self.evaluate_value_const(alloc, argument)?;
+            all = form::extended(all, value)?;
+        }
+        command_of(all, setting)
+    }
+}
+
+// Puts a setting that needs no evaluation in its place.
+fn keep(settings: &mut Settings, setting: &Setting)
+    ensures { settings_view settings.new ≡ kept (settings_view settings.old) (setting_view setting.now) }
+{
+    match setting {
+        Setting::AllowDuplicateRecipes(value) => settings.allow_duplicate_recipes = *value,
+        Setting::AllowDuplicateVariables(value) => settings.allow_duplicate_variables = *value,
+        Setting::DefaultList(value) => settings.default_list = *value,
+        Setting::DefaultScript(value) => settings.default_script = *value,
+        Setting::DotenvLoad(value) => settings.dotenv_load = *value,
+        Setting::DotenvOverride(value) => settings.dotenv_override = *value,
+        Setting::DotenvRequired(value) => settings.dotenv_required = *value,
+        Setting::Export(value) => settings.export = *value,
+        Setting::Fallback(value) => settings.fallback = *value,
+        Setting::Guards(value) => settings.guards = *value,
+        Setting::IgnoreComments(value) => settings.ignore_comments = *value,
+        Setting::Indentation(_, value) => settings.indentation = Some(*value),
+        Setting::Lazy(value) => settings.lazy = *value,
+        Setting::Lists(value) => settings.lists = *value,
+        Setting::NoCd(value) => settings.no_cd = *value,
+        Setting::NoExitMessage(value) => settings.no_exit_message = *value,
+        Setting::PositionalArguments(value) => settings.positional_arguments = *value,
+        Setting::Quiet(value) => settings.quiet = *value,
+        Setting::Unstable(value) => settings.unstable = *value,
+        Setting::WindowsPowerShell(value) => settings.windows_powershell = *value,
+        // The least version is for the reader of the file.
+        Setting::MinimumVersion(_) => {}
+        // These are evaluated.
+        Setting::DotenvCommand(_) | Setting::DotenvFilename(_) | Setting::DotenvPath(_) => {}
+        Setting::ScriptInterpreter(_) | Setting::Shell(_) | Setting::WindowsShell(_) => {}
+        Setting::Tempdir(_) | Setting::WorkingDirectory(_) => {}
+    }
+}
+
+// A command and its arguments. It takes no memory.
+fn command_of<'src>(
+    elements: Value,
+    setting: Name<'src>,
+) -> Result<Interpreter<String>, CompileError<'src>>
+    ensures { const_ended interpreter_view result ≡ meant.command_of (name_view setting.entry) elements }
+{
+    let mut arguments = elements.into_elements();
+    if arguments.is_empty() {
+        return Err(ConstEvalError::EmptyInterpreter { setting }.into_compile_error());
+    }
+    let command = arguments.remove(0);
+    Ok(Interpreter { arguments, command })
+}

@@ -1,0 +1,7 @@
+// Tests of the evaluator's const calls. They stand in a crate of their own since a crate with tests is proved twice.
+#![tactic(auto)]
+
+#[cfg(test)]
+mod constants;
+#[cfg(test)]
+mod settings;

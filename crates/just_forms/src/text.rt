@@ -1,0 +1,28 @@
+// Values where one text is wanted.
+
+ghost use Rattle.std.specs.Prelude.{string_bytes, ◌≡◌};
+ghost use Rattle.just_syntax.specs.View.{string_context_view};
+ghost use Rattle.just_value.specs.View.{ended};
+ghost use Rattle.just_meaning.specs.Settings.{text_in};
+
+use just_syntax::string_context::StringContext;
+use just_value::error::Error;
+use just_value::value::Value;
+
+/// The element of a value where one text is wanted. It takes no memory.
+///
+/// # Errors
+///
+/// `ListInStringContext` for a value that has not exactly one element.
+pub fn one_text<'src>(value: Value, context: StringContext<'src>) -> Result<String, Error<'src>>
+    ensures { ended string_bytes result ≡ text_in (string_context_view context.entry) value }
+{
+    if value.len() != 1 {
+        return Err(Error::ListInStringContext { context, value });
+    }
+    let mut elements = value.into_elements();
+    match elements.pop() {
+        Some(text) => Ok(text),
+        None => unreachable!(),
+    }
+}

@@ -1,0 +1,187 @@
+-- By the const rules nothing is asked, and few refusals come.
+use Rattle.std.proofs.Common.{◌≡◌, ⊎_elim, inl, inr, ◌⊎◌, ℕ, suc, Bool, true, false, List, [], ◌∷◌, ◌++◌, if◌then◌else◌, Option, Some, None, Result, Err, refl, sym, ap, ◌∙◌, subst}
+use Rattle.just_syntax.specs.Plain.{Text, Token, Assignment, Expr, And, Assert, AssertOnly, Backtick, Call, Comparison, Concatenation, Conditional, ConditionalOnly, FormatString, Group, Join, JoinOnly, ListOf, ListConcatenation, Not, Or, StringLiteral, Variable, Exprs, Nil, Cons, Pieces, NoPiece, Piece}
+use Rattle.just_syntax.specs.Printed.{printed}
+use Rattle.just_syntax.specs.declared.list_operator.ListOperator.{ListOperator}
+use Rattle.just_syntax.specs.declared.list_operator.ListOperator.TheVariants as operators
+use Rattle.just_syntax.specs.ListOperator.{separator}
+use Rattle.just_value.specs.ConstEval.{IsConstEval}
+use Rattle.just_value.specs.ConstRefusal as constants
+use Rattle.just_value.specs.Value.{Value, Names, is_truthy, joined}
+use Rattle.just_value.specs.Applied.{applied, value_or_lists}
+use Rattle.just_value.specs.Refusal as refusal
+use Rattle.just_value.specs.Refusal.{Refusal, Const, Internal}
+use Rattle.just_value.specs.Outcome.{Outcome, Gave, Refused, Stopped, UnlessStopped}
+use Rattle.just_host.specs.Question.{Question, Answer}
+use Rattle.just_host.specs.Interaction.{Note, Event, Read, Entered, Command, Tree, done, ask, note, bind, gives, refuses, Path, Ends, Stops, Asks, Notes, Shuts, Chain, Runs}
+use Rattle.just_meaning.specs.Constant.{constant, constantly, unless_refused}
+use Rattle.just_meaning.specs.Internal.{IfRefused}
+use Rattle.just_meaning.specs.Reaches.{Mention, VariableOf, CallOf, Stands, StandsIn, StandsInPieces}
+use Rattle.just_meaning.specs.Meaning.{Program, Situation, Deeper, as_it_is, assertion, combination, eval, eval_row, eval_pieces, is_regex, named, variable}
+use Rattle.just_meaning.specs.Module.{or_override}
+
+-- By the const rules the tree reaches no question, and what it is refused with is such.
+abbrev pub AllConst : {A : Type 0} → (Refusal → Type 0) → (ℕ → Bool) → Tree A → Type 0
+AllConst P is_open (done (Gave a)) = Unit {0}
+AllConst P is_open (done (Refused r)) = P r
+AllConst P is_open (done Stopped) = Unit {0}
+AllConst P is_open (ask q next) = ⊥
+AllConst P is_open (note x rest) = constantly is_open x ≡ None → AllConst P is_open rest
+
+-- what a variable with no value may be refused with
+abbrev pub Fine : (Refusal → Type 0) → (ℕ → Bool) → Names → Mention → Type 0
+Fine P is_open names (VariableOf number) = (t : Token) → AllConst P is_open (variable t number names)
+Fine P is_open names (CallOf f n) = Unit {0}
+
+-- what may be refused whatever the variables are
+pub record Allows (P : Refusal → Type 0) : Type 0 where
+  pub assertion : (message : Text) (t : Token) → P (refusal.Assert message t)
+  pub lists : (l : Value) (o : ListOperator) (r : Value) (t : Token) → P (refusal.ListOperation l o r t)
+  pub regex : (t : Token) → P (refusal.LeftOutRegex t)
+
+module _ (P : Refusal → Type 0) (is_open : ℕ → Bool) where
+  pub const_bind : {A B : Type 0} (t : Tree A) (go : A → Tree B) → AllConst P is_open t → ((a : A) → AllConst P is_open (go a)) → AllConst P is_open (bind t go)
+  const_bind (done (Gave a)) go h k = k a
+  const_bind (done (Refused r)) go h k = h
+  const_bind (done Stopped) go h k = tt
+  const_bind (ask q next) go h k = absurd h
+  const_bind (note x rest) go h k = λ e. const_bind rest go (h e) k
+
+  const_two : {A B D : Type 0} (t : Tree A) (u : Tree B) (go : A → B → Tree D) → AllConst P is_open t → AllConst P is_open u → ((v : A) (w : B) → AllConst P is_open (go v w)) → AllConst P is_open (bind t (λ v. bind u (go v)))
+  const_two t u go h k l = const_bind t _ h (λ v. const_bind u (go v) k (l v))
+
+  const_if : {A : Type 0} (b : Bool) (x y : Tree A) → AllConst P is_open x → AllConst P is_open y → AllConst P is_open (if b then x else y)
+  const_if true x y h k = h
+  const_if false x y h k = k
+
+  module _ (allows : Allows P) where
+    const_lists : (o : Option Value) (xs : Value) (k : ListOperator) (ys : Value) (t : Token) → AllConst P is_open (done (value_or_lists o xs k ys t))
+    const_lists (Some v) xs k ys t = tt
+    const_lists None xs k ys t = allows.lists xs k ys t
+
+    const_both : (o : ListOperator) (l r : Tree Value) (t : Token) → AllConst P is_open l → AllConst P is_open r → AllConst P is_open (combination o l t r)
+    const_both o l r t h k = const_two l r _ h k (λ v w. const_lists (applied (separator o) v w) v o w t)
+
+    const_assertion : (lists : Bool) (t : Token) (e : Tree Value) (m : Tree Text) → AllConst P is_open e → AllConst P is_open m → AllConst P is_open (assertion lists t e m)
+    const_assertion lists t e m h k = const_bind e _ h (λ v. const_if (is_truthy v) _ _ tt (const_bind m _ k (λ text. allows.assertion text t)))
+
+    module _ (c : Program) (d : Deeper) (s : Situation) where
+      abbrev Has : (Mention → Type 0) → Type 0
+      Has stands = (x : Mention) → stands x → Fine P is_open s.names x
+
+      mutual
+        -- a call and a command are refused before anything of them is looked at
+        pub const_eval : (e : Expr) → Has (Stands e) → AllConst P is_open (eval c d s e)
+        const_eval (And l r) has = const_bind (eval c d s l) _ (const_eval l (λ x y. has x (inl y))) (λ v. const_if (is_truthy v) _ _ (const_eval r (λ x y. has x (inr y))) tt)
+        const_eval (Assert e m t) has =
+            const_assertion s.lists t (eval c d s e) (bind (eval c d s m) (λ w. gives (joined w))) (const_eval e (λ x y. has x (inl y)))
+            (const_bind (eval c d s m) _ (const_eval m (λ x y. has x (inr y))) (λ w. tt))
+        const_eval (AssertOnly e t) has = const_assertion s.lists t (eval c d s e) (gives ((96 ∷ printed e) ++ 96 ∷ [])) (const_eval e has) tt
+        const_eval (Backtick text t) has = λ e. absurd (cc)
+        const_eval (Call t es) has = λ e. absurd (cc)
+        const_eval (Comparison l o r t) has =
+            const_if (is_regex o) _ _ (allows.regex t) (const_two (eval c d s l) (eval c d s r) _ (const_eval l (λ x y. has x (inl y))) (const_eval r (λ x y. has x (inr y))) (λ v w. tt))
+        const_eval (Concatenation l t r) has = const_both operators.Concatenate (eval c d s l) (eval c d s r) t (const_eval l (λ x y. has x (inl y))) (const_eval r (λ x y. has x (inr y)))
+        const_eval (Conditional e a b) has =
+            const_bind (eval c d s e) _ (const_eval e (λ x y. has x (inl y))) (λ v. const_if (is_truthy v) _ _ (const_eval a (λ x y. has x (inr (inl y)))) (const_eval b (λ x y. has x (inr (inr y)))))
+        const_eval (ConditionalOnly e a) has = const_bind (eval c d s e) _ (const_eval e (λ x y. has x (inl y))) (λ v. const_if (is_truthy v) _ _ (const_eval a (λ x y. has x (inr y))) tt)
+        const_eval (FormatString start pieces) has = const_bind (eval_pieces c d s pieces) _ (const_pieces pieces has) (λ text. tt)
+        const_eval (Group e) has = const_eval e has
+        const_eval (Join l t r) has = const_both operators.Join (eval c d s l) (eval c d s r) t (const_eval l (λ x y. has x (inl y))) (const_eval r (λ x y. has x (inr y)))
+        const_eval (JoinOnly t r) has = const_both operators.Join (gives ([] ∷ [])) (eval c d s r) t tt (const_eval r has)
+        const_eval (ListOf es t) has = const_bind (eval_row c d s 0 es as_it_is) _ (const_row 0 es has) (λ vs. tt)
+        const_eval (ListConcatenation l t r) has = const_two (eval c d s l) (eval c d s r) _ (const_eval l (λ x y. has x (inl y))) (const_eval r (λ x y. has x (inr y))) (λ v w. tt)
+        const_eval (Not e) has = const_bind (eval c d s e) _ (const_eval e has) (λ v. tt)
+        const_eval (Or l r) has = const_bind (eval c d s l) _ (const_eval l (λ x y. has x (inl y))) (λ v. const_if (is_truthy v) _ _ tt (const_eval r (λ x y. has x (inr y))))
+        const_eval (StringLiteral literal) has = tt
+        const_eval (Variable t number) has = has (VariableOf number) refl t
+
+        const_row : (i : ℕ) (es : Exprs) → Has (StandsIn es) → AllConst P is_open (eval_row c d s i es as_it_is)
+        const_row i Nil has = tt
+        const_row i (Cons e es) has =
+            const_bind (bind (eval c d s e) (as_it_is i)) _ (const_bind (eval c d s e) (as_it_is i) (const_eval e (λ x y. has x (inl y))) (λ v. tt))
+            (λ v. const_bind (eval_row c d s (suc i) es as_it_is) _ (const_row (suc i) es (λ x y. has x (inr y))) (λ vs. tt))
+
+        const_pieces : (pieces : Pieces) → Has (StandsInPieces pieces) → AllConst P is_open (eval_pieces c d s pieces)
+        const_pieces NoPiece has = tt
+        const_pieces (Piece e literal pieces) has = const_bind (eval c d s e) _ (const_eval e (λ x y. has x (inl y))) (λ v. const_bind (eval_pieces c d s pieces) _ (const_pieces pieces (λ x y. has x (inr y))) (λ text. tt))
+
+  pub const_override : (o : Option Text) (t : Tree Value) → AllConst P is_open t → AllConst P is_open (or_override o t)
+  const_override (Some text) t h = tt
+  const_override None t h = h
+
+  -- what such a tree comes to is such, or a refusal of the const rules
+  const_unless : {A : Type 0} (r : Option Refusal) (o : Outcome A) → ((s : Refusal) → r ≡ Some s → P s) → (r ≡ None → IfRefused P o) → IfRefused P (unless_refused r o)
+  const_unless (Some r) o h k = h r refl
+  const_unless None o h k = k refl
+
+  pub const_refused : {A : Type 0} (t : Tree A) → ((x : Note) (s : Refusal) → constantly is_open x ≡ Some s → P s) → AllConst P is_open t → IfRefused P (constant is_open t)
+  const_refused (done (Gave a)) shut h = tt
+  const_refused (done (Refused r)) shut h = h
+  const_refused (done Stopped) shut h = tt
+  const_refused (ask q next) shut h = absurd h
+  const_refused (note x rest) shut h = const_unless (constantly is_open x) (constant is_open rest) (shut x) (λ e. const_refused rest shut (h e))
+
+  -- a path down such a tree leads to what the tree comes to, unless it is stopped, and asks nothing
+  pub const_path : {A : Type 0} (t : Tree A) {es : List Event} {o : Outcome A} → AllConst P is_open t → Path (constantly is_open) t es o → UnlessStopped o (constant is_open t)
+  const_path (done (Gave a)) h Ends = refl
+  const_path (done (Refused r)) h Ends = refl
+  const_path (done Stopped) h Ends = tt
+  const_path t h Stops = tt
+  const_path (ask q next) h (Asks p) = absurd h
+  const_path (note x rest) {o = o} h (Notes e p) = subst (λ r. UnlessStopped o (unless_refused r (constant is_open rest))) (sym e) (const_path rest (h e) p)
+  const_path (note x rest) h (Shuts {r = r} e) = subst (λ s. UnlessStopped (Refused r) (unless_refused s (constant is_open rest))) (sym e) refl
+
+  pub const_asks_nothing : {A S : Type 0} (step : S → Question → Answer → S → Type 0) (old new : S) (t : Tree A) {es : List Event} {o : Outcome A} → AllConst P is_open t → Path (constantly is_open) t es o → Chain step old es new → old ≡ new
+  const_asks_nothing step old new t h Ends chain = chain
+  const_asks_nothing step old new t h Stops chain = chain
+  const_asks_nothing step old new (ask q next) h (Asks p) chain = absurd h
+  const_asks_nothing step old new (note x rest) h (Notes e p) chain = const_asks_nothing step old new rest (h e) p chain
+  const_asks_nothing step old new (note x rest) h (Shuts e) chain = chain
+
+-- ---- constant evaluation has few refusals
+
+-- the refusal, if there is one, is such
+abbrev pub OfSome : (Refusal → Type 0) → Option Refusal → Type 0
+OfSome P (Some r) = P r
+OfSome P None = Unit {0}
+
+allows_all : Allows IsConstEval
+allows_all = record { assertion = λ message t. tt; lists = λ l o r t. tt; regex = λ t. tt }
+
+shut_alike : (is_open : ℕ → Bool) (x : Note) (s : Refusal) → constantly is_open x ≡ Some s → IsConstEval s
+shut_alike is_open (Read t n) s e = by (is_open n) e
+  where
+    by : (b : Bool) → (if b then Some (Const (constants.Variable t)) else None) ≡ Some s → IsConstEval s
+    by true e = subst (OfSome IsConstEval) e tt
+    by false e = absurd (cc)
+shut_alike is_open (Entered t) s e = subst (OfSome IsConstEval) e tt
+shut_alike is_open (Command t) s e = subst (OfSome IsConstEval) e tt
+
+named_alike : (is_open : ℕ → Bool) (t : Token) (o : Option Value) → AllConst IsConstEval is_open (done (named t o))
+named_alike is_open t None = tt
+named_alike is_open t (Some v) = tt
+
+fine_alike : (is_open : ℕ → Bool) (names : Names) (x : Mention) → Fine IsConstEval is_open names x
+fine_alike is_open names (VariableOf None) = λ t. tt
+fine_alike is_open names (VariableOf (Some n)) = λ t e. named_alike is_open t (names n)
+fine_alike is_open names (CallOf f n) = tt
+
+pub eval_alike : (is_open : ℕ → Bool) (c : Program) (d : Deeper) (s : Situation) (e : Expr) → AllConst IsConstEval is_open (eval c d s e)
+eval_alike is_open c d s e = const_eval IsConstEval is_open allows_all c d s e (λ x h. fine_alike is_open s.names x)
+
+-- what a tree comes to is told by each path down it, which asks nothing
+pub record IsTold {S A : Type 0} (is_open : ℕ → Bool) (t : Tree A) (o : Outcome A) (old new : S) : Type 0 where
+  pub told : UnlessStopped o (constant is_open t)
+  pub still : old ≡ new
+  pub few : IfRefused IsConstEval o
+
+few_told : {A : Type 0} (o w : Outcome A) → UnlessStopped o w → IfRefused IsConstEval w → IfRefused IsConstEval o
+few_told (Gave a) w e h = tt
+few_told (Refused r) w e h = subst (IfRefused IsConstEval) (sym e) h
+few_told Stopped w e h = tt
+
+pub const_told : {S A : Type 0} {step : S → Question → Answer → S → Type 0} {old new : S} (is_open : ℕ → Bool) (t : Tree A) (o : Outcome A) → AllConst IsConstEval is_open t → Runs (constantly is_open) step old t o new → IsTold is_open t o old new
+const_told {step = step} {old = old} {new = new} is_open t o h r =
+    let told = const_path IsConstEval is_open t h r.path in
+    record { told = told; still = const_asks_nothing IsConstEval is_open step old new t h r.path r.chain; few = few_told o _ told (const_refused IsConstEval is_open t (shut_alike is_open) h) }

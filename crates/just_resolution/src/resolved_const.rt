@@ -1,0 +1,65 @@
+// Whether assignments before any run are resolved.
+
+ghost use Rattle.std.specs.Prelude.{◌↔◌, IfOk, IsTrue, Some};
+ghost use Rattle.just_value.specs.View.{frames_view};
+ghost use Rattle.just_meaning.specs.Resolved.{IsResolvedConst};
+ghost use Rattle.just_meaning.specs.View.{ordered_view};
+
+use crate::known::are_values_numbered;
+use crate::numbers::{are_distinct, assignment_numbers};
+use crate::order::is_in_order;
+use just_syntax::assignment::Assignment;
+use just_syntax::name::Name;
+use just_syntax::number::Number;
+use just_syntax::out_of_memory::OutOfMemory;
+use just_syntax::table::Table;
+use just_value::scope::Scope;
+use std::alloc::Global;
+use std::collections::HashSet;
+
+/// Whether assignments are resolved before any run, where no function is entered: each number is that of one
+/// assignment, and each assignment is taken before it is read.
+///
+/// - The numbers of all assignments are distinct.
+/// - Each variable in an assignment has a number, also in one that is not taken. Nothing is asked of the names that
+///   are called.
+/// - Each name of the evaluation order is an assignment's. The variables that stand in a taken assignment, overridden
+///   or not, are taken earlier or bound in `scope`. Taken are the assignments of the order that are referenced.
+///
+/// [`resolved`] asks besides that each called name takes as many arguments as the call has, that parameters have
+/// numbers of their own, which are not bound outside, that each variable in a body has a number, and that what is
+/// read in the bodies that are reached is taken earlier or bound outside too.
+///
+/// Each assignment is looked through a bounded number of times.
+///
+/// [`resolved`]: crate::resolved::resolved
+///
+/// # Errors
+///
+/// `OutOfMemory` where memory was asked for and refused.
+pub fn resolved_const<'src, 'run>(
+    alloc: Global,
+    assignments: &Table<Assignment<'src>>,
+    evaluation_order: &[Name<'src>],
+    scope: &Scope<'src, 'run>,
+    variable_references: &HashSet<Number>,
+) -> Result<bool, OutOfMemory>
+    ensures exact { IfOk result (λ answer. IsTrue answer ↔ IsResolvedConst (ordered_view assignments.now evaluation_order.now (Some variable_references.entry)) (frames_view scope.now)) }
+{
+    let numbers = assignment_numbers(alloc, assignments)?;
+    if !are_distinct(alloc, &numbers)? {
+        return Ok(false);
+    }
+    if !are_values_numbered(alloc, assignments)? {
+        return Ok(false);
+    }
+    let functions = Table::new(alloc);
+    is_in_order(
+        alloc,
+        &functions,
+        assignments,
+        evaluation_order,
+        scope,
+        Some(variable_references),
+    )
+}

@@ -1,0 +1,157 @@
+// What constant evaluation is refused with.
+
+ghost use Rattle.std.specs.Prelude.{◌≡◌, Some};
+ghost use Rattle.std.specs.Fmt.{WritesOnOk};
+ghost use Rattle.just_syntax.specs.ListOperator.{operator_text};
+ghost use Rattle.just_syntax.specs.View.{string_context_view, token_view};
+ghost use Rattle.just_value.specs.ConstEval.{const_eval_token, list_text, lists_text};
+ghost use Rattle.just_value.specs.View.{compile_refusal, compile_token, const_eval_refusal};
+
+use crate::compile_error::CompileError;
+use crate::const_error::ConstError;
+use crate::value::Value;
+use just_syntax::list_operator::ListOperator;
+use just_syntax::name::Name;
+use just_syntax::string_context::StringContext;
+use just_syntax::token::Token;
+use std::fmt;
+
+/// Why constant evaluation gave no value.
+#[derive(Debug, Drop, PartialEq)]
+pub enum ConstEvalError<'src> {
+    /// An assertion failed.
+    Assert {
+        message: String,
+        name: Name<'src>,
+    },
+    /// What constant evaluation does not allow.
+    Const(ConstError<'src>),
+    /// A setting that needs a command was set to no element.
+    EmptyInterpreter {
+        setting: Name<'src>,
+    },
+    /// The module is not resolved.
+    Internal {
+        message: String,
+        token: Token<'src>,
+    },
+    /// `=~` or `!~` was reached.
+    LeftOutRegex {
+        token: Token<'src>,
+    },
+    /// A value without exactly one element where one text is wanted.
+    ListInStringContext {
+        context: StringContext<'src>,
+        value: Value,
+    },
+    /// Lists of these lengths do not go together.
+    ListOperation {
+        lhs: Value,
+        operator: ListOperator,
+        rhs: Value,
+        token: Token<'src>,
+    },
+}
+
+impl<'src> ConstEvalError<'src> {
+    /// The token where it stands.
+    pub fn context(&self) -> Token<'src>
+        ensures { token_view result ≡ const_eval_token (const_eval_refusal self.now) }
+    {
+        match self {
+            ConstEvalError::Assert { message: _, name } => name.token,
+            ConstEvalError::Const(error) => error.context(),
+            ConstEvalError::EmptyInterpreter { setting } => setting.token,
+            ConstEvalError::ListInStringContext { context, value: _ } => context.token(),
+            ConstEvalError::Internal { token, .. }
+            | ConstEvalError::LeftOutRegex { token }
+            | ConstEvalError::ListOperation { token, .. } => *token,
+        }
+    }
+
+    /// The same refusal, with the token where it stands.
+    pub fn into_compile_error(self) -> CompileError<'src>
+        ensures refusal { compile_refusal result ≡ Some (const_eval_refusal self.entry) }
+        ensures token { compile_token result ≡ Some (const_eval_token (const_eval_refusal self.entry)) }
+    {
+        CompileError::ConstEval {
+            token: self.context(),
+            error: self,
+        }
+    }
+}
+
+impl fmt::Display for ConstEvalError<'_> {
+    ghost use Rattle.std.specs.Prelude.{Some};
+    ghost use Rattle.just_value.specs.ConstEval.{const_eval_text};
+    ghost use Rattle.just_value.specs.View.{const_eval_refusal};
+
+    ghost output = { λ error. Some (const_eval_text (const_eval_refusal error)) };
+
+    fn fmt<W: fmt::Write>(&self, f: &mut fmt::Formatter<W>) -> fmt::Result {
+        match self {
+            ConstEvalError::Assert { message, name: _ } => write!(f, "assert failed: {message}"),
+            ConstEvalError::Const(error) => write!(f, "{error}"),
+            ConstEvalError::EmptyInterpreter { setting } => write!(
+                f,
+                "`{setting}` setting requires at least one element but evaluated to empty list"
+            ),
+            ConstEvalError::Internal { message, token: _ } => {
+                write!(f, "internal error: {message}")
+            }
+            ConstEvalError::LeftOutRegex { token: _ } => {
+                f.write_str("regular expression operators are left out")
+            }
+            ConstEvalError::ListInStringContext { context, value } => {
+                write_list(f, context, value)
+            }
+            ConstEvalError::ListOperation {
+                lhs,
+                operator,
+                rhs,
+                token: _,
+            } => {
+                write!(f, "operator `{operator}`")?;
+                write_lists(f, lhs, operator, rhs)
+            }
+        }
+    }
+}
+
+// A value where one text is wanted.
+fn write_list<W: fmt::Write>(
+    f: &mut fmt::Formatter<W>,
+    context: &StringContext,
+    value: &Value,
+) -> fmt::Result
+    ensures { WritesOnOk W.write_str_gives f.old result (list_text (string_context_view context.now) value.now) f.new }
+{
+    write!(f, "list value {value} {context}")?;
+    match context {
+        StringContext::EnvKey(_) => Ok(()),
+        StringContext::Function(_) => f.write_str(
+            "\nthe behavior of lists with many built-in functions is undecided\n\
+            see https://github.com/casey/just#lists",
+        ),
+        StringContext::Setting(_) => Ok(()),
+    }
+}
+
+// What an operator cannot be applied to.
+fn write_lists<W: fmt::Write>(
+    f: &mut fmt::Formatter<W>,
+    lhs: &Value,
+    operator: &ListOperator,
+    rhs: &Value,
+) -> fmt::Result
+    ensures { WritesOnOk W.write_str_gives f.old result (lists_text lhs.now (operator_text operator.now) rhs.now) f.new }
+{
+    if lhs.is_empty() || rhs.is_empty() {
+        f.write_str(" cannot be applied to empty lists")
+    } else {
+        write!(
+            f,
+            " cannot be applied to lists of different lengths: {lhs} {operator} {rhs}"
+        )
+    }
+}
