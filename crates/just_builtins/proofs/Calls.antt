@@ -62,7 +62,7 @@ module _ {S : Type 0} {step : S → Question → Answer → S → Type 0} where
   told_by f shown reply (Ok v) is = (record { events = []; path = path shown reply (Ok v) is; chain = refl }, λ e. absurd (cc))
   told_by f shown reply (Err (Message message)) is = (record { events = []; path = path shown reply (Err (Message message)) is; chain = refl }, λ e. absurd (cc))
   told_by f shown reply (Err OutOfMemory) is = (record { events = []; path = Stops; chain = refl }, λ e. absurd (cc))
-  told_by f shown reply (Err Internal) is = (record { events = []; path = Stops; chain = refl }, λ e. is)
+  told_by f shown reply (Err Internal) is = (record { events = []; path = Stops; chain = refl }, λ e. (is, refl))
 
   -- the same, where those that ask nothing are among others of their shape
   pub told_among : {h : S} (f : Function) (those : List Builtin) (b : Builtin) (shown : Frames) (reply : Reply) (result : Result Value CallFault) → RepliesAmong those b reply result → (IsNoneOf those b → IsUnnamed f) → AskedBy f step h shown reply result h

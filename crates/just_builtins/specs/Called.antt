@@ -77,9 +77,9 @@ GivesOr reply (Err Internal) = ⊥
 abbrev pub Asked : {S : Type 0} → (S → Question → Answer → S → Type 0) → S → Frames → Reply → Result Value CallFault → S → Type 0
 Asked step old shown reply result new = Runs freely step old (tree shown reply) (outcome result) new × (result ≢ Err Internal)
 
--- the same, but that it is `Internal` where no name stands for the function
+-- the same, but that it is `Internal` where no name stands for the function, before anything is asked
 abbrev pub AskedBy : {S : Type 0} → Function → (S → Question → Answer → S → Type 0) → S → Frames → Reply → Result Value CallFault → S → Type 0
-AskedBy f step old shown reply result new = Runs freely step old (tree shown reply) (outcome result) new × (result ≡ Err Internal → IsUnnamed f)
+AskedBy f step old shown reply result new = Runs freely step old (tree shown reply) (outcome result) new × (result ≡ Err Internal → IsUnnamed f × (new ≡ old))
 
 -- Where there is a result, it is the reply's. Where there is none yet, whatever the rest then comes to is what the reply
 -- comes to.

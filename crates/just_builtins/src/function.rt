@@ -125,7 +125,8 @@ impl Function {
     /// # Errors
     ///
     /// `Message` where the function says why it gives no value; `OutOfMemory` where memory was asked for and
-    /// refused, or where the host says so; `Internal` only where no name stands for the function.
+    /// refused, or where the host says so; `Internal` only where no name stands for the function, and then nothing is
+    /// asked.
     pub fn call<H: Host>(
         self,
         alloc: Global,
@@ -137,7 +138,7 @@ impl Function {
         requires texts { HasTexts self arguments.now }
         ensures replied { let answer = reply (builtin_of self) (function_context_view context.now) arguments.now in
             Runs freely H.step host.old (tree (frames_view context.now.scope.now) answer) (outcome result) host.new }
-        ensures internal { result ≡ Err Internal → IsUnnamed self }
+        ensures internal { result ≡ Err Internal → IsUnnamed self × (host.new ≡ host.old) }
     {
         self.answer(alloc, host, context, arguments)
     }

@@ -59,9 +59,11 @@ impl<'src, 'run> Evaluator<'src, 'run> {
     ///
     /// # Errors
     ///
-    /// The first refusal ends the run. On a resolved module that is a command's fault or lists that do not go
-    /// together; on another also `Internal`. `OutOfMemory` comes where memory was asked for and refused, or
-    /// where the host says so.
+    /// The first refusal ends the run: a failed assertion (`Assert`), a command's fault (`Backtick`), lists that do
+    /// not go together (`ListOperation`), a regular expression operator (`LeftOutRegex`), too many pending calls
+    /// (`RecursionLimit`); of built-in functions their own message (`FunctionCall`), a list where one wants a text
+    /// (`ListInStringContext`), and one that is left out (`LeftOut`). On a module that is not resolved also
+    /// `Internal`. `OutOfMemory` comes where memory was asked for and refused, or where the host says so.
     pub fn evaluate_assignments<H: Host>(
         alloc: Global,
         host: &mut H,
@@ -82,6 +84,11 @@ impl<'src, 'run> Evaluator<'src, 'run> {
             IsResolved m.program.functions m.assignments outer → Ran H.step host.old lexically m ([] ∷ outer) m.assignments.order (ended frames_view result) host.new }
         ensures never_internal { let m = run_of config.entry dotenv.entry «module».entry overrides.entry parent.entry search.entry recursion_limit variable_references.entry in
             IsResolved m.program.functions m.assignments (frames_view parent.entry.now) → IsNotInternal (ended frames_view result) }
+
+        // On any module dynamic scoping gives the scope or the refusal, by the questions that it asks: a body that reads what
+        // is neither its own nor the module's sees its caller's.
+        ensures dynamic { let m = run_of config.entry dotenv.entry «module».entry overrides.entry parent.entry search.entry recursion_limit variable_references.entry in
+            Ran H.step host.old dynamically m ([] ∷ frames_view parent.entry.now) m.assignments.order (ended frames_view result) host.new }
 
         // On any module it is not refused as constant evaluation is, and nothing but answered questions leads the host on.
         ensures never_const { IfRefused IsFinal (ended frames_view result) }

@@ -21,7 +21,8 @@ use std::collections::HashSet;
 /// - The numbers of all assignments and of all parameters of functions are distinct, and `parent` binds no
 ///   parameter's number.
 /// - Each variable in an assignment or a body has a number, and each called name is a function of the file with as
-///   many parameters as the call has arguments.
+///   many parameters as the call has arguments, or else a built-in function that takes so many, or one that is
+///   left out.
 /// - Each name of the evaluation order is an assignment's. What a taken assignment reads, overridden or not, by
 ///   itself or in the bodies of the functions that it reaches (less each function's own parameters), is taken
 ///   earlier or bound in `parent`. Taken are the assignments of the order that are referenced: each, where

@@ -12,6 +12,7 @@ use just_syntax::number::Number;
 use just_syntax::out_of_memory::OutOfMemory;
 use std::alloc::Global;
 use std::collections::BTreeMap;
+use std::fmt;
 use std::marker::Model;
 
 /// Bindings by their numbers.
@@ -70,5 +71,16 @@ impl<'src> Frame<'src> {
     {
         self.bindings.insert(binding.number, binding)?;
         Ok(())
+    }
+}
+
+// The names with their values. A reader is promised no bytes.
+impl fmt::Debug for Frame<'_> {
+    fn fmt<W: fmt::Write>(&self, f: &mut fmt::Formatter<W>) -> fmt::Result {
+        let mut map = f.debug_map();
+        for binding in self.bindings() {
+            map.entry(&binding.name.lexeme(), &binding.value);
+        }
+        map.finish()
     }
 }

@@ -17,6 +17,7 @@ use just_syntax::numerator::Numerator;
 use just_syntax::out_of_memory::OutOfMemory;
 use just_syntax::token::Token;
 use std::alloc::Global;
+use std::fmt;
 
 /// An own frame, and the frames outside it, innermost first.
 #[derive(Drop)]
@@ -153,5 +154,17 @@ fn constant<'src>(alloc: Global, number: Number, key: &'src str, value: Value) -
         prelude: true,
         private: false,
         value,
+    }
+}
+
+// The frames, innermost first. A reader is promised no bytes.
+impl fmt::Debug for Scope<'_, '_> {
+    fn fmt<W: fmt::Write>(&self, f: &mut fmt::Formatter<W>) -> fmt::Result {
+        let mut frames = f.debug_list();
+        frames.entry(self.frame());
+        for frame in &self.outer {
+            frames.entry(*frame);
+        }
+        frames.finish()
     }
 }

@@ -14,3 +14,6 @@ returns-clause-never_internal g c = λ resolved.
 
 pub returns-clause-never_const : goal.returns-clause-never_const
 returns-clause-never_const g c = run_is_final _ c.run.ensures.run
+
+pub returns-clause-dynamic : goal.returns-clause-dynamic
+returns-clause-dynamic g c = rw c.deref.ensures.value at c.run.ensures
