@@ -1,0 +1,32 @@
+-- A file ends its case at its first separator.
+use Rattle.std.proofs.Common.{◌≡◌, ℕ, ◌+◌, List, ◌∷◌, ◌++◌, drop, length, refl, ⊎_elim, arith}
+use Rattle.std.specs.Prelude.{codes}
+use Rattle.std.proofs.lemmas.Bool.{cases_order}
+use Rattle.std.proofs.lemmas.List.{length-append}
+use Rattle.std.proofs.Math.Seq.{drop-append_seam}
+use Rattle.just_cases.specs.Stored.{SeparatedAt, UnseparatedTo, whole}
+
+-- what stands behind the case
+abbrev behind : ℕ → List ℕ → List ℕ
+behind status answer = codes "\n=> " ++ ((48 + status) ∷ (10 ∷ answer))
+
+-- a separator stands behind the case
+separated_whole : (case : List ℕ) (status : ℕ) (answer : List ℕ) → SeparatedAt (whole case status answer) (length case)
+separated_whole case status answer = rw (drop-append_seam case (behind status answer)) refl
+
+-- it is the first, so the case ends there
+ends_first : (file case : List ℕ) (status : ℕ) (answer : List ℕ) (at : ℕ) → SeparatedAt file at → UnseparatedTo file at → UnseparatedTo file (length case) → file ≡ whole case status answer → at ≡ length case
+ends_first file case status answer at here before_here before_end same =
+    let there : SeparatedAt file (length case) = rw same (separated_whole case status answer) in
+    ⊎_elim (λ e. e) (⊎_elim (λ before. absurd (before_end at before here)) (λ behind. absurd (before_here (length case) behind there))) (cases_order at (length case))
+
+-- what stands behind the first separator
+pub behind_first : (file case : List ℕ) (status : ℕ) (answer : List ℕ) (at : ℕ) → SeparatedAt file at → UnseparatedTo file at → UnseparatedTo file (length case) → file ≡ whole case status answer → drop 4 (drop at file) ≡ (48 + status) ∷ (10 ∷ answer)
+behind_first file case status answer at here before_here before_end same =
+    rw (ends_first file case status answer at here before_here before_end same, same, drop-append_seam case (behind status answer)) refl
+
+-- a file that is whole has a separator within it
+pub separated_within : (file case : List ℕ) (status : ℕ) (answer : List ℕ) → UnseparatedTo file (length file) → file ≡ whole case status answer → ⊥
+separated_within file case status answer none same =
+    let there : SeparatedAt file (length case) = rw same (separated_whole case status answer) in
+    none (length case) (rw same (omega (arith, length-append case (behind status answer)))) there
