@@ -1,10 +1,9 @@
-// Cases, streams that fail, and evaluations in a scope that binds something.
+// What no stored case can say: a case that is cut, streams that fail, hosts, and evaluations in a scope that binds
+// something.
 
-mod cases;
-mod constants;
 mod evaluations;
 mod fakes;
 mod functions;
 mod hosts;
-mod runs;
+mod stored_case;
 mod streams;

@@ -156,6 +156,18 @@ fn bound_outside(rt: HostRuntime) -> Result<(), Fail> {
     keeps_the_outer_value(&rt, alloc, case, &parent)
 }
 
+// The same before any run, where a number that is bound outside has the value from there.
+#[test]
+fn bound_outside_before_a_run(rt: HostRuntime) -> Result<(), Fail> {
+    answers_outside_nothing(
+        &rt,
+        rt.alloc(),
+        "cmd c\nassign o\noverride o 5\nconst",
+        "o = []\n",
+        0,
+    )
+}
+
 // A case's assignments ask nothing and bind nothing, and the first number still has the value `o`.
 fn keeps_the_outer_value<'src>(
     rt: &impl Abort,

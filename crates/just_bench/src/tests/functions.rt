@@ -1,7 +1,6 @@
-// Functions that a case defines.
+// Functions that a case defines, where something is bound outside, and the frames that their commands are shown.
 
 use crate::context::{case_config, case_module, case_search};
-use crate::tests::cases::answers;
 use crate::tests::evaluations::{answers_outside_nothing, outer};
 use just_case_lines::case::{Case, build};
 use just_case_lines::line::parse_lines;
@@ -18,45 +17,6 @@ use just_value::scope::Scope;
 use just_value::value::Value;
 use std::alloc::Global;
 use std::test::Fail;
-
-#[test]
-fn limit_one(rt: HostRuntime) {
-    answers(
-        &rt,
-        rt.alloc(),
-        b"var n\nfun f n\ncmd arg\ncall f 1\nassign a\nlimit 1\nrun",
-        "refused 11 RecursionLimit f\n",
-        2,
-    );
-}
-
-#[test]
-fn recursion(rt: HostRuntime) -> Result<(), Fail> {
-    let alloc = rt.alloc();
-    let lines =
-        "var n\nstr a\neq\nstr b\ncall f 1\nvar n\nadd\nvar n\nif\nfun f n\nstr a\ncall f 1\nassign x\n";
-    for (last, answer, status) in [
-        ("run", "x = \"ba\"\n", 0),
-        ("limit 3\nrun", "x = \"ba\"\n", 0),
-        ("limit 2\nrun", "refused 11 RecursionLimit f\n", 2),
-    ] {
-        let case = format!(in alloc; "{lines}{last}")?;
-        answers(&rt, alloc, case.as_bytes(), answer, status);
-    }
-    Ok(())
-}
-
-// A body that reads another function's parameter is not resolved, and sees its caller's all the same.
-#[test]
-fn parameter_out_of_reach(rt: HostRuntime) {
-    answers(
-        &rt,
-        rt.alloc(),
-        b"var n\nfun g\ncall g 0\nfun f n\nstr z\ncall f 1\nassign a\nrun",
-        "unresolved\na = \"z\"\n",
-        0,
-    );
-}
 
 // A parameter that is bound outside is not resolved.
 #[test]

@@ -2,8 +2,8 @@
 
 use crate::program::run;
 use crate::stream::{LIMIT, StreamError, read_case, write_text};
-use crate::tests::cases::{STORED_ANSWER, STORED_CASE};
 use crate::tests::fakes::{EndlessReader, whole_reader, whole_writer};
+use crate::tests::stored_case::{STORED_ANSWER, STORED_CASE};
 use std::alloc::Global;
 use std::process::Abort;
 use std::test::Fail;
