@@ -38,6 +38,8 @@ impl fmt::Display for ConditionalOperator {
 
     ghost output = { λ operator. Some (comparison_text operator) };
 
+    ghost styled_output = { λ operator _. Some (comparison_text operator) };
+
     fn fmt<W: fmt::Write>(&self, f: &mut fmt::Formatter<W>) -> fmt::Result {
         f.write_str(self.text())
     }

@@ -3,6 +3,7 @@
 ghost use Rattle.std.specs.Prelude.{◌≡◌};
 ghost use Rattle.just_syntax.specs.View.{enclosed};
 
+use crate::unstyled::write_unstyled;
 use std::fmt;
 
 /// A value that is shown in backticks.
@@ -25,8 +26,10 @@ impl<T: fmt::Display> fmt::Display for Enclosure<T> {
 
     ghost output = { λ enclosure. ticked (T.output enclosure.value) };
 
+    ghost styled_output = { λ enclosure _. ticked (T.output enclosure.value) };
+
     fn fmt<W: fmt::Write>(&self, f: &mut fmt::Formatter<W>) -> fmt::Result {
         let value = &self.value;
-        write!(f, "`{value}`")
+        write_unstyled(f, format_args!("`{value}`"))
     }
 }

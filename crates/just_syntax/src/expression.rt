@@ -104,6 +104,8 @@ impl fmt::Display for Expression<'_> {
 
     ghost output = { λ expression. Some (printed (view expression)) };
 
+    ghost styled_output = { λ expression _. Some (printed (view expression)) };
+
     fn fmt<W: fmt::Write>(&self, f: &mut fmt::Formatter<W>) -> fmt::Result {
         printed::print(self, f)
     }

@@ -27,3 +27,4 @@ pub mod string_literal;
 pub mod table;
 pub mod token;
 pub mod unindent;
+pub mod unstyled;

@@ -32,6 +32,8 @@ impl fmt::Display for ListOperator {
 
     ghost output = { λ operator. Some (operator_text operator) };
 
+    ghost styled_output = { λ operator _. Some (operator_text operator) };
+
     fn fmt<W: fmt::Write>(&self, f: &mut fmt::Formatter<W>) -> fmt::Result {
         match self {
             ListOperator::Concatenate => f.write_str("+"),

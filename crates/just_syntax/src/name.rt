@@ -25,6 +25,8 @@ impl fmt::Display for Name<'_> {
 
     ghost output = { λ name. Some name.token.lexeme.now };
 
+    ghost styled_output = { λ name _. Some name.token.lexeme.now };
+
     fn fmt<W: fmt::Write>(&self, f: &mut fmt::Formatter<W>) -> fmt::Result {
         f.write_str(self.token.lexeme)
     }

@@ -1,8 +1,9 @@
 // How expressions are printed.
+#![tactic(auto, using(crate::proofs::Styled::styled_steps))]
 
-ghost use Rattle.std.specs.Prelude.{Some, [], map, ◌++◌, codes};
+ghost use Rattle.std.specs.Prelude.{[], map, ◌++◌, codes};
 ghost use Rattle.std.specs.Option.{option_map};
-ghost use Rattle.std.specs.Fmt.{DisplaysOnOk};
+ghost use Rattle.std.specs.Fmt.{WritesStyledOnOk};
 ghost use Rattle.just_syntax.specs.Printed.{between, printed, printed_assertion, printed_call, printed_conditional, printed_join, printed_pieces, printed_row};
 ghost use Rattle.just_syntax.specs.View.{name_view, piece_views, view, views};
 
@@ -17,7 +18,7 @@ pub(crate) fn print<W: fmt::Write>(
     expression: &Expression,
     f: &mut fmt::Formatter<W>,
 ) -> fmt::Result
-    ensures { DisplaysOnOk W.write_str_gives f.old result (Some (printed (view expression.now))) f.new }
+    ensures { WritesStyledOnOk W.write_str_gives f.old result (printed (view expression.now)) f.new }
 {
     match expression {
         Expression::And { lhs, rhs } => print_between(lhs, "&&", rhs, f),
@@ -77,7 +78,7 @@ fn print_between<W: fmt::Write>(
     rhs: &Expression,
     f: &mut fmt::Formatter<W>,
 ) -> fmt::Result
-    ensures { DisplaysOnOk W.write_str_gives f.old result (Some (between (printed (view lhs.now)) operator.now (printed (view rhs.now)))) f.new }
+    ensures { WritesStyledOnOk W.write_str_gives f.old result (between (printed (view lhs.now)) operator.now (printed (view rhs.now))) f.new }
 {
     print(lhs, f)?;
     f.write_str(" ")?;
@@ -93,7 +94,7 @@ fn print_behind<W: fmt::Write>(
     expression: &Expression,
     f: &mut fmt::Formatter<W>,
 ) -> fmt::Result
-    ensures { DisplaysOnOk W.write_str_gives f.old result (Some (text.now ++ printed (view expression.now))) f.new }
+    ensures { WritesStyledOnOk W.write_str_gives f.old result (text.now ++ printed (view expression.now)) f.new }
 {
     f.write_str(text)?;
     print(expression, f)
@@ -106,7 +107,7 @@ fn print_assert<W: fmt::Write>(
     message: Option<&Expression>,
     f: &mut fmt::Formatter<W>,
 ) -> fmt::Result
-    ensures { DisplaysOnOk W.write_str_gives f.old result (Some (printed_assertion (printed (view condition.now)) (option_map (λ e. printed (view e.now)) message.entry))) f.new }
+    ensures { WritesStyledOnOk W.write_str_gives f.old result (printed_assertion (printed (view condition.now)) (option_map (λ e. printed (view e.now)) message.entry)) f.new }
 {
     f.write_str("assert(")?;
     print(condition, f)?;
@@ -125,7 +126,7 @@ fn print_conditional<W: fmt::Write>(
     otherwise: Option<&Expression>,
     f: &mut fmt::Formatter<W>,
 ) -> fmt::Result
-    ensures { DisplaysOnOk W.write_str_gives f.old result (Some (printed_conditional (printed (view condition.now)) (printed (view consequence.now)) (option_map (λ e. printed (view e.now)) otherwise.entry))) f.new }
+    ensures { WritesStyledOnOk W.write_str_gives f.old result (printed_conditional (printed (view condition.now)) (printed (view consequence.now)) (option_map (λ e. printed (view e.now)) otherwise.entry)) f.new }
 {
     print_behind("if ", condition, f)?;
     print_behind(" { ", consequence, f)?;
@@ -141,7 +142,7 @@ fn print_conditional<W: fmt::Write>(
 // Prints a group.
 #[cycle(print)]
 fn print_group<W: fmt::Write>(contents: &Expression, f: &mut fmt::Formatter<W>) -> fmt::Result
-    ensures { DisplaysOnOk W.write_str_gives f.old result (Some ((codes "(" ++ printed (view contents.now)) ++ codes ")")) f.new }
+    ensures { WritesStyledOnOk W.write_str_gives f.old result ((codes "(" ++ printed (view contents.now)) ++ codes ")") f.new }
 {
     print_behind("(", contents, f)?;
     f.write_str(")")
@@ -154,7 +155,7 @@ fn print_join<W: fmt::Write>(
     rhs: &Expression,
     f: &mut fmt::Formatter<W>,
 ) -> fmt::Result
-    ensures { DisplaysOnOk W.write_str_gives f.old result (Some (printed_join (option_map (λ e. printed (view e.now)) lhs.entry) (printed (view rhs.now)))) f.new }
+    ensures { WritesStyledOnOk W.write_str_gives f.old result (printed_join (option_map (λ e. printed (view e.now)) lhs.entry) (printed (view rhs.now))) f.new }
 {
     match lhs {
         Some(lhs) => print_between(lhs, "/", rhs, f),
@@ -168,7 +169,7 @@ fn print_join<W: fmt::Write>(
 // Prints a list.
 #[cycle(print)]
 fn print_list<W: fmt::Write>(elements: &[Expression], f: &mut fmt::Formatter<W>) -> fmt::Result
-    ensures { DisplaysOnOk W.write_str_gives f.old result (Some ((codes "[" ++ printed_row [] (views elements.now)) ++ codes "]")) f.new }
+    ensures { WritesStyledOnOk W.write_str_gives f.old result ((codes "[" ++ printed_row [] (views elements.now)) ++ codes "]") f.new }
 {
     f.write_str("[")?;
     print_row(elements, f)?;
@@ -182,7 +183,7 @@ fn print_call<W: fmt::Write>(
     arguments: &[Expression],
     f: &mut fmt::Formatter<W>,
 ) -> fmt::Result
-    ensures { DisplaysOnOk W.write_str_gives f.old result (Some (printed_call (name_view name.now).lexeme (printed_row [] (views arguments.now)))) f.new }
+    ensures { WritesStyledOnOk W.write_str_gives f.old result (printed_call (name_view name.now).lexeme (printed_row [] (views arguments.now))) f.new }
 {
     f.write_str(name.lexeme())?;
     f.write_str("(")?;
@@ -193,7 +194,7 @@ fn print_call<W: fmt::Write>(
 // Prints expressions, a comma and a space between them.
 #[cycle(print)]
 fn print_row<W: fmt::Write>(expressions: &[Expression], f: &mut fmt::Formatter<W>) -> fmt::Result
-    ensures { DisplaysOnOk W.write_str_gives f.old result (Some (printed_row [] (views expressions.now))) f.new }
+    ensures { WritesStyledOnOk W.write_str_gives f.old result (printed_row [] (views expressions.now)) f.new }
 {
     let mut separator = "";
     for expression in expressions {
@@ -211,7 +212,7 @@ fn print_format_string<W: fmt::Write>(
     expressions: &[(Expression, StringLiteral)],
     f: &mut fmt::Formatter<W>,
 ) -> fmt::Result
-    ensures { DisplaysOnOk W.write_str_gives f.old result (Some (start.now.lexeme.now ++ printed_pieces (piece_views expressions.now))) f.new }
+    ensures { WritesStyledOnOk W.write_str_gives f.old result (start.now.lexeme.now ++ printed_pieces (piece_views expressions.now)) f.new }
 {
     f.write_str(start.lexeme)?;
     for (expression, literal) in expressions {

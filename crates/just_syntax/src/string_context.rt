@@ -6,6 +6,7 @@ ghost use Rattle.just_syntax.specs.View.{string_context_view, token_view};
 
 use crate::name::Name;
 use crate::token::Token;
+use crate::unstyled::write_unstyled;
 use std::fmt;
 
 /// Where one text is wanted, so that a value of any other length is refused.
@@ -39,11 +40,19 @@ impl fmt::Display for StringContext<'_> {
 
     ghost output = { λ context. Some (context_text (string_context_view context)) };
 
+    ghost styled_output = { λ context _. Some (context_text (string_context_view context)) };
+
     fn fmt<W: fmt::Write>(&self, f: &mut fmt::Formatter<W>) -> fmt::Result {
         match self {
-            StringContext::EnvKey(name) => write!(f, "in key of `{name}` attribute"),
-            StringContext::Function(name) => write!(f, "in argument to function `{name}`"),
-            StringContext::Setting(name) => write!(f, "in setting `{name}`"),
+            StringContext::EnvKey(name) => write_unstyled(
+                f,
+                format_args!("in key of `{name}` attribute"),
+            ),
+            StringContext::Function(name) => write_unstyled(
+                f,
+                format_args!("in argument to function `{name}`"),
+            ),
+            StringContext::Setting(name) => write_unstyled(f, format_args!("in setting `{name}`")),
         }
     }
 }

@@ -15,6 +15,8 @@ impl fmt::Display for StringLiteral<'_> {
 
     ghost output = { λ literal. Some literal.lexeme.now };
 
+    ghost styled_output = { λ literal _. Some literal.lexeme.now };
+
     fn fmt<W: fmt::Write>(&self, f: &mut fmt::Formatter<W>) -> fmt::Result {
         f.write_str(self.lexeme)
     }

@@ -1,5 +1,5 @@
 use Rattle.std.proofs.Common.{◌≡◌, ◌*◌, ◌++◌, max, suc, ℕ, List, drop, [], Option, Some, None, Bor}
-use Rattle.std.specs.Fmt.{HasWritten, IsPlainFormatter}
+use Rattle.std.specs.Fmt.{HasWrittenStyled, IsFlush}
 use denote.Text.{Utf8}
 use denote.Shadow.{shadow}
 use Rattle.just_syntax.specs.Printed.{printed_pieces, printed_row}
@@ -49,10 +49,10 @@ decreases-print_format_string g l = suc (3 * goal.size-print_format_string g l)
 abbrev pub invariant-print_row-loop-expression : goal.invariant-print_row-loop-expression
 invariant-print_row-loop-expression g l = record {
   separator : shadow (Utf8 l.separator);
-  written : IsPlainFormatter l.initial.f → (text : List ℕ) × (text ++ printed_row l.separator (views (drop l.expression-index l.expressions)) ≡ printed_row [] (views l.expressions)) × HasWritten g.W.Write.write_str_gives l.initial.f text l.f;
+  written : IsFlush l.initial.f → (text : List ℕ) × (text ++ printed_row l.separator (views (drop l.expression-index l.expressions)) ≡ printed_row [] (views l.expressions)) × HasWrittenStyled g.W.Write.write_str_gives l.initial.f text l.f;
 }
 
 -- what is written since the loop began, and what is left, is all of the interpolations
 abbrev pub invariant-print_format_string-loop-expression : goal.invariant-print_format_string-loop-expression
 invariant-print_format_string-loop-expression g l =
-    IsPlainFormatter l.initial.f → (text : List ℕ) × (text ++ printed_pieces (piece_views (drop l.expression-index l.expressions)) ≡ printed_pieces (piece_views l.expressions)) × HasWritten g.W.Write.write_str_gives l.initial.f text l.f
+    IsFlush l.initial.f → (text : List ℕ) × (text ++ printed_pieces (piece_views (drop l.expression-index l.expressions)) ≡ printed_pieces (piece_views l.expressions)) × HasWrittenStyled g.W.Write.write_str_gives l.initial.f text l.f
