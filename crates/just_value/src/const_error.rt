@@ -7,6 +7,7 @@ ghost use Rattle.just_value.specs.View.{const_refusal};
 
 use just_syntax::name::Name;
 use just_syntax::token::Token;
+use just_syntax::unstyled::write_unstyled;
 use std::fmt;
 
 /// What constant evaluation does not allow.
@@ -39,13 +40,15 @@ impl fmt::Display for ConstError<'_> {
 
     ghost output = { λ error. Some (const_error_text (const_refusal error)) };
 
+    ghost styled_output = { λ error _. Some (const_error_text (const_refusal error)) };
+
     fn fmt<W: fmt::Write>(&self, f: &mut fmt::Formatter<W>) -> fmt::Result {
         match self {
             ConstError::Backtick(_) => f.write_str("cannot call backticks in const context"),
             ConstError::FunctionCall(_) => f.write_str("cannot call functions in const context"),
-            ConstError::Variable(name) => write!(
+            ConstError::Variable(name) => write_unstyled(
                 f,
-                "cannot access non-const variable `{name}` in const context"
+                format_args!("cannot access non-const variable `{name}` in const context"),
             ),
         }
     }

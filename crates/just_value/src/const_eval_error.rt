@@ -1,7 +1,7 @@
 // What constant evaluation is refused with.
 
 ghost use Rattle.std.specs.Prelude.{◌≡◌, Some};
-ghost use Rattle.std.specs.Fmt.{WritesOnOk};
+ghost use Rattle.std.specs.Fmt.{WritesStyledOnOk};
 ghost use Rattle.just_syntax.specs.ListOperator.{operator_text};
 ghost use Rattle.just_syntax.specs.View.{string_context_view, token_view};
 ghost use Rattle.just_value.specs.ConstEval.{const_eval_token, list_text, lists_text};
@@ -14,6 +14,7 @@ use just_syntax::list_operator::ListOperator;
 use just_syntax::name::Name;
 use just_syntax::string_context::StringContext;
 use just_syntax::token::Token;
+use just_syntax::unstyled::write_unstyled;
 use std::fmt;
 
 /// Why constant evaluation gave no value.
@@ -88,16 +89,23 @@ impl fmt::Display for ConstEvalError<'_> {
 
     ghost output = { λ error. Some (const_eval_text (const_eval_refusal error)) };
 
+    ghost styled_output = { λ error _. Some (const_eval_text (const_eval_refusal error)) };
+
+    #[tactic(auto, using(just_syntax::proofs::Styled::styled_steps))]
     fn fmt<W: fmt::Write>(&self, f: &mut fmt::Formatter<W>) -> fmt::Result {
         match self {
-            ConstEvalError::Assert { message, name: _ } => write!(f, "assert failed: {message}"),
-            ConstEvalError::Const(error) => write!(f, "{error}"),
-            ConstEvalError::EmptyInterpreter { setting } => write!(
+            ConstEvalError::Assert { message, name: _ } => {
+                write_unstyled(f, format_args!("assert failed: {message}"))
+            }
+            ConstEvalError::Const(error) => write_unstyled(f, error),
+            ConstEvalError::EmptyInterpreter { setting } => write_unstyled(
                 f,
-                "`{setting}` setting requires at least one element but evaluated to empty list"
+                format_args!(
+                    "`{setting}` setting requires at least one element but evaluated to empty list"
+                ),
             ),
             ConstEvalError::Internal { message, token: _ } => {
-                write!(f, "internal error: {message}")
+                write_unstyled(f, format_args!("internal error: {message}"))
             }
             ConstEvalError::LeftOutRegex { token: _ } => {
                 f.write_str("regular expression operators are left out")
@@ -111,7 +119,7 @@ impl fmt::Display for ConstEvalError<'_> {
                 rhs,
                 token: _,
             } => {
-                write!(f, "operator `{operator}`")?;
+                write_unstyled(f, format_args!("operator `{operator}`"))?;
                 write_lists(f, lhs, operator, rhs)
             }
         }
@@ -119,14 +127,15 @@ impl fmt::Display for ConstEvalError<'_> {
 }
 
 // A value where one text is wanted.
+#[tactic(auto, using(just_syntax::proofs::Styled::styled_steps))]
 fn write_list<W: fmt::Write>(
     f: &mut fmt::Formatter<W>,
     context: &StringContext,
     value: &Value,
 ) -> fmt::Result
-    ensures { WritesOnOk W.write_str_gives f.old result (list_text (string_context_view context.now) value.now) f.new }
+    ensures { WritesStyledOnOk W.write_str_gives f.old result (list_text (string_context_view context.now) value.now) f.new }
 {
-    write!(f, "list value {value} {context}")?;
+    write_unstyled(f, format_args!("list value {value} {context}"))?;
     match context {
         StringContext::EnvKey(_) => Ok(()),
         StringContext::Function(_) => f.write_str(
@@ -144,14 +153,16 @@ fn write_lists<W: fmt::Write>(
     operator: &ListOperator,
     rhs: &Value,
 ) -> fmt::Result
-    ensures { WritesOnOk W.write_str_gives f.old result (lists_text lhs.now (operator_text operator.now) rhs.now) f.new }
+    ensures { WritesStyledOnOk W.write_str_gives f.old result (lists_text lhs.now (operator_text operator.now) rhs.now) f.new }
 {
     if lhs.is_empty() || rhs.is_empty() {
         f.write_str(" cannot be applied to empty lists")
     } else {
-        write!(
+        write_unstyled(
             f,
-            " cannot be applied to lists of different lengths: {lhs} {operator} {rhs}"
+            format_args!(
+                " cannot be applied to lists of different lengths: {lhs} {operator} {rhs}"
+            ),
         )
     }
 }

@@ -1,6 +1,6 @@
 // How a text is shown.
 
-ghost use Rattle.std.specs.Fmt.{WritesOnOk};
+ghost use Rattle.std.specs.Fmt.{WritesStyledOnOk};
 ghost use Rattle.just_value.specs.Shown.{escaped, quoted};
 
 use std::fmt;
@@ -17,6 +17,8 @@ impl fmt::Display for Element<'_> {
 
     ghost output = { λ element. Some (quoted element.0.now) };
 
+    ghost styled_output = { λ element _. Some (quoted element.0.now) };
+
     fn fmt<W: fmt::Write>(&self, f: &mut fmt::Formatter<W>) -> fmt::Result {
         write_quoted(f, self.0)
     }
@@ -24,7 +26,7 @@ impl fmt::Display for Element<'_> {
 
 // A text in quotes.
 fn write_quoted<W: fmt::Write>(f: &mut fmt::Formatter<W>, text: &str) -> fmt::Result
-    ensures { WritesOnOk W.write_str_gives f.old result (quoted text.now) f.new }
+    ensures { WritesStyledOnOk W.write_str_gives f.old result (quoted text.now) f.new }
 {
     f.write_str("\"")?;
     for character in text.chars() {
@@ -35,7 +37,7 @@ fn write_quoted<W: fmt::Write>(f: &mut fmt::Formatter<W>, text: &str) -> fmt::Re
 
 // A character as a quoted text shows it.
 fn write_escaped<W: fmt::Write>(f: &mut fmt::Formatter<W>, character: char) -> fmt::Result
-    ensures { WritesOnOk W.write_str_gives f.old result (escaped character) f.new }
+    ensures { WritesStyledOnOk W.write_str_gives f.old result (escaped character) f.new }
 {
     match character {
         '\t' => f.write_str("\\t"),

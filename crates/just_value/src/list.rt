@@ -8,6 +8,7 @@ ghost use Rattle.just_value.specs.View.{conjunction_of, items_of};
 
 use just_syntax::enclosure::Enclosure;
 use just_syntax::out_of_memory::OutOfMemory;
+use just_syntax::unstyled::write_unstyled;
 use std::alloc::Global;
 use std::fmt;
 use std::fmt::Display;
@@ -126,12 +127,14 @@ impl<T: Display> Display for List<T> {
 
     ghost output = { λ list. option_map (listed list.conjunction.now) (outputs T.output list.items.items) };
 
+    ghost styled_output = { λ list _. option_map (listed list.conjunction.now) (outputs T.output list.items.items) };
+
     fn fmt<W: fmt::Write>(&self, f: &mut fmt::Formatter<W>) -> fmt::Result {
         let items = self.items.as_slice();
         for i in 0..items.len() {
             let (mark, word, gap) = parts_before(self.conjunction, items.len(), i);
             let item = &items[i];
-            write!(f, "{mark}{word}{gap}{item}")?;
+            write_unstyled(f, format_args!("{mark}{word}{gap}{item}"))?;
         }
         Ok(())
     }

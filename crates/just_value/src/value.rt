@@ -2,7 +2,7 @@
 
 ghost use Rattle.std.specs.Prelude.{◌≡◌, List, ℕ, [], ◌∷◌, ◌++◌, ◌==◌, IfOk, OnOk, OnErr, map, string_bytes, length, codes, if◌then◌else◌, String};
 ghost use Rattle.std.specs.declared.alloc.Global.{Global};
-ghost use Rattle.std.specs.Fmt.{WritesOnOk};
+ghost use Rattle.std.specs.Fmt.{WritesStyledOnOk};
 ghost use Rattle.std.specs.Iterator.Adapters.{IterYieldsInOrder};
 ghost use Rattle.std.specs.Slice.Iter.{iter_rest};
 ghost use Rattle.just_syntax.specs.View.{token_view};
@@ -213,6 +213,8 @@ impl fmt::Display for Value {
 
     ghost output = { λ v. Some (shown v) };
 
+    ghost styled_output = { λ v _. Some (shown v) };
+
     fn fmt<W: fmt::Write>(&self, f: &mut fmt::Formatter<W>) -> fmt::Result {
         let elements = self.elements();
         if elements.len() == 1 {
@@ -227,8 +229,9 @@ impl fmt::Display for Value {
 }
 
 // A quoted text, behind a comma if it is not the first.
+#[tactic(auto, using(just_syntax::proofs::Styled::styled_steps))]
 fn write_element<W: fmt::Write>(f: &mut fmt::Formatter<W>, first: bool, text: &str) -> fmt::Result
-    ensures { WritesOnOk W.write_str_gives f.old result ((if first then [] else codes ", ") ++ quoted text.now) f.new }
+    ensures { WritesStyledOnOk W.write_str_gives f.old result ((if first then [] else codes ", ") ++ quoted text.now) f.new }
 {
     if !first {
         f.write_str(", ")?;

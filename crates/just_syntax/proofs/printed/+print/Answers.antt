@@ -1,11 +1,10 @@
-use Rattle.std.proofs.Common.{refl, true, ◌∷◌, []}
+use Rattle.std.proofs.Common.{refl, true, ◌∷◌, [], arith, rules}
 use Rattle.std.proofs.Output.{has_written_styled_append, has_written_styled_of_eq}
-use Rattle.just_syntax.proofs.Printing.{pieces_end, pieces_on, row_end, row_on}
-use Rattle.just_syntax.proofs.Rows.{printed_call_is, printed_format_string, printed_list}
-use Rattle.std.proofs.Common.{arith, rules}
 use Rattle.std.proofs.lemmas.Grind.{common_steps}
 use Rattle.std.proofs.lemmas.List.{append_assoc}
-use Rattle.just_syntax.proofs.Styled.{styled_steps, styled_four}
+use Rattle.just_syntax.proofs.Printing.{pieces_end, pieces_on, row_end, row_on}
+use Rattle.just_syntax.proofs.Rows.{printed_call_is, printed_format_string, printed_list}
+use Rattle.just_syntax.proofs.Styled.{styled_four, styled_steps}
 use Rattle.just_syntax.proofs.printed.+print.Goals as goal
 use Rattle.just_syntax.proofs.printed.+print.Goals.{print_assert-in-Some+in_ok-write_str-2+in_ok-print-2, print_assert-in_default}
 

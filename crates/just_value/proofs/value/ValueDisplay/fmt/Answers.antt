@@ -1,27 +1,27 @@
 use Rattle.std.proofs.Common.{true, List, String, Global, ◌++◌, ◌≡◌, ◌≢◌, length, map, take, string_bytes, codes, sym, ap, refl, ◌∙◌, arith}
-use Rattle.std.specs.Fmt.{HasWritten}
+use Rattle.std.specs.Fmt.{HasWrittenStyled}
 use Rattle.std.specs.List.{join_by}
-use Rattle.std.proofs.Output.{has_written_append, has_written_of_eq}
+use Rattle.std.proofs.Output.{has_written_styled_append, has_written_styled_of_eq}
 use Rattle.std.proofs.lemmas.List.{take_all, length-map}
 use Rattle.just_value.specs.Shown.{quoted}
 use Rattle.just_value.proofs.Texts.{joined_more, shown_many}
 use Rattle.just_value.proofs.value.ValueDisplay.fmt.Goals as goal
 
 pub loop-i-preserved : goal.loop-i-preserved
-loop-i-preserved g c = λ plain.
+loop-i-preserved g c = λ flush.
     let took = g.W.Write.write_str_gives in
-    let before = c.loop-i.invariant plain in
-    let now = c.in_ok-write_element.ensures before.plain (refl {a = true}) in
+    let before = c.loop-i.invariant flush in
+    let now = c.in_ok-write_element.ensures before.flush (refl {a = true}) in
     let x = c.index-elements-i.result in
     let e = joined_more quoted string_bytes (codes ", ") c.elements-elements.result.now c.loop-i.i x (omega arith) c.index-elements-i.is in
-    has_written_of_eq took _ _ _ _ (rw c.deref-in-loop-i.ensures e) (has_written_append took _ _ _ _ _ before now)
+    has_written_styled_of_eq took _ _ _ _ (rw c.deref-in-loop-i.ensures e) (has_written_styled_append took _ _ _ _ _ before now)
 
-pub returns-clause-writes : goal.returns-clause-writes
-returns-clause-writes g c = λ plain ok.
+pub returns-clause-styled : goal.returns-clause-styled
+returns-clause-styled g c = λ flush ok.
     let took = g.W.Write.write_str_gives in
     let xs = c.elements-elements.result.now in
-    let start : HasWritten took c.args.f.now (codes "[") c.write_str.new.self = c.in_ok-write_str.ensures.writes plain (refl {a = true}) in
-    let all = c.loop-i.invariant start.plain in
+    let start : HasWrittenStyled took c.args.f.now (codes "[") c.write_str.new.self = c.in_ok-write_str.ensures.styled flush (refl {a = true}) in
+    let all = c.loop-i.invariant start.flush in
     let whole : take c.loop-i.i c.elements-elements.result.now ≡ c.elements-elements.result.now = take_all c.loop-i.i c.elements-elements.result.now (omega arith) in
     let many : length (map string_bytes c.elements-elements.result.now) ≢ 1 = λ e. c.if-elements-eq1.false (sym (rw length-map refl) ∙ e) in
-    has_written_of_eq took _ _ _ _ (sym (rw (← c.elements-elements.ensures) (shown_many (map string_bytes xs) many ∙ ap (λ (ys : List (String Global)). codes "[" ++ (join_by quoted (codes ", ") (map string_bytes ys) ++ codes "]")) (sym whole)))) (has_written_append took _ _ _ _ _ start (has_written_append took _ _ _ _ _ all (c.write_str-2.ensures.writes all.plain ok)))
+    has_written_styled_of_eq took _ _ _ _ (sym (rw (← c.elements-elements.ensures) (shown_many (map string_bytes xs) many ∙ ap (λ (ys : List (String Global)). codes "[" ++ (join_by quoted (codes ", ") (map string_bytes ys) ++ codes "]")) (sym whole)))) (has_written_styled_append took _ _ _ _ _ start (has_written_styled_append took _ _ _ _ _ all (c.write_str-2.ensures.styled all.flush ok)))
