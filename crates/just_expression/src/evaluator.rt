@@ -365,7 +365,7 @@ impl<'src, 'run, 'here> ExpressionEvaluator<'src, 'run, 'here> {
     {
         match self.context {
             Some(_) => false,
-            None => self.non_const_assignments.contains(&number),
+            None => variable::is_open(self.non_const_assignments, number),
         }
     }
 

@@ -1,5 +1,8 @@
 // What variables hold.
 
+ghost use Rattle.std.specs.Prelude.{◌≡◌};
+ghost use Rattle.std.specs.Bool.{nat_eq};
+ghost use Rattle.std.specs.List.{list_any};
 ghost use Rattle.just_syntax.specs.View.{name_view};
 ghost use Rattle.just_value.specs.Frames.{value_in};
 ghost use Rattle.just_value.specs.Outcome.{UnlessStopped};
@@ -13,6 +16,7 @@ use just_value::error::Error;
 use just_value::scope::Scope;
 use just_value::value::Value;
 use std::alloc::Global;
+use std::collections::HashSet;
 
 /// The value that a scope has for a number. Without one the variable is refused as `Internal`.
 pub fn value_of<'src>(
@@ -27,4 +31,11 @@ pub fn value_of<'src>(
         Some(value) => Ok(value.try_clone(alloc)?),
         None => Err(internal::unevaluated(alloc, name)),
     }
+}
+
+/// Whether a number is among the open ones. They are looked through only where there is one: a stage mostly has none.
+pub fn is_open(non_const_assignments: &HashSet<Number>, number: Number) -> bool
+    ensures { result ≡ list_any (nat_eq number) non_const_assignments.now.keys }
+{
+    !non_const_assignments.is_empty() && non_const_assignments.contains(&number)
 }

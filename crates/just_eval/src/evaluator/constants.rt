@@ -13,8 +13,8 @@ ghost use Rattle.just_eval.specs.View.{IsConst, standing_of};
 
 use super::Evaluator;
 use crate::no_host::NoHost;
-use just_forms::internal;
 use just_forms::text::one_text;
+use just_forms::{internal, variable};
 use just_host::host::Host;
 use just_syntax::assignment::Assignment;
 use just_syntax::expression::Expression;
@@ -164,6 +164,6 @@ impl<'src, 'run> Evaluator<'src, 'run> {
     pub fn is_open(&self, number: Number) -> bool
         ensures { result ≡ (standing_of self.now).is_open number }
     {
-        self.non_const_assignments.contains(&number)
+        variable::is_open(&self.non_const_assignments, number)
     }
 }
