@@ -57,7 +57,7 @@ fn config(alloc: Global) -> Config {
 }
 
 // A module with nothing in it, in the directory `/module`.
-fn module<'src>(
+pub(crate) fn module<'src>(
     alloc: Global,
     submodule: bool,
     settings: Settings,
@@ -77,15 +77,15 @@ fn module<'src>(
 
 // What a context lends, but for its module and scope.
 #[derive(Drop)]
-struct Around {
-    config: Config,
-    dotenv: BTreeMap<String, String>,
-    overrides: HashMap<Number, String>,
-    search: Search,
+pub(crate) struct Around {
+    pub(crate) config: Config,
+    pub(crate) dotenv: BTreeMap<String, String>,
+    pub(crate) overrides: HashMap<Number, String>,
+    pub(crate) search: Search,
 }
 
 impl Around {
-    fn new(alloc: Global) -> Result<Around, OutOfMemory> {
+    pub(crate) fn new(alloc: Global) -> Result<Around, OutOfMemory> {
         Ok(Around {
             config: config(alloc),
             dotenv: BTreeMap::new(alloc),
@@ -97,7 +97,7 @@ impl Around {
         })
     }
 
-    fn context<'src, 'run, 'out: 'run>(
+    pub(crate) fn context<'src, 'run, 'out: 'run>(
         &'run self,
         module: &'run Justfile<'src>,
         scope: &'run Scope<'src, 'out>,

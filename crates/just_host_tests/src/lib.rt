@@ -6,3 +6,5 @@
 mod builtins;
 #[cfg(test)]
 mod host;
+#[cfg(test)]
+mod sizes;

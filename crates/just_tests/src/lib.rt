@@ -11,6 +11,8 @@ mod resolution;
 #[cfg(test)]
 mod scope;
 #[cfg(test)]
+mod sizes;
+#[cfg(test)]
 mod syntax;
 #[cfg(test)]
 mod text;

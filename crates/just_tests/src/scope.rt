@@ -53,7 +53,7 @@ fn names_and_numbers(rt: HostRuntime) -> Result<(), Fail> {
     Ok(())
 }
 
-fn parameter(lexeme: &str, number: u64) -> Parameter<'_> {
+pub(crate) fn parameter(lexeme: &str, number: u64) -> Parameter<'_> {
     Parameter {
         default: None,
         export: false,
@@ -98,7 +98,7 @@ fn root_binds_constants(rt: HostRuntime) -> Result<(), Fail> {
 }
 
 // The value of a number in a scope, joined.
-fn told_value(alloc: Global, scope: &Scope, number: u64) -> Result<String, OutOfMemory> {
+pub(crate) fn told_value(alloc: Global, scope: &Scope, number: u64) -> Result<String, OutOfMemory> {
     match scope.value(Number::new(number)) {
         Some(value) => value.join(alloc),
         None => Ok(String::from_str(alloc, "not bound")?),
@@ -106,7 +106,7 @@ fn told_value(alloc: Global, scope: &Scope, number: u64) -> Result<String, OutOf
 }
 
 // Binds a number to a text.
-fn bind<'src>(
+pub(crate) fn bind<'src>(
     alloc: Global,
     scope: &mut Scope<'src, '_>,
     lexeme: &'src str,

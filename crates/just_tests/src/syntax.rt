@@ -14,9 +14,9 @@ use just_syntax::unindent::unindent;
 use std::test::Fail;
 
 #[derive(Drop)]
-struct Named<'src> {
-    name: Name<'src>,
-    place: u64,
+pub(crate) struct Named<'src> {
+    pub(crate) name: Name<'src>,
+    pub(crate) place: u64,
 }
 
 impl Keyed for Named<'_> {
