@@ -14,8 +14,8 @@ use questions::{
     VARIABLES,
 };
 use rows::{
-    LEFT_OUT_NAMES, LISTS, NAMES, OTHER_SURROUNDINGS, PATHS, Row, SHAPES, SURROUNDINGS, TEXTS,
-    TRUTHS, TRUTHS_WITHOUT_LISTS, WITHOUT_LISTS,
+    CALLS, CALLS_WITHOUT_LISTS, LEFT_OUT_NAMES, NAMES, OTHER_SURROUNDINGS, Row, SHAPES,
+    SURROUNDINGS,
 };
 use std::alloc::Global;
 use std::process::Abort;
@@ -131,29 +131,10 @@ fn commands(rt: HostRuntime) -> Result<(), Fail> {
 }
 
 #[test]
-fn text_built_ins(rt: HostRuntime) -> Result<(), Fail> {
+fn calls(rt: HostRuntime) -> Result<(), Fail> {
     let alloc = rt.alloc();
-    compare_calls(&rt, alloc, true, TEXTS)
-}
-
-#[test]
-fn path_texts(rt: HostRuntime) -> Result<(), Fail> {
-    let alloc = rt.alloc();
-    compare_calls(&rt, alloc, false, PATHS)
-}
-
-#[test]
-fn lists(rt: HostRuntime) -> Result<(), Fail> {
-    let alloc = rt.alloc();
-    compare_calls(&rt, alloc, true, LISTS)?;
-    compare_calls(&rt, alloc, false, WITHOUT_LISTS)
-}
-
-#[test]
-fn bool_texts(rt: HostRuntime) -> Result<(), Fail> {
-    let alloc = rt.alloc();
-    compare_calls(&rt, alloc, true, TRUTHS)?;
-    compare_calls(&rt, alloc, false, TRUTHS_WITHOUT_LISTS)
+    compare_calls(&rt, alloc, true, CALLS)?;
+    compare_calls(&rt, alloc, false, CALLS_WITHOUT_LISTS)
 }
 
 #[test]
