@@ -9,4 +9,4 @@ pub mod stream;
 #[cfg(test)]
 mod tests;
 
-pub use just_script::{recorded_question, recording_host, scripted_host};
+pub use just_script::{fail_at, scripted_host};

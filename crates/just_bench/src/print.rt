@@ -4,7 +4,7 @@ use just_builtins::directory::directory_word;
 use just_eval::evaluator::Evaluator;
 use just_host::fault::fault_text;
 use just_host::number_question::NumberQuestion;
-use just_script::recorded_question::{RecordedQuestion, TextKind};
+use just_host::recorded::{Recorded, TextKind};
 use just_syntax::assignment::Assignment;
 use just_syntax::name::Name;
 use just_syntax::number::Number;
@@ -20,7 +20,7 @@ use std::collections::HashSet;
 /// Adds the questions, each on a line: `?`, the kind, and what is asked for, its texts quoted.
 pub(crate) fn print_questions(
     text: &mut String,
-    questions: &[RecordedQuestion],
+    questions: &[Recorded],
 ) -> Result<(), OutOfMemory> {
     for question in questions {
         print_question(text, question)?;
@@ -30,24 +30,28 @@ pub(crate) fn print_questions(
 }
 
 // Adds a question.
-fn print_question(text: &mut String, question: &RecordedQuestion) -> Result<(), OutOfMemory> {
+fn print_question(text: &mut String, question: &Recorded) -> Result<(), OutOfMemory> {
     match question {
-        RecordedQuestion::Command { command, arguments } => {
+        Recorded::Command {
+            command,
+            arguments,
+            ..
+        } => {
             let command = Element(command);
             write!(text, "? command {command}")?;
             if let Some(arguments) = arguments {
                 print_arguments(text, arguments)?;
             }
         }
-        RecordedQuestion::Text { kind, text: about } => print_text_question(text, *kind, about)?,
-        RecordedQuestion::Exists(path) => {
+        Recorded::Text { kind, text: about } => print_text_question(text, *kind, about)?,
+        Recorded::Exists(path) => {
             let path = Element(path);
             write!(text, "? exists {path}")?;
         }
-        RecordedQuestion::Number(NumberQuestion::ProcessId) => {
+        Recorded::Number(NumberQuestion::ProcessId) => {
             text.push_str("? number process_id")?;
         }
-        RecordedQuestion::Number(NumberQuestion::Cpus) => text.push_str("? number cpus")?,
+        Recorded::Number(NumberQuestion::Cpus) => text.push_str("? number cpus")?,
     }
     Ok(())
 }

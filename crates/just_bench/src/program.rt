@@ -13,7 +13,7 @@ use just_case_lines::evaluation::Evaluation;
 use just_case_lines::line::parse_lines;
 use just_eval::evaluator::Evaluator;
 use just_eval::{resolved, resolved_const};
-use just_script::recording_host::RecordingHost;
+use just_host::recorder::Recorder;
 use just_script::scripted_host::ScriptedHost;
 use just_syntax::assignment::Assignment;
 use just_syntax::number::Number;
@@ -99,7 +99,7 @@ fn evaluate_run<'src>(
     let config = case_config(alloc, case.dry_run)?;
     let search = case_search(alloc)?;
     let script = case_script(alloc, case.always, case.replies);
-    let mut host = RecordingHost::new(alloc, script);
+    let mut host = Recorder::new(alloc, script);
     if !resolved(alloc, &module, parent, case.references.as_ref())? {
         text.push_str("unresolved\n")?;
     }

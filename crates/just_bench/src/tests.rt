@@ -5,5 +5,6 @@ mod evaluations;
 mod fakes;
 mod functions;
 mod hosts;
+mod orders;
 mod stored_case;
 mod streams;

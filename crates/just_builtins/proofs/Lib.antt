@@ -1,10 +1,11 @@
 pub mod Arguments
 pub mod Calls
 pub mod Commands
-pub mod Ends
 mod Examples
+pub mod Halving
 pub mod Messages
 pub mod Paths
+pub mod Spelled
 pub mod Texts
 pub mod Unnamed
 pub mod Variables

@@ -3,6 +3,7 @@ pub mod Asking
 pub mod Called
 pub mod Message
 pub mod Meaning
+pub mod Order
 pub mod Reply
 pub mod Shape
 pub mod Table

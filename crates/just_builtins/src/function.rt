@@ -19,7 +19,7 @@ use crate::binary::{
 };
 use crate::builtin::Builtin;
 use crate::call_fault::CallFault;
-use crate::name::{find_function, is_among, whole_name};
+use crate::name::{find_function, is_among};
 use crate::nullary::{nullary, value_nullary};
 use crate::table::{LEFT_OUT, TABLE};
 use crate::ternary::ternary;
@@ -201,8 +201,7 @@ impl Function {
 pub fn get(name: &str) -> Option<Function>
     ensures { result ≡ function_named name.now }
 {
-    let (front, back) = whole_name(name);
-    find_function(&TABLE, front, back)
+    find_function(&TABLE, name)
 }
 
 /// Whether a name is one of a built-in function that is left out. `_dir` and `_dir_native` at its end stand for
@@ -210,6 +209,5 @@ pub fn get(name: &str) -> Option<Function>
 pub fn is_left_out(name: &str) -> bool
     ensures { result ≡ is_left_out name.now }
 {
-    let (front, back) = whole_name(name);
-    is_among(&LEFT_OUT, front, back)
+    is_among(&LEFT_OUT, name)
 }

@@ -3,26 +3,38 @@
 use crate::builtin::Builtin;
 use crate::function::Function;
 
-/// Each built-in function behind its name, in the order of the names' bytes.
-pub const TABLE: [(&str, Function); 63] = [
+/// Each built-in function behind its name, and behind the shorter name that stands for that, if there is one. The names
+/// stand in the strict order of their bytes.
+pub const TABLE: [(&str, Function); 77] = [
     ("append", Function::BinaryStrValue(Builtin::Append)),
     ("arch", Function::Nullary(Builtin::Arch)),
     ("bool", Function::ValueUnary(Builtin::Bool)),
+    ("cache_dir", Function::Nullary(Builtin::CacheDirectory)),
     (
         "cache_directory",
         Function::Nullary(Builtin::CacheDirectory),
     ),
     ("canonicalize", Function::Unary(Builtin::Canonicalize)),
     ("capitalize", Function::Unary(Builtin::Capitalize)),
+    ("config_dir", Function::Nullary(Builtin::ConfigDirectory)),
     (
         "config_directory",
         Function::Nullary(Builtin::ConfigDirectory),
     ),
     (
+        "config_local_dir",
+        Function::Nullary(Builtin::ConfigLocalDirectory),
+    ),
+    (
         "config_local_directory",
         Function::Nullary(Builtin::ConfigLocalDirectory),
     ),
+    ("data_dir", Function::Nullary(Builtin::DataDirectory)),
     ("data_directory", Function::Nullary(Builtin::DataDirectory)),
+    (
+        "data_local_dir",
+        Function::Nullary(Builtin::DataLocalDirectory),
+    ),
     (
         "data_local_directory",
         Function::Nullary(Builtin::DataLocalDirectory),
@@ -39,13 +51,26 @@ pub const TABLE: [(&str, Function); 63] = [
     ),
     ("error", Function::Unary(Builtin::Error)),
     (
+        "executable_dir",
+        Function::Nullary(Builtin::ExecutableDirectory),
+    ),
+    (
         "executable_directory",
         Function::Nullary(Builtin::ExecutableDirectory),
     ),
     ("extension", Function::Unary(Builtin::Extension)),
     ("file_name", Function::Unary(Builtin::FileName)),
     ("file_stem", Function::Unary(Builtin::FileStem)),
+    ("home_dir", Function::Nullary(Builtin::HomeDirectory)),
     ("home_directory", Function::Nullary(Builtin::HomeDirectory)),
+    (
+        "invocation_dir",
+        Function::Nullary(Builtin::InvocationDirectory),
+    ),
+    (
+        "invocation_dir_native",
+        Function::Nullary(Builtin::InvocationDirectoryNative),
+    ),
     (
         "invocation_directory",
         Function::Nullary(Builtin::InvocationDirectory),
@@ -71,11 +96,16 @@ pub const TABLE: [(&str, Function); 63] = [
     ("just_version", Function::Nullary(Builtin::JustVersion)),
     ("justfile", Function::Nullary(Builtin::Justfile)),
     (
+        "justfile_dir",
+        Function::Nullary(Builtin::JustfileDirectory),
+    ),
+    (
         "justfile_directory",
         Function::Nullary(Builtin::JustfileDirectory),
     ),
     ("len", Function::ValueUnary(Builtin::Len)),
     ("lowercase", Function::Unary(Builtin::Lowercase)),
+    ("module_dir", Function::Nullary(Builtin::ModuleDirectory)),
     (
         "module_directory",
         Function::Nullary(Builtin::ModuleDirectory),
@@ -86,6 +116,7 @@ pub const TABLE: [(&str, Function); 63] = [
     ("num_jobs", Function::ValueNullary(Builtin::NumJobs)),
     ("os", Function::Nullary(Builtin::Os)),
     ("os_family", Function::Nullary(Builtin::OsFamily)),
+    ("parent_dir", Function::Unary(Builtin::ParentDirectory)),
     (
         "parent_directory",
         Function::Unary(Builtin::ParentDirectory),
@@ -97,12 +128,14 @@ pub const TABLE: [(&str, Function); 63] = [
     ("recipe_name", Function::Nullary(Builtin::RecipeName)),
     ("replace", Function::Ternary(Builtin::Replace)),
     ("require", Function::Unary(Builtin::Require)),
+    ("runtime_dir", Function::Nullary(Builtin::RuntimeDirectory)),
     (
         "runtime_directory",
         Function::Nullary(Builtin::RuntimeDirectory),
     ),
     ("shell", Function::UnaryPlus(Builtin::Shell)),
     ("show", Function::ValueUnary(Builtin::Show)),
+    ("source_dir", Function::Nullary(Builtin::SourceDirectory)),
     (
         "source_directory",
         Function::Nullary(Builtin::SourceDirectory),
@@ -133,7 +166,7 @@ pub const TABLE: [(&str, Function); 63] = [
     ),
 ];
 
-/// The names of the built-in functions that are left out, in the order of their bytes.
+/// The names of the built-in functions that are left out, in the strict order of their bytes. None has a shorter one.
 pub const LEFT_OUT: [&str; 20] = [
     "absolute_path",
     "blake3",

@@ -2,6 +2,7 @@
 
 ghost use Rattle.std.specs.Prelude.{◌≡◌, ◌↔◌, IsNone};
 
+use crate::contradiction::Contradiction;
 use crate::stored_case::StoredCase;
 use std::fmt;
 
@@ -16,6 +17,8 @@ pub(crate) enum Difference {
     Status { wanted: u8, given: u8 },
     /// The case has another answer.
     Answer,
+    /// What is constant before its run says otherwise.
+    Constants(Contradiction),
 }
 
 impl Difference {
@@ -46,6 +49,7 @@ impl fmt::Display for Difference {
                 "status {given} in place of {wanted}"
             ),
             Difference::Answer => write!(f, "another answer"),
+            Difference::Constants(contradiction) => write!(f, "{contradiction}"),
         }
     }
 }

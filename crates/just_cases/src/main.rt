@@ -1,8 +1,12 @@
-// Runs the stored cases, and tells which of them are not answered as their files say.
+// Runs the stored cases, and tells which of them are not answered as their files say, and which runs do not bear out what is
+// constant before them.
 #![tactic(auto)]
 
+mod agreement;
 mod check;
+mod contradiction;
 mod difference;
+mod outcome;
 mod stored_case;
 
 use crate::check::check_cases;

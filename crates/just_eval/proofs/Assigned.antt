@@ -1,9 +1,11 @@
 -- What evaluating one assignment means, in a run and in a const stage.
 use Rattle.std.proofs.Common.{◌≡◌, ℕ, Bool, true, false, cond, ◌||◌, nat_eq, [], ◌∷◌, Option, Some, None, Result, Err, refl, sym, ap, ◌∙◌, subst, arith}
 use Rattle.std.specs.List.{list_any}
+use Rattle.std.specs.Option.{ForSome}
 use Rattle.std.proofs.lemmas.Bool.Decides.{nat_tests}
 use mathlib.Core.Path.{fun_ext}
 use Rattle.just_syntax.specs.Plain.{Token, Assignment}
+use Rattle.just_value.specs.declared.compile_error.CompileError.{CompileError}
 use Rattle.just_value.specs.declared.error.Error.{Error}
 use Rattle.just_value.specs.declared.error.Error.TheVariants as errors
 use Rattle.just_value.specs.ConstEval.{IsConstEval}
@@ -11,8 +13,8 @@ use Rattle.just_value.specs.ConstRefusal.{ConstRefusal}
 use Rattle.just_value.specs.Value.{Value}
 use Rattle.just_value.specs.Frames.{Frames, innermost}
 use Rattle.just_value.specs.Refusal.{Refusal, Const, Internal}
-use Rattle.just_value.specs.Outcome.{Outcome, Gave, Refused, Stopped, without_value}
-use Rattle.just_value.specs.View.{ended, frames_view, refusal}
+use Rattle.just_value.specs.Outcome.{Outcome, Gave, Refused, Stopped, UnlessStopped, without_value}
+use Rattle.just_value.specs.View.{compile_refusal, const_ended, ended, frames_view, refusal}
 use Rattle.just_host.specs.Question.{Question, Answer}
 use Rattle.just_host.specs.Interaction.{Rules, Runs, Tree, freely}
 use Rattle.just_host.proofs.Paths.{path_cut}
@@ -20,10 +22,10 @@ use Rattle.just_meaning.specs.Assignments.{assignment_at}
 use Rattle.just_meaning.specs.Constant.{constantly}
 use Rattle.just_meaning.specs.Module.{Module, Closing, Ran, assigned, or_override}
 use Rattle.just_meaning.specs.Internal.{IsFinal}
-use Rattle.just_meaning.specs.Stage.{Constants, Standing, IsNew, Staged, const_meaning, with_open}
+use Rattle.just_meaning.specs.Stage.{Constants, Standing, Staged, at_start, const_meaning, with_open}
 use Rattle.just_forms.specs.Call.{Says}
 use Rattle.just_laws.proofs.Constants.{IsTold, OfSome, const_override, const_told, eval_alike}
-use Rattle.just_eval.specs.View.{Assigned, WasBound, IsBound, IsRefused, IsSame, IsStopped, standing_of}
+use Rattle.just_eval.specs.View.{Assigned, WasBound, IsBound, IsRefused, IsSame, IsStopped, OpensOrEnds, Opens, Ends, standing_of}
 use Rattle.just_eval.specs.declared.evaluator.Evaluator.{Evaluator}
 use Rattle.just_eval.proofs.Module.{ran_binds, ran_fails, ran_skips}
 use Rattle.just_eval.proofs.Stages.{staged_breaks, staged_opens, staged_settles, staged_skips, staged_stops}
@@ -74,19 +76,38 @@ module _ {S : Type 0} {step : S → Question → Answer → S → Type 0} (m : C
     staged_gave (WasBound b e) = staged_skips s t a found referenced b e
     staged_gave (IsBound v u r) = staged_settles s t a (record { found = found; referenced = referenced; unbound = u; unopened = unopened }) v (sym (told (Gave v) r).told)
 
-    pub staged_const : {old new : S} (c : ConstRefusal) → InStage step m s a old new (Refused (Const c)) → Staged m s (t ∷ []) (Gave (with_open s a.number))
+    staged_const : {old new : S} (c : ConstRefusal) → InStage step m s a old new (Refused (Const c)) → Staged m s (t ∷ []) (Gave (with_open s a.number))
     staged_const c (IsRefused _ u r) = staged_opens s t a (record { found = found; referenced = referenced; unbound = u; unopened = unopened }) c (sym (told (Refused (Const c)) r).told)
 
-    pub staged_other : {old new : S} (e : Option Refusal) → OfSome IsFinal e → InStage step m s a old new (without_value e) → Staged m s (t ∷ []) (without_value e)
-    staged_other (Some r) final (IsRefused _ u runs) = staged_breaks s t a (record { found = found; referenced = referenced; unbound = u; unopened = unopened }) r final (sym (told (Refused r) runs).told)
+    staged_other : {old new : S} (e : Option Refusal) → ForSome e IsFinal → InStage step m s a old new (without_value e) → Staged m s (t ∷ []) (without_value e)
+    staged_other (Some r) final (IsRefused _ u runs) = staged_breaks s t a (record { found = found; referenced = referenced; unbound = u; unopened = unopened }) r (final r refl) (sym (told (Refused r) runs).told)
     staged_other None final h = staged_stops s (t ∷ [])
 
+    opened : {old new : S} (c : ConstRefusal) (o : Outcome Standing) → InStage step m s a old new (Refused (Const c)) → UnlessStopped o (Gave (with_open s a.number)) → Staged m s (t ∷ []) o
+    opened c (Gave x) h is = subst (Staged m s (t ∷ [])) (sym is) (staged_const c h)
+    opened c (Refused r) h is = absurd (cc)
+    opened c Stopped h is = staged_stops s (t ∷ [])
+
+    pub staged_refused : {old new : S} (e : Option Refusal) (o : Outcome Standing) → InStage step m s a old new (without_value e) → OpensOrEnds e s a.number o → Staged m s (t ∷ []) o
+    staged_refused {old = old} {new = new} e o h (Opens c is up) = opened c o (subst (λ e. InStage step m s a old new (without_value e)) is h) up
+    staged_refused e o h (Ends final is) = subst (Staged m s (t ∷ [])) (sym is) (staged_other e final h)
+
 -- ---- where an evaluator stands
+
+pub standing_start : (e : Evaluator) (lists : Bool) (outer : Frames) → e.lists ≡ lists → frames_view e.scope ≡ [] ∷ outer → ((n : ℕ) → (standing_of e).is_open n ≡ false) → standing_of e ≡ at_start lists outer
+standing_start e lists outer same frames none = λ i. record { lists = same i; frames = frames i; is_open = fun_ext none i }
 
 pub standing_same : (e f : Evaluator) → IsSame e f → standing_of f ≡ record { lists = e.lists; frames = frames_view f.scope; is_open = (standing_of e).is_open }
 standing_same e f same =
     ap (λ l. record { lists = l; frames = frames_view f.scope; is_open = (standing_of f).is_open }) same.lists
     ∙ ap (λ set. record { lists = e.lists; frames = frames_view f.scope; is_open = λ n. list_any (nat_eq n) set.keys }) same.open_numbers
+
+-- the exit of a `?` that asked for memory
+pub opened_exit : {X : Type 0} (f : X → Standing) (r : Result X CompileError) (e d : CompileError) → r ≡ Err d → d ≡ e → (w : Outcome Standing) → UnlessStopped (without_value (compile_refusal e)) w → UnlessStopped (const_ended f r) w
+opened_exit f r e d p q w is = rw (p, q) is
+
+pub standing_kept : (e f : Evaluator) → IsSame e f → frames_view f.scope ≡ frames_view e.scope → standing_of f ≡ standing_of e
+standing_kept e f same kept = standing_same e f same ∙ ap (λ fs. record { lists = e.lists; frames = fs; is_open = (standing_of e).is_open }) kept
 
 either : (n k : ℕ) (b : Bool) → cond (nat_eq n k) true b ≡ (nat_eq k n || b)
 either n k b = by (nat_eq n k) refl

@@ -3,3 +3,13 @@ mod Stages
 mod Constants
 mod Assigned
 mod There
+mod Here
+mod Lines
+mod Same
+mod Arguments
+mod Attributes
+mod Bindings
+mod Environment
+mod Evaluated
+mod Recipes
+mod Valued

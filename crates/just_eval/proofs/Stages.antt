@@ -1,10 +1,10 @@
 -- How const stages are put together.
-use Rattle.std.proofs.Common.{◌≡◌, ℕ, ◌+◌, ◌<◌, true, false, List, [], ◌∷◌, ◌++◌, Option, Some, None, Result, Err, map, drop, get_or, length, refl, sym, subst}
+use Rattle.std.proofs.Common.{◌≡◌, ℕ, ◌+◌, ◌<◌, true, false, List, [], ◌∷◌, ◌++◌, Option, Some, None, Result, Err, map, drop, get_or, length, sym, subst}
 use Rattle.just_syntax.specs.Plain.{Token, Assignment}
 use Rattle.just_value.specs.declared.compile_error.CompileError.{CompileError}
 use Rattle.just_value.specs.Value.{Value}
 use Rattle.just_value.specs.ConstRefusal.{ConstRefusal}
-use Rattle.just_value.specs.Frames.{Bound, Frames, innermost}
+use Rattle.just_value.specs.Frames.{Bound, innermost}
 use Rattle.just_value.specs.Refusal.{Refusal, Const, Internal}
 use Rattle.just_value.specs.Outcome.{Outcome, Gave, Refused, Stopped, without_value}
 use Rattle.just_value.specs.View.{compile_refusal, const_ended}

@@ -1,43 +1,78 @@
 -- Where an evaluator stands, and what it makes of expressions and assignments.
-use Rattle.std.specs.Prelude.{◌≡◌, ℕ, Bool, false, ◌-◌, ◌<◌, List, Option, Some, None, nat_eq}
-use Rattle.std.specs.BTreeMap.{IsEmpty}
+use Rattle.std.specs.Prelude.{◌≡◌, ℕ, Bool, true, false, ◌-◌, ◌<◌, List, [], Option, Some, None, Vec, map, nat_eq, string_bytes}
+use Rattle.std.specs.BTreeMap.{BTreeMap, IsEmpty}
+use Rattle.std.specs.Borrow.{Bor}
 use Rattle.std.specs.List.{list_any}
-use Rattle.just_syntax.specs.Plain.{Text, Expr, Assignment}
+use Rattle.std.specs.Option.{ForSome, is_some, option_map}
+use Rattle.std.specs.declared.string.String.{String}
+use Rattle.just_syntax.specs.Plain.{Expr, Assignment}
+use Rattle.just_syntax.specs.View.{assignment_view, name_view}
+use Rattle.just_syntax.specs.declared.name.Name.{Name}
 use Rattle.just_value.specs.Value.{Value}
-use Rattle.just_value.specs.Frames.{Bound, Frames, innermost, bound_in_front}
-use Rattle.just_value.specs.Refusal.{Refusal}
-use Rattle.just_value.specs.Outcome.{Outcome, Gave, Refused, Stopped}
+use Rattle.just_value.specs.Frames.{Bound, Frames, innermost, bound_in_front, value_in}
+use Rattle.just_value.specs.ConstRefusal.{ConstRefusal}
+use Rattle.just_value.specs.Refusal.{Refusal, Const}
+use Rattle.just_value.specs.Outcome.{Outcome, Gave, Refused, Stopped, UnlessStopped, without_value}
 use Rattle.just_value.specs.View.{frames_view}
+use Rattle.just_value.specs.declared.scope.Scope.{Scope}
 use Rattle.just_host.specs.Interaction.{Rules, Runs, Tree}
 use Rattle.just_host.specs.Question.{Question, Answer}
+use Rattle.just_host.specs.View.{pairs_view}
 use Rattle.just_host.specs.declared.execution_context.ExecutionContext.{ExecutionContext}
 use Rattle.just_meaning.specs.Closings.{dynamic}
-use Rattle.just_meaning.specs.Meaning.{eval}
-use Rattle.just_meaning.specs.Module.{bound_of, situation_at}
-use Rattle.just_meaning.specs.Stage.{Standing}
+use Rattle.just_meaning.specs.Meaning.{Situation, eval}
+use Rattle.just_meaning.specs.Here.{Here, IsResolvedHere, meanings}
+use Rattle.just_meaning.specs.Internal.{IsFinal}
+use Rattle.just_meaning.specs.Module.{bound_of}
+use Rattle.just_meaning.specs.Parameters.{Arguments, Meanings}
+use Rattle.just_meaning.specs.Stage.{Standing, with_open}
+use Rattle.just_meaning.specs.View.{functions_view}
 use Rattle.just_expression.specs.View.{program_of, rules_in}
 use Rattle.just_eval.specs.declared.evaluator.Evaluator.{Evaluator}
 
 -- with a context there is room for a first call
-abbrev pub HasRoom : Option ExecutionContext → Type 0
-HasRoom (Some c) = 0 < c.recursion_limit
-HasRoom None = Unit {0}
+abbrev pub HasRoomIn : Option ExecutionContext → Type 0
+HasRoomIn (Some c) = 0 < c.recursion_limit
+HasRoomIn None = Unit {0}
 
--- no environment, and room for a first call
+abbrev pub HasRoom : Evaluator → Type 0
+HasRoom e = HasRoomIn e.context
+
+-- It evaluates assignments: for no recipe, in no environment, and a called body's frame is put on its own frames.
 pub record IsAtStart (e : Evaluator) : Type 0 where
+  pub base : e.base ≡ None
   pub environment : IsEmpty e.env
-  pub room : HasRoom e.context
+  pub dependency : e.is_dependency ≡ false
+  pub recipe : e.recipe ≡ None
+  pub room : HasRoom e
 
 -- It evaluates before any run: it has no context.
 pub record IsConst (e : Evaluator) : Type 0 where
-  pub environment : IsEmpty e.env
+  pub start : IsAtStart e
   pub context : e.context ≡ None
+
+-- It evaluates in a run: it has a context.
+abbrev pub IsInRun : Evaluator → Type 0
+IsInRun e = is_some e.context ≡ true
 
 -- the same but for its scope
 pub record IsSame (e f : Evaluator) : Type 0 where
   pub context : f.context ≡ e.context
   pub lists : f.lists ≡ e.lists
   pub open_numbers : f.non_const_assignments ≡ e.non_const_assignments
+
+-- the same but for its scope and its environment
+pub record IsSameBut (e f : Evaluator) : Type 0 where
+  pub base : f.base ≡ e.base
+  pub context : f.context ≡ e.context
+  pub dependency : f.is_dependency ≡ e.is_dependency
+  pub lists : f.lists ≡ e.lists
+  pub open_numbers : f.non_const_assignments ≡ e.non_const_assignments
+  pub recipe : f.recipe ≡ e.recipe
+
+-- what parameters give: the scope, the positional words, and the environment
+abbrev pub arguments_view : {A B C D : Type 0} → Scope × Vec (String A) B × BTreeMap (String C) (String D) → Arguments
+arguments_view given = record { frames = frames_view given.0; words = map string_bytes given.1.items; environment = pairs_view given.2 }
 
 -- how many calls may be pending
 abbrev pub calls_left_in : Option ExecutionContext → ℕ
@@ -54,9 +89,46 @@ standing_of e = record { lists = e.lists; frames = frames_view e.scope; is_open 
 abbrev pub rules_of : Evaluator → Rules
 rules_of e = rules_in e.context (standing_of e).is_open
 
--- what an expression means here
+-- the frames that a called body's frame is put on: its own, where there are no others
+abbrev pub below_of : Option (Bor Scope) → Frames → Frames
+below_of (Some base) frames = frames_view base.now
+below_of None frames = frames
+
+-- what is evaluated in
+abbrev pub situation_of : Evaluator → Situation
+situation_of e = record {
+  names = value_in (frames_view e.scope);
+  environment = pairs_view e.env;
+  recipe = option_map (λ (n : Name). (name_view n).lexeme) e.recipe;
+  is_dependency = e.is_dependency;
+  lists = e.lists;
+  shown = frames_view e.scope;
+  below = below_of e.base (frames_view e.scope);
+}
+
+-- where its expressions stand
+abbrev pub here : Evaluator → Here
+here e = record { program = program_of e.context; calls = calls_left_of e; situation = situation_of e }
+
+-- what expressions mean by dynamic scoping
+abbrev pub dynamic_meanings : Option ExecutionContext → Meanings
+dynamic_meanings context s x = let p = program_of context in eval p (dynamic p (calls_left_in context)) s x
+
+-- what an expression means here by dynamic scoping
 abbrev pub meaning : Evaluator → Expr → Tree Value
-meaning e x = let p = program_of e.context in eval p (dynamic p (calls_left_of e)) (situation_at e.lists (frames_view e.scope)) x
+meaning e = dynamic_meanings e.context (situation_of e)
+
+-- what an expression means here by the lexical rules
+abbrev pub lexical_meaning : Evaluator → Expr → Tree Value
+lexical_meaning e = let h = here e in meanings h h.situation
+
+-- in a run, what these expressions reach is resolved here
+abbrev pub IsResolvedIn : Option ExecutionContext → Situation → List Expr → Type 0
+IsResolvedIn (Some c) s es = IsResolvedHere (functions_view c.module.now) (map assignment_view c.module.now.assignments) s.below s.shown [] [] es
+IsResolvedIn None s es = ⊥
+
+abbrev pub Resolves : Evaluator → List Expr → Type 0
+Resolves e es = IsResolvedIn e.context (situation_of e) es
 
 -- whether a module exports all
 abbrev pub exports_in : Option ExecutionContext → Bool
@@ -73,3 +145,9 @@ pub data Assigned {S : Type 0} (rules : Rules) (step : S → Question → Answer
   IsBound : {new : S} → (v : Value) → innermost a.number frames ≡ None → Runs rules step old tree (Gave v) new → Assigned rules step old tree export a frames (Gave (bound_in_front frames (bound_of export a v))) new
   IsRefused : {new : S} → (r : Refusal) → innermost a.number frames ≡ None → Runs rules step old tree (Refused r) new → Assigned rules step old tree export a frames (Refused r) new
   IsStopped : {new : S} → innermost a.number frames ≡ None → Runs rules step old tree Stopped new → Assigned rules step old tree export a frames Stopped new
+
+-- What a stage makes of a refused assignment: the number is open where the refusal is one that a run alone can lift, and
+-- the stage ends where it is another.
+pub data OpensOrEnds (e : Option Refusal) (s : Standing) (number : ℕ) (o : Outcome Standing) : Type 0 where
+  Opens : (c : ConstRefusal) → e ≡ Some (Const c) → UnlessStopped o (Gave (with_open s number)) → OpensOrEnds e s number o
+  Ends : ForSome e IsFinal → o ≡ without_value e → OpensOrEnds e s number o

@@ -1,22 +1,25 @@
 // Evaluates the assignments of a module.
 
-ghost use Rattle.std.specs.Prelude.{[], IfErr, OnErr, Some, map, ◌<◌, ◌≡◌, ◌∷◌};
+ghost use Rattle.std.specs.Prelude.{[], IfErr, OnErr, Some, false, map, ℕ, ◌<◌, ◌≡◌, ◌∷◌};
 ghost use Rattle.std.specs.Option.{ForSome, is_some};
 ghost use Rattle.just_syntax.specs.View.{assignment_view, name_view, view};
 ghost use Rattle.just_value.specs.ConstEval.{IsConstEval};
 ghost use Rattle.just_value.specs.Frames.{innermost};
 ghost use Rattle.just_value.specs.Outcome.{UnlessStopped};
 ghost use Rattle.just_value.specs.View.{bound_view, ended, frames_view, refusal};
-ghost use Rattle.just_host.specs.Interaction.{GoesByAnswers, Runs};
+ghost use Rattle.just_host.specs.Interaction.{GoesByAnswers, Runs, freely};
 ghost use Rattle.just_meaning.specs.Internal.{IfRefused, IsFinal, IsNotInternal};
-ghost use Rattle.just_meaning.specs.Module.{Ran, bound_of, dynamically, lexically, or_override, situation_at};
+ghost use Rattle.just_meaning.specs.Module.{Ran, bound_of, dynamically, lexically, or_override};
 ghost use Rattle.just_meaning.specs.Resolved.{IsResolved};
 ghost use Rattle.just_meaning.specs.Stage.{const_value};
 ghost use Rattle.just_meaning.specs.View.{module_view, override_of, run_of};
 ghost use Rattle.just_expression.specs.View.{program, program_of, rules, situation};
-ghost use Rattle.just_eval.specs.View.{Assigned, IsAtStart, IsConst, IsSame, calls_left_of, exports, meaning, rules_of, standing_of};
+ghost use Rattle.just_eval.specs.View.{Assigned, HasRoom, HasRoomIn, IsAtStart, IsConst, IsInRun, IsSame, Resolves, calls_left_of, exports, lexical_meaning, meaning, rules_of, situation_of, standing_of};
 
+mod commands;
 mod constants;
+mod lines;
+mod parameters;
 mod sets;
 
 use just_expression::evaluator::ExpressionEvaluator;
@@ -42,11 +45,15 @@ use std::collections::{BTreeMap, HashMap, HashSet};
 /// Evaluates the assignments of a module, one after another, in a scope of its own.
 #[derive(Drop)]
 pub struct Evaluator<'src, 'run> {
+    // What a called body's scope is put on, where that is not the own scope.
+    base: Option<&'run Scope<'src, 'run>>,
     // What stays the same in a run. Before any run there is none, and the const rules hold.
     context: Option<ExecutionContext<'src, 'run>>,
     env: BTreeMap<String, String>,
+    is_dependency: bool,
     lists: bool,
     non_const_assignments: HashSet<Number>,
+    recipe: Option<Name<'src>>,
     scope: Scope<'src, 'run>,
 }
 
@@ -123,24 +130,40 @@ impl<'src, 'run> Evaluator<'src, 'run> {
         requires room { 0 < context.recursion_limit }
         ensures { Ran H.step host.old dynamically (module_view context.entry references.entry) ([] ∷ frames_view context.entry.scope.now) (map name_view names.entry.now) (ended frames_view result) host.new }
     {
-        let mut evaluator = Evaluator {
-            context: Some(context),
-            env: BTreeMap::new(alloc),
-            lists: context.module.settings.lists,
-            non_const_assignments: HashSet::new(alloc),
-            scope: context.scope.child(alloc)?,
-        };
+        let lists = context.module.settings.lists;
+        let scope = context.scope.child(alloc)?;
+        let mut evaluator = Evaluator::of_assignments(alloc, Some(context), lists, scope);
         for name in names {
             evaluator.evaluate_named(alloc, host, context, references, *name)?;
         }
-        let Evaluator {
-            context: _,
-            env: _,
-            lists: _,
-            non_const_assignments: _,
-            scope,
-        } = evaluator;
+        let Evaluator { scope, .. } = evaluator;
         Ok(scope)
+    }
+
+    // Evaluates assignments in a scope, for no recipe. Nothing is open.
+    fn of_assignments(
+        alloc: Global,
+        context: Option<ExecutionContext<'src, 'run>>,
+        lists: bool,
+        scope: Scope<'src, 'run>,
+    ) -> Evaluator<'src, 'run>
+        requires room { HasRoomIn context }
+        ensures start { IsAtStart result }
+        ensures context { result.context ≡ context.entry }
+        ensures lists { result.lists ≡ lists }
+        ensures frames { frames_view result.scope ≡ frames_view scope.entry }
+        ensures none_open { (n : ℕ) → (standing_of result).is_open n ≡ false }
+    {
+        Evaluator {
+            base: None,
+            context,
+            env: BTreeMap::new(alloc),
+            is_dependency: false,
+            lists,
+            non_const_assignments: HashSet::new(alloc),
+            recipe: None,
+            scope,
+        }
     }
 
     // Evaluates the assignment with a name, if it is referenced.
@@ -167,27 +190,42 @@ impl<'src, 'run> Evaluator<'src, 'run> {
         self.evaluate_assignment(alloc, host, context.overrides, assignment)
     }
 
-    /// The value of an expression before any run, with what is settled. The const rules hold, and the host is not asked.
+    /// The value of an expression, with what is bound.
     ///
     /// # Errors
     ///
-    /// The first refusal: `Const` at the first call, command or open variable. `OutOfMemory` where memory was asked for
-    /// and refused.
+    /// The first refusal of a part, in the order of the parts; `OutOfMemory` where memory was asked for and refused, or
+    /// where the host says so. On an evaluator from `evaluate_const_assignments` the const rules hold, and the host is not
+    /// asked: `Const` comes at the first call, command or open variable.
     pub fn evaluate_value<H: Host>(
         &self,
         alloc: Global,
         host: &mut H,
         expression: &Expression<'src>,
     ) -> Result<Value, Error<'src>>
-        requires before_runs { IsConst self.now }
-        ensures constants { UnlessStopped (ended (λ v. v) result) (const_value (standing_of self.now) (view expression.now)) }
-        ensures few { IfErr result (λ e. ForSome (refusal e) IsConstEval) }
-        ensures still { host.new ≡ host.old }
+        requires room { HasRoom self.now }
+
+        // In a run, where all that is reached is resolved, the lexical rules give the value or the refusal, by the
+        // questions that they ask.
+        ensures headline { Resolves self.now (view expression.now ∷ []) → Runs freely H.step host.old (lexical_meaning self.now (view expression.now)) (ended (λ v. v) result) host.new }
+        ensures never_internal { Resolves self.now (view expression.now ∷ []) → IsNotInternal (ended (λ v. v) result) }
+
+        // Resolved or not, a run is not refused as constant evaluation is, and nothing but answered questions leads the
+        // host on.
+        ensures never_const { IsInRun self.now → IfRefused IsFinal (ended (λ v. v) result) }
+        ensures answered { GoesByAnswers H.step host.old host.new }
+
+        // Before any run the const rules give it, and nothing is asked.
+        ensures constants { IsConst self.now → UnlessStopped (ended (λ v. v) result) (const_value (standing_of self.now) (view expression.now)) }
+        ensures few { IsConst self.now → IfErr result (λ e. ForSome (refusal e) IsConstEval) }
+        ensures still { IsConst self.now → host.new ≡ host.old }
     {
         self.evaluated(alloc, host, expression)
     }
 
-    // Binds the value of an assignment, if its number is not bound.
+    // Binds the value of an assignment, if its number is not bound. It is out of line, so that a run and a const stage take
+    // the same steps here.
+    #[inline(never)]
     fn evaluate_assignment<H: Host>(
         &mut self,
         alloc: Global,
@@ -241,36 +279,39 @@ impl<'src, 'run> Evaluator<'src, 'run> {
         host: &mut H,
         expression: &Expression<'src>,
     ) -> Result<Value, Error<'src>>
-        requires start { IsAtStart self.now }
+        requires room { HasRoom self.now }
         ensures { Runs (rules_of self.now) H.step host.old (meaning self.now (view expression.now)) (ended (λ v. v) result) host.new }
     {
         self.expressions().evaluate_value(alloc, host, expression)
     }
 
-    // Evaluates expressions with all that is bound so far. A called body's frame is put on that.
+    // Evaluates expressions with all that is bound so far.
     fn expressions(&self) -> ExpressionEvaluator<'src, 'run, '_>
-        requires start { IsAtStart self.now }
+        requires room { HasRoom self.now }
         ensures rules { rules result ≡ rules_of self.now }
         ensures program { program result ≡ program_of self.now.context }
         ensures calls { result.calls_left ≡ calls_left_of self.now }
-        ensures situation { situation result ≡ situation_at self.now.lists (frames_view self.now.scope) }
+        ensures situation { situation result ≡ situation_of self.now }
     {
         ExpressionEvaluator {
             context: self.context,
             calls_left: self.calls_left(),
             env: &self.env,
-            is_dependency: false,
+            is_dependency: self.is_dependency,
             lists: self.lists,
             non_const_assignments: &self.non_const_assignments,
-            recipe: None,
+            recipe: self.recipe,
             scope: &self.scope,
-            below: &self.scope,
+            below: match self.base {
+                Some(base) => base,
+                None => &self.scope,
+            },
         }
     }
 
     // How many calls may be pending. Before any run none is entered.
     fn calls_left(&self) -> usize
-        requires start { IsAtStart self.now }
+        requires room { HasRoom self.now }
         ensures { result ≡ calls_left_of self.now }
     {
         match &self.context {

@@ -9,3 +9,4 @@ mod no_host;
 pub use just_laws::laws;
 pub use just_resolution::resolved::resolved;
 pub use just_resolution::resolved_const::resolved_const;
+pub use just_resolution::resolved_here::resolved_here;

@@ -22,7 +22,7 @@ use Rattle.just_expression.proofs.Leaves.{passes}
 
 -- a body's situation, from its caller's
 pub inside_is : (inner : Frames) (s own : Situation) (f : Function) (vs : List Value) → inner ≡ with_parameters [] f.parameters vs ∷ s.below
-    → own ≡ (record { names = value_in inner; environment = []; recipe = s.recipe; is_dependency = s.is_dependency; lists = s.lists; shown = inner; below = inner }) → own ≡ inside (value_in s.below) s f vs
+    → own ≡ (record { names = value_in inner; environment = s.environment; recipe = s.recipe; is_dependency = s.is_dependency; lists = s.lists; shown = inner; below = inner }) → own ≡ inside (value_in s.below) s f vs
 inside_is inner s own f vs e is = is ∙ rw e refl
 
 -- a body runs in its own situation

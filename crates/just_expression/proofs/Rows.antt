@@ -1,4 +1,4 @@
--- Expressions whose parts are no boxes, and values one after another.
+-- Expressions whose parts are no boxes, and the rows of an evaluator.
 use Rattle.std.proofs.Common.{◌≡◌, ℕ, ◌+◌, ◌<◌, ◌≤◌, List, [], ◌∷◌, ◌++◌, length, get_or, drop, add-one, refl, ap, sym, ◌∙◌, subst, Option, Some, None}
 use Rattle.std.proofs.lemmas.List.{append-nil, append_assoc, drop_all}
 use Rattle.just_syntax.specs.declared.expression.Expression.{Expression}
@@ -9,10 +9,10 @@ use Rattle.just_syntax.specs.View.{name_view, literal_view, view, views, piece_v
 use Rattle.just_syntax.proofs.Rows.{view_list, view_call, view_format_string, count_views, views_front, pieces_front}
 use Rattle.just_value.specs.Value.{Value, joined}
 use Rattle.just_value.specs.Refusal.{Refusal}
-use Rattle.just_value.specs.Outcome.{Outcome, Gave, Refused, Stopped, without_value}
+use Rattle.just_value.specs.Outcome.{Gave, Stopped, without_value}
 use Rattle.just_host.specs.Question.{Question, Answer}
-use Rattle.just_host.specs.Interaction.{Entered, Rules, Runs, Tree, note, bind, gives}
-use Rattle.just_host.proofs.Paths.{runs_on, runs_ends, runs_gives, runs_stopped}
+use Rattle.just_host.specs.Interaction.{Entered, Runs, Tree, note, bind, gives}
+use Rattle.just_host.proofs.Left.{Left, left_cut, left_ends, left_next, left_none}
 use Rattle.just_meaning.specs.Callee.{callee}
 use Rattle.just_meaning.specs.Meaning.{as_it_is, called, eval_pieces, eval_row, flatten, formatted}
 use Rattle.just_expression.specs.View.{deeper, meaning, program, row, rules, situation}
@@ -34,64 +34,6 @@ module _ (e : ExpressionEvaluator) where
 pub flatten_more : (vs : List Value) (v : Value) → flatten (vs ++ v ∷ []) ≡ flatten vs ++ v
 flatten_more [] v = append-nil v
 flatten_more (w ∷ vs) v = ap (λ x. w ++ x) (flatten_more vs v) ∙ sym (append_assoc w (flatten vs) v)
-
--- ---- values, one after another
-
--- what is done so far is f, and the rest is put behind it
-abbrev pub behind : {A B : Type 0} → (A → B) → Outcome A → Outcome B
-behind f (Gave a) = Gave (f a)
-behind f (Refused r) = Refused r
-behind f Stopped = Stopped
-
-behind_ended : {A B : Type 0} (f : A → B) (e : Option Refusal) → behind f (without_value e) ≡ without_value e
-behind_ended f (Some r) = refl
-behind_ended f None = refl
-
--- one more element, and then the rest
-behind_next : {X : Type 0} (made more : List X) (o : Outcome (List X)) → behind (λ xs. made ++ xs) (behind (λ xs. more ++ xs) o) ≡ behind (λ xs. (made ++ more) ++ xs) o
-behind_next made more (Gave xs) = ap Gave (sym (append_assoc made more xs))
-behind_next made more (Refused r) = refl
-behind_next made more Stopped = refl
-
-behind_nothing : {X : Type 0} (o : Outcome (List X)) → behind (λ xs. [] ++ xs) o ≡ o
-behind_nothing (Gave xs) = refl
-behind_nothing (Refused r) = refl
-behind_nothing Stopped = refl
-
--- What is made so far, and what is left: whatever all that is left comes to from here is what the whole comes to.
-abbrev pub Left : {S X : Type 0} → Rules → (S → Question → Answer → S → Type 0) → Tree (List X) → S → Tree (List X) → S → List X → Type 0
-Left {S} {X} by step whole start left here made = (o : Outcome (List X)) (new : S) → Runs by step here left o new → Runs by step start whole (behind (λ xs. made ++ xs) o) new
-
-module _ {rules : Rules} {S : Type 0} {step : S → Question → Answer → S → Type 0} where
-  -- a value, and then the rest, of which f makes one
-  runs_more : {A B : Type 0} {old mid new : S} (first : Tree Value) (rest : Tree A) (v : Value) (f : Value → A → B) (o : Outcome A) → Runs rules step old first (Gave v) mid → Runs rules step mid rest o new
-      → Runs rules step old (bind first (λ v. bind rest (λ a. gives (f v a)))) (behind (f v) o) new
-  runs_more first rest v f (Gave a) r q = runs_on first _ r (runs_on rest (λ a. gives (f v a)) q (runs_gives (f v a)))
-  runs_more first rest v f (Refused s) r q = runs_on first _ r (runs_ends rest (λ a. gives (f v a)) (Some s) q)
-  runs_more first rest v f Stopped r q = runs_on first _ r (runs_ends rest (λ a. gives (f v a)) None q)
-
-  module _ {X : Type 0} (whole : Tree (List X)) where
-    pub left_all : {h : S} → Left rules step whole h whole h []
-    left_all {h = h} o new r = subst (λ x. Runs rules step h whole x new) (sym (behind_nothing o)) r
-
-    pub left_none : {start here : S} (made : List X) → Left rules step whole start (gives []) here made → Runs rules step start whole (Gave made) here
-    left_none {start = start} {here = here} made left = subst (λ xs. Runs rules step start whole (Gave xs) here) (append-nil made) (left (Gave []) here (runs_gives []))
-
-    pub left_stops : {start here : S} (left : Tree (List X)) (made : List X) → Left rules step whole start left here made → Runs rules step start whole Stopped here
-    left_stops left made rest = rest Stopped _ (runs_stopped left)
-
-    -- a first one, of which some elements are made, and more
-    module _ {start here : S} (first : Tree Value) (more : Tree (List X)) (f : Value → List X) (made : List X) (rest : Left rules step whole start (bind first (λ v. bind more (λ xs. gives (f v ++ xs)))) here made) where
-      pub left_next : {mid : S} (v : Value) → Runs rules step here first (Gave v) mid → Left rules step whole start more mid (made ++ f v)
-      left_next v r o new q = subst (λ x. Runs rules step start whole x new) (behind_next made (f v) o) (rest (behind (λ xs. f v ++ xs) o) new (runs_more first more v (λ v xs. f v ++ xs) o r q))
-
-      -- it ends without a value
-      pub left_ends : {new : S} (e : Option Refusal) → Runs rules step here first (without_value e) new → Runs rules step start whole (without_value e) new
-      left_ends {new = new} e r = subst (λ x. Runs rules step start whole x new) (behind_ended (λ xs. made ++ xs) e) (rest (without_value e) new (runs_ends first _ e r))
-
-      -- memory runs out after its value
-      pub left_cut : {new : S} (v : Value) → Runs rules step here first (Gave v) new → Runs rules step start whole Stopped new
-      left_cut {new = new} v r = rest Stopped new (runs_on first _ r (runs_stopped _))
 
 -- ---- the rows of an evaluator
 

@@ -48,3 +48,10 @@ module _ (p : Program) (t : Token) where
   pub builtin_is : (f : BuiltIn) (calls n : ℕ) → IsExpected f n → Enters p t (meant.BuiltIn f) calls n (call.BuiltIn f)
   builtin_is f calls n fits s row =
       ap (λ b. if b then bind (row (texts_of f t)) (built_in_call p s t f) else refuses (Internal (miscounted_text t.lexeme) t)) ((callable (meant.BuiltIn f) n).1 fits)
+
+  -- where the count does not fit, it is refused before the arguments
+  pub unexpected_is : (f : BuiltIn) (calls n : ℕ) (r : Option Refusal) → accepts (meant.BuiltIn f) n ≡ false → Says r (Internal (miscounted_text t.lexeme) t) → EndsBefore p t (meant.BuiltIn f) calls n r
+  unexpected_is f calls n None unfit said = tt
+  unexpected_is f calls n (Some r) unfit said = λ s row.
+      ap (λ b. if b then bind (row (texts_of f t)) (built_in_call p s t f) else refuses (Internal (miscounted_text t.lexeme) t)) unfit
+      ∙ ap refuses (sym said)

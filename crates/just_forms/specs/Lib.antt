@@ -1,2 +1,3 @@
 pub mod Call
+pub mod Check
 pub mod Parameter

@@ -1,6 +1,6 @@
 // What calls reach.
 
-ghost use Rattle.std.specs.Prelude.{IfErr, IfOk, Some, false, length, suc, true, ℕ, ◌≡◌};
+ghost use Rattle.std.specs.Prelude.{IfErr, IfOk, None, Some, false, length, suc, true, ℕ, ◌≡◌};
 ghost use Rattle.std.specs.Option.{option_map};
 ghost use Rattle.just_syntax.specs.Keyed.{value_at};
 ghost use Rattle.just_syntax.specs.Plain.{Token};
@@ -123,15 +123,24 @@ fn built_in<'src>(
     ensures count { IfOk result (λ f. IsExpected f arguments) }
     ensures refused { IfErr result (λ e. (p : Program) (calls : ℕ) → EndsBefore p (name_view name.now) (undefined (name_view name.now).lexeme) calls arguments (refusal e)) }
 {
-    if is_left_out(name.lexeme()) {
-        return Err(Error::LeftOut { function: *name });
-    }
     let Some(function) = get(name.lexeme()) else {
-        return Err(internal::unknown_function(alloc, name));
+        return Err(no_function(alloc, name));
     };
     let expected = function.expected_arguments();
     if arguments < *expected.start() || *expected.end() < arguments {
         return Err(internal::miscounted(alloc, name));
     }
     Ok(function)
+}
+
+// The refusal of a call of a name that no function has here: it is left out, or nothing has it. It is out of line, and a name
+// that a function has is looked up once.
+#[inline(never)]
+fn no_function<'src>(alloc: Global, name: &Name<'src>) -> Error<'src>
+    ensures { function_named (name_view name.now).lexeme ≡ None → (p : Program) (calls arguments : ℕ) → EndsBefore p (name_view name.now) (undefined (name_view name.now).lexeme) calls arguments (refusal result) }
+{
+    if is_left_out(name.lexeme()) {
+        return Error::LeftOut { function: *name };
+    }
+    internal::unknown_function(alloc, name)
 }

@@ -4,7 +4,7 @@ ghost use Rattle.std.specs.Prelude.{IfErr, IfOk, Some, None, string_bytes, ◌�
 ghost use Rattle.just_syntax.specs.View.{name_view};
 ghost use Rattle.just_value.specs.Refusal.{Internal};
 ghost use Rattle.just_value.specs.View.{refusal};
-ghost use Rattle.just_meaning.specs.Messages.{miscounted_text, shapeless_text, unevaluated_text, unknown_assignment_text, unknown_function_text, unresolved_text};
+ghost use Rattle.just_meaning.specs.Messages.{mismatched_text, miscounted_text, shapeless_text, unevaluated_text, unknown_assignment_text, unknown_function_text, unresolved_text};
 ghost use Rattle.just_forms.specs.Call.{Says};
 
 use just_syntax::name::Name;
@@ -60,6 +60,14 @@ pub fn unknown_assignment<'src>(alloc: Global, name: &Name<'src>) -> Error<'src>
     internal(name, unknown_assignment_text(alloc, name.lexeme()))
 }
 
+/// The refusal of another number of arguments than a recipe has parameters, or `OutOfMemory`.
+#[inline(never)]
+pub fn mismatched<'src>(alloc: Global, recipe: &Name<'src>) -> Error<'src>
+    ensures { Says (refusal result) (Internal mismatched_text (name_view recipe.now)) }
+{
+    internal(recipe, mismatched_text(alloc))
+}
+
 // A refusal at a name, if there was memory for what it says.
 fn internal<'src>(name: &Name<'src>, message: Result<String, OutOfMemory>) -> Error<'src>
     ensures said { IfOk message (λ text. refusal result ≡ Some (Internal (string_bytes text) (name_view name.now))) }
@@ -108,4 +116,10 @@ fn unknown_assignment_text(alloc: Global, name: &str) -> Result<String, OutOfMem
     ensures { IfOk result (λ text. string_bytes text ≡ unknown_assignment_text name.now) }
 {
     Ok(format!(in alloc; "unknown assignment `{name}`")?)
+}
+
+fn mismatched_text(alloc: Global) -> Result<String, OutOfMemory>
+    ensures { IfOk result (λ text. string_bytes text ≡ mismatched_text) }
+{
+    Ok(String::from_str(alloc, "arguments do not match parameter count")?)
 }

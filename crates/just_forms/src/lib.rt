@@ -3,11 +3,13 @@
 // is said of a module that is not resolved. It leans on the definitions of evaluation, and on no law of them.
 #![tactic(auto)]
 
+pub mod argument;
 pub mod builtin;
 pub mod callee;
 pub mod command;
 pub mod form;
 pub mod internal;
+pub mod line;
 pub mod parameters;
 pub mod text;
 pub mod variable;

@@ -1,1 +1,3 @@
 pub mod Paths
+pub mod Left
+pub mod Checked

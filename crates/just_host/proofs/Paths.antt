@@ -5,7 +5,7 @@ use Rattle.just_value.specs.Refusal.{Refusal}
 use Rattle.just_value.specs.Outcome.{Outcome, Gave, Refused, Stopped, UnlessStopped, without_value}
 use Rattle.just_value.specs.View.{refusal, ended}
 use Rattle.just_host.specs.Question.{Question, Answer}
-use Rattle.just_host.specs.Interaction.{Note, Event, Asked, Noted, Tree, done, ask, note, bind, gives, Rules, Path, Ends, Stops, Asks, Notes, Shuts, Chain, Runs}
+use Rattle.just_host.specs.Interaction.{Note, Event, Asked, Noted, Checked, Tree, done, ask, note, bind, gives, Rules, Path, Ends, Stops, Asks, Notes, Checks, Shuts, Chain, Runs}
 
 module _ {rules : Rules} where
   -- a path to a value, and on from the value
@@ -13,12 +13,14 @@ module _ {rules : Rules} where
   path_on go Ends q = q
   path_on go (Asks p) q = Asks (path_on go p q)
   path_on go (Notes e p) q = Notes e (path_on go p q)
+  path_on go (Checks p) q = Checks (path_on go p q)
 
   -- a path to an end without a value is one of all that would go on from there
   path_refused : {A B : Type 0} {t : Tree A} (go : A → Tree B) {es : List Event} {r : Refusal} → Path rules t es (Refused r) → Path rules (bind t go) es (Refused r)
   path_refused go Ends = Ends
   path_refused go (Asks p) = Asks (path_refused go p)
   path_refused go (Notes e p) = Notes e (path_refused go p)
+  path_refused go (Checks p) = Checks (path_refused go p)
   path_refused go (Shuts e) = Shuts e
 
   path_stopped : {A B : Type 0} {t : Tree A} (go : A → Tree B) {es : List Event} → Path rules t es Stopped → Path rules (bind t go) es Stopped
@@ -26,6 +28,7 @@ module _ {rules : Rules} where
   path_stopped go Stops = Stops
   path_stopped go (Asks p) = Asks (path_stopped go p)
   path_stopped go (Notes e p) = Notes e (path_stopped go p)
+  path_stopped go (Checks p) = Checks (path_stopped go p)
 
   pub path_ends : {A B : Type 0} {t : Tree A} (go : A → Tree B) {es : List Event} (r : Option Refusal) → Path rules t es (without_value r) → Path rules (bind t go) es (without_value r)
   path_ends go (Some r) p = path_refused go p
@@ -36,12 +39,14 @@ module _ {rules : Rules} where
   path_cut Ends = Stops
   path_cut (Asks p) = Asks (path_cut p)
   path_cut (Notes e p) = Notes e (path_cut p)
+  path_cut (Checks p) = Checks (path_cut p)
 
 module _ {S : Type 0} (step : S → Question → Answer → S → Type 0) where
   pub chain_append : (a b : S) (es fs : List Event) (c : S) → Chain step a es b → Chain step b fs c → Chain step a (es ++ fs) c
   chain_append a b [] fs c p q = subst (λ x. Chain step x fs c) (sym p) q
   chain_append a b (Asked x y ∷ es) fs c (m, s, p) q = (m, s, chain_append m b es fs c p q)
   chain_append a b (Noted x ∷ es) fs c p q = chain_append a b es fs c p q
+  chain_append a b (Checked x v y ∷ es) fs c p q = absurd p
 
 module _ {rules : Rules} {S : Type 0} {step : S → Question → Answer → S → Type 0} where
   -- what needs no question

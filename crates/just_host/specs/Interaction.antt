@@ -1,6 +1,7 @@
 -- What is asked of a host, as a tree: a question has a branch for each answer.
 use Rattle.std.specs.Prelude.{◌≡◌, ℕ, List, [], ◌∷◌, ◌⊎◌, Option, Some, None}
-use Rattle.just_syntax.specs.Plain.{Token}
+use Rattle.just_syntax.specs.Plain.{Text, Token, Parameter}
+use Rattle.just_value.specs.Value.{Value}
 use Rattle.just_value.specs.Refusal.{Refusal, NoMemory}
 use Rattle.just_value.specs.Outcome.{Outcome, Gave, Refused, Stopped}
 use Rattle.just_host.specs.Question.{Question, Answer, Failed}
@@ -12,16 +13,25 @@ pub data Note : Type 0 where
   Entered : Token → Note
   Command : Token → Note
 
+-- what a value check says: the value passes; it does not, with a message; or there was no memory to tell
+pub data Verdict : Type 0 where
+  Passed : Verdict
+  Denied : Text → Verdict
+  Untold : Verdict
+
 -- what happens, in order
 pub data Event : Type 0 where
   Asked : Question → Answer → Event
   Noted : Note → Event
+  Checked : Parameter → Value → Verdict → Event
 
--- what is still to be done: nothing, with an outcome; a question, with a branch for each answer; a note, and the rest
+-- What is still to be done: nothing, with an outcome; a question of the host, with a branch for each answer; a note, and
+-- the rest; the check of a parameter's value, with a branch for each verdict.
 pub data Tree (A : Type 0) : Type 0 where
   done : Outcome A → Tree A
   ask : Question → (Answer → Tree A) → Tree A
   note : Note → Tree A → Tree A
+  check : Parameter → Value → (Verdict → Tree A) → Tree A
 
 -- goes on with the value of a tree; a refusal ends it
 abbrev pub bind : {A B : Type 0} → Tree A → (A → Tree B) → Tree B
@@ -30,6 +40,7 @@ bind (done (Refused r)) go = done (Refused r)
 bind (done Stopped) go = done Stopped
 bind (ask q next) go = ask q (λ a. bind (next a) go)
 bind (note x rest) go = note x (bind rest go)
+bind (check p v next) go = check p v (λ a. bind (next a) go)
 
 abbrev pub gives : {A : Type 0} → A → Tree A
 gives a = done (Gave a)
@@ -52,19 +63,35 @@ pub data Path {A : Type 0} (rules : Rules) : Tree A → List Event → Outcome A
   Stops : {t : Tree A} → Path rules t [] Stopped
   Asks : {q : Question} {next : Answer → Tree A} {a : Answer} {es : List Event} {o : Outcome A} → Path rules (next a) es o → Path rules (ask q next) (Asked q a ∷ es) o
   Notes : {x : Note} {rest : Tree A} {es : List Event} {o : Outcome A} → rules x ≡ None → Path rules rest es o → Path rules (note x rest) (Noted x ∷ es) o
+  Checks : {p : Parameter} {v : Value} {next : Verdict → Tree A} {a : Verdict} {es : List Event} {o : Outcome A} → Path rules (next a) es o → Path rules (check p v next) (Checked p v a ∷ es) o
   Shuts : {x : Note} {rest : Tree A} {r : Refusal} → rules x ≡ Some r → Path rules (note x rest) [] (Refused r)
 
--- The questions among the events lead a host from one state to another, step by step: nothing else is asked.
+-- The questions among the events lead a host from one state to another, step by step: nothing else is asked, and no value
+-- is checked.
 abbrev pub Chain : {S : Type 0} → (S → Question → Answer → S → Type 0) → S → List Event → S → Type 0
 Chain step old [] new = old ≡ new
 Chain {S} step old (Asked q a ∷ events) new = (mid : S) × step old q a mid × Chain step mid events new
 Chain step old (Noted x ∷ events) new = Chain step old events new
+Chain step old (Checked p v a ∷ events) new = ⊥
+
+-- The same beside a value check: each verdict is one that it may give, and the host is not asked for it.
+abbrev pub CheckedChain : {S : Type 0} → (S → Question → Answer → S → Type 0) → (Parameter → Value → Verdict → Type 0) → S → List Event → S → Type 0
+CheckedChain step gives old [] new = old ≡ new
+CheckedChain {S} step gives old (Asked q a ∷ events) new = (mid : S) × step old q a mid × CheckedChain step gives mid events new
+CheckedChain step gives old (Noted x ∷ events) new = CheckedChain step gives old events new
+CheckedChain step gives old (Checked p v a ∷ events) new = gives p v a × CheckedChain step gives old events new
 
 -- Some events are a path down the tree to the outcome, and their questions lead the host from old to new.
 pub record Runs {S A : Type 0} (rules : Rules) (step : S → Question → Answer → S → Type 0) (old : S) (tree : Tree A) (outcome : Outcome A) (new : S) : Type 0 where
   pub events : List Event
   pub path : Path rules tree events outcome
   pub chain : Chain step old events new
+
+-- The same beside a value check.
+pub record RunsChecked {S A : Type 0} (rules : Rules) (step : S → Question → Answer → S → Type 0) (gives : Parameter → Value → Verdict → Type 0) (old : S) (tree : Tree A) (outcome : Outcome A) (new : S) : Type 0 where
+  pub events : List Event
+  pub path : Path rules tree events outcome
+  pub chain : CheckedChain step gives old events new
 
 -- Answered questions, and nothing else, lead the host from old to new.
 pub record GoesByAnswers {S : Type 0} (step : S → Question → Answer → S → Type 0) (old new : S) : Type 0 where

@@ -4,5 +4,6 @@ pub mod Fixed
 pub mod Function
 pub mod Question
 pub mod Interaction
+pub mod Recorded
 pub mod View
 pub mod MapHost

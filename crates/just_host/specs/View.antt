@@ -20,6 +20,10 @@ use Rattle.just_host.specs.declared.text_answer.TextAnswer.{TextAnswer}
 use Rattle.just_host.specs.declared.text_answer.TextAnswer.TheVariants as answers
 use Rattle.just_host.specs.declared.text_question.TextQuestion.{TextQuestion}
 use Rattle.just_host.specs.declared.text_question.TextQuestion.TheVariants as texts
+use Rattle.just_host.specs.declared.recorded.Recorded.{Recorded}
+use Rattle.just_host.specs.declared.recorded.Recorded.TheVariants as recorded
+use Rattle.just_host.specs.declared.recorder.Recorder.{Recorder}
+use Rattle.just_host.specs.Recorded.{Kept, KeptCommand, KeptText, KeptExistence, KeptNumber}
 use Rattle.just_host.specs.Settings as plain
 use Rattle.just_host.specs.Question as questions
 use Rattle.just_host.specs.Fixed.{Fixed}
@@ -150,3 +154,19 @@ number_question q = frameless (NumberOf q)
 abbrev pub numbered : Result ℕ OutOfMemory → Answer
 numbered (Ok n) = Numbered n
 numbered (Err e) = Failed NoMemory
+
+-- ---- recorders
+
+abbrev pub recorded_view : Recorded → Kept
+recorded_view (recorded.Command command arguments env) = KeptCommand (string_bytes command) (option_map (λ words. map string_bytes words.items) arguments) (pairs_view env)
+recorded_view (recorded.Text kind text) = KeptText kind (string_bytes text)
+recorded_view (recorded.Exists path) = KeptExistence (string_bytes path)
+recorded_view (recorded.Number question) = KeptNumber question
+
+-- the questions so far
+abbrev pub records_view : {H : Type 0} → Recorder H → List Kept
+records_view recorder = map recorded_view recorder.questions.items
+
+-- the host that is asked
+abbrev pub inner_host : {H : Type 0} → Recorder H → H
+inner_host recorder = recorder.host

@@ -12,6 +12,8 @@ pub mod function;
 pub mod host;
 pub mod justfile;
 pub mod number_question;
+pub mod recorded;
+pub mod recorder;
 pub mod search;
 pub mod settings;
 pub mod text_answer;

@@ -1,6 +1,7 @@
 // Names, shapes, and what the built-in functions answer.
 
 mod around;
+mod names;
 mod questions;
 mod rows;
 mod scripted;
@@ -9,29 +10,23 @@ mod silent;
 use around::{Around, answer, asked_and_answered, name};
 use just_builtins::function::{get, is_left_out};
 use just_builtins::path;
+use names::NAMES;
 use questions::{
     COMMANDS, DIRECTORIES, DRY_COMMANDS, EXECUTABLES, FILES, FILES_WITH_LISTS, Question, SYSTEM,
     VARIABLES,
 };
-use rows::{
-    CALLS, CALLS_WITHOUT_LISTS, LEFT_OUT_NAMES, NAMES, OTHER_SURROUNDINGS, Row, SHAPES,
-    SURROUNDINGS,
-};
+use rows::{CALLS, CALLS_WITHOUT_LISTS, OTHER_SURROUNDINGS, Row, SHAPES, SURROUNDINGS};
 use std::alloc::Global;
 use std::process::Abort;
 use std::test::Fail;
 
 #[test]
-fn names(rt: HostRuntime) {
-    for (name, function) in NAMES {
-        assert_eq!(rt; get(name), *function, "{name}");
-    }
-}
-
-#[test]
-fn left_out_names(rt: HostRuntime) {
-    for (name, left_out) in LEFT_OUT_NAMES {
-        assert_eq!(rt; is_left_out(name), *left_out, "{name}");
+fn each_name(rt: HostRuntime) {
+    for (function, left_out, names) in NAMES {
+        for name in *names {
+            assert_eq!(rt; get(name), *function, "{name}");
+            assert_eq!(rt; is_left_out(name), *left_out, "{name}");
+        }
     }
 }
 

@@ -1,12 +1,12 @@
 -- Trees that differ in the frames shown alone.
 use Rattle.std.proofs.Common.{◌≡◌, ◌≢◌, inl, inr, ℕ, zero, suc, Bool, true, false, List, [], ◌∷◌, length, Some, None, nat_eq, if◌then◌else◌, refl, sym, subst}
-use Rattle.just_syntax.specs.Plain.{Token, Function, Expr, And, Assert, AssertOnly, Backtick, Call, Comparison, Concatenation, Conditional, ConditionalOnly, FormatString, Group, Join, JoinOnly, ListOf, ListConcatenation, Not, Or, StringLiteral, Variable, Exprs, Nil, Cons, count, Pieces, NoPiece, Piece}
+use Rattle.just_syntax.specs.Plain.{Token, Parameter, Function, Expr, And, Assert, AssertOnly, Backtick, Call, Comparison, Concatenation, Conditional, ConditionalOnly, FormatString, Group, Join, JoinOnly, ListOf, ListConcatenation, Not, Or, StringLiteral, Variable, Exprs, Nil, Cons, count, Pieces, NoPiece, Piece}
 use Rattle.just_value.specs.Value.{Value, Names, is_truthy}
 use Rattle.just_value.specs.Frames.{Frames}
 use Rattle.just_value.specs.Outcome.{Outcome, Gave, Refused, Stopped}
 use Rattle.just_host.specs.Question.{Question, Answer}
 use Rattle.just_host.specs.Interaction as interaction
-use Rattle.just_host.specs.Interaction.{Note, Event, Asked, Noted, Tree, done, ask, note, bind, Path, Ends, Stops, Notes, Shuts, freely}
+use Rattle.just_host.specs.Interaction.{Note, Event, Asked, Checked, Noted, Tree, Verdict, done, ask, note, check, bind, Path, Ends, Stops, Notes, Checks, Shuts, freely}
 use Rattle.just_builtins.specs.Called.{tree}
 use Rattle.just_builtins.specs.Meaning.{reply}
 use Rattle.just_builtins.specs.Reply as replies
@@ -22,11 +22,13 @@ data Alike {A : Type 0} : Tree A → Tree A → Type 0 where
   Done : {o : Outcome A} → Alike (done o) (done o)
   Both : {q r : Question} {k l : Answer → Tree A} → q.blind ≡ r.blind → ((a : Answer) → Alike (k a) (l a)) → Alike (ask q k) (ask r l)
   Same : {x : Note} {t u : Tree A} → Alike t u → Alike (note x t) (note x u)
+  SameCheck : {p : Parameter} {v : Value} {k l : Verdict → Tree A} → ((a : Verdict) → Alike (k a) (l a)) → Alike (check p v k) (check p v l)
 
 alike_itself : {A : Type 0} (t : Tree A) → Alike t t
 alike_itself (done o) = Done
 alike_itself (ask q k) = Both refl (λ a. alike_itself (k a))
 alike_itself (note x t) = Same (alike_itself t)
+alike_itself (check p v k) = SameCheck (λ a. alike_itself (k a))
 
 alike_bind : {A B : Type 0} {t u : Tree A} {k l : A → Tree B} → Alike t u → ((v : A) → Alike (k v) (l v)) → Alike (bind t k) (bind u l)
 alike_bind (Done {o = Gave v}) h = h v
@@ -34,6 +36,7 @@ alike_bind (Done {o = Refused r}) h = Done
 alike_bind (Done {o = Stopped}) h = Done
 alike_bind (Both e f) h = Both e (λ a. alike_bind (f a) h)
 alike_bind (Same e) h = Same (alike_bind e h)
+alike_bind (SameCheck f) h = SameCheck (λ a. alike_bind (f a) h)
 
 alike_if : {A : Type 0} (b : Bool) {t u t' u' : Tree A} → Alike t t' → Alike u u' → Alike (if b then t else u) (if b then t' else u')
 alike_if true h k = h
@@ -111,6 +114,10 @@ alike_paths (Both blind k) (interaction.Asks {a = a} {es = es} p) (interaction.A
     let rest = alike_paths (k a) p (subst (λ x. Path freely (l x) fs w) (sym answer) q) here there (λ x y i j. h x y (inr i) (inr j)) in
     (rest.0, (blind, answer, rest.1))
 alike_paths (Same k) (Notes e p) (Notes f q) here there h = let rest = alike_paths k p q here there (λ x y i j. h x y (inr i) (inr j)) in (rest.0, (refl, rest.1))
+alike_paths (SameCheck k) (Checks {a = a} {es = es} p) (Checks {next = l} {a = b} {es = fs} {o = w} q) here there h =
+    let verdict : a ≡ b = h _ _ (inl refl) (inl refl) refl refl in
+    let rest = alike_paths (k a) p (subst (λ x. Path freely (l x) fs w) (sym verdict) q) here there (λ x y i j. h x y (inr i) (inr j)) in
+    (rest.0, (refl, refl, verdict, rest.1))
 alike_paths same Stops q here there h = absurd (here refl)
 alike_paths same p Stops here there h = absurd (there refl)
 alike_paths same (Shuts e) q here there h = absurd (cc)

@@ -1,13 +1,13 @@
 -- A resolved const stage meets no refusal that is Internal.
-use Rattle.std.proofs.Common.{◌≡◌, ⊎_elim, inl, inr, ◌⊎◌, ℕ, Bool, true, false, ◌||◌, List, [], ◌∷◌, map, nat_eq, if◌then◌else◌, Option, Some, None, refl, sym, ap, ◌∙◌, subst, arith}
+use Rattle.std.proofs.Common.{◌≡◌, ⊎_elim, inl, inr, ◌⊎◌, ℕ, Bool, true, false, ◌||◌, List, [], ◌∷◌, map, nat_eq, if◌then◌else◌, Some, None, sym, ap, ◌∙◌, subst, arith}
 use Rattle.std.proofs.lemmas.Bool.Decides.{nat_tests}
 use Rattle.just_syntax.specs.Plain.{Token, Assignment}
 use Rattle.just_syntax.proofs.Tables.{found_is}
-use Rattle.just_value.specs.Value.{Value, Names}
+use Rattle.just_value.specs.Value.{Names}
 use Rattle.just_value.specs.ConstRefusal as constants
 use Rattle.just_value.specs.Frames.{Bound, Frame, Frames, value_in, value_of, with_bound}
 use Rattle.just_value.specs.Refusal.{Refusal, Const}
-use Rattle.just_value.specs.Outcome.{Outcome, Gave, Refused, Stopped}
+use Rattle.just_value.specs.Outcome.{Outcome}
 use Rattle.just_value.proofs.Values.{value_innermost}
 use Rattle.just_host.specs.Interaction.{Note, Read, Entered, Command, done}
 use Rattle.just_meaning.specs.Assignments.{assignment_at}

@@ -1,6 +1,6 @@
 -- By the const rules nothing is asked, and few refusals come.
-use Rattle.std.proofs.Common.{◌≡◌, ⊎_elim, inl, inr, ◌⊎◌, ℕ, suc, Bool, true, false, List, [], ◌∷◌, ◌++◌, if◌then◌else◌, Option, Some, None, Result, Err, refl, sym, ap, ◌∙◌, subst}
-use Rattle.just_syntax.specs.Plain.{Text, Token, Assignment, Expr, And, Assert, AssertOnly, Backtick, Call, Comparison, Concatenation, Conditional, ConditionalOnly, FormatString, Group, Join, JoinOnly, ListOf, ListConcatenation, Not, Or, StringLiteral, Variable, Exprs, Nil, Cons, Pieces, NoPiece, Piece}
+use Rattle.std.proofs.Common.{◌≡◌, inl, inr, ℕ, suc, Bool, true, false, List, [], ◌∷◌, ◌++◌, if◌then◌else◌, Option, Some, None, refl, sym, subst}
+use Rattle.just_syntax.specs.Plain.{Text, Token, Expr, And, Assert, AssertOnly, Backtick, Call, Comparison, Concatenation, Conditional, ConditionalOnly, FormatString, Group, Join, JoinOnly, ListOf, ListConcatenation, Not, Or, StringLiteral, Variable, Exprs, Nil, Cons, Pieces, NoPiece, Piece}
 use Rattle.just_syntax.specs.Printed.{printed}
 use Rattle.just_syntax.specs.declared.list_operator.ListOperator.{ListOperator}
 use Rattle.just_syntax.specs.declared.list_operator.ListOperator.TheVariants as operators
@@ -13,19 +13,20 @@ use Rattle.just_value.specs.Refusal as refusal
 use Rattle.just_value.specs.Refusal.{Refusal, Const, Internal}
 use Rattle.just_value.specs.Outcome.{Outcome, Gave, Refused, Stopped, UnlessStopped}
 use Rattle.just_host.specs.Question.{Question, Answer}
-use Rattle.just_host.specs.Interaction.{Note, Event, Read, Entered, Command, Tree, done, ask, note, bind, gives, refuses, Path, Ends, Stops, Asks, Notes, Shuts, Chain, Runs}
+use Rattle.just_host.specs.Interaction.{Note, Event, Read, Entered, Command, Tree, done, ask, note, check, bind, gives, Path, Ends, Stops, Asks, Notes, Checks, Shuts, Chain, Runs}
 use Rattle.just_meaning.specs.Constant.{constant, constantly, unless_refused}
 use Rattle.just_meaning.specs.Internal.{IfRefused}
 use Rattle.just_meaning.specs.Reaches.{Mention, VariableOf, CallOf, Stands, StandsIn, StandsInPieces}
 use Rattle.just_meaning.specs.Meaning.{Program, Situation, Deeper, as_it_is, assertion, combination, eval, eval_row, eval_pieces, is_regex, named, variable}
 use Rattle.just_meaning.specs.Module.{or_override}
 
--- By the const rules the tree reaches no question, and what it is refused with is such.
+-- By the const rules the tree reaches no question and no check, and what it is refused with is such.
 abbrev pub AllConst : {A : Type 0} → (Refusal → Type 0) → (ℕ → Bool) → Tree A → Type 0
 AllConst P is_open (done (Gave a)) = Unit {0}
 AllConst P is_open (done (Refused r)) = P r
 AllConst P is_open (done Stopped) = Unit {0}
 AllConst P is_open (ask q next) = ⊥
+AllConst P is_open (check p v next) = ⊥
 AllConst P is_open (note x rest) = constantly is_open x ≡ None → AllConst P is_open rest
 
 -- what a variable with no value may be refused with
@@ -45,6 +46,7 @@ module _ (P : Refusal → Type 0) (is_open : ℕ → Bool) where
   const_bind (done (Refused r)) go h k = h
   const_bind (done Stopped) go h k = tt
   const_bind (ask q next) go h k = absurd h
+  const_bind (check p v next) go h k = absurd h
   const_bind (note x rest) go h k = λ e. const_bind rest go (h e) k
 
   const_two : {A B D : Type 0} (t : Tree A) (u : Tree B) (go : A → B → Tree D) → AllConst P is_open t → AllConst P is_open u → ((v : A) (w : B) → AllConst P is_open (go v w)) → AllConst P is_open (bind t (λ v. bind u (go v)))
@@ -120,6 +122,7 @@ module _ (P : Refusal → Type 0) (is_open : ℕ → Bool) where
   const_refused (done (Refused r)) shut h = h
   const_refused (done Stopped) shut h = tt
   const_refused (ask q next) shut h = absurd h
+  const_refused (check p v next) shut h = absurd h
   const_refused (note x rest) shut h = const_unless (constantly is_open x) (constant is_open rest) (shut x) (λ e. const_refused rest shut (h e))
 
   -- a path down such a tree leads to what the tree comes to, unless it is stopped, and asks nothing
@@ -129,6 +132,7 @@ module _ (P : Refusal → Type 0) (is_open : ℕ → Bool) where
   const_path (done Stopped) h Ends = tt
   const_path t h Stops = tt
   const_path (ask q next) h (Asks p) = absurd h
+  const_path (check p v next) h (Checks q) = absurd h
   const_path (note x rest) {o = o} h (Notes e p) = subst (λ r. UnlessStopped o (unless_refused r (constant is_open rest))) (sym e) (const_path rest (h e) p)
   const_path (note x rest) h (Shuts {r = r} e) = subst (λ s. UnlessStopped (Refused r) (unless_refused s (constant is_open rest))) (sym e) refl
 
@@ -136,6 +140,7 @@ module _ (P : Refusal → Type 0) (is_open : ℕ → Bool) where
   const_asks_nothing step old new t h Ends chain = chain
   const_asks_nothing step old new t h Stops chain = chain
   const_asks_nothing step old new (ask q next) h (Asks p) chain = absurd h
+  const_asks_nothing step old new (check p v next) h (Checks q) chain = absurd h
   const_asks_nothing step old new (note x rest) h (Notes e p) chain = const_asks_nothing step old new rest (h e) p chain
   const_asks_nothing step old new (note x rest) h (Shuts e) chain = chain
 

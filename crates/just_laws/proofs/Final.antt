@@ -1,11 +1,11 @@
 -- A run is never refused as only constant evaluation is.
-use Rattle.std.proofs.Common.{◌≡◌, ℕ, zero, suc, ◌-◌, Bool, true, false, List, [], ◌∷◌, ◌++◌, length, nat_eq, if◌then◌else◌, Option, Some, None}
+use Rattle.std.proofs.Common.{ℕ, zero, suc, ◌-◌, Bool, true, false, List, [], ◌∷◌, ◌++◌, length, nat_eq, if◌then◌else◌, Option, Some, None}
 use Rattle.just_syntax.specs.Plain.{Text, Token, Function, Expr, And, Assert, AssertOnly, Backtick, Call, Comparison, Concatenation, Conditional, ConditionalOnly, FormatString, Group, Join, JoinOnly, ListOf, ListConcatenation, Not, Or, StringLiteral, Variable, Exprs, Nil, Cons, count, Pieces, NoPiece, Piece}
 use Rattle.just_syntax.specs.Printed.{printed}
 use Rattle.just_syntax.specs.declared.list_operator.ListOperator.{ListOperator}
 use Rattle.just_syntax.specs.declared.list_operator.ListOperator.TheVariants as operators
 use Rattle.just_syntax.specs.ListOperator.{separator}
-use Rattle.just_value.specs.Value.{Value, Names, is_truthy, joined}
+use Rattle.just_value.specs.Value.{Value, is_truthy, joined}
 use Rattle.just_value.specs.Frames.{Frames}
 use Rattle.just_value.specs.Applied.{applied, value_or_lists}
 use Rattle.just_value.specs.Refusal.{Code, Message, NoMemory}
@@ -26,10 +26,10 @@ use Rattle.just_value.specs.Frames.{value_in}
 use Rattle.just_laws.proofs.Ends.{AllEnd, ends_bind, ends_path}
 
 -- no end of the tree is refused by the const rules
-abbrev AllFinal : {A : Type 0} → Tree A → Type 0
+abbrev pub AllFinal : {A : Type 0} → Tree A → Type 0
 AllFinal t = AllEnd (IfRefused IsFinal) t
 
-final_bind : {A B : Type 0} (t : Tree A) (go : A → Tree B) → AllFinal t → ((a : A) → AllFinal (go a)) → AllFinal (bind t go)
+pub final_bind : {A B : Type 0} (t : Tree A) (go : A → Tree B) → AllFinal t → ((a : A) → AllFinal (go a)) → AllFinal (bind t go)
 final_bind {A = A} t go h k = ends_bind (IfRefused IsFinal) (IfRefused IsFinal) t go h on
   where
     on : (o : Outcome A) → IfRefused IsFinal o → AllFinal (bind (done o) go)
@@ -40,7 +40,7 @@ final_bind {A = A} t go h k = ends_bind (IfRefused IsFinal) (IfRefused IsFinal) 
 final_two : {A B D : Type 0} (t : Tree A) (u : Tree B) (go : A → B → Tree D) → AllFinal t → AllFinal u → ((v : A) (w : B) → AllFinal (go v w)) → AllFinal (bind t (λ v. bind u (go v)))
 final_two t u go h k l = final_bind t _ h (λ v. final_bind u (go v) k (l v))
 
-final_if : {A : Type 0} (b : Bool) (x y : Tree A) → AllFinal x → AllFinal y → AllFinal (if b then x else y)
+pub final_if : {A : Type 0} (b : Bool) (x y : Tree A) → AllFinal x → AllFinal y → AllFinal (if b then x else y)
 final_if true x y h k = h
 final_if false x y h k = k
 
@@ -82,7 +82,7 @@ final_named t (Some v) = tt
 final_named t None = tt
 
 -- nor is what a call may still do
-abbrev IsFinalDeeper : Deeper → Type 0
+abbrev pub IsFinalDeeper : Deeper → Type 0
 IsFinalDeeper AtLimit = Unit {0}
 IsFinalDeeper (Room run) = (f : Function) (s : Situation) (vs : List Value) → AllFinal (run f s vs)
 
@@ -99,7 +99,7 @@ module _ (c : Program) (s : Situation) where
 
   module _ (d : Deeper) (deeper : IsFinalDeeper d) where
     mutual
-      final_eval : (e : Expr) → AllFinal (eval c d s e)
+      pub final_eval : (e : Expr) → AllFinal (eval c d s e)
       final_eval (And l r) = final_bind (eval c d s l) _ (final_eval l) (λ v. final_if (is_truthy v) _ _ (final_eval r) tt)
       final_eval (Assert e m t) = final_assertion s.lists t (eval c d s e) (bind (eval c d s m) (λ w. gives (joined w))) (final_eval e) (final_bind (eval c d s m) _ (final_eval m) (λ w. tt))
       final_eval (AssertOnly e t) = final_assertion s.lists t (eval c d s e) (gives ((96 ∷ printed e) ++ 96 ∷ [])) (final_eval e) tt
@@ -130,11 +130,11 @@ module _ (c : Program) (s : Situation) where
       final_pieces NoPiece = tt
       final_pieces (Piece e literal pieces) = final_bind (eval c d s e) _ (final_eval e) (λ v. final_bind (eval_pieces c d s pieces) _ (final_pieces pieces) (λ text. tt))
 
-final_dynamic : (c : Program) (n : ℕ) → IsFinalDeeper (dynamic c n)
+pub final_dynamic : (c : Program) (n : ℕ) → IsFinalDeeper (dynamic c n)
 final_dynamic c zero = tt
 final_dynamic c (suc n) = λ f s vs. final_eval c (inside (value_in s.below) s f vs) (dynamic c n) (final_dynamic c n) f.body
 
-final_override : (o : Option Text) (t : Tree Value) → AllFinal t → AllFinal (or_override o t)
+pub final_override : (o : Option Text) (t : Tree Value) → AllFinal t → AllFinal (or_override o t)
 final_override (Some text) t h = tt
 final_override None t h = h
 

@@ -23,7 +23,7 @@ use Rattle.just_builtins.specs.Table.{function_named, is_left_out}
 use Rattle.just_builtins.specs.declared.function.Function as built_in
 use Rattle.just_meaning.specs.Callee.{Defined, BuiltIn, LeftOut, Accepts, accepts, built_in_or_unknown, callee, defined_or, undefined}
 use Rattle.just_meaning.specs.Assignments.{assignment_at}
-use Rattle.just_meaning.specs.Reaches.{Mention, VariableOf, CallOf, function_at, IsAmong, Stands, StandsIn, StandsInPieces, Reaches, Here, Reads}
+use Rattle.just_meaning.specs.Reaches.{Mention, VariableOf, CallOf, function_at, IsAmong, Stands, StandsIn, StandsInPieces, Reaches, Here, Reads, ReadsBeyond}
 use Rattle.just_meaning.specs.Resolved.{IsKnown, AllKnown, IsOneOf, HasValue, AreAssignments, AreInOrder, with_taken, IsResolved}
 use Rattle.just_meaning.specs.Messages.{miscounted_text}
 use Rattle.just_meaning.specs.Meaning.{Program, Situation, Deeper, AtLimit, Room, Row, answered, argument, as_it_is, assertion, built_in_call, built_in_context, called, combination, eval, eval_row, eval_pieces, is_regex, named, returned, texts_of}
@@ -41,7 +41,7 @@ use Rattle.just_laws.proofs.Reached.{known_found}
 -- ---- trees
 
 -- no end of the tree is such a refusal
-abbrev IsNeverInternal : {A : Type 0} → Tree A → Type 0
+abbrev pub IsNeverInternal : {A : Type 0} → Tree A → Type 0
 IsNeverInternal t = AllEnd IsNotInternal t
 
 -- on from the values that satisfy more
@@ -53,13 +53,13 @@ bind_such {A = A} P t go p h k = ends_bind (λ o. P o × IsNotInternal o) IsNotI
     on (Refused r) h = h.1
     on Stopped h = tt
 
-bind_never : {A B : Type 0} (t : Tree A) (go : A → Tree B) → IsNeverInternal t → ((a : A) → IsNeverInternal (go a)) → IsNeverInternal (bind t go)
+pub bind_never : {A B : Type 0} (t : Tree A) (go : A → Tree B) → IsNeverInternal t → ((a : A) → IsNeverInternal (go a)) → IsNeverInternal (bind t go)
 bind_never t go h k = bind_such IsNotInternal t go h h (λ a such. k a)
 
 two_never : {A B D : Type 0} (t : Tree A) (u : Tree B) (go : A → B → Tree D) → IsNeverInternal t → IsNeverInternal u → ((v : A) (w : B) → IsNeverInternal (go v w)) → IsNeverInternal (bind t (λ v. bind u (go v)))
 two_never t u go h k l = bind_never t _ h (λ v. bind_never u (go v) k (l v))
 
-if_never : {A : Type 0} (b : Bool) (x y : Tree A) → IsNeverInternal x → IsNeverInternal y → IsNeverInternal (if b then x else y)
+pub if_never : {A : Type 0} (b : Bool) (x y : Tree A) → IsNeverInternal x → IsNeverInternal y → IsNeverInternal (if b then x else y)
 if_never true x y h k = h
 if_never false x y h k = k
 
@@ -197,6 +197,21 @@ module _ (c : Program) (base : Names) (C : Text → Type 0) (known : AllKnown c.
       of_mention name f vs reached found fits (VariableOf (Some n)) h is = parameters_have f.parameters vs base n fits (λ beyond. held name f n reached found h beyond)
       of_mention name f vs reached found fits (CallOf further n) h is = (closed name further f n reached found h, is)
 
+-- where an expression reads by itself what has a value, and through functions what has one in the base
+pub expression_never : (c : Program) (base : Names) (k : ℕ) (s : Situation) (e : Expr) → AllKnown c.functions (map (λ f. f.body) c.functions) → ((x : Mention) → Stands e x → IsKnown c.functions x) →
+    ((n : ℕ) → Stands e (VariableOf (Some n)) → HasValue s.names n) → ((n : ℕ) → ReadsBeyond c.functions e n → HasValue base n) → IsNeverInternal (eval c (lexical c base k) s e)
+expression_never c base k s e bodies known own beyond = eval_never c (lexical c base k) s (Reaches c.functions e) sound e (λ x h. of_mention x h (known x h))
+  where
+    sound : IsSound (Reaches c.functions e) c.functions s (lexical c base k)
+    sound = lexical_sound c base (Reaches c.functions e) bodies
+        (λ name further f n reached found stands. reaches_on c.functions f n reached found stands)
+        (λ name f n reached found stands out. beyond n (record { name = name; function = f; reached = reached; found = found; stands = stands; beyond = out })) k s
+
+    of_mention : (x : Mention) → Stands e x → IsKnown c.functions x → Holds (Reaches c.functions e) c.functions s.names x
+    of_mention (VariableOf None) h is = is
+    of_mention (VariableOf (Some n)) h is = own n h
+    of_mention (CallOf f n) h is = (Here n h, is)
+
 -- ---- runs
 
 override_never : (o : Option Text) (t : Tree Value) → IsNeverInternal t → IsNeverInternal (or_override o t)
@@ -212,18 +227,8 @@ module _ (m : Module) (outer : Frames) (resolved : IsResolved m.program.function
       ((n : ℕ) → Reads m.program.functions a.value n → IsOneOf taken n ⊎ HasValue (value_in outer) n) → IsNeverInternal (assigned lexically m (frame ∷ outer) a)
   assigned_never frame taken a have known reads =
       override_never (m.overrides a.number) _
-      (eval_never m.program (lexically m (frame ∷ outer)) (situation_at m.program.fixed.settings.lists (frame ∷ outer)) (Reaches m.program.functions a.value) sound a.value (λ x h. of_mention x h (known x h)))
-    where
-      sound : IsSound (Reaches m.program.functions a.value) m.program.functions (situation_at m.program.fixed.settings.lists (frame ∷ outer)) (lexically m (frame ∷ outer))
-      sound = lexical_sound m.program (value_in (frame ∷ outer)) (Reaches m.program.functions a.value) resolved.bodies
-          (λ name further f n reached found stands. reaches_on m.program.functions f n reached found stands)
-          (λ name f n reached found stands beyond. have n (reads n (inr (record { name = name; function = f; reached = reached; found = found; stands = stands; beyond = beyond }))))
-          (m.limit - 1) (situation_at m.program.fixed.settings.lists (frame ∷ outer))
-
-      of_mention : (x : Mention) → Stands a.value x → IsKnown m.program.functions x → Holds (Reaches m.program.functions a.value) m.program.functions (value_in (frame ∷ outer)) x
-      of_mention (VariableOf None) h is = is
-      of_mention (VariableOf (Some n)) h is = have n (reads n (inl h))
-      of_mention (CallOf f n) h is = (Here n h, is)
+      (expression_never m.program (value_in (frame ∷ outer)) (m.limit - 1) (situation_at m.program.fixed.settings.lists (frame ∷ outer)) a.value resolved.bodies known
+      (λ n h. have n (reads n (inl h))) (λ n h. have n (reads n (inr h))))
 
   passed : (taken : List ℕ) (t : Token) (left : List Token) (a : Assignment) (b : Bool) → assignment_at m.assignments t.lexeme ≡ Some a → m.assignments.referenced a.number ≡ b → AreInOrder m.program.functions m.assignments outer (with_taken m.assignments (assignment_at m.assignments t.lexeme) taken) left
       → AreInOrder m.program.functions m.assignments outer (if b then a.number ∷ taken else taken) left

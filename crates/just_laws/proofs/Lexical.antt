@@ -89,7 +89,7 @@ same_undefined c d d' s names t n row false (Some f) = refl
 -- ---- by the number of calls left
 
 -- what the bodies read beyond their own parameters is no function's parameter
-abbrev IsApart : List Function → Expr → Type 0
+abbrev pub IsApart : List Function → Expr → Type 0
 IsApart functions e = (n : ℕ) → ReadsBeyond functions e n → IsOneOf (parameter_numbers functions) n → ⊥
 
 module _ (c : Program) (C : Text → Type 0)
@@ -137,7 +137,7 @@ module _ (c : Program) (C : Text → Type 0)
       (λ t n row reached counted. same_called k (λ s base names e. dynamic_lexical k s base names e) s base names on t n row reached counted (function_at c.functions t.lexeme) refl) e told
 
 -- where bodies read no other function's parameters, dynamic scoping means what the lexical rules do
-dynamic_is_lexical : (c : Program) (k : ℕ) (s : Situation) (e : Expr) → IsApart c.functions e → eval c (dynamic c k) s e ≡ eval c (lexical c (value_in s.below) k) s e
+pub dynamic_is_lexical : (c : Program) (k : ℕ) (s : Situation) (e : Expr) → IsApart c.functions e → eval c (dynamic c k) s e ≡ eval c (lexical c (value_in s.below) k) s e
 dynamic_is_lexical c k s e apart =
     dynamic_lexical c (Reaches c.functions e)
     (λ name further f n reached found stands. reaches_on c.functions f n reached found stands)

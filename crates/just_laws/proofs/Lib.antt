@@ -8,3 +8,6 @@ pub mod Internal
 pub mod Constants
 pub mod ConstInternal
 pub mod Final
+pub mod Here
+pub mod Recipe
+pub mod OneElement

@@ -9,9 +9,14 @@ use Rattle.just_meaning.specs.Resolved.{IsKnown, AllKnown, IsOneOf, AreDistinct,
 
 -- ---- numbers
 
-one_behind : (xs ys : List ℕ) (n : ℕ) → IsOneOf ys n → IsOneOf (xs ++ ys) n
+pub one_behind : (xs ys : List ℕ) (n : ℕ) → IsOneOf ys n → IsOneOf (xs ++ ys) n
 one_behind [] ys n h = h
 one_behind (x ∷ xs) ys n h = inr (one_behind xs ys n h)
+
+pub one_front : (xs ys : List ℕ) (n : ℕ) → IsOneOf xs n → IsOneOf (xs ++ ys) n
+one_front [] ys n h = absurd h
+one_front (x ∷ xs) ys n (inl same) = inl same
+one_front (x ∷ xs) ys n (inr later) = inr (one_front xs ys n later)
 
 -- of distinct numbers none stands in both parts
 pub apart_numbers : (xs ys : List ℕ) (n : ℕ) → AreDistinct (xs ++ ys) → IsOneOf xs n → IsOneOf ys n → ⊥

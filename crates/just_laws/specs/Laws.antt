@@ -4,7 +4,7 @@ use Rattle.just_syntax.specs.Plain.{Expr}
 use Rattle.just_value.specs.Value.{Value, Names}
 use Rattle.just_value.specs.Frames.{Frames}
 use Rattle.just_value.specs.Outcome.{Outcome, Stopped}
-use Rattle.just_host.specs.Interaction.{Event, Asked, Noted, Path, freely}
+use Rattle.just_host.specs.Interaction.{Event, Asked, Checked, Noted, Path, freely}
 use Rattle.just_meaning.specs.Resolved.{IsResolved}
 use Rattle.just_meaning.specs.Meaning.{Program, Situation, eval}
 use Rattle.just_meaning.specs.Closings.{lexical}
@@ -13,9 +13,10 @@ use Rattle.just_meaning.specs.Module.{Module, Block, Run, dynamically, lexically
 
 -- ---- talk, frames aside
 
--- questions that are equal, frames aside, have equal answers
+-- questions that are equal, frames aside, have equal answers, and so have equal checks
 abbrev pub AnswersAgree : Event → Event → Type 0
 AnswersAgree (Asked q a) (Asked r b) = q.blind ≡ r.blind → a ≡ b
+AnswersAgree (Checked p v a) (Checked q w b) = p ≡ q → v ≡ w → a ≡ b
 AnswersAgree _ _ = Unit {0}
 
 abbrev pub IsAmongEvents : List Event → Event → Type 0
@@ -31,6 +32,7 @@ abbrev pub AreSame : List Event → List Event → Type 0
 AreSame [] [] = Unit {0}
 AreSame (Asked q a ∷ es) (Asked r b ∷ fs) = (q.blind ≡ r.blind) × (a ≡ b) × AreSame es fs
 AreSame (Noted x ∷ es) (Noted y ∷ fs) = (x ≡ y) × AreSame es fs
+AreSame (Checked p v a ∷ es) (Checked q w b ∷ fs) = (p ≡ q) × (v ≡ w) × (a ≡ b) × AreSame es fs
 AreSame _ _ = ⊥
 
 -- a situation with other frames

@@ -1,9 +1,14 @@
--- What a name stands for takes as many arguments as its test says.
-use Rattle.std.proofs.Common.{nat_le, ◌≤◌, arith, ◌≡◌, ◌↔◌, ℕ, true, false, length, refl, sym}
+-- What a name stands for: a built-in function is not left out; and it takes as many arguments as its test says.
+use Rattle.std.proofs.Common.{nat_le, ◌≤◌, arith, ◌≡◌, ◌↔◌, ℕ, Bool, true, false, not, ◌&&◌, cond, List, [], ◌∷◌, Some, None, bytes_eq, find, length, option_map, refl, sym, ap, ◌∙◌}
+use Rattle.std.specs.List.{list_all}
 use Rattle.std.proofs.lemmas.Bool.{and_parts, and_from, eqb-true, eq-eqb}
 use Rattle.std.proofs.lemmas.Bool.Decides.{nat_tests}
+use Rattle.std.proofs.lemmas.Slice.Eq.{bytes_eq-Decides}
+use Rattle.just_syntax.specs.Plain.{Text}
 use Rattle.just_builtins.specs.Shape.{fewest_arguments, most_arguments}
-use Rattle.just_meaning.specs.Callee.{Callee, Defined, BuiltIn, LeftOut, Unknown, Accepts, accepts}
+use Rattle.just_builtins.specs.Table.{find_in, function_named, is_among, is_left_out, left_out, table, whole_name}
+use Rattle.just_builtins.specs.declared.function.Function.{Function}
+use Rattle.just_meaning.specs.Callee.{Callee, Defined, BuiltIn, LeftOut, Unknown, Accepts, accepts, undefined}
 
 at_most : (m n : ℕ) → nat_le m n ≡ true → m ≤ n
 at_most m n h = grind (arith, nat_tests)
@@ -19,3 +24,26 @@ callable (BuiltIn f) n = (
 )
 callable LeftOut n = ((λ h. tt), (λ h. refl))
 callable Unknown n = ((λ h. absurd (let e : false ≡ true = h in cc)), (λ h. absurd h))
+
+-- ---- a built-in function is not left out
+
+was_false : (b : Bool) → not b ≡ true → b ≡ false
+was_false true h = absurd (cc)
+was_false false h = refl
+
+-- where no name of a table is among others, one that is found in it is not
+found_apart : (others : List Text) (entries : List (Text × Function)) (name : Text) (f : Function) → list_all (λ e. not (is_among others e.0)) entries ≡ true → find_in entries name ≡ Some f → is_among others name ≡ false
+found_apart others [] name f all found = absurd (cc)
+found_apart others (e ∷ es) name f all found = by (bytes_eq e.0 name) refl found (λ later. found_apart others es name f both.1 later)
+  where
+    both : (not (is_among others e.0) ≡ true) × (list_all (λ e. not (is_among others e.0)) es ≡ true)
+    both = and_parts (not (is_among others e.0)) (list_all (λ e. not (is_among others e.0)) es) all
+
+    by : (b : Bool) → bytes_eq e.0 name ≡ b → option_map (λ entry. entry.1) (cond b (Some e) (find (λ entry. bytes_eq entry.0 name) es)) ≡ Some f → (find_in es name ≡ Some f → is_among others name ≡ false) → is_among others name ≡ false
+    by true same found later = sym (ap (is_among others) ((bytes_eq-Decides e.0 name).0 same)) ∙ was_false (is_among others e.0) both.0
+    by false differs found later = later found
+
+-- a name that the file does not define stands for the built-in function that has it, if there is one
+pub built_in_is : (name : Text) (f : Function) → function_named name ≡ Some f → undefined name ≡ BuiltIn f
+unfolding function_named is_left_out
+built_in_is name f found = rw (found_apart left_out table (whole_name name) f refl found, found) refl

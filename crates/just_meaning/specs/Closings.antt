@@ -11,11 +11,11 @@ with_parameters frame [] vs = frame
 with_parameters frame (p ∷ ps) [] = frame
 with_parameters frame (p ∷ ps) (v ∷ vs) = with_parameters (with_bound frame (plainly_bound p.0 p.1 v)) ps vs
 
--- A body's situation: its own parameters before these names, its frame on those below, and no environment.
+-- A body's situation: its own parameters before these names, and its frame on those below. All else is its caller's.
 abbrev pub inside : Names → Situation → Function → List Value → Situation
 inside names s f vs =
     let frame = with_parameters [] f.parameters vs in
-    record { names = over frame names; environment = []; recipe = s.recipe; is_dependency = s.is_dependency; lists = s.lists; shown = frame ∷ s.below; below = frame ∷ s.below }
+    record { names = over frame names; environment = s.environment; recipe = s.recipe; is_dependency = s.is_dependency; lists = s.lists; shown = frame ∷ s.below; below = frame ∷ s.below }
 
 -- by the lexical rules: a body reads its own parameters and the base, and nothing of its caller
 abbrev pub lexical : Program → Names → ℕ → Deeper

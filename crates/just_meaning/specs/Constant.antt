@@ -3,7 +3,7 @@ use Rattle.std.specs.Prelude.{ℕ, Bool, false, [], Option, Some, None, if◌the
 use Rattle.just_value.specs.ConstRefusal.{Backtick, FunctionCall, Variable}
 use Rattle.just_value.specs.Refusal.{Refusal, Const}
 use Rattle.just_value.specs.Outcome.{Outcome, Refused, Stopped}
-use Rattle.just_host.specs.Interaction.{Rules, Read, Entered, Command, Tree, done, ask, note}
+use Rattle.just_host.specs.Interaction.{Rules, Read, Entered, Command, Tree, done, ask, note, check}
 use Rattle.just_host.specs.Settings.{unset}
 use Rattle.just_meaning.specs.Meaning.{Program}
 
@@ -17,10 +17,12 @@ abbrev pub unless_refused : {A : Type 0} → Option Refusal → Outcome A → Ou
 unless_refused (Some r) o = Refused r
 unless_refused None o = o
 
--- What a tree comes to by these rules. They refuse whatever asks, so that no question is reached.
+-- What a tree comes to by these rules. They refuse whatever asks, so that no question is reached; and no value is checked
+-- in an expression.
 abbrev pub constant : {A : Type 0} → (ℕ → Bool) → Tree A → Outcome A
 constant is_open (done o) = o
 constant is_open (ask q next) = Stopped
+constant is_open (check p v next) = Stopped
 constant is_open (note x rest) = unless_refused (constantly is_open x) (constant is_open rest)
 
 -- The program that constants are evaluated in. By these rules nothing looks at it.

@@ -10,4 +10,7 @@ pub mod Constant
 pub mod Module
 pub mod Stage
 pub mod Settings
+pub mod Line
+pub mod Parameters
+pub mod Here
 pub mod View

@@ -25,3 +25,7 @@ shapeless_text name = (codes "function `" ++ name) ++ codes "` has no such shape
 -- of a name in the order that is no assignment's
 abbrev pub unknown_assignment_text : Text → Text
 unknown_assignment_text name = (codes "unknown assignment `" ++ name) ++ codes "`"
+
+-- of another number of arguments than a recipe has parameters
+abbrev pub mismatched_text : Text
+mismatched_text = codes "arguments do not match parameter count"

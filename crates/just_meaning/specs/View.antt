@@ -1,5 +1,5 @@
 -- What modules and what they are evaluated in are as plain data.
-use Rattle.std.specs.Prelude.{ℕ, Bool, true, List, Option, Some, None, map, nat_eq, string_bytes}
+use Rattle.std.specs.Prelude.{ℕ, ◌-◌, Bool, true, List, Option, Some, None, map, nat_eq, string_bytes}
 use Rattle.std.specs.Borrow.{Bor}
 use Rattle.std.specs.BTreeMap.{BTreeMap}
 use Rattle.std.specs.Global.{Global}
@@ -11,7 +11,7 @@ use Rattle.std.specs.Option.{option_map}
 use Rattle.std.specs.declared.hash.FoldHasher.{FoldHasher}
 use Rattle.std.specs.declared.hash.BuildHasherDefault.{BuildHasherDefault}
 use Rattle.std.specs.declared.string.String.{String}
-use Rattle.just_syntax.specs.Plain.{Text, Function}
+use Rattle.just_syntax.specs.Plain.{Text, Token, Attribute, Expr, Function, Parameter}
 use Rattle.just_syntax.specs.View.{assignment_view, function_view, name_view}
 use Rattle.just_syntax.specs.declared.assignment.Assignment.{Assignment}
 use Rattle.just_syntax.specs.declared.name.Name.{Name}
@@ -21,7 +21,10 @@ use Rattle.just_host.specs.declared.execution_context.ExecutionContext.{Executio
 use Rattle.just_host.specs.declared.justfile.Justfile.{Justfile}
 use Rattle.just_host.specs.declared.search.Search.{Search}
 use Rattle.just_host.specs.View.{fixed_view}
+use Rattle.just_value.specs.Frames.{Frames}
+use Rattle.just_value.specs.View.{frames_view}
 use Rattle.just_meaning.specs.Assignments.{Assignments}
+use Rattle.just_meaning.specs.Here.{Here, IsResolvedHere, in_recipe}
 use Rattle.just_meaning.specs.Meaning.{Program}
 use Rattle.just_meaning.specs.Module.{Module}
 use Rattle.just_meaning.specs.Stage.{Constants}
@@ -69,3 +72,11 @@ constants_of assignments order overrides references = record {
   assignments = record { all = map assignment_view assignments; order = map name_view order; referenced = λ n. list_any (nat_eq n) references.keys };
   overrides = override_of overrides;
 }
+
+-- what is evaluated for a recipe in a context is resolved, where these frames stand
+abbrev pub IsResolvedWith : ExecutionContext → Frames → List (Attribute × Token) → List Parameter → List Expr → Type 0
+IsResolvedWith c frames attributes parameters expressions = IsResolvedHere (functions_view c.module.now) (map assignment_view c.module.now.assignments) (frames_view c.scope.now) frames attributes parameters expressions
+
+-- what is evaluated for a recipe in a context, in these frames
+abbrev pub recipe_in : ExecutionContext → List (Text × Text) → Bool → Option Text → Frames → Here
+recipe_in c environment is_dependency recipe frames = in_recipe (program_view c) (c.recursion_limit - 1) (frames_view c.scope.now) environment is_dependency recipe frames

@@ -1,5 +1,5 @@
 -- What is reached is looked through, and none is looked through twice.
-use Rattle.std.proofs.Common.{◌≡◌, ◌↔◌, ◌⊎◌, inl, inr, ⊎_elim, ℕ, suc, ◌+◌, ◌<◌, ◌≤◌, ◌||◌, Bool, true, false, cond, List, [], ◌∷◌, ◌++◌, length, Option, Some, None, refl, ap, sym, ◌∙◌, subst, arith, IsTrue, IsSome, is_some, Bor, length-append}
+use Rattle.std.proofs.Common.{◌≡◌, ◌↔◌, ◌⊎◌, inl, inr, ⊎_elim, ℕ, suc, ◌+◌, ◌<◌, ◌≤◌, ◌||◌, Bool, true, false, cond, List, [], ◌∷◌, ◌++◌, length, map, Option, Some, None, refl, ap, sym, ◌∙◌, subst, arith, IsTrue, IsSome, is_some, Bor, length-append}
 use Rattle.std.specs.Option.{option_to_list}
 use Rattle.std.proofs.lemmas.List.{map-append}
 use Rattle.just_resolution.specs.Seen.{texts}
@@ -7,10 +7,10 @@ use Rattle.std.specs.Str.{bytes_eq}
 use Rattle.std.proofs.lemmas.Bool.{cases_eq, or_cases, or_left, or_right}
 use Rattle.std.proofs.lemmas.Slice.Eq.{bytes_eq-Decides}
 use Rattle.just_syntax.specs.Plain.{Text, Token, Function, Expr}
-use Rattle.just_resolution.specs.Admitted.{IsAdmitted}
+use Rattle.just_resolution.specs.Admitted.{IsAdmitted, ReadsWithin}
 use Rattle.just_resolution.specs.Mentions.{called_names, calls_of, mentions, nothing}
 use Rattle.just_meaning.proofs.Reached.{reaches_on}
-use Rattle.just_meaning.specs.Reaches.{VariableOf, CallOf, IsAmong, Reaches, Here, Later, Reads, Stands, function_at}
+use Rattle.just_meaning.specs.Reaches.{VariableOf, CallOf, IsAmong, Reaches, Here, Later, Stands, function_at}
 use Rattle.just_resolution.proofs.Standing.{IsIn, all_called, in_append}
 
 -- a set that holds one name more
@@ -22,10 +22,10 @@ abbrev pub IsSettled : (Text → Bool) → List Text → Text → Type 0
 IsSettled admitted pending t = IsTrue (admitted t) ⊎ IsIn pending t
 
 -- What an expression calls, and what admitted functions call, is settled; what is pending is reached. The
--- expression and the admitted functions read nothing but what they may.
-pub record IsWalked (functions : List Function) (e : Expr) (readable : ℕ → Bool) (admitted : Text → Bool) (pending : List Text) : Type 0 where
+-- expression reads nothing by itself but what it may, and the admitted functions nothing but what bodies may.
+pub record IsWalked (functions : List Function) (e : Expr) (here readable : ℕ → Bool) (admitted : Text → Bool) (pending : List Text) : Type 0 where
   pub start : (name : Text) (n : ℕ) → Stands e (CallOf name n) → IsSettled admitted pending name
-  pub own : (n : ℕ) → Stands e (VariableOf (Some n)) → IsTrue (readable n)
+  pub own : (n : ℕ) → Stands e (VariableOf (Some n)) → IsTrue (here n)
   pub reads : (name : Text) (f : Function) → IsTrue (admitted name) → function_at functions name ≡ Some f → (n : ℕ) → Stands f.body (VariableOf (Some n)) → IsAmong f.parameters n ⊎ IsTrue (readable n)
   pub calls : (name : Text) (f : Function) → IsTrue (admitted name) → function_at functions name ≡ Some f → (further : Text) (n : ℕ) → Stands f.body (CallOf further n) → IsSettled admitted pending further
   pub reached : (name : Text) → IsIn pending name → Reaches functions e name
@@ -54,12 +54,12 @@ module _ (functions : List Function) where
   reached_admitted readable admitted closed start (Later mid n s f found rest) =
       reached_admitted readable admitted closed (λ t k there. closed.calls mid f (start mid n s) found t k there) rest
 
-  module _ (e : Expr) (readable : ℕ → Bool) where
+  module _ (e : Expr) (here readable : ℕ → Bool) where
     abbrev pub AllReadable : Type 0
-    AllReadable = (n : ℕ) → Reads functions e n → IsTrue (readable n)
+    AllReadable = ReadsWithin functions e here readable
 
     -- nothing is admitted yet but what was, and what the expression calls is pending
-    pub begins : (admitted : Text → Bool) (pending : List Text) → IsAdmitted functions readable admitted → pending ≡ called_names (mentions nothing e) → ((n : ℕ) → Stands e (VariableOf (Some n)) → IsTrue (readable n)) → IsWalked functions e readable admitted pending
+    pub begins : (admitted : Text → Bool) (pending : List Text) → IsAdmitted functions readable admitted → pending ≡ called_names (mentions nothing e) → ((n : ℕ) → Stands e (VariableOf (Some n)) → IsTrue (here n)) → IsWalked functions e here readable admitted pending
     begins admitted pending closed is own = record {
       start = λ name n s. inr (subst (λ names. IsIn names name) (sym is) ((all_called e name).1 (n, s)));
       own = own;
@@ -69,29 +69,29 @@ module _ (functions : List Function) where
     }
 
     -- a reached function reads nothing but what it may
-    refused_within : (admitted : Text → Bool) (front : List Text) (name : Text) → IsWalked functions e readable admitted (front ++ name ∷ []) → AllReadable →
+    refused_within : (admitted : Text → Bool) (front : List Text) (name : Text) → IsWalked functions e here readable admitted (front ++ name ∷ []) → AllReadable →
         (f : Function) → function_at functions name ≡ Some f → (n : ℕ) → Stands f.body (VariableOf (Some n)) → IsAmong f.parameters n ⊎ IsTrue (readable n)
     refused_within admitted front name w all f found n s =
         ⊎_elim (λ own. inl own)
-        (λ beyond. inr (all n (inr (record { name = name; function = f; reached = w.reached name ((in_append front (name ∷ []) name).1 (inr (inl refl))); found = found; stands = s; beyond = beyond }))))
+        (λ beyond. inr (all.1 n (record { name = name; function = f; reached = w.reached name ((in_append front (name ∷ []) name).1 (inr (inl refl))); found = found; stands = s; beyond = beyond })))
         (among_cases f.parameters n)
 
     -- the answer, where the expression itself reads something else
-    pub refuses_at_once : (own : ℕ → Bool) (answer : Bool) → answer ≡ false → (answer ≡ true) ↔ ((n : ℕ) → Stands e (VariableOf (Some n)) → IsTrue (own n || readable n)) → (false ≡ true) ↔ AllReadable
+    pub refuses_at_once : (own : ℕ → Bool) (answer : Bool) → answer ≡ false → (answer ≡ true) ↔ ((n : ℕ) → Stands e (VariableOf (Some n)) → IsTrue (own n || here n)) → (false ≡ true) ↔ AllReadable
     refuses_at_once own answer off decides = (
       (λ h. absurd (cc)),
-      (λ all. absurd (let h : answer ≡ true = decides.1 (λ n s. or_right (own n) (readable n) (all n (inl s))) in cc)),
+      (λ all. absurd (let h : answer ≡ true = decides.1 (λ n s. or_right (own n) (here n) (all.0 n s)) in cc)),
     )
 
     -- the answer, where the body of a reached function does
-    pub refuses_within : (admitted : Text → Bool) (front pending : List Text) (name : Text) (answer : Bool) → IsWalked functions e readable admitted pending → pending ≡ front ++ name ∷ [] → answer ≡ false →
+    pub refuses_within : (admitted : Text → Bool) (front pending : List Text) (name : Text) (answer : Bool) → IsWalked functions e here readable admitted pending → pending ≡ front ++ name ∷ [] → answer ≡ false →
         (answer ≡ true) ↔ ((f : Function) → function_at functions name ≡ Some f → (n : ℕ) → Stands f.body (VariableOf (Some n)) → IsAmong f.parameters n ⊎ IsTrue (readable n)) → (false ≡ true) ↔ AllReadable
     refuses_within admitted front pending name answer w is off decides = (
       (λ h. absurd (cc)),
-      (λ all. absurd (let h : answer ≡ true = decides.1 (refused_within admitted front name (subst (IsWalked functions e readable admitted) is w) all) in cc)),
+      (λ all. absurd (let h : answer ≡ true = decides.1 (refused_within admitted front name (subst (IsWalked functions e here readable admitted) is w) all) in cc)),
     )
 
-    module _ (admitted next_admitted : Text → Bool) (front next : List Text) (name : Text) (w : IsWalked functions e readable admitted (front ++ name ∷ [])) (adds : Adds admitted next_admitted name) (kept : (t : Text) → IsIn front t → IsIn next t) where
+    module _ (admitted next_admitted : Text → Bool) (front next : List Text) (name : Text) (w : IsWalked functions e here readable admitted (front ++ name ∷ [])) (adds : Adds admitted next_admitted name) (kept : (t : Text) → IsIn front t → IsIn next t) where
       settled_on : (t : Text) → IsSettled admitted (front ++ name ∷ []) t → IsSettled next_admitted next t
       settled_on t h = ⊎_elim (λ a. inl ((adds t).1 (inr a)))
           (λ k. ⊎_elim (λ j. inr (kept t j)) (λ j. ⊎_elim (λ same. inl ((adds t).1 (inl same))) (λ bad. absurd bad) j) ((in_append front (name ∷ []) t).0 k)) h
@@ -99,7 +99,7 @@ module _ (functions : List Function) where
       -- one name more is admitted, whose function reads nothing but what it may, and what it calls is settled
       step : ((f : Function) → function_at functions name ≡ Some f → (n : ℕ) → Stands f.body (VariableOf (Some n)) → IsAmong f.parameters n ⊎ IsTrue (readable n)) →
           ((f : Function) → function_at functions name ≡ Some f → (further : Text) (n : ℕ) → Stands f.body (CallOf further n) → IsSettled next_admitted next further) →
-          ((t : Text) → IsIn next t → Reaches functions e t) → IsWalked functions e readable next_admitted next
+          ((t : Text) → IsIn next t → Reaches functions e t) → IsWalked functions e here readable next_admitted next
       step reads calls reached = record {
         start = λ t n s. settled_on t (w.start t n s);
         own = w.own;
@@ -109,8 +109,8 @@ module _ (functions : List Function) where
       }
 
     -- the last of what is pending was admitted before
-    pub passes : (admitted next_admitted : Text → Bool) (front : List Text) (name : Text) → IsWalked functions e readable admitted (front ++ name ∷ []) → Adds admitted next_admitted name → IsTrue (admitted name) →
-        IsWalked functions e readable next_admitted front
+    pub passes : (admitted next_admitted : Text → Bool) (front : List Text) (name : Text) → IsWalked functions e here readable admitted (front ++ name ∷ []) → Adds admitted next_admitted name → IsTrue (admitted name) →
+        IsWalked functions e here readable next_admitted front
     passes admitted next_admitted front name w adds there =
         step admitted next_admitted front front name w adds (λ t h. h)
         (λ f found n s. w.reads name f there found n s)
@@ -118,9 +118,9 @@ module _ (functions : List Function) where
         (λ t h. w.reached t ((in_append front (name ∷ []) t).1 (inl h)))
 
     -- the last of what is pending is admitted now, and what its body calls is pending
-    pub admits : (admitted next_admitted : Text → Bool) (front next : List Text) (name : Text) → IsWalked functions e readable admitted (front ++ name ∷ []) → Adds admitted next_admitted name →
+    pub admits : (admitted next_admitted : Text → Bool) (front next : List Text) (name : Text) → IsWalked functions e here readable admitted (front ++ name ∷ []) → Adds admitted next_admitted name →
         ((f : Function) → function_at functions name ≡ Some f → (n : ℕ) → Stands f.body (VariableOf (Some n)) → IsAmong f.parameters n ⊎ IsTrue (readable n)) →
-        next ≡ front ++ calls_of (function_at functions name) → IsWalked functions e readable next_admitted next
+        next ≡ front ++ calls_of (function_at functions name) → IsWalked functions e here readable next_admitted next
     admits admitted next_admitted front next name w adds reads is =
         step admitted next_admitted front next name w adds
         (λ t h. subst (λ names. IsIn names t) (sym is) ((in_append front (calls_of (function_at functions name)) t).1 (inl h)))
@@ -135,18 +135,20 @@ module _ (functions : List Function) where
         called_reached (Some f) found t h = let call = (all_called f.body t).0 h in reaches_on functions f call.0 (w.reached name ((in_append front (name ∷ []) name).1 (inr (inl refl)))) found call.1
 
     -- nothing is pending
-    pub closes : (admitted : Text → Bool) → IsWalked functions e readable admitted [] → IsAdmitted functions readable admitted
+    pub closes : (admitted : Text → Bool) → IsWalked functions e here readable admitted [] → IsAdmitted functions readable admitted
     closes admitted w = record {
       reads = w.reads;
       calls = λ name f h found further n s. ⊎_elim (λ k. k) (λ k. absurd k) (w.calls name f h found further n s);
     }
 
-    pub all_readable : (admitted : Text → Bool) → IsWalked functions e readable admitted [] → AllReadable
-    all_readable admitted w n r = ⊎_elim (λ s. w.own n s)
-        (λ b. ⊎_elim (λ k. absurd (b.beyond k)) (λ k. k)
-        (w.reads b.name b.function
-        (reached_admitted readable admitted (closes admitted w) (λ t k s. ⊎_elim (λ a. a) (λ bad. absurd bad) (w.start t k s)) b.reached)
-        b.found n b.stands)) r
+    pub all_readable : (admitted : Text → Bool) → IsWalked functions e here readable admitted [] → AllReadable
+    all_readable admitted w = (
+      w.own,
+      λ n b. ⊎_elim (λ k. absurd (b.beyond k)) (λ k. k)
+          (w.reads b.name b.function
+          (reached_admitted readable admitted (closes admitted w) (λ t k s. ⊎_elim (λ a. a) (λ bad. absurd bad) (w.start t k s)) b.reached)
+          b.found n b.stands),
+    )
 
 -- ---- why the walk ends
 
@@ -220,14 +222,22 @@ falls_admitted fs admitted next_admitted front next pending name adds off is cal
 
 -- ---- what code does
 
+-- the last of a list
+pub last_popped : {X Y : Type 0} (seen : X → Y) (old new : List X) (r : Option X) (x : X) → old ≡ new ++ option_to_list r → r ≡ Some x → map seen old ≡ map seen new ++ seen x ∷ []
+last_popped seen old new r x is some = ap (map seen) (is ∙ ap (λ o. new ++ option_to_list o) some) ∙ map-append seen new (x ∷ [])
+
+-- nothing is left
+pub none_popped : {X Y : Type 0} (seen : X → Y) (xs : List X) (r : Option X) → r ≡ None → (0 < length xs → IsSome r) → map seen xs ≡ []
+none_popped seen [] r none some = refl
+none_popped seen (x ∷ xs) r none some = absurd (let h : is_some r ≡ true = some (omega arith) in let e : is_some r ≡ false = ap is_some none in cc)
+
 -- the last name of a list
 pub popped : (old new : List (Bor Text)) (r : Option (Bor Text)) (name : Bor Text) → old ≡ new ++ option_to_list r → r ≡ Some name → texts old ≡ texts new ++ name.now ∷ []
-popped old new r name is some = ap texts (is ∙ ap (λ o. new ++ option_to_list o) some) ∙ map-append (λ (b : Bor Text). b.now) new (name ∷ [])
+popped = last_popped (λ b. b.now)
 
 -- there is no name left
 pub emptied : (xs : List (Bor Text)) (r : Option (Bor Text)) → r ≡ None → (0 < length xs → IsSome r) → texts xs ≡ []
-emptied [] r none some = refl
-emptied (x ∷ xs) r none some = absurd (let h : is_some r ≡ true = some (omega arith) in let e : is_some r ≡ false = ap is_some none in cc)
+emptied = none_popped (λ b. b.now)
 
 -- no own number: what may be read is readable
 pub own_out : (own readable : Bool) → own ≡ false → IsTrue (own || readable) → IsTrue readable

@@ -1,7 +1,9 @@
 mod Closure
 mod Ordering
+mod Readers
 mod Resolving
 mod Rows
 mod Sets
 pub mod Standing
 mod Tables
+mod Turns

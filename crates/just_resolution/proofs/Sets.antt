@@ -144,6 +144,26 @@ unbound_outside outer ps slice all whole answer is unbound same decides = (
   (λ h. decides.1 (subst AreDistinct (sym same) h.0)),
 )
 
+-- a parameter is bound in the first of two scopes
+pub bound_in_first : (first second : Frames) (ps slice : List ℕ) (D : Type 0) → slice ≡ ps → false ≡ list_all (λ n. is_none (value_in first n)) slice →
+    (false ≡ true) ↔ (D × ((n : ℕ) → IsOneOf ps n → HasValue (value_in first) n ⊎ HasValue (value_in second) n → ⊥))
+bound_in_first first second ps slice D is bound = ((λ h. absurd (cc)), (λ h. (bound_outside first ps slice D is bound).1 (h.0, λ n one b. h.1 n one (inl b))))
+
+-- a parameter is bound in the second of them
+pub bound_in_second : (first second : Frames) (ps slice : List ℕ) (D : Type 0) → slice ≡ ps → false ≡ list_all (λ n. is_none (value_in second n)) slice →
+    (false ≡ true) ↔ (D × ((n : ℕ) → IsOneOf ps n → HasValue (value_in first) n ⊎ HasValue (value_in second) n → ⊥))
+bound_in_second first second ps slice D is bound = ((λ h. absurd (cc)), (λ h. (bound_outside second ps slice D is bound).1 (h.0, λ n one b. h.1 n one (inr b))))
+
+-- no parameter is bound in either
+pub unbound_in_both : (first second : Frames) (ps slice all whole : List ℕ) (answer : Bool) → slice ≡ ps → true ≡ list_all (λ n. is_none (value_in first n)) slice → true ≡ list_all (λ n. is_none (value_in second n)) slice →
+    all ≡ whole → (answer ≡ true) ↔ AreDistinct all → (answer ≡ true) ↔ (AreDistinct whole × ((n : ℕ) → IsOneOf ps n → HasValue (value_in first) n ⊎ HasValue (value_in second) n → ⊥))
+unbound_in_both first second ps slice all whole answer is one other same decides =
+    let a = unbound_outside first ps slice all whole answer is one same decides in
+    let b = unbound_outside second ps slice all whole answer is other same decides in (
+      (λ h. let p = a.0 h in let q = b.0 h in (p.0, λ n in_ps bound. ⊎_elim (λ x. p.1 n in_ps x) (λ x. q.1 n in_ps x) bound)),
+      (λ h. a.1 (h.0, λ n in_ps x. h.1 n in_ps (inl x))),
+    )
+
 -- ---- the numbers of parameters
 
 among_append : (ps : List (Token × ℕ)) (p : Token × ℕ) (n : ℕ) → IsAmong (ps ++ p ∷ []) n ↔ ((p.1 ≡ n) ⊎ IsAmong ps n)

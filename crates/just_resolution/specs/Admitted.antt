@@ -1,8 +1,10 @@
 -- Functions that need not be looked through again, and what follows in an order.
-use Rattle.std.specs.Prelude.{◌≡◌, ◌⊎◌, ℕ, Bool, true, List, Option, Some, None, IsTrue}
-use Rattle.just_syntax.specs.Plain.{Text, Token, Assignment, Function}
+use Rattle.std.specs.Prelude.{◌≡◌, ◌⊎◌, ℕ, Bool, true, List, [], ◌∷◌, Option, Some, None, IsTrue}
+use Rattle.just_syntax.specs.Plain.{Text, Token, Assignment, Expr, Function, Parameter}
 use Rattle.just_meaning.specs.Assignments.{Assignments, assignment_at}
-use Rattle.just_meaning.specs.Reaches.{VariableOf, CallOf, IsAmong, Reads, Stands, function_at}
+use Rattle.just_meaning.specs.Here.{expressions_of}
+use Rattle.just_meaning.specs.Resolved.{AllKnown, IsKnown}
+use Rattle.just_meaning.specs.Reaches.{Mention, VariableOf, CallOf, IsAmong, Reads, ReadsBeyond, Stands, function_at}
 
 -- whether a variable's number passes a test, if it has one
 abbrev pub may_stand : (ℕ → Bool) → Option ℕ → Bool
@@ -13,6 +15,33 @@ may_stand test (Some n) = test n
 pub record IsAdmitted (functions : List Function) (readable : ℕ → Bool) (admitted : Text → Bool) : Type 0 where
   pub reads : (name : Text) (f : Function) → IsTrue (admitted name) → function_at functions name ≡ Some f → (n : ℕ) → Stands f.body (VariableOf (Some n)) → IsAmong f.parameters n ⊎ IsTrue (readable n)
   pub calls : (name : Text) (f : Function) → IsTrue (admitted name) → function_at functions name ≡ Some f → (further : Text) (n : ℕ) → Stands f.body (CallOf further n) → IsTrue (admitted further)
+
+-- By itself an expression reads nothing but what is readable here, and through functions nothing but what bodies may read.
+abbrev pub ReadsWithin : List Function → Expr → (ℕ → Bool) → (ℕ → Bool) → Type 0
+ReadsWithin functions e here readable = ((n : ℕ) → Stands e (VariableOf (Some n)) → IsTrue (here n)) × ((n : ℕ) → ReadsBeyond functions e n → IsTrue (readable n))
+
+-- By themselves some expressions read nothing but these numbers, and through functions nothing but what bodies may read.
+abbrev pub AllReadBy : List Function → (ℕ → Type 0) → (ℕ → Bool) → List Expr → Type 0
+AllReadBy functions here readable [] = Unit {0}
+AllReadBy functions here readable (e ∷ es) = (((n : ℕ) → Stands e (VariableOf (Some n)) → here n) × ((n : ℕ) → ReadsBeyond functions e n → IsTrue (readable n))) × AllReadBy functions here readable es
+
+-- the same where a test tells what is readable here
+abbrev pub AllWithin : List Function → (ℕ → Bool) → (ℕ → Bool) → List Expr → Type 0
+AllWithin functions here readable es = AllReadBy functions (λ n. IsTrue (here n)) readable es
+
+-- all that stands in an expression is known, and it reads nothing but what it may
+abbrev pub MayStand : List Function → (ℕ → Bool) → (ℕ → Bool) → Expr → Type 0
+MayStand functions here readable e = ((x : Mention) → Stands e x → IsKnown functions x) × ReadsWithin functions e here readable
+
+-- the same of each of some expressions
+abbrev pub MayAllStand : List Function → (ℕ → Bool) → (ℕ → Bool) → List Expr → Type 0
+MayAllStand functions here readable es = AllKnown functions es × AllWithin functions here readable es
+
+-- the default and the value of each parameter are known, and read nothing but what is readable here, or an earlier parameter
+abbrev pub MayFollowInTurn : List Function → (ℕ → Type 0) → (ℕ → Bool) → List Parameter → Type 0
+MayFollowInTurn functions here readable [] = Unit {0}
+MayFollowInTurn functions here readable (p ∷ ps) =
+    (AllKnown functions (expressions_of p) × AllReadBy functions here readable (expressions_of p)) × MayFollowInTurn functions (λ n. here n ⊎ (p.number ≡ n)) readable ps
 
 -- an assignment reads nothing but what is readable
 abbrev pub ReadsReadable : List Function → (ℕ → Bool) → Assignment → Type 0

@@ -1,13 +1,17 @@
 -- What mentions, sets and names are as plain data.
-use Rattle.std.specs.Prelude.{ℕ, Bool, ◌||◌, List, map, is_some}
+use Rattle.std.specs.Prelude.{◌≡◌, ℕ, Bool, ◌||◌, List, [], Option, Some, None, map, is_some}
 use Rattle.std.specs.Borrow.{Bor}
 use Rattle.std.specs.BTreeSet.{BTreeSet, contains_by}
 use Rattle.std.specs.Cmp.Lexicographic.{slice_cmp}
 use Rattle.std.specs.Ordering.{nat_cmp}
-use Rattle.just_syntax.specs.Plain.{Text}
+use Rattle.just_syntax.specs.Plain.{Text, Token, Attribute, Expr}
+use Rattle.just_syntax.specs.View.{recipe_view, view}
+use Rattle.just_syntax.specs.declared.expression.Expression.{Expression}
+use Rattle.just_syntax.specs.declared.recipe.Recipe.{Recipe}
 use Rattle.just_value.specs.Frames.{value_in}
 use Rattle.just_value.specs.View.{frames_view}
 use Rattle.just_resolution.specs.declared.mentions.Mentions as declared
+use Rattle.just_resolution.specs.declared.here.Reader.{Reader}
 use Rattle.just_resolution.specs.declared.readable.Readable.{Readable}
 use Rattle.just_resolution.specs.Mentions.{Mentions}
 
@@ -32,3 +36,18 @@ is_taken r n = is_number_in r.taken n
 -- whether a number was taken, or is bound outside
 abbrev pub is_readable : Readable → ℕ → Bool
 is_readable r n = is_taken r n || is_some (value_in (frames_view r.outer.now) n)
+
+-- expressions that are lent
+abbrev pub expressions_view : List (Bor Expression) → List Expr
+expressions_view es = map (λ e. view e.now) es
+
+-- the attributes of a recipe, if there is one
+abbrev pub attributes_of : Option (Bor Recipe) → List (Attribute × Token)
+attributes_of None = []
+attributes_of (Some recipe) = (recipe_view recipe.now).attributes
+
+-- the same but for the functions that were looked through
+pub record IsSameReader (old new : Reader) : Type 0 where
+  pub functions : new.functions ≡ old.functions
+  pub here : new.here ≡ old.here
+  pub bodies : new.bodies ≡ old.bodies

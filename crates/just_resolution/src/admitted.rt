@@ -4,9 +4,9 @@ ghost use Rattle.std.specs.Prelude.{◌≡◌, ◌↔◌, ◌⊎◌, ◌++◌, �
 ghost use Rattle.std.specs.List.{list_all};
 ghost use Rattle.just_syntax.specs.Plain.{Function};
 ghost use Rattle.just_syntax.specs.View.{function_view, parameter_view, view};
-ghost use Rattle.just_resolution.specs.Admitted.{IsAdmitted, may_stand};
+ghost use Rattle.just_resolution.specs.Admitted.{IsAdmitted, ReadsWithin, may_stand};
 ghost use Rattle.just_resolution.specs.Mentions.{calls_of, called_names, mentions, nothing};
-ghost use Rattle.just_meaning.specs.Reaches.{IsAmong, Reads, Stands, VariableOf, function_at};
+ghost use Rattle.just_meaning.specs.Reaches.{IsAmong, Stands, VariableOf, function_at};
 ghost use Rattle.just_resolution.specs.Seen.{is_name_in, is_number_in, is_readable, texts};
 
 use crate::mentions::mentions_in;
@@ -20,26 +20,28 @@ use just_syntax::table::Table;
 use std::alloc::Global;
 use std::collections::BTreeSet;
 
-// Whether an expression reads nothing, by itself and through functions, but what is readable.
+// Whether an expression reads nothing but what is readable: by itself what is readable here, and through functions what
+// is readable in bodies.
 //
 // Each function that it reaches is looked through, unless it is admitted: then it and what it calls were looked
-// through before, and what was readable then is readable now. Each is admitted before it is looked through, so
+// through before, and what bodies could read then they can read now. Each is admitted before it is looked through, so
 // that none is looked through twice, and functions that call each other for ever come to an end. Where the answer
 // is true, what is admitted is a closed set: it holds what its functions call.
 pub(crate) fn reads_readable<'src>(
     alloc: Global,
     functions: &Table<FunctionDefinition<'src>>,
+    here: &Readable,
     readable: &Readable,
     admitted: &mut BTreeSet<&'src str>,
     expression: &Expression<'src>,
 ) -> Result<bool, OutOfMemory>
     requires closed { IsAdmitted (map function_view functions.now) (is_readable readable.now) (is_name_in admitted.old) }
-    ensures exact { IfOk result (λ answer. IsTrue answer ↔ ((n : ℕ) → Reads (map function_view functions.now) (view expression.now) n → IsTrue (is_readable readable.now n))) }
+    ensures exact { IfOk result (λ answer. IsTrue answer ↔ ReadsWithin (map function_view functions.now) (view expression.now) (is_readable here.now) (is_readable readable.now)) }
     ensures closed { IfOk result (λ answer. IsTrue answer → IsAdmitted (map function_view functions.now) (is_readable readable.now) (is_name_in admitted.new)) }
 {
     let mut pending = Vec::new(alloc);
     let own = BTreeSet::new(alloc);
-    let reads_no_other = look_through(alloc, readable, &own, &mut pending, expression)?;
+    let reads_no_other = look_through(alloc, here, &own, &mut pending, expression)?;
     if !reads_no_other {
         return Ok(false);
     }

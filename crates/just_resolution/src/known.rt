@@ -31,15 +31,12 @@ fn is_callable(functions: &Table<FunctionDefinition>, name: &str, arguments: usi
 fn is_undefined_callable(name: &str, arguments: usize) -> bool
     ensures { result ≡ accepts (undefined name.now) arguments }
 {
-    if is_left_out(name) {
-        return true;
-    }
     match get(name) {
         Some(function) => {
             let expected = function.expected_arguments();
             *expected.start() <= arguments && arguments <= *expected.end()
         }
-        None => false,
+        None => is_left_out(name),
     }
 }
 
@@ -53,7 +50,7 @@ fn are_callable(functions: &Table<FunctionDefinition>, calls: &[(&str, usize)]) 
 }
 
 // Whether all that stands in an expression is known.
-fn is_expression_known(
+pub(crate) fn is_expression_known(
     alloc: Global,
     functions: &Table<FunctionDefinition>,
     expression: &Expression,

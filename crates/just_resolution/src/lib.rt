@@ -1,9 +1,12 @@
-// The exact tests whether a module, or its assignments before any run, are resolved: whether each name means one thing,
-// and all is evaluated before it is read. They lean on the definitions of `just_meaning` and on what lies below them,
-// and never on the laws of evaluation nor on the evaluator: what they decide is settled by the definitions alone.
+// The exact tests whether a module, its assignments before any run, or what is evaluated for a recipe are resolved:
+// whether each name means one thing, and all is evaluated before it is read. They lean on the definitions of
+// `just_meaning` and on what lies below them, and never on the laws of evaluation nor on the evaluator: what they decide
+// is settled by the definitions alone.
 #![tactic(auto)]
 
 mod admitted;
+mod expressions;
+mod here;
 mod known;
 mod mentions;
 mod numbers;
@@ -12,3 +15,4 @@ mod readable;
 pub mod references;
 pub mod resolved;
 pub mod resolved_const;
+pub mod resolved_here;

@@ -2,7 +2,7 @@
 
 ghost use Rattle.std.specs.Prelude.{◌≡◌, ◌↔◌, ◌++◌, ℕ, IfOk, OnOk, IsTrue, is_none, map};
 ghost use Rattle.std.specs.List.{list_all};
-ghost use Rattle.just_syntax.specs.View.{assignment_view, function_view, parameter_view};
+ghost use Rattle.just_syntax.specs.View.{assignment_view, function_view, parameter_view, recipe_parameter_view};
 ghost use Rattle.just_value.specs.View.{frames_view};
 ghost use Rattle.just_value.specs.Frames.{value_in};
 ghost use Rattle.just_meaning.specs.Resolved.{AreDistinct, HasValue, IsOneOf, parameter_numbers};
@@ -14,6 +14,7 @@ use just_syntax::function_definition::FunctionDefinition;
 use just_syntax::name::Name;
 use just_syntax::number::Number;
 use just_syntax::out_of_memory::OutOfMemory;
+use just_syntax::parameter::Parameter;
 use just_syntax::table::Table;
 use just_value::scope::Scope;
 use std::alloc::Global;
@@ -52,7 +53,7 @@ pub(crate) fn assignment_numbers(
 }
 
 // Adds the numbers of the parameters of functions.
-fn add_parameter_numbers(
+pub(crate) fn add_parameter_numbers(
     numbers: &mut Vec<Number>,
     functions: &Table<FunctionDefinition>,
 ) -> Result<(), OutOfMemory>
@@ -74,6 +75,19 @@ fn add_numbers(numbers: &mut Vec<Number>, parameters: &[(Name, Number)]) -> Resu
     Ok(())
 }
 
+// Adds the numbers of a recipe's parameters.
+pub(crate) fn add_recipe_numbers(
+    numbers: &mut Vec<Number>,
+    parameters: &[Parameter],
+) -> Result<(), OutOfMemory>
+    ensures { OnOk result (numbers.new.items ≡ numbers.old.items ++ map (λ p. p.number) (map recipe_parameter_view parameters.now)) }
+{
+    for parameter in parameters {
+        numbers.push(parameter.number)?;
+    }
+    Ok(())
+}
+
 // Whether no number stands there twice.
 pub(crate) fn are_distinct(alloc: Global, numbers: &[Number]) -> Result<bool, OutOfMemory>
     ensures { IfOk result (λ answer. IsTrue answer ↔ AreDistinct numbers.now) }
@@ -88,7 +102,7 @@ pub(crate) fn are_distinct(alloc: Global, numbers: &[Number]) -> Result<bool, Ou
 }
 
 // Whether a scope binds none of these numbers.
-fn are_unbound(scope: &Scope, numbers: &[Number]) -> bool
+pub(crate) fn are_unbound(scope: &Scope, numbers: &[Number]) -> bool
     ensures { result ≡ list_all (λ n. is_none (value_in (frames_view scope.now) n)) numbers.now }
 {
     numbers.iter().all(|number| is_unbound(scope, *number))

@@ -102,7 +102,8 @@ fn takes<'src>(
     ensures taken { IfOk result (λ answer. IsTrue answer → (n : ℕ) → IsTrue (is_taken readable.new n) ↔ (IsTrue (is_taken readable.old n) ⊎ (assignment.now.number ≡ n))) }
     ensures closed { IfOk result (λ answer. IsTrue answer → IsAdmitted (map function_view functions.now) (is_readable readable.old) (is_name_in admitted.new)) }
 {
-    if !reads_readable(alloc, functions, readable, admitted, &assignment.value)? {
+    let value = &assignment.value;
+    if !reads_readable(alloc, functions, readable, readable, admitted, value)? {
         return Ok(false);
     }
     readable.take(assignment.number)?;

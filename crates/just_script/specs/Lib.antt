@@ -1,3 +1,3 @@
-pub mod Recorded
 pub mod Script
+pub mod Failing
 pub mod View

@@ -1,15 +1,12 @@
 -- What hosts are as plain data.
 use Rattle.std.specs.Prelude.{List, map, string_bytes}
-use Rattle.std.specs.Option.{option_map}
 use Rattle.std.specs.Vec.Iter.{into_iter_items}
 use Rattle.std.specs.declared.string.String.{String}
 use Rattle.just_syntax.specs.Plain.{Text}
 use Rattle.just_host.specs.View.{replied, text_replied}
-use Rattle.just_script.specs.Recorded.{Recorded, RecordedCommand, RecordedText, RecordedExistence, RecordedNumber}
+use Rattle.just_script.specs.Failing.{Failing}
 use Rattle.just_script.specs.Script.{Script}
-use Rattle.just_script.specs.declared.recorded_question.RecordedQuestion.{RecordedQuestion}
-use Rattle.just_script.specs.declared.recorded_question.RecordedQuestion.TheVariants as questions
-use Rattle.just_script.specs.declared.recording_host.RecordingHost.{RecordingHost}
+use Rattle.just_script.specs.declared.fail_at.FailAt.{FailAt}
 use Rattle.just_script.specs.declared.scripted_host.ScriptedHost.{ScriptedHost}
 
 -- a command and a text
@@ -26,12 +23,6 @@ script_view host = record {
   numbers = into_iter_items host.numbers;
 }
 
-abbrev pub recorded_view : RecordedQuestion → Recorded
-recorded_view (questions.Command command arguments) = RecordedCommand (string_bytes command) (option_map (λ words. map string_bytes words.items) arguments)
-recorded_view (questions.Text kind text) = RecordedText kind (string_bytes text)
-recorded_view (questions.Exists path) = RecordedExistence (string_bytes path)
-recorded_view (questions.Number question) = RecordedNumber question
-
--- the questions so far
-abbrev pub records_view : {H : Type 0} → RecordingHost H → List Recorded
-records_view host = map recorded_view host.questions.items
+-- the host that is asked, how many questions are still passed on to it, and how it fails then
+abbrev pub failing_view : {H : Type 0} → FailAt H → Failing H
+failing_view host = record { host = host.host; left = host.left; how = host.how }

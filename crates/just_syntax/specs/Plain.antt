@@ -132,3 +132,13 @@ pub record Parameter : Type 0 where
   pub name : Token
   pub number : ℕ
   pub value : Option Expr
+
+-- a recipe: its attributes, each with the name that it was written under, and its name
+pub record Recipe : Type 0 where
+  pub attributes : List (Attribute × Token)
+  pub name : Token
+
+-- a fragment of a line: text as it is written, or an interpolation
+pub data Fragment : Type 0 where
+  TextFragment : Token → Fragment
+  Interpolation : Expr → Fragment

@@ -10,10 +10,14 @@ use Rattle.just_syntax.specs.declared.assignment.Assignment.{Assignment}
 use Rattle.just_syntax.specs.declared.attribute.Attribute.{Attribute}
 use Rattle.just_syntax.specs.declared.attribute.Attribute.TheVariants.{Env, Other}
 use Rattle.just_syntax.specs.declared.attribute_set.AttributeSet.{AttributeSet}
+use Rattle.just_syntax.specs.declared.fragment.Fragment.{Fragment}
+use Rattle.just_syntax.specs.declared.fragment.Fragment.TheVariants.{Interpolation, Text}
 use Rattle.just_syntax.specs.declared.function_definition.FunctionDefinition.{FunctionDefinition}
 use Rattle.just_syntax.specs.declared.enclosure.Enclosure.{Enclosure}
 use Rattle.just_syntax.specs.declared.interpreter.Interpreter.{Interpreter}
+use Rattle.just_syntax.specs.declared.line.Line.{Line}
 use Rattle.just_syntax.specs.declared.parameter.Parameter.{Parameter}
+use Rattle.just_syntax.specs.declared.recipe.Recipe.{Recipe}
 use Rattle.just_syntax.specs.declared.set.Set as declared_set
 use Rattle.just_syntax.specs.declared.setting.Setting as declared_setting
 use Rattle.just_syntax.specs.declared.setting.Setting.TheVariants as settings
@@ -98,9 +102,13 @@ abbrev pub attribute_view : Attribute → plain.Attribute
 attribute_view (Env key value) = plain.Env (view key) (view value)
 attribute_view Other = plain.Other
 
+-- an attribute with its name
+abbrev pub named_attribute_view : Attribute × Name → plain.Attribute × plain.Token
+named_attribute_view pair = (attribute_view pair.0, name_view pair.1)
+
 -- the attributes, each with its name, in their order
 abbrev pub attributes_view : AttributeSet → List (plain.Attribute × plain.Token)
-attributes_view set = map (λ pair. (attribute_view pair.0, name_view pair.1)) set.attributes.items
+attributes_view set = map named_attribute_view set.attributes.items
 
 abbrev pub interpreter_view : {A : Type 0} → Interpreter (String A) → plain.Interpreter plain.Text
 interpreter_view i = record { arguments = map string_bytes i.arguments.items; command = string_bytes i.command }
@@ -146,6 +154,17 @@ set_view s = record { name = name_view s.name; value = setting_view s.value }
 -- the recipe's parameter that is handed in
 abbrev pub recipe_parameter_view : Parameter → plain.Parameter
 recipe_parameter_view p = record { default = option_map view p.default; export = p.export; flag = p.flag; kind = p.kind; multiple = p.multiple; name = name_view p.name; number = p.number; value = option_map view p.value }
+
+abbrev pub recipe_view : Recipe → plain.Recipe
+recipe_view r = record { attributes = attributes_view r.attributes; name = name_view r.name }
+
+abbrev pub fragment_view : Fragment → plain.Fragment
+fragment_view (Text t) = plain.TextFragment (token_view t)
+fragment_view (Interpolation e) = plain.Interpolation (view e)
+
+-- the fragments of a line
+abbrev pub line_view : Line → List plain.Fragment
+line_view line = map fragment_view line.fragments.items
 
 abbrev pub string_context_view : declared_context.StringContext → StringContext
 string_context_view (contexts.EnvKey name) = EnvKey (name_view name)

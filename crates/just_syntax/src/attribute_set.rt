@@ -1,11 +1,14 @@
 // Attributes with their names.
 
-ghost use Rattle.std.specs.Prelude.{◌≡◌, []};
-ghost use Rattle.just_syntax.specs.View.{attributes_view};
+ghost use Rattle.std.specs.Prelude.{OnErr, OnOk, [], map, ◌++◌, ◌∷◌, ◌≡◌};
+ghost use Rattle.std.specs.Slice.Iter.{iter_rest};
+ghost use Rattle.just_syntax.specs.View.{attribute_view, attributes_view, name_view, named_attribute_view};
 
 use crate::attribute::Attribute;
 use crate::name::Name;
+use crate::out_of_memory::OutOfMemory;
 use std::alloc::Global;
+use std::slice::Iter;
 
 /// Attributes and the names that they were written under, in the order handed in.
 #[derive(Drop)]
@@ -21,5 +24,22 @@ impl<'src> AttributeSet<'src> {
         AttributeSet {
             attributes: Vec::new(alloc),
         }
+    }
+
+    /// Puts an attribute behind the others, with the name that it was written under. For want of memory the set stays
+    /// as it was, and the attribute is dropped.
+    pub fn push(&mut self, attribute: Attribute<'src>, name: Name<'src>) -> Result<(), OutOfMemory>
+        ensures ok { OnOk result (attributes_view self.new ≡ attributes_view self.old ++ (attribute_view attribute.entry, name_view name.entry) ∷ []) }
+        ensures err { OnErr result (attributes_view self.new ≡ attributes_view self.old) }
+    {
+        self.attributes.push((attribute, name))?;
+        Ok(())
+    }
+
+    /// The attributes, each with its name, in the order handed in.
+    pub fn iter(&self) -> Iter<'_, (Attribute<'src>, Name<'src>)>
+        ensures { map named_attribute_view (iter_rest result) ≡ attributes_view self.now }
+    {
+        self.attributes.iter()
     }
 }

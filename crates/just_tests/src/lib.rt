@@ -5,6 +5,8 @@
 #[cfg(test)]
 mod const_errors;
 #[cfg(test)]
+mod frames;
+#[cfg(test)]
 mod parts;
 #[cfg(test)]
 mod resolution;

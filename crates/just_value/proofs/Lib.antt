@@ -1,11 +1,14 @@
 pub mod Bound
 mod Cuts
 mod Examples
+mod Framed
+mod Inserted
+mod Named
 mod Numbering
-mod Numbers
 mod Pairs
+mod Places
 mod PositionalLaws
-mod Seen
 mod Texts
+mod Stepped
 pub mod Values
 mod Writes

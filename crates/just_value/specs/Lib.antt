@@ -7,7 +7,8 @@ pub mod Refusal
 pub mod ConstEval
 pub mod Outcome
 pub mod Applied
-pub mod Numbered
+pub mod Rising
+pub mod Places
 pub mod Numbering
 pub mod Positional
 pub mod Frames

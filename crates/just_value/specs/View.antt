@@ -1,11 +1,12 @@
 -- What bindings, frames, scopes and refusals are as plain data.
 use Rattle.std.specs.Prelude.{ℕ, List, ◌∷◌, map, Option, Some, None, string_bytes, option_map, Result, Ok, Err}
 use Rattle.std.specs.Borrow.{Bor}
-use Rattle.std.specs.HashMap.{get_by}
 use Rattle.std.specs.Str.{bytes_eq}
 use Rattle.just_syntax.specs.Plain.{Text, Token}
 use Rattle.just_syntax.specs.View.{token_view, name_view, string_context_view, attributes_view}
+use Rattle.std.specs.Map.{lookup}
 use Rattle.std.specs.Map.Iter.{TakesFirst, deref}
+use Rattle.std.specs.VecDeque.Iter.{deque_iter_rest}
 use Rattle.just_value.specs.declared.binding.Binding.{Binding}
 use Rattle.just_value.specs.declared.bindings.Bindings.{Bindings}
 use Rattle.just_value.specs.declared.expression_context.ExpressionContext.{ExpressionContext}
@@ -37,11 +38,11 @@ bound_view b = record { attributes = attributes_view b.attributes; eager = b.eag
 
 -- the bindings of a frame, by rising number
 abbrev pub frame_view : Frame → plain.Frame
-frame_view f = map (λ e. (e.0, bound_view e.1)) f
+frame_view f = map (λ b. (b.number, bound_view b)) f
 
 -- the bindings that are still to come
 abbrev pub bindings_left : Bindings → List Binding
-bindings_left b = b.values
+bindings_left b = deque_iter_rest b.left
 
 -- the first of them comes next
 abbrev pub bindings_steps : Bindings → Option (Bor Binding) → Bindings → Type 0
@@ -125,7 +126,7 @@ items_of l = l.items.items
 
 -- the number that a name has
 abbrev pub looked_up : ExpressionContext → Text → Option ℕ
-looked_up context name = get_by (λ key. bytes_eq name key.now) context.bindings
+looked_up context name = lookup (λ key. bytes_eq name key.now) context.bindings.items
 
 abbrev pub positional_view : declared_positional.Positional → Positional
 positional_view p = record { arguments = map string_bytes p.arguments.items; overrides = map (λ o. (string_bytes o.0, string_bytes o.1)) p.overrides.items; search_directory = option_map string_bytes p.search_directory }

@@ -1,24 +1,24 @@
 // The bindings of a frame, one after another.
 
 use crate::binding::Binding;
-use just_syntax::number::Number;
-use std::collections::btree_map::Values;
+use std::collections::vec_deque::Iter;
 
 /// Goes over the bindings of a frame, each once, by rising number.
 #[derive(Drop)]
 pub struct Bindings<'frame, 'src> {
-    values: Values<'frame, Number, Binding<'src>>,
+    left: Iter<'frame, Binding<'src>>,
 }
 
 impl<'frame, 'src> Bindings<'frame, 'src> {
     ghost use Rattle.std.specs.Prelude.{◌≡◌};
+    ghost use Rattle.std.specs.VecDeque.Iter.{deque_iter_rest};
     ghost use Rattle.just_value.specs.View.{bindings_left};
 
     // The bindings that are still to come.
-    pub(crate) fn new(values: Values<'frame, Number, Binding<'src>>) -> Bindings<'frame, 'src>
-        ensures { bindings_left result ≡ values.entry }
+    pub(crate) fn new(left: Iter<'frame, Binding<'src>>) -> Bindings<'frame, 'src>
+        ensures { bindings_left result ≡ deque_iter_rest left.entry }
     {
-        Bindings { values }
+        Bindings { left }
     }
 }
 
@@ -34,6 +34,6 @@ impl<'frame, 'src> Iterator for Bindings<'frame, 'src> {
     ghost remaining = { λ s. at_most (length (bindings_left s)) };
 
     fn next(&mut self) -> Option<&'frame Binding<'src>> {
-        self.values.next()
+        self.left.next()
     }
 }

@@ -1,32 +1,38 @@
 // Which numbers names have in an expression.
 
-ghost use Rattle.std.specs.Prelude.{◌≡◌, ℕ, List, None, Some, IfOk, OnOk, map};
-ghost use Rattle.std.specs.Map.{update};
-ghost use Rattle.std.specs.Str.{bytes_eq};
-ghost use Rattle.just_syntax.specs.View.{parameter_view, recipe_parameter_view};
-ghost use Rattle.just_value.specs.Numbering.{last_of, numbered};
-ghost use Rattle.just_value.specs.View.{looked_up};
+ghost use Rattle.std.proofs.Props.{props};
+ghost use Rattle.just_value.specs.Rising.{AreRisingNames};
 
 use just_syntax::name::Name;
 use just_syntax::number::Number;
 use just_syntax::out_of_memory::OutOfMemory;
 use just_syntax::parameter::Parameter;
-use std::alloc::Global;
-use std::collections::HashMap;
+use std::alloc::{AllocError, Global};
 
-/// Which numbers names have in an expression.
+/// Which numbers names have in an expression. The names stand in the order of their bytes, each once.
 #[derive(Drop)]
 pub struct ExpressionContext<'src> {
-    bindings: HashMap<&'src str, Number>,
+    bindings: Vec<(&'src str, Number)>,
+    ghost rising: { AreRisingNames bindings.items } by { Prim.hlevel props },
 }
 
 impl<'src> ExpressionContext<'src> {
+    ghost use Rattle.std.specs.Prelude.{◌≡◌, ℕ, List, None, IfOk, map, reverse};
+    ghost use Rattle.std.specs.Cmp.Lexicographic.{slice_cmp};
+    ghost use Rattle.std.specs.Map.{lookup};
+    ghost use Rattle.std.specs.Ordering.{nat_cmp};
+    ghost use Rattle.std.specs.Str.{bytes_eq};
+    ghost use Rattle.just_syntax.specs.View.{parameter_view, recipe_parameter_view};
+    ghost use Rattle.just_value.specs.Numbering.{last_of, numbered};
+    ghost use Rattle.just_value.specs.Places.{IsPlace};
+    ghost use Rattle.just_value.specs.View.{looked_up};
+
     /// No name. It takes no memory.
     pub fn new(alloc: Global) -> ExpressionContext<'src>
         ensures { (name : List ℕ) → looked_up result name ≡ None }
     {
         ExpressionContext {
-            bindings: HashMap::new(alloc),
+            bindings: Vec::new(alloc),
         }
     }
 
@@ -37,11 +43,7 @@ impl<'src> ExpressionContext<'src> {
     ) -> Result<ExpressionContext<'src>, OutOfMemory>
         ensures { IfOk result (λ context. (name : List ℕ) → looked_up context name ≡ last_of (map parameter_view pairs.now) name) }
     {
-        let mut context = ExpressionContext::new(alloc);
-        for (name, number) in pairs {
-            context.set(name.lexeme(), *number)?;
-        }
-        Ok(context)
+        ExpressionContext::from_first(ExpressionContext::pairs_backwards(alloc, pairs)?)
     }
 
     /// The names of parameters, each with its number. Of equal names the last parameter counts.
@@ -51,27 +53,63 @@ impl<'src> ExpressionContext<'src> {
     ) -> Result<ExpressionContext<'src>, OutOfMemory>
         ensures { IfOk result (λ context. (name : List ℕ) → looked_up context name ≡ last_of (numbered (map recipe_parameter_view parameters.now)) name) }
     {
-        let mut context = ExpressionContext::new(alloc);
-        for parameter in parameters {
-            context.set(parameter.name.lexeme(), parameter.number)?;
-        }
-        Ok(context)
+        ExpressionContext::from_first(ExpressionContext::parameters_backwards(alloc, parameters)?)
     }
 
     /// The number of a name.
     pub fn lookup(&self, name: &str) -> Option<Number>
         ensures { result ≡ looked_up self.now name.now }
     {
-        self.bindings.get(name).copied()
+        match self.place(name) {
+            Ok(at) => Some(self.bindings[at].1),
+            Err(_) => None,
+        }
     }
 
-    // Gives a name its number, in place of what it had.
-    fn set(&mut self, name: &'src str, number: Number) -> Result<(), OutOfMemory>
-        ensures { OnOk result ((q : List ℕ) → looked_up self.new q ≡ update bytes_eq (looked_up self.old) name.entry.now (Some number) q) }
+    // Where a name stands, or would stand.
+    fn place(&self, name: &str) -> Result<usize, usize>
+        ensures { IsPlace (λ b. slice_cmp nat_cmp b.0.now name.now) self.now.bindings.items result }
     {
-        match self.bindings.insert(name, number) {
-            Ok(_) => Ok(()),
-            Err(_) => Err(OutOfMemory),
-        }
+        self.bindings
+            .binary_search_by_key(&name, |binding| binding.0)
+    }
+
+    // The names of pairs with their numbers, the last first.
+    fn pairs_backwards(
+        alloc: Global,
+        pairs: &[(Name<'src>, Number)],
+    ) -> Result<Vec<(&'src str, Number)>, AllocError>
+        ensures { IfOk result (λ bindings. bindings.items ≡ map (λ p. (p.0.token.lexeme, p.1)) (reverse pairs.now)) }
+    {
+        pairs
+            .iter()
+            .rev()
+            .map(|(name, number)| (name.lexeme(), *number))
+            .collect(alloc)
+    }
+
+    // The names of parameters with their numbers, the last first.
+    fn parameters_backwards(
+        alloc: Global,
+        parameters: &[Parameter<'src>],
+    ) -> Result<Vec<(&'src str, Number)>, AllocError>
+        ensures { IfOk result (λ bindings. bindings.items ≡ map (λ p. (p.name.token.lexeme, p.number)) (reverse parameters.now)) }
+    {
+        parameters
+            .iter()
+            .rev()
+            .map(|parameter| (parameter.name.lexeme(), parameter.number))
+            .collect(alloc)
+    }
+
+    // Of equal names the first counts: the sort is stable, and then the first of a run of equal names is kept.
+    fn from_first(
+        mut bindings: Vec<(&'src str, Number)>,
+    ) -> Result<ExpressionContext<'src>, OutOfMemory>
+        ensures { IfOk result (λ context. (name : List ℕ) → looked_up context name ≡ lookup (λ key. bytes_eq name key.now) bindings.entry.items) }
+    {
+        bindings.sort_by_key(|binding| binding.0)?;
+        bindings.dedup_by_key(|binding| binding.0);
+        Ok(ExpressionContext { bindings })
     }
 }

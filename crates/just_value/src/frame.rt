@@ -1,9 +1,11 @@
-// Frames: bindings by their numbers.
+// Frames: bindings by rising number.
 
 ghost use Rattle.std.specs.Prelude.{◌≡◌, [], OnOk, OnErr, map};
+ghost use Rattle.std.specs.Ordering.{nat_cmp};
 ghost use Rattle.std.specs.Map.{values_of};
 ghost use Rattle.std.specs.Option.{option_map};
 ghost use Rattle.just_value.specs.Frames.{bound_at, with_bound, IsRising};
+ghost use Rattle.just_value.specs.Places.{IsPlace};
 ghost use Rattle.just_value.specs.View.{bindings_left, bound_view, frame_view};
 
 use crate::binding::Binding;
@@ -11,32 +13,32 @@ use crate::bindings::Bindings;
 use just_syntax::number::Number;
 use just_syntax::out_of_memory::OutOfMemory;
 use std::alloc::Global;
-use std::collections::BTreeMap;
+use std::collections::VecDeque;
 use std::fmt;
 use std::marker::Model;
 
-/// Bindings by their numbers.
+/// Bindings by their numbers. They stand by rising number, each number once.
 #[derive(Drop)]
 pub struct Frame<'src> {
-    bindings: BTreeMap<Number, Binding<'src>>,
+    bindings: VecDeque<Binding<'src>>,
 }
 
 impl<'src> Model for Frame<'src> {
-    ghost use Rattle.std.specs.Prelude.{ℕ, List};
+    ghost use Rattle.std.specs.Prelude.{List};
     ghost use Rattle.std.specs.Coded.{codes};
     ghost use Rattle.just_value.specs.declared.binding.Binding.{Binding};
     ghost use Rattle.just_syntax.specs.contracts.expression.Expression as expression;
     ghost use denote.Signature.{static_lft};
 
-    ghost Value = { List (ℕ × Binding) };
+    ghost Value = { List Binding };
 
     ghost coded = { Prim.hlevel (codes, (expression.the_row static_lft).coded) };
 
-    ghost view = { λ f. f.bindings.entries };
+    ghost view = { λ f. f.bindings.items };
 
-    ghost use Rattle.just_value.specs.Numbered.{IsNumbered};
+    ghost use Rattle.just_value.specs.Rising.{AreRising};
 
-    ghost invariant = { λ f. IsNumbered f.bindings.entries };
+    ghost invariant = { λ f. AreRising f.bindings.items };
 }
 
 impl<'src> Frame<'src> {
@@ -45,7 +47,7 @@ impl<'src> Frame<'src> {
         ensures { frame_view result ≡ [] }
     {
         Frame {
-            bindings: BTreeMap::new(alloc),
+            bindings: VecDeque::new(alloc),
         }
     }
 
@@ -53,7 +55,10 @@ impl<'src> Frame<'src> {
     pub fn binding(&self, number: Number) -> Option<&Binding<'src>>
         ensures { option_map (λ b. bound_view b.now) result ≡ bound_at number (frame_view self.now) }
     {
-        self.bindings.get(&number)
+        match self.place(number) {
+            Ok(at) => Some(&self.bindings[at]),
+            Err(_) => None,
+        }
     }
 
     /// The bindings, by rising number.
@@ -61,7 +66,7 @@ impl<'src> Frame<'src> {
         ensures once { map bound_view (bindings_left result) ≡ values_of (frame_view self.now) }
         ensures rising { IsRising (map bound_view (bindings_left result)) }
     {
-        Bindings::new(self.bindings.values())
+        Bindings::new(self.bindings.iter())
     }
 
     // Binds a number, in place of what it was bound to. For want of memory the frame stays as it was.
@@ -69,8 +74,25 @@ impl<'src> Frame<'src> {
         ensures ok { OnOk result (frame_view self.new ≡ with_bound (frame_view self.old) (bound_view binding.entry)) }
         ensures err { OnErr result (frame_view self.new ≡ frame_view self.old) }
     {
-        self.bindings.insert(binding.number, binding)?;
-        Ok(())
+        match self.place(binding.number) {
+            Ok(at) => {
+                self.bindings[at] = binding;
+                Ok(())
+            }
+            Err(at) => Ok(self.bindings.insert(at, binding)?),
+        }
+    }
+
+    // Where a number is bound, or would be. A number past the last needs no search.
+    fn place(&self, number: Number) -> Result<usize, usize>
+        ensures { IsPlace (λ b. nat_cmp b.number number) self.now result }
+    {
+        match self.bindings.back() {
+            Some(last) if last.number < number => Err(self.bindings.len()),
+            _ => self
+                .bindings
+                .binary_search_by_key(&number, |binding| binding.number),
+        }
     }
 }
 

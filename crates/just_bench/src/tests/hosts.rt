@@ -1,4 +1,4 @@
-// Hosts that answer by a script, and hosts that record.
+// Hosts that answer by a script, that record, and that fail.
 
 use crate::context::case_config;
 use crate::print::print_questions;
@@ -7,10 +7,11 @@ use just_host::config::Config;
 use just_host::directory_kind::DirectoryKind;
 use just_host::host::Host;
 use just_host::number_question::NumberQuestion;
+use just_host::recorder::Recorder;
 use just_host::settings::Settings;
 use just_host::text_answer::TextAnswer;
 use just_host::text_question::TextQuestion;
-use just_script::recording_host::RecordingHost;
+use just_script::fail_at::{FailAt, How};
 use just_script::scripted_host::ScriptedHost;
 use just_syntax::out_of_memory::OutOfMemory;
 use just_value::error::CommandFault;
@@ -125,10 +126,55 @@ fn other_answers_in_order(rt: HostRuntime) -> Result<(), Fail> {
     Ok(())
 }
 
+// Two commands, a text, an existence and a number, of which the first ones are passed on.
+#[test]
+fn fails_from_a_question_on(rt: HostRuntime) -> Result<(), Fail> {
+    let alloc = rt.alloc();
+    for (passed, how, expected) in [
+        (
+            5,
+            How::Fault,
+            "Ok(\"x\") Err(Code(3)) Text(\"t\") Ok(true) Ok(7)",
+        ),
+        (
+            1,
+            How::Fault,
+            "Ok(\"x\") Err(Fault(\"broken\")) Fault(\"broken\") Ok(true) Ok(7)",
+        ),
+        (
+            4,
+            How::Memory,
+            "Ok(\"x\") Err(Code(3)) Text(\"t\") Ok(true) Err(OutOfMemory)",
+        ),
+        (
+            0,
+            How::Memory,
+            "Err(OutOfMemory) Err(OutOfMemory) OutOfMemory Err(OutOfMemory) Err(OutOfMemory)",
+        ),
+    ] {
+        let mut host = FailAt::new(script(alloc)?, passed, how);
+        let told = all_kinds_told(alloc, &mut host)?;
+        assert_eq!(rt; told.as_str(), expected, "{passed}");
+    }
+    Ok(())
+}
+
+// What comes of two commands, a text, an existence and a number.
+fn all_kinds_told<H: Host>(alloc: Global, host: &mut H) -> Result<String, Fail> {
+    let scope = Scope::root(alloc, &[])?;
+    let asking = Asking::new(alloc)?;
+    let first = asking.ask(alloc, host, &scope, "c", None);
+    let second = asking.ask(alloc, host, &scope, "c", None);
+    let text = host.text(alloc, TextQuestion::Os);
+    let exists = host.exists(alloc, "p");
+    let number = host.number(alloc, NumberQuestion::Cpus);
+    Ok(format!(in alloc; "{first:?} {second:?} {text:?} {exists:?} {number:?}")?)
+}
+
 #[test]
 fn prints_each_kind_of_question(rt: HostRuntime) -> Result<(), Fail> {
     let alloc = rt.alloc();
-    let mut host = RecordingHost::new(alloc, script(alloc)?);
+    let mut host = Recorder::new(alloc, script(alloc)?);
     for question in [
         TextQuestion::Variable("K\t"),
         TextQuestion::Directory(DirectoryKind::ConfigLocal),
@@ -163,7 +209,7 @@ fn records_each_question(rt: HostRuntime) -> Result<(), Fail> {
     let alloc = rt.alloc();
     let scope = Scope::root(alloc, &[])?;
     let asking = Asking::new(alloc)?;
-    let mut host = RecordingHost::new(alloc, script(alloc)?);
+    let mut host = Recorder::new(alloc, script(alloc)?);
     let arguments = vec![in alloc;
         String::from_str(alloc, "a b")?,
         String::from_str(alloc, "\"")?,

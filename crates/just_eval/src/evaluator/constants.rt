@@ -1,15 +1,17 @@
 // Evaluation before any run: which assignments are settled, and what expressions come to.
 
 ghost use Rattle.std.specs.Prelude.{[], IfOk, List, string_bytes, ◌≡◌, ◌∷◌};
+ghost use Rattle.std.specs.Option.{ForSome};
 ghost use Rattle.just_syntax.specs.View.{name_view, string_context_view, view};
+ghost use Rattle.just_value.specs.ConstEval.{IsConstEval};
 ghost use Rattle.just_value.specs.Outcome.{UnlessStopped, and_then};
-ghost use Rattle.just_value.specs.View.{const_ended, ended, frames_view};
+ghost use Rattle.just_value.specs.View.{const_ended, ended, frames_view, refusal};
 ghost use Rattle.just_meaning.specs.Internal.{IsNotInternal};
 ghost use Rattle.just_meaning.specs.Resolved.{IsResolvedConst};
 ghost use Rattle.just_meaning.specs.Settings.{text_in};
 ghost use Rattle.just_meaning.specs.Stage.{Staged, at_start, const_value};
 ghost use Rattle.just_meaning.specs.View.{constants_of};
-ghost use Rattle.just_eval.specs.View.{IsConst, standing_of};
+ghost use Rattle.just_eval.specs.View.{IsConst, OpensOrEnds, standing_of};
 
 use super::Evaluator;
 use crate::no_host::NoHost;
@@ -58,13 +60,7 @@ impl<'src, 'run> Evaluator<'src, 'run> {
         ensures never_internal { let m = constants_of assignments.now evaluation_order.now overrides.now variable_references.now in
             IsResolvedConst m.assignments (frames_view scope.entry.now) → IsNotInternal (const_ended standing_of result) }
     {
-        let mut evaluator = Evaluator {
-            context: None,
-            env: BTreeMap::new(alloc),
-            lists,
-            non_const_assignments: HashSet::new(alloc),
-            scope: scope.child(alloc)?,
-        };
+        let mut evaluator = Evaluator::of_assignments(alloc, None, lists, scope.child(alloc)?);
         for name in evaluation_order {
             evaluator.evaluate_const_named(
                 alloc,
@@ -101,13 +97,26 @@ impl<'src, 'run> Evaluator<'src, 'run> {
         }
         match self.evaluate_assignment(alloc, &mut NoHost, overrides, assignment) {
             Ok(()) => Ok(()),
-            Err(error) => match error {
-                Error::Const(_) => {
-                    self.non_const_assignments.insert(assignment.number)?;
-                    Ok(())
-                }
-                error => Err(error.unwrap_const()),
-            },
+            Err(error) => self.open_or_end(assignment.number, error),
+        }
+    }
+
+    // Opens a number whose expression only a run can evaluate; another refusal ends the stage. Apart, so that a settled
+    // variable makes no room for a refusal.
+    #[cold]
+    #[inline(never)]
+    fn open_or_end(&mut self, number: Number, error: Error<'src>) -> Result<(), CompileError<'src>>
+        requires start { IsConst self.old }
+        requires few { ForSome (refusal error) IsConstEval }
+        ensures same { IsConst self.new }
+        ensures ended { OpensOrEnds (refusal error.entry) (standing_of self.old) number (const_ended (λ _. standing_of self.new) result) }
+    {
+        match error {
+            Error::Const(_) => {
+                self.non_const_assignments.insert(number)?;
+                Ok(())
+            }
+            error => Err(error.unwrap_const()),
         }
     }
 

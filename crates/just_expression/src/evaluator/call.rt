@@ -26,7 +26,6 @@ use just_value::const_error::ConstError;
 use just_value::error::Error;
 use just_value::value::Value;
 use std::alloc::Global;
-use std::collections::BTreeMap;
 
 impl<'src, 'run, 'here> ExpressionEvaluator<'src, 'run, 'here> {
     // The value of a call: of its arguments, and then of what it reaches.
@@ -81,11 +80,10 @@ impl<'src, 'run, 'here> ExpressionEvaluator<'src, 'run, 'here> {
             Answers self.now H.step host.old (eval p (dynamic p calls_left) (inside (value_in s.below) s f values.items) f.body) result host.new }
     {
         let scope = called_scope(alloc, &function.parameters, values, self.below)?;
-        let env = BTreeMap::new(alloc);
         let evaluator = ExpressionEvaluator {
             context: self.context,
             calls_left,
-            env: &env,
+            env: self.env,
             is_dependency: self.is_dependency,
             lists: self.lists,
             non_const_assignments: self.non_const_assignments,

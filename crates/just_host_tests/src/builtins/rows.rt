@@ -1,57 +1,7 @@
-// Tables of names, of shapes, and of what calls answer.
+// Tables of shapes, and of what calls answer.
 
 use just_builtins::builtin::Builtin;
 use just_builtins::function::Function;
-
-/// Names, and the functions that they stand for.
-pub const NAMES: &[(&str, Option<Function>)] = &[
-    (
-        "justfile_dir",
-        Some(Function::Nullary(Builtin::JustfileDirectory)),
-    ),
-    (
-        "justfile_directory",
-        Some(Function::Nullary(Builtin::JustfileDirectory)),
-    ),
-    (
-        "invocation_dir_native",
-        Some(Function::Nullary(Builtin::InvocationDirectoryNative)),
-    ),
-    ("append", Some(Function::BinaryStrValue(Builtin::Append))),
-    (
-        "without_extension",
-        Some(Function::Unary(Builtin::WithoutExtension)),
-    ),
-    ("home_dir", Some(Function::Nullary(Builtin::HomeDirectory))),
-    ("canonicalize", Some(Function::Unary(Builtin::Canonicalize))),
-    ("shell", Some(Function::UnaryPlus(Builtin::Shell))),
-    (
-        "path_exists",
-        Some(Function::UnaryToValue(Builtin::PathExists)),
-    ),
-    ("env", Some(Function::ValueBinaryOpt(Builtin::Env))),
-    ("env_var", Some(Function::ValueUnary(Builtin::EnvVar))),
-    (
-        "env_var_or_default",
-        Some(Function::ValueBinary(Builtin::EnvVarOrDefault)),
-    ),
-    ("foo_dir", None),
-    ("_dir", None),
-    ("", None),
-    ("Append", None),
-    ("sha256", None),
-];
-
-/// Names, and whether they are left out.
-pub const LEFT_OUT_NAMES: &[(&str, bool)] = &[
-    ("absolute_path", true),
-    ("sha256", true),
-    ("uuid", true),
-    ("uuid_dir", false),
-    ("append", false),
-    ("nope", false),
-    ("", false),
-];
 
 /// Functions, how few and how many arguments they take, and whether those at 0, 1 and 2 are texts.
 pub const SHAPES: &[(Function, usize, usize, [bool; 3])] = &[

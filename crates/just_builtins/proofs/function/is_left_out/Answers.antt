@@ -1,7 +1,10 @@
-use Rattle.std.proofs.Common.{ap, ◌∙◌}
-use Rattle.just_builtins.specs.Table.{left_out, is_among, is_left_out}
+use Rattle.std.proofs.Common.{refl, ◌∙◌, map}
+use Rattle.just_builtins.specs.declared.table.TheConstants.{LEFT_OUT}
+use Rattle.just_builtins.specs.Table.{left_out, is_left_out}
+use Rattle.just_builtins.proofs.Spelled.{same_among}
 use Rattle.just_builtins.proofs.function.is_left_out.Goals as goal
 
+-- computed of the names: each has its place, no shorter one is wanting, and each is one that is left out
 pub returns : goal.returns
 unfolding is_left_out
-returns c = c.is_among.ensures ∙ ap (is_among left_out) c.whole_name.ensures
+returns c = c.is_among.ensures ∙ same_among (map (λ name. name.now) LEFT_OUT) left_out refl refl c.args.name.now

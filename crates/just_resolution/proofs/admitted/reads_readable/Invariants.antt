@@ -5,7 +5,7 @@ use Rattle.just_resolution.proofs.Closure.{IsWalked, work}
 use Rattle.just_resolution.proofs.admitted.reads_readable.Given as goal
 
 abbrev pub invariant-loop-name : goal.invariant-loop-name
-invariant-loop-name l = IsWalked (map function_view l.functions) (view l.expression) (is_readable l.readable) (is_name_in l.admitted) (texts l.pending.items)
+invariant-loop-name l = IsWalked (map function_view l.functions) (view l.expression) (is_readable l.here) (is_readable l.readable) (is_name_in l.admitted) (texts l.pending.items)
 
 -- what is not admitted calls so much yet, and so much is pending
 abbrev pub decreases-loop-name : goal.decreases-loop-name

@@ -1,8 +1,6 @@
-use Rattle.std.proofs.Common.{◌≡◌, ◌∙◌, ap, subst, sym, Some, None}
+use Rattle.std.proofs.Common.{◌∙◌, ap}
 use Rattle.std.proofs.lemmas.Result.{err_from_is_err_and}
-use Rattle.just_syntax.specs.View.{assignment_view}
-use Rattle.just_value.specs.Frames.{Frames, bound_in_front, innermost}
-use Rattle.just_value.specs.Outcome.{Gave}
+use Rattle.just_value.specs.Frames.{bound_in_front, innermost}
 use Rattle.just_value.specs.View.{frames_view}
 use Rattle.just_eval.specs.View.{WasBound, IsBound}
 use Rattle.just_eval.proofs.Assigned.{assigned_cut, assigned_exit, assigned_none}

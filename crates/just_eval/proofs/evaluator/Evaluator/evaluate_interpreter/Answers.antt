@@ -1,4 +1,3 @@
-use Rattle.std.proofs.Common.{◌<◌, length}
 use Rattle.just_syntax.specs.View.{view}
 use Rattle.just_eval.proofs.Constants.{elements_next}
 use Rattle.just_eval.proofs.evaluator.Evaluator.evaluate_interpreter.Goals as goal

@@ -1,23 +1,25 @@
-use Rattle.std.proofs.Common.{sym}
 use Rattle.just_syntax.specs.View.{view}
-use Rattle.just_value.specs.View.{ended}
-use Rattle.just_meaning.specs.Stage.{const_meaning}
-use Rattle.just_laws.proofs.Constants.{IsTold, const_told, eval_alike}
-use Rattle.just_eval.specs.View.{standing_of}
 use Rattle.just_eval.proofs.Constants.{few_ended}
+use Rattle.just_eval.proofs.Here.{answered, constants, few, headline, never_const, never_internal, still, value_made}
 use Rattle.just_eval.proofs.evaluator.Evaluator.evaluate_value.Goals as goal
 
+pub returns-clause-headline : goal.returns-clause-headline
+returns-clause-headline g c = headline c.args.self.now _ _ (value_made (view c.args.expression.now)) c.evaluated.ensures
+
+pub returns-clause-never_internal : goal.returns-clause-never_internal
+returns-clause-never_internal g c = never_internal c.args.self.now _ _ (value_made (view c.args.expression.now)) c.evaluated.ensures
+
+pub returns-clause-never_const : goal.returns-clause-never_const
+returns-clause-never_const g c = never_const c.args.self.now _ _ (value_made (view c.args.expression.now)) c.evaluated.ensures
+
+pub returns-clause-answered : goal.returns-clause-answered
+returns-clause-answered g c = answered c.args.self.now _ _ (value_made (view c.args.expression.now)) c.evaluated.ensures
+
 pub returns-clause-constants : goal.returns-clause-constants
-returns-clause-constants g c =
-    let s = standing_of c.args.self.now in
-    (const_told s.is_open (const_meaning s (view c.args.expression.now)) _ (eval_alike s.is_open _ _ _ (view c.args.expression.now)) (rw c.requires.before_runs.context at c.evaluated.ensures)).told
+returns-clause-constants g c = λ before. constants c.args.self.now _ _ (value_made (view c.args.expression.now)) before c.evaluated.ensures
 
 pub returns-clause-few : goal.returns-clause-few
-returns-clause-few g c =
-    let s = standing_of c.args.self.now in
-    few_ended _ (const_told s.is_open (const_meaning s (view c.args.expression.now)) _ (eval_alike s.is_open _ _ _ (view c.args.expression.now)) (rw c.requires.before_runs.context at c.evaluated.ensures)).few
+returns-clause-few g c = λ before. few_ended _ (few c.args.self.now _ _ (value_made (view c.args.expression.now)) before c.evaluated.ensures)
 
 pub returns-clause-still : goal.returns-clause-still
-returns-clause-still g c =
-    let s = standing_of c.args.self.now in
-    sym (const_told s.is_open (const_meaning s (view c.args.expression.now)) _ (eval_alike s.is_open _ _ _ (view c.args.expression.now)) (rw c.requires.before_runs.context at c.evaluated.ensures)).still
+returns-clause-still g c = λ before. still c.args.self.now _ _ (value_made (view c.args.expression.now)) before c.evaluated.ensures

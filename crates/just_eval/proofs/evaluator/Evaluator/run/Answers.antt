@@ -5,10 +5,18 @@ use Rattle.just_syntax.specs.View.{name_view}
 use Rattle.just_eval.proofs.Module.{ran_finished, ran_last, ran_next, ran_stops}
 use Rattle.just_eval.proofs.evaluator.Evaluator.run.Goals as goal
 
-pub returns-in_err-child : goal.returns-in_err-child
-returns-in_err-child g c =
+pub returns-in_err-scope : goal.returns-in_err-scope
+returns-in_err-scope g c =
     let p = err_from_is_err_and c.from_residual.result c.from_residual.ensures.1 in
     rw (p.1, p.2) (ran_stops _ _)
+
+pub loop-name-init : goal.loop-name-init
+loop-name-init g c = record {
+  here = c.of_assignments-evaluator.ensures.context;
+  lists = c.of_assignments-evaluator.ensures.lists;
+  start = c.of_assignments-evaluator.ensures.start;
+  rest = λ o new r. rw (c.of_assignments-evaluator.ensures.frames, c.in_ok-scope.ensures) at r;
+}
 
 pub returns-in_err-evaluate_named : goal.returns-in_err-evaluate_named
 returns-in_err-evaluate_named g c =

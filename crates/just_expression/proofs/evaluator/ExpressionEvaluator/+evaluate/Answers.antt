@@ -17,7 +17,8 @@ use Rattle.just_expression.specs.View.{meaning, program, row, situation}
 use Rattle.just_expression.proofs.Calls.{body_runs, call_ends, call_refused, call_runs, inside_is, looked_at}
 use Rattle.just_expression.proofs.Leaves.{not_both}
 use Rattle.just_expression.proofs.Measure.{one_fewer}
-use Rattle.just_expression.proofs.Rows.{call_is, flatten_more, format_string_is, left_all, list_is, pieces_all, pieces_cut, pieces_end, pieces_next, row_all, row_cut, row_ends, row_next}
+use Rattle.just_host.proofs.Left.{left_all}
+use Rattle.just_expression.proofs.Rows.{call_is, flatten_more, format_string_is, list_is, pieces_all, pieces_cut, pieces_end, pieces_next, row_all, row_cut, row_ends, row_next}
 use Rattle.just_expression.proofs.Texts.{more_texts}
 use Rattle.just_expression.proofs.evaluator.ExpressionEvaluator.+evaluate.Goals.{evaluate_assert-in-Some+in_ok-value-in-Some+in_ok-message-in-Some, evaluate_assert-in-None+in_ok-message-in-None, evaluate_conditional-then-is_truthy, evaluate_conditional-else-is_truthy}
 use Rattle.just_expression.proofs.evaluator.ExpressionEvaluator.+evaluate.Goals as goal
@@ -430,4 +431,4 @@ evaluate_body-returns g t c =
     let function = c.args.function.now in
     let bound : frames_view c.in_ok-scope.scope ≡ with_parameters [] (map parameter_view function.parameters.items) c.args.values.items ∷ frames_view self.below.now = rw (c.in_ok-scope.ensures, c.deref.ensures.value) refl in
     body_runs (program self) c.args.calls_left _ _ (view function.body) _
-    (inside_is (frames_view c.in_ok-scope.scope) (situation self) _ (function_view function) c.args.values.items bound (rw c.new-env.ensures.empty refl)) c.evaluate_value.ensures
+    (inside_is (frames_view c.in_ok-scope.scope) (situation self) _ (function_view function) c.args.values.items bound refl) c.evaluate_value.ensures

@@ -1,10 +1,9 @@
-use Rattle.std.proofs.Common.{arith}
+use Rattle.std.proofs.Common.{ap, refl, ◌∙◌}
+use Rattle.std.specs.Map.{lookup}
+use Rattle.std.proofs.lemmas.Result.{IfOk-weaker}
 use Rattle.just_syntax.specs.View.{parameter_view}
-use Rattle.just_value.specs.View.{looked_up}
-use Rattle.just_value.proofs.Numbering.{numbered_more}
+use Rattle.just_value.proofs.Named.{is_named, last_first}
 use Rattle.just_value.proofs.expression_context.ExpressionContext.from_pairs.Goals as goal
 
-pub loop-name-preserved : goal.loop-name-preserved
-loop-name-preserved c = λ q.
-    numbered_more parameter_view c.args.pairs.now c.loop-name.name-index c.loop-name-item.result q (looked_up c.loop-name.context) (looked_up c.set.new.self)
-    (omega arith) c.loop-name-item.is c.loop-name.invariant (rw c.lexeme.ensures at c.in_ok-set.ensures)
+pub returns : goal.returns
+returns c = IfOk-weaker c.from_first.result _ _ (λ context is name. is name ∙ ap (lookup (is_named name)) c.in_ok-pairs_backwards.ensures ∙ last_first parameter_view (λ p. (p.0.token.lexeme, p.1)) (λ p. (refl, refl)) c.args.pairs.now name) c.from_first.ensures

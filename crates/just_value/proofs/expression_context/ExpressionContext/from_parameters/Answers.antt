@@ -1,12 +1,10 @@
-use Rattle.std.proofs.Common.{◌+◌, take, arith, ap, sym, ◌∙◌}
+use Rattle.std.proofs.Common.{ap, refl, ◌∙◌}
+use Rattle.std.specs.Map.{lookup}
+use Rattle.std.proofs.lemmas.Result.{IfOk-weaker}
 use Rattle.just_value.specs.Numbering.{last_of}
-use Rattle.just_value.specs.View.{looked_up}
-use Rattle.just_value.proofs.Numbering.{numbered_more, pair_of, pairs_of}
+use Rattle.just_value.proofs.Named.{is_named, last_first}
+use Rattle.just_value.proofs.Numbering.{pair_of, pairs_of}
 use Rattle.just_value.proofs.expression_context.ExpressionContext.from_parameters.Goals as goal
 
-pub loop-parameter-preserved : goal.loop-parameter-preserved
-loop-parameter-preserved c = λ q.
-    let i = c.loop-parameter.parameter-index in
-    numbered_more pair_of c.args.parameters.now c.loop-parameter.parameter-index c.parameter-item.result q (looked_up c.loop-parameter.context) (looked_up c.set.new.self)
-    (omega arith) c.parameter-item.is (λ p. c.loop-parameter.invariant p ∙ ap (λ ps. last_of ps p) (sym (pairs_of (take i c.args.parameters.now)))) (rw c.lexeme.ensures at c.in_ok-set.ensures)
-    ∙ ap (λ ps. last_of ps q) (pairs_of (take (i + 1) c.args.parameters.now))
+pub returns : goal.returns
+returns c = IfOk-weaker c.from_first.result _ _ (λ context is name. is name ∙ ap (lookup (is_named name)) c.in_ok-parameters_backwards.ensures ∙ last_first pair_of (λ p. (p.name.token.lexeme, p.number)) (λ p. (refl, refl)) c.args.parameters.now name ∙ ap (λ ps. last_of ps name) (pairs_of c.args.parameters.now)) c.from_first.ensures

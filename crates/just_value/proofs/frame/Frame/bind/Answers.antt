@@ -1,16 +1,18 @@
-use Rattle.std.proofs.Common.{ap, map, refl, sym, subst, ◌∙◌}
-use Rattle.just_value.specs.Frames.{with_bound}
-use Rattle.just_value.specs.View.{bound_view, frame_view}
-use Rattle.just_value.specs.Numbered.{IsNumbered}
-use Rattle.just_value.proofs.Numbers.{numbered_insert}
-use Rattle.just_value.proofs.Seen.{seen, seen_insert}
+use Rattle.std.proofs.Common.{subst}
+use Rattle.just_value.specs.Rising.{AreRising}
+use Rattle.just_value.proofs.Framed.{bound_between, bound_over, rising_between, rising_over}
 use Rattle.just_value.proofs.frame.Frame.bind.Goals as goal
 
-pub invariant_of-self-2 : goal.invariant_of-self-2
-invariant_of-self-2 c = subst IsNumbered (sym c.in_ok-insert.ensures.entries) (numbered_insert c.self.inside.bindings.entries c.args.binding.number c.args.binding refl c.self.invariant)
+-- the binding of the number is replaced
+pub invariant_of-self : goal.invariant_of-self
+invariant_of-self c = rising_over c.self.inside.bindings.items c.self.invariant c.args.binding c.in-Ok.at (rw c.self.view_is c.in-Ok.ensures)
 
-pub returns-clause-ok : goal.returns-clause-ok
-returns-clause-ok c =
-    ap (map (seen bound_view)) c.in_ok-insert.ensures.entries
-    ∙ seen_insert bound_view c.self.inside.bindings.entries c.args.binding.number c.args.binding
-    ∙ ap (λ f. with_bound (frame_view f) (bound_view c.args.binding)) c.self.view_is
+pub returns-in-Ok-clause-ok : goal.returns-in-Ok-clause-ok
+returns-in-Ok-clause-ok c = rw c.self.view_is (bound_over c.args.self.now (subst AreRising c.self.view_is c.self.invariant) c.args.binding c.in-Ok.at c.in-Ok.ensures)
+
+-- the binding is put at its place
+pub invariant_of-self-in-Err : goal.invariant_of-self-in-Err
+invariant_of-self-in-Err c = rw c.in_ok-insert-in-Err.ensures.items (rising_between c.self.inside.bindings.items c.self.invariant c.args.binding c.in-Err.at (rw c.self.view_is c.in-Err.ensures))
+
+pub returns-in_ok-insert-in-Err-clause-ok : goal.returns-in_ok-insert-in-Err-clause-ok
+returns-in_ok-insert-in-Err-clause-ok c = rw (c.in_ok-insert-in-Err.ensures.items, c.self.view_is) (bound_between c.args.self.now (subst AreRising c.self.view_is c.self.invariant) c.args.binding c.in-Err.at c.in-Err.ensures)

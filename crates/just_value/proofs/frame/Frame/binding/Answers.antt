@@ -1,13 +1,12 @@
-use Rattle.std.proofs.Common.{ap, ◌∙◌}
-use Rattle.std.specs.Option.{option_map}
-use Rattle.just_value.specs.Frames.{bound_at}
-use Rattle.just_value.specs.View.{bound_view, frame_view}
-use Rattle.just_value.proofs.Seen.{seen_copied, seen_lookup}
+use Rattle.std.proofs.Common.{sym, subst}
+use Rattle.just_value.specs.Rising.{AreRising}
+use Rattle.just_value.proofs.Framed.{bound_found, bound_missing}
 use Rattle.just_value.proofs.frame.Frame.binding.Goals as goal
 
-pub returns : goal.returns
-returns c =
-    seen_copied bound_view c.get.result
-    ∙ ap (option_map bound_view) c.get.ensures.value
-    ∙ seen_lookup bound_view c.self.inside.bindings.entries c.args.number
-    ∙ ap (λ f. bound_at c.args.number (frame_view f)) c.self.view_is
+pub returns-in-Ok : goal.returns-in-Ok
+returns-in-Ok c =
+    let there = bound_found c.args.self.now (subst AreRising c.self.view_is c.self.invariant) c.args.number c.in-Ok.at c.index.result.now c.in-Ok.ensures in
+    cc
+
+pub returns-in-Err : goal.returns-in-Err
+returns-in-Err c = sym (bound_missing c.args.self.now (subst AreRising c.self.view_is c.self.invariant) c.args.number c.in-Err.field-0 c.in-Err.ensures)

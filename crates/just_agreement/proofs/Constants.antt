@@ -1,0 +1,153 @@
+-- What a const stage finds, a run of the same module bears out.
+use Rattle.std.proofs.Common.{◌≡◌, ◌≢◌, inl, inr, ℕ, zero, suc, ◌-◌, Bool, true, false, List, [], ◌∷◌, map, Some, None, if◌then◌else◌, refl, sym, ap, ◌∙◌, subst}
+use Rattle.just_syntax.specs.Plain.{Assignment}
+use Rattle.just_value.specs.ConstRefusal.{ConstRefusal, Backtick, FunctionCall, Variable}
+use Rattle.just_value.specs.Value.{Value, Names}
+use Rattle.just_value.specs.Frames.{Frames, value_in}
+use Rattle.just_value.specs.Refusal.{Refusal, Const}
+use Rattle.just_value.specs.Outcome.{Outcome, Gave, Refused, Stopped}
+use Rattle.just_host.specs.Interaction as interaction
+use Rattle.just_host.specs.Interaction.{Note, Read, Entered, Command, Event, Noted, Tree, done, note, Path, Ends, Notes, Shuts, freely}
+use Rattle.just_meaning.specs.Closings.{lexical, inside}
+use Rattle.just_meaning.specs.Constant.{constant, constantly, nowhere, unless_refused}
+use Rattle.just_meaning.specs.Internal.{IfRefused, IsFinal}
+use Rattle.just_meaning.specs.Meaning.{Program, AtLimit, eval}
+use Rattle.just_meaning.specs.Module.{Module, Block, assigned, lexically, or_override, situation_at}
+use Rattle.just_meaning.specs.Reaches.{Mention, VariableOf, CallOf, Stands}
+use Rattle.just_meaning.specs.Stage.{Constants, Found, const_meaning}
+use Rattle.just_laws.proofs.Ends.{AllEnd}
+use Rattle.just_laws.proofs.Final.{IsFinalDeeper, final_eval, final_override}
+use Rattle.just_agreement.specs.Foretold.{AreConstant, AreOfOneModule, ConstAgrees, Foretells, is_found_open, is_shut}
+use Rattle.just_agreement.specs.Cone.{numbered}
+use Rattle.just_agreement.proofs.Alike.{Alike, Done, Both, Same, SameCheck, UpToShut, IsTold, alike_eval, alike_override}
+use Rattle.just_agreement.proofs.Blocks.{AllMet, IsGiven, IsIn, Met, all_met, gave_same, in_of, met_outside, never_both, some_same}
+use Rattle.just_agreement.proofs.Agreed.{gave_on}
+use Rattle.just_agreement.proofs.Orders.{distinct_front}
+use Rattle.just_agreement.proofs.Stages as stages
+use Rattle.just_agreement.proofs.Stages.{IsFound, MetConst, found_outside, is_what_was_found, standing}
+
+-- ---- paths
+
+abbrev block_of : ℕ → List Event → Outcome Value → Block
+block_of n es o = record { number = n; events = es; outcome = o }
+
+-- what is refused otherwise is refused alike
+foretells_refused : (is_open : ℕ → Bool) (n : ℕ) (es : List Event) (r : Refusal) → IsFinal r → AreConstant is_open es → Foretells is_open (Refused r) (block_of n es (Refused r))
+foretells_refused is_open n es (Const c) h k = absurd h
+foretells_refused is_open n es _ h k = (refl, k)
+
+-- one more thing that is not shut, before what is foretold
+foretells_note : (is_open : ℕ → Bool) (x : Note) (o : Outcome Value) (n : ℕ) (es : List Event) (p : Outcome Value) → is_shut is_open x ≡ false → Foretells is_open o (block_of n es p) → Foretells is_open o (block_of n (Noted x ∷ es) p)
+foretells_note is_open x (Gave v) n es p e h = (h.0, (e, h.1))
+foretells_note is_open x (Refused (Const c)) n es p e h = inr h
+foretells_note is_open x (Refused _) n es p e h = (h.0, (e, h.1))
+foretells_note is_open x Stopped n es p e h = tt
+
+-- what is shut is refused by the const rules, and nothing else is
+refused_shut : (is_open : ℕ → Bool) (x : Note) → is_shut is_open x ≡ true → (c : ConstRefusal) × (constantly is_open x ≡ Some (Const c))
+refused_shut is_open (Read t n) e = (Variable t, ap (λ b. if b then Some (Const (Variable t)) else None) e)
+refused_shut is_open (Entered t) e = (FunctionCall t, refl)
+refused_shut is_open (Command t) e = (Backtick t, refl)
+
+passed_open : (is_open : ℕ → Bool) (x : Note) → is_shut is_open x ≡ false → constantly is_open x ≡ None
+passed_open is_open (Read t n) e = ap (λ b. if b then Some (Const (Variable t)) else None) e
+passed_open is_open (Entered t) e = absurd (cc)
+passed_open is_open (Command t) e = absurd (cc)
+
+module _ (one other : ℕ → Bool) (n : ℕ) where
+  foretold_note : (x : Note) (o : Outcome Value) (es : List Event) (p : Outcome Value) (b : Bool) → is_shut one x ≡ b → is_shut one x ≡ is_shut other x → (is_shut one x ≡ false → Foretells other o (block_of n es p))
+      → Foretells other (unless_refused (constantly one x) o) (block_of n (Noted x ∷ es) p)
+  foretold_note x o es p true e same h =
+      let c = refused_shut one x e in
+      subst (λ r. Foretells other (unless_refused r o) (block_of n (Noted x ∷ es) p)) (sym c.1) (inl (sym same ∙ e))
+  foretold_note x o es p false e same h = subst (λ r. Foretells other (unless_refused r o) (block_of n (Noted x ∷ es) p)) (sym (passed_open one x e)) (foretells_note other x o n es p (sym same ∙ e) (h e))
+
+  -- what the const rules make of a tree, the paths down one that is alike up to what is shut bear out
+  foretold : {t u : Tree Value} {es : List Event} {p : Outcome Value} → Alike (UpToShut one other) t u → AllEnd (IfRefused IsFinal) u → Path freely u es p → p ≢ Stopped → Foretells other (constant one t) (block_of n es p)
+  foretold (Done {o = Gave v}) final Ends on = (refl, tt)
+  foretold (Done {o = Refused r}) final Ends on = foretells_refused other n [] r final tt
+  foretold (Done {o = Stopped}) final Ends on = tt
+  foretold (Same {x = x} {t = t} steady k) final (Notes {es = es} {o = end} e p) on = foretold_note x (constant one t) es end (is_shut one x) refl steady (λ e. foretold (k e) final p on)
+  foretold (Both whole e k) final p on = absurd whole
+  foretold (SameCheck whole k) final p on = absurd whole
+  foretold a final interaction.Stops on = absurd (on refl)
+  foretold a final (Shuts e) on = absurd (cc)
+
+-- ---- a run's tree ends in no refusal of the const rules
+
+final_lexical : (c : Program) (base : Names) (n : ℕ) → IsFinalDeeper (lexical c base n)
+final_lexical c base zero = tt
+final_lexical c base (suc n) = λ f s vs. final_eval c (inside base s f vs) (lexical c base n) (final_lexical c base n) f.body
+
+final_assigned : (m : Module) (frames : Frames) (a : Assignment) → AllEnd (IfRefused IsFinal) (assigned lexically m frames a)
+final_assigned m frames a =
+    final_override (m.overrides a.number) _ (final_eval m.program (situation_at m.program.fixed.settings.lists frames) (lexically m frames) (final_lexical m.program (value_in frames) (m.limit - 1)) a.value)
+
+-- ---- the blocks of a run
+
+module _ (m : Constants) (lists : Bool) (outer : Frames) (n : Module) (others : Frames) (same : AreOfOneModule m lists outer n others) (ends : ℕ → Bool) (fs : List Found) (met : (f : Found) → IsIn fs f → MetConst m lists outer ends fs f) where
+  -- what the stage made of an assignment is alike, up to what is shut, to what the run makes of it
+  assigned_alike : (f : Found) (k : MetConst m lists outer ends fs f) (frames : Frames) → ((j : ℕ) → Stands k.assignment.value (VariableOf (Some j)) → k.opened j ≡ false → value_in (k.frame ∷ outer) j ≡ value_in frames j)
+      → Alike (UpToShut k.opened ends) (or_override (m.overrides k.assignment.number) (const_meaning (standing lists outer k.frame k.opened) k.assignment.value)) (assigned lexically n frames k.assignment)
+  assigned_alike f k frames names =
+      subst (λ o. Alike (UpToShut k.opened ends) (or_override (m.overrides a.number) (const_meaning (standing lists outer k.frame k.opened) a.value)) (or_override o (eval n.program (lexically n frames) (situation_at n.program.fixed.settings.lists frames) a.value))) (same.overrides a.number)
+      (alike_override (m.overrides a.number) (λ free.
+      subst (λ b. Alike (UpToShut k.opened ends) (const_meaning (standing lists outer k.frame k.opened) a.value) (eval n.program (lexically n frames) (situation_at b frames) a.value)) same.same_lists
+      (alike_eval (UpToShut k.opened ends) nowhere n.program AtLimit (lexically n frames) (situation_at lists (k.frame ∷ outer)) (value_in frames) frames frames (λ name. Unit {0})
+      (λ text t e. absurd (cc)) (λ t i row other e reached counted h. absurd (cc)) a.value told)))
+    where
+      a : Assignment
+      a = k.assignment
+
+      told : (x : Mention) → Stands k.assignment.value x → IsTold (UpToShut k.opened ends) (λ name. Unit {0}) (value_in (k.frame ∷ outer)) (value_in frames) x
+      told (VariableOf None) h = tt
+      told (VariableOf (Some j)) h = λ t. (k.steady j h, names j h)
+      told (CallOf name i) h = tt
+
+  abbrev Bears : Block → Type 0
+  Bears b = (f : Found) → IsIn fs f → f.number ≡ b.number → b.outcome ≢ Stopped → Foretells ends f.outcome b
+
+  abbrev AllBear : List Block → Type 0
+  AllBear before = (b : Block) → IsIn before b → Bears b × (value_in others b.number ≡ None)
+
+  one_value : (before : List Block) → AllBear before → (j : ℕ) (v u : Value) → IsFound outer fs j v → IsGiven others before j u → v ≡ u
+  one_value before borne j v u (inl out) (inl out') = some_same v u (sym out ∙ same.values j ∙ out')
+  one_value before borne j v u (inl out) (inr (b, at, number, gave)) = absurd (never_both v (value_in others j) (sym (same.values j) ∙ out) (subst (λ i. value_in others i ≡ None) number (borne b at).1))
+  one_value before borne j v u (inr (f, at, number, gave)) (inl out) = absurd (never_both u (value_in outer j) (same.values j ∙ out) (subst (λ i. value_in outer i ≡ None) number (found_outside m lists outer ends fs f (met f at))))
+  one_value before borne j v u (inr (f, at, number, gave)) (inr (b, at', number', gave')) =
+      let borne_out : Foretells ends (Gave v) b = subst (λ o. Foretells ends o b) gave ((borne b at').0 f at (number ∙ sym number') (gave_on u b.outcome gave')) in
+      gave_same v u (sym borne_out.0 ∙ gave')
+
+  bear_here : (before : List Block) → AllBear before → (b : Block) → Met n others before b → Bears b
+  bear_here before borne b l f at number on =
+      subst (λ o. Foretells ends o b) k.comes
+      (foretold k.opened ends b.number (assigned_alike f k (l.frame ∷ others) names) (final_assigned n (l.frame ∷ others) k.assignment) (subst (λ a. Path freely (assigned lexically n (l.frame ∷ others) a) b.events b.outcome) (sym one) l.path) on)
+    where
+      k : MetConst m lists outer ends fs f
+      k = met f at
+
+      one : k.assignment ≡ l.assignment
+      one = some_same k.assignment l.assignment (sym k.found ∙ ap (λ all. numbered all k.assignment.number) same.assignments ∙ ap (numbered n.assignments.all) (k.number ∙ number ∙ sym l.number) ∙ l.found)
+
+      names : (j : ℕ) → Stands k.assignment.value (VariableOf (Some j)) → k.opened j ≡ false → value_in (k.frame ∷ outer) j ≡ value_in (l.frame ∷ others) j
+      names j h e =
+          let v = k.has j h e in
+          let u = l.reads j (inl (subst (λ a. Stands a.value (VariableOf (Some j))) one h)) in
+          v.1 ∙ ap Some (one_value before borne j v.0 u.0 (k.given j v.0 v.1) (l.given j u.0 u.1)) ∙ sym u.1
+
+  bear_all : (before bs : List Block) → AllBear before → AllMet n others before bs → (b : Block) → IsIn bs b → Bears b
+  bear_all before [] borne h b at = absurd at
+  bear_all before (d ∷ ds) borne h b (inl here) = subst Bears here (bear_here before borne d h.0)
+  bear_all before (d ∷ ds) borne h b (inr later) = bear_all (d ∷ before) ds more h.1 b later
+    where
+      more : AllBear (d ∷ before)
+      more c (inl here) = subst (λ (x : Block). Bears x × (value_in others x.number ≡ None)) here (bear_here before borne d h.0, met_outside n others before d h.0)
+      more c (inr at) = borne c at
+
+pub const_agrees : ConstAgrees
+const_agrees = record {
+  standings = λ m lists outer fs s r. is_what_was_found m lists outer r;
+  blocks = λ m lists outer n others fs o bs p same before resolved stage run f b at at' number on.
+      bear_all m lists outer n others same (is_found_open fs) fs (stages.all_met m lists outer before.distinct before.in_order stage) [] bs (λ c none. absurd none)
+      (all_met n others (distinct_front (map (λ a. a.number) n.assignments.all) _ resolved.distinct) resolved.in_order run) b (in_of bs b at') f (in_of fs f at) number on;
+}

@@ -1,0 +1,8 @@
+pub mod Alike
+pub mod Decide
+pub mod Blocks
+pub mod Agreed
+pub mod Orders
+pub mod Stages
+pub mod Constants
+pub mod Cones

@@ -1,0 +1,68 @@
+-- What is found before any run, each run bears out.
+use Rattle.std.specs.Prelude.{◌≡◌, ◌≢◌, ◌⊎◌, ℕ, Bool, true, false, ◌&&◌, ◌||◌, Contains, List, [], ◌∷◌, nat_eq, Some}
+use Rattle.just_value.specs.Value.{Value}
+use Rattle.just_value.specs.Frames.{Bound, Frames, bound_at, own_frame, value_in}
+use Rattle.just_value.specs.Refusal.{Const}
+use Rattle.just_value.specs.Outcome.{Outcome, Gave, Refused, Stopped}
+use Rattle.just_host.specs.Interaction.{Note, Read, Entered, Command, Event, Noted}
+use Rattle.just_meaning.specs.Module.{Module, Block, Run, lexically}
+use Rattle.just_meaning.specs.Resolved.{IsResolved, IsResolvedConst}
+use Rattle.just_meaning.specs.Stage.{Constants, Standing, Found, Stage, at_start}
+
+-- a call, a command, or the reading of an open variable: what the const rules refuse
+abbrev pub is_shut : (ℕ → Bool) → Note → Bool
+is_shut is_open (Read t n) = is_open n
+is_shut is_open (Entered t) = true
+is_shut is_open (Command t) = true
+
+-- such a thing is among the events
+abbrev pub ReachShut : (ℕ → Bool) → List Event → Type 0
+ReachShut is_open [] = ⊥
+ReachShut is_open (Noted x ∷ es) = (is_shut is_open x ≡ true) ⊎ ReachShut is_open es
+ReachShut is_open (_ ∷ es) = ReachShut is_open es
+
+-- no such thing is among the events, and nothing is asked or checked
+abbrev pub AreConstant : (ℕ → Bool) → List Event → Type 0
+AreConstant is_open [] = Unit {0}
+AreConstant is_open (Noted x ∷ es) = (is_shut is_open x ≡ false) × AreConstant is_open es
+AreConstant is_open _ = ⊥
+
+-- What is found of an assignment, where these numbers are open, foretells its block in a run. One that is settled has that
+-- value, one that is open reaches what is shut, and one that is refused is refused alike.
+abbrev pub Foretells : (ℕ → Bool) → Outcome Value → Block → Type 0
+Foretells is_open (Gave v) b = (b.outcome ≡ Gave v) × AreConstant is_open b.events
+Foretells is_open (Refused (Const c)) b = ReachShut is_open b.events
+Foretells is_open (Refused r) b = (b.outcome ≡ Refused r) × AreConstant is_open b.events
+Foretells is_open Stopped b = Unit {0}
+
+abbrev pub is_opened : Outcome Value → Bool
+is_opened (Refused (Const c)) = true
+is_opened _ = false
+
+-- the numbers that are found open
+abbrev pub is_found_open : List Found → ℕ → Bool
+is_found_open [] n = false
+is_found_open (f ∷ fs) n = (is_opened f.outcome && nat_eq n f.number) || is_found_open fs n
+
+-- Where a stage stands in the end is what it found: the open numbers are those that are found open, and each binding of
+-- its own frame has the value that is found of its number.
+pub record IsWhatWasFound (fs : List Found) (s : Standing) : Type 0 where
+  pub opens : (n : ℕ) → s.is_open n ≡ is_found_open fs n
+  pub binds : (n : ℕ) (b : Bound) → bound_at n (own_frame s.frames) ≡ Some b → (f : Found) × Contains fs f × (f.number ≡ n) × (f.outcome ≡ Gave b.value)
+
+-- A const stage and a run have the same assignments and overrides, the same lists flag, and outer frames of the same values.
+-- Their orders, what is referenced, the functions and all else are free.
+pub record AreOfOneModule (m : Constants) (lists : Bool) (outer : Frames) (n : Module) (others : Frames) : Type 0 where
+  pub assignments : m.assignments.all ≡ n.assignments.all
+  pub overrides : (k : ℕ) → m.overrides k ≡ n.overrides k
+  pub same_lists : lists ≡ n.program.fixed.settings.lists
+  pub values : (k : ℕ) → value_in outer k ≡ value_in others k
+
+-- Of an assignment that a stage finds and a run reaches without being stopped in it, where both are resolved, the one
+-- foretells the other.
+pub record ConstAgrees : Type 0 where
+  pub standings : (m : Constants) (lists : Bool) (outer : Frames) (fs : List Found) (s : Standing) → Stage m (at_start lists outer) m.assignments.order fs (Gave s) → IsWhatWasFound fs s
+  pub blocks : (m : Constants) (lists : Bool) (outer : Frames) (n : Module) (others : Frames) (fs : List Found) (o : Outcome Standing) (bs : List Block) (p : Outcome Frames)
+      → AreOfOneModule m lists outer n others → IsResolvedConst m.assignments outer → IsResolved n.program.functions n.assignments others
+      → Stage m (at_start lists outer) m.assignments.order fs o → Run lexically n ([] ∷ others) n.assignments.order bs p
+      → (f : Found) (b : Block) → Contains fs f → Contains bs b → f.number ≡ b.number → b.outcome ≢ Stopped → Foretells (is_found_open fs) f.outcome b

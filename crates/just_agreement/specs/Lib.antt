@@ -1,0 +1,4 @@
+pub mod Decided
+pub mod Foretold
+pub mod Reordered
+pub mod Cone

@@ -1,0 +1,15 @@
+-- Names in the order of their bytes.
+use Rattle.std.specs.Prelude.{Bool, true, List, [], ◌∷◌, ◌&&◌}
+use Rattle.std.specs.Cmp.Lexicographic.{slice_cmp}
+use Rattle.std.specs.Ordering.{is_lt, nat_cmp}
+use Rattle.just_syntax.specs.Plain.{Text}
+
+-- a name is below the first of the others, if there is one
+abbrev pub is_below : Text → List Text → Bool
+is_below name [] = true
+is_below name (next ∷ names) = is_lt (slice_cmp nat_cmp name next)
+
+-- each name is below the next, so that none stands twice
+abbrev pub rises : List Text → Bool
+rises [] = true
+rises (name ∷ names) = is_below name names && rises names

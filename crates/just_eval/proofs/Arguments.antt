@@ -1,0 +1,102 @@
+-- How a recipe's attributes and parameters are evaluated.
+use Rattle.std.proofs.Common.{◌≡◌, Bool, true, Option, Some, None, refl, sym, ap, ◌∙◌, subst, Bor}
+use Rattle.std.specs.Fn.{Shared}
+use Rattle.std.specs.Option.{is_some, option_map}
+use Rattle.std.specs.Prelude.{Result}
+use Rattle.just_syntax.specs.Plain as plain
+use Rattle.just_syntax.specs.Plain.{Text, Expr}
+use Rattle.just_syntax.specs.View.{name_view}
+use Rattle.just_syntax.specs.declared.name.Name.{Name}
+use Rattle.just_syntax.specs.declared.parameter.Parameter.{Parameter}
+use Rattle.just_syntax.specs.declared.recipe.Recipe.{Recipe}
+use Rattle.just_value.specs.Value.{Value}
+use Rattle.just_value.specs.Frames.{Frames, value_in}
+use Rattle.just_value.specs.Outcome.{Outcome, Gave}
+use Rattle.just_value.specs.View.{frames_view}
+use Rattle.just_value.specs.declared.check_fault.CheckFault.{CheckFault}
+use Rattle.just_value.specs.declared.scope.Scope.{Scope}
+use Rattle.just_host.specs.Question.{Question, Answer}
+use Rattle.just_host.specs.Interaction.{Rules, Runs, RunsChecked, Tree, check, done}
+use Rattle.just_host.specs.View.{pairs_view}
+use Rattle.just_host.proofs.Checked.{checked_check, checked_on, unchecked}
+use Rattle.just_meaning.specs.Meaning.{Situation}
+use Rattle.just_meaning.specs.Parameters.{checked, judged, seeing, valued}
+use Rattle.just_forms.specs.Check.{Gives, IsJudged}
+use Rattle.just_eval.specs.View.{IsSameBut, below_of, situation_of}
+use Rattle.just_eval.specs.declared.evaluator.Evaluator.{Evaluator}
+
+-- ---- where it stands
+
+-- what is the same but for the scope and the environment
+situation_but : (e f : Evaluator) → IsSameBut e f → situation_of f ≡ record {
+  names = value_in (frames_view f.scope);
+  environment = pairs_view f.env;
+  recipe = option_map (λ (n : Name). (name_view n).lexeme) e.recipe;
+  is_dependency = e.is_dependency;
+  lists = e.lists;
+  shown = frames_view f.scope;
+  below = below_of e.base (frames_view f.scope);
+}
+situation_but e f same = λ i. record {
+  names = value_in (frames_view f.scope);
+  environment = pairs_view f.env;
+  recipe = option_map (λ (n : Name). (name_view n).lexeme) (same.recipe i);
+  is_dependency = same.dependency i;
+  lists = same.lists i;
+  shown = frames_view f.scope;
+  below = below_of (same.base i) (frames_view f.scope);
+}
+
+-- one more variable
+pub situation_set : (e f : Evaluator) → IsSameBut e f → f.scope ≡ e.scope → situation_of f ≡ record (situation_of e) { environment = pairs_view f.env }
+situation_set e f same scope = situation_but e f same ∙ ap (λ (s : Scope). record {
+  names = value_in (frames_view s);
+  environment = pairs_view f.env;
+  recipe = option_map (λ (n : Name). (name_view n).lexeme) e.recipe;
+  is_dependency = e.is_dependency;
+  lists = e.lists;
+  shown = frames_view s;
+  below = below_of e.base (frames_view s);
+}) scope
+
+-- one more parameter
+pub situation_bound : (e f : Evaluator) (frames : Frames) → IsSameBut e f → f.env ≡ e.env → is_some e.base ≡ true → frames_view f.scope ≡ frames → situation_of f ≡ seeing frames (situation_of e)
+situation_bound e f frames same env based is = situation_but e f same ∙ by e.base refl based
+  where
+    by : (base : Option (Bor Scope)) → e.base ≡ base → is_some base ≡ true → ◌≡◌ {A = Situation} (record {
+      names = value_in (frames_view f.scope);
+      environment = pairs_view f.env;
+      recipe = option_map (λ (n : Name). (name_view n).lexeme) e.recipe;
+      is_dependency = e.is_dependency;
+      lists = e.lists;
+      shown = frames_view f.scope;
+      below = below_of base (frames_view f.scope);
+    }) (record {
+      names = value_in frames;
+      environment = pairs_view e.env;
+      recipe = option_map (λ (n : Name). (name_view n).lexeme) e.recipe;
+      is_dependency = e.is_dependency;
+      lists = e.lists;
+      shown = frames;
+      below = below_of base (frames_view e.scope);
+    })
+    by (Some base) e' some = λ i. record {
+      names = value_in (is i);
+      environment = pairs_view (env i);
+      recipe = option_map (λ (n : Name). (name_view n).lexeme) e.recipe;
+      is_dependency = e.is_dependency;
+      lists = e.lists;
+      shown = is i;
+      below = frames_view base.now;
+    }
+    by None e' some = absurd (cc)
+
+-- ---- one parameter
+
+-- its value, and what the check says of it
+pub checked_value : {S F : Type 0} {rules : Rules} {step : S → Question → Answer → S → Type 0} {old mid : S} {calls : Shared F (Bor Recipe × (Bor Parameter × (Bor Value × Unit {0}))) (Result Unit CheckFault)} {f : F} {r : Recipe}
+    (means : Expr → Tree Value) (is_dependency : Bool) (recipe : Text) (p : plain.Parameter) (argument v : Value) (o : Outcome Value) → Runs rules step old (valued means is_dependency recipe p argument) (Gave v) mid → IsJudged calls f r p v o
+    → RunsChecked rules step (Gives calls f r) old (checked means is_dependency recipe p argument) o mid
+checked_value {rules = rules} {step = step} {mid = mid} {calls = calls} {f = f} {r = r} means is_dependency recipe p argument v o run judgement =
+    checked_on (valued means is_dependency recipe p argument) _ (unchecked run)
+    (subst (λ x. RunsChecked rules step (Gives calls f r) mid (check p v (λ a. done (judged p v a))) x mid) (sym judgement.comes_to) (checked_check p v judgement.verdict (judged p v) judgement.given))

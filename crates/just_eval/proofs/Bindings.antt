@@ -1,0 +1,98 @@
+-- What is left of a recipe's parameters.
+use Rattle.std.proofs.Common.{◌≡◌, inl, inr, ◌⊎◌, true, List, [], ◌∷◌, ◌++◌, length, map, refl, sym, subst, Option, Result, Bor}
+use Rattle.std.specs.Fn.{Shared}
+use Rattle.std.specs.Option.{is_some}
+use Rattle.just_syntax.specs.Plain.{Text, Parameter}
+use Rattle.just_syntax.specs.View.{recipe_view}
+use Rattle.just_syntax.specs.declared.parameter.Parameter.{Parameter as Declared}
+use Rattle.just_syntax.specs.declared.recipe.Recipe.{Recipe}
+use Rattle.just_value.specs.Refusal.{Refusal}
+use Rattle.just_value.specs.Value.{Value}
+use Rattle.just_value.specs.Frames.{bound_in_front}
+use Rattle.just_value.specs.Outcome.{Outcome, Gave, Stopped, without_value}
+use Rattle.just_value.specs.View.{frames_view}
+use Rattle.just_value.specs.declared.check_fault.CheckFault.{CheckFault}
+use Rattle.just_host.specs.Question.{Question, Answer}
+use Rattle.just_host.specs.Interaction.{Runs, RunsChecked, Tree, Verdict, bind, gives}
+use Rattle.just_host.specs.View.{pairs_view}
+use Rattle.just_host.proofs.Checked.{checked_ends, checked_gives, checked_on, checked_stopped, unchecked}
+use Rattle.just_meaning.specs.Parameters.{Arguments, Meanings, bindings, checked, parameter_bound, seeing, valued, words_of}
+use Rattle.just_forms.specs.Check.{Gives, IsJudged}
+use Rattle.just_eval.specs.View.{IsSameBut, dynamic_meanings, meaning, rules_of, situation_of}
+use Rattle.just_eval.specs.declared.evaluator.Evaluator.{Evaluator}
+use Rattle.just_eval.proofs.Arguments.{checked_value, situation_bound}
+use Rattle.just_eval.proofs.Same.{runs_same}
+
+pub mapped_none : {X Y : Type 0} (f : X → Y) (xs : List X) → length xs ≡ 0 → length (map f xs) ≡ 0
+mapped_none f [] none = refl
+mapped_none f (x ∷ xs) none = absurd (cc)
+
+module _ {S F : Type 0} (step : S → Question → Answer → S → Type 0) (calls : Shared F (Bor Recipe × (Bor Declared × (Bor Value × Unit {0}))) (Result Unit CheckFault)) (check : F) (recipe : Recipe)
+    (start : S) (e : Evaluator) (all : List Parameter) (given : List Value) where
+  abbrev means : Meanings
+  means = dynamic_meanings e.context
+
+  abbrev name : Text
+  name = (recipe_view recipe).name.lexeme
+
+  abbrev says : Parameter → Value → Verdict → Type 0
+  says = Gives calls check recipe
+
+  -- what the parameters come to
+  abbrev Whole : Outcome Arguments → S → Type 0
+  Whole o new = RunsChecked (rules_of e) step says start (bindings means name (situation_of e) [] all given) o new
+
+  -- Whatever those that are left come to from here, behind these words, is what all come to.
+  abbrev pub ParametersLeft : Evaluator → List Text → List Parameter → List Value → S → Type 0
+  ParametersLeft f words left arguments here = (o : Outcome Arguments) (new : S) → RunsChecked (rules_of e) step says here (bindings means name (situation_of f) words left arguments) o new → Whole o new
+
+  pub parameters_start : (words : List Text) (left : List Parameter) (arguments : List Value) → words ≡ [] → left ≡ all → arguments ≡ given → ParametersLeft e words left arguments start
+  parameters_start words left arguments none same has o new r =
+      subst (λ ws. RunsChecked (rules_of e) step says start (bindings means name (situation_of e) ws all given) o new) none
+      (subst (λ ps. RunsChecked (rules_of e) step says start (bindings means name (situation_of e) words ps given) o new) same
+      (subst (λ vs. RunsChecked (rules_of e) step says start (bindings means name (situation_of e) words left vs) o new) has r))
+
+  module _ (f : Evaluator) (same : IsSameBut e f) (words : List Text) (left : List Parameter) (arguments : List Value) (here : S) (rest : ParametersLeft f words left arguments here) where
+    abbrev made : Arguments
+    made = record { frames = frames_view f.scope; words = words; environment = pairs_view f.env }
+
+    pub parameters_all : (length left ≡ 0) ⊎ (length arguments ≡ 0) → Whole (Gave made) here
+    parameters_all none = rest (Gave made) here (subst (λ t. RunsChecked (rules_of e) step says here t (Gave made) here) (sym (by left arguments none)) (checked_gives made))
+      where
+        by : (ps : List Parameter) (vs : List Value) → (length ps ≡ 0) ⊎ (length vs ≡ 0) → bindings means name (situation_of f) words ps vs ≡ gives made
+        by [] vs h = refl
+        by (p ∷ ps) [] h = refl
+        by (p ∷ ps) (v ∷ vs) (inl h) = absurd (cc)
+        by (p ∷ ps) (v ∷ vs) (inr h) = absurd (cc)
+
+    module _ (p : Parameter) (more : List Parameter) (is : left ≡ p ∷ more) (argument : Value) (further : List Value) (has : arguments ≡ argument ∷ further) where
+      abbrev first : Tree Value
+      first = checked (means (situation_of f)) f.is_dependency name p argument
+
+      -- the parameter is bound, and then the others
+      abbrev behind : Value → Tree Arguments
+      behind v = bindings means name (seeing (bound_in_front (frames_view f.scope) (parameter_bound f.lists p v)) (situation_of f)) (words ++ words_of p v) more further
+
+      fronted : {o : Outcome Arguments} {new : S} → RunsChecked (rules_of e) step says here (bind first behind) o new → Whole o new
+      fronted {o = o} {new = new} r = rest o new (subst (λ vs. RunsChecked (rules_of e) step says here (bindings means name (situation_of f) words left vs) o new) (sym has)
+          (subst (λ ps. RunsChecked (rules_of e) step says here (bindings means name (situation_of f) words ps (argument ∷ further)) o new) (sym is) r))
+
+      pub parameter_ends : {new : S} (r : Option Refusal) → Runs (rules_of f) step here (valued (meaning f) f.is_dependency name p argument) (without_value r) new → Whole (without_value r) new
+      parameter_ends r q = fronted (checked_ends first behind r (checked_ends (valued (means (situation_of f)) f.is_dependency name p argument) _ r (unchecked (runs_same e f same (λ m. valued m f.is_dependency name p argument) q))))
+
+      module _ {mid : S} (v : Value) (q : Runs (rules_of f) step here (valued (meaning f) f.is_dependency name p argument) (Gave v) mid) where
+        judged_here : (o : Outcome Value) → IsJudged calls check recipe p v o → RunsChecked (rules_of e) step says here first o mid
+        judged_here o j = checked_value (means (situation_of f)) f.is_dependency name p argument v o (runs_same e f same (λ m. valued m f.is_dependency name p argument) q) j
+
+        pub check_ends : (r : Option Refusal) → IsJudged calls check recipe p v (without_value r) → Whole (without_value r) mid
+        check_ends r j = fronted (checked_ends first behind r (judged_here (without_value r) j))
+
+        module _ (w : Value) (j : IsJudged calls check recipe p v (Gave w)) where
+          pub parameter_stops : Whole Stopped mid
+          parameter_stops = fronted (checked_on first behind (judged_here (Gave w) j) (checked_stopped (behind w)))
+
+          -- it is bound
+          pub parameter_next : (g : Evaluator) → IsSameBut f g → g.env ≡ f.env → is_some f.base ≡ true → frames_view g.scope ≡ bound_in_front (frames_view f.scope) (parameter_bound f.lists p w) → ParametersLeft g (words ++ words_of p w) more further mid
+          parameter_next g but env based bound o last r =
+              fronted (checked_on first behind (judged_here (Gave w) j)
+              (subst (λ s. RunsChecked (rules_of e) step says mid (bindings means name s (words ++ words_of p w) more further) o last) (situation_bound f g (bound_in_front (frames_view f.scope) (parameter_bound f.lists p w)) but env based bound) r))

@@ -1,0 +1,179 @@
+-- What is evaluated here: in a run by the lexical rules, and before any run by the const rules.
+use Rattle.std.proofs.Common.{◌≡◌, ℕ, Bool, true, false, List, [], ◌∷◌, map, string_bytes, Option, Some, None, refl, sym, subst}
+use Rattle.std.specs.Option.{is_some, option_map}
+use Rattle.just_syntax.specs.Plain.{Text, Assignment, Expr, Fragment}
+use Rattle.just_syntax.specs.View.{name_view}
+use Rattle.just_syntax.specs.declared.name.Name.{Name}
+use Rattle.just_syntax.specs.StringContext.{StringContext}
+use Rattle.just_value.specs.ConstEval.{IsConstEval}
+use Rattle.just_value.specs.Value.{Value}
+use Rattle.just_value.specs.Frames.{Frames, value_in}
+use Rattle.just_value.specs.Outcome.{Outcome, UnlessStopped}
+use Rattle.just_value.specs.View.{frames_view}
+use Rattle.just_host.specs.Question.{Question, Answer}
+use Rattle.just_host.specs.Interaction.{GoesByAnswers, Runs, Tree, freely}
+use Rattle.just_host.specs.declared.execution_context.ExecutionContext.{ExecutionContext}
+use Rattle.just_meaning.specs.Constant.{constant, constantly}
+use Rattle.just_meaning.specs.Here.{AllReadable}
+use Rattle.just_meaning.specs.Internal.{IfRefused, IsFinal, IsNotInternal}
+use Rattle.just_meaning.specs.Line.{line, line_expressions, string}
+use Rattle.just_meaning.specs.Closings.{lexical}
+use Rattle.just_meaning.specs.Meaning.{Situation, eval}
+use Rattle.just_meaning.specs.Module.{or_override, situation_at}
+use Rattle.just_meaning.specs.Resolved.{AllKnown, HasValue}
+use Rattle.just_meaning.specs.Stage.{const_meaning}
+use Rattle.just_meaning.specs.View.{functions_view, program_view}
+use Rattle.just_expression.specs.View.{program_of, rules_in}
+use Rattle.just_laws.proofs.Constants.{AllConst, IsTold, const_told, eval_alike}
+use Rattle.just_laws.proofs.Ends.{ends_path}
+use Rattle.just_laws.proofs.Final.{AllFinal, final_dynamic, final_eval}
+use Rattle.just_laws.proofs.Here.{AllSuch, Same, line_const, line_final, line_never, readable_apart, same_line, same_string, string_const, string_final, string_never}
+use Rattle.just_laws.proofs.Internal.{IsNeverInternal, expression_never}
+use Rattle.just_laws.proofs.Lexical.{dynamic_is_lexical}
+use Rattle.just_eval.specs.View.{Assigned, IsAtStart, IsConst, IsInRun, IsResolvedIn, Resolves, below_of, calls_left_in, dynamic_meanings, exports, exports_in, lexical_meaning, meaning, rules_of, situation_of, standing_of}
+use Rattle.just_eval.specs.declared.evaluator.Evaluator.{Evaluator}
+
+-- What is made of the meanings of these expressions is made of no more: it is the same of equal meanings, and has no
+-- further refusals than they have, but for those of lists.
+pub record IsMadeOf {A : Type 0} (make : (Expr → Tree Value) → Tree A) (es : List Expr) : Type 0 where
+  pub same : (means other : Expr → Tree Value) → AllSuch (Same means other) es → make means ≡ make other
+  pub never : (means : Expr → Tree Value) → AllSuch (λ e. IsNeverInternal (means e)) es → IsNeverInternal (make means)
+  pub final : (means : Expr → Tree Value) → ((e : Expr) → AllFinal (means e)) → AllFinal (make means)
+  pub const : (is_open : ℕ → Bool) (means : Expr → Tree Value) → ((e : Expr) → AllConst IsConstEval is_open (means e)) → AllConst IsConstEval is_open (make means)
+
+pub value_made : (e : Expr) → IsMadeOf (λ means. means e) (e ∷ [])
+value_made e = record { same = λ means other h. h.0; never = λ means h. h.0; final = λ means h. h e; const = λ is_open means h. h e }
+
+pub string_made : (context : StringContext) (e : Expr) → IsMadeOf (λ means. string means context e) (e ∷ [])
+string_made context e = record {
+  same = λ means other h. same_string means other context e h.0;
+  never = λ means h. string_never means context e h.0;
+  final = λ means h. string_final means context e (h e);
+  const = λ is_open means h. string_const is_open means context e (h e);
+}
+
+pub line_made : (continued : Bool) (fs : List Fragment) → IsMadeOf (λ means. line means continued fs) (line_expressions fs)
+line_made continued fs = record {
+  same = λ means other h. same_line means other continued fs h;
+  never = λ means h. line_never means continued fs h;
+  final = λ means h. line_final means continued fs h;
+  const = λ is_open means h. line_const is_open means continued fs h;
+}
+
+-- ---- in a run
+
+free : (context : Option ExecutionContext) (is_open : ℕ → Bool) → is_some context ≡ true → rules_in context is_open ≡ freely
+free (Some c) is_open h = refl
+free None is_open h = absurd (cc)
+
+in_run : (context : Option ExecutionContext) (s : Situation) (es : List Expr) → IsResolvedIn context s es → is_some context ≡ true
+in_run (Some c) s es h = refl
+in_run None s es h = absurd h
+
+-- what expressions mean by the lexical rules
+abbrev lexical_in : Option ExecutionContext → Evaluator → Expr → Tree Value
+lexical_in context e x = let s = situation_of e in let p = program_of context in eval p (lexical p (value_in s.below) (calls_left_in context)) s x
+
+module _ (c : ExecutionContext) (e : Evaluator) (all : List Expr) (resolved : IsResolvedIn (Some c) (situation_of e) all) where
+  -- what these expressions mean by dynamic scoping and by the lexical rules
+  abbrev dynamically : Expr → Tree Value
+  dynamically = dynamic_meanings (Some c) (situation_of e)
+
+  abbrev lexically : Expr → Tree Value
+  lexically = lexical_in (Some c) e
+
+  each_same : (es : List Expr) → AllReadable (functions_view c.module.now) (value_in (situation_of e).below) (HasValue (value_in (situation_of e).shown)) es → AllSuch (Same dynamically lexically) es
+  each_same [] h = tt
+  each_same (x ∷ xs) h = (
+    dynamic_is_lexical (program_view c) (calls_left_in (Some c)) (situation_of e) x
+        (readable_apart (program_view c) _ (calls_left_in (Some c)) (situation_of e) [] [] all (situation_of e).below resolved (HasValue (value_in (situation_of e).shown)) x h.0),
+    each_same xs h.1,
+  )
+
+  each_never : (es : List Expr) → AllKnown (functions_view c.module.now) es → AllReadable (functions_view c.module.now) (value_in (situation_of e).below) (HasValue (value_in (situation_of e).shown)) es → AllSuch (λ x. IsNeverInternal (lexically x)) es
+  each_never [] known h = tt
+  each_never (x ∷ xs) known h = (
+    expression_never (program_view c) (value_in (situation_of e).below) (calls_left_in (Some c)) (situation_of e) x resolved.bodies known.0 h.0.own h.0.beyond,
+    each_never xs known.1 h.1,
+  )
+
+module _ (e : Evaluator) {A : Type 0} (make : (Expr → Tree Value) → Tree A) (es : List Expr) (made : IsMadeOf make es) where
+  resolved_same : (context : Option ExecutionContext) → IsResolvedIn context (situation_of e) es → make (dynamic_meanings context (situation_of e)) ≡ make (lexical_in context e)
+  resolved_same (Some c) resolved = made.same _ _ (each_same c e es resolved es resolved.readable)
+  resolved_same None resolved = absurd resolved
+
+  resolved_never : (context : Option ExecutionContext) → IsResolvedIn context (situation_of e) es → IsNeverInternal (make (lexical_in context e))
+  resolved_never (Some c) resolved = made.never _ (each_never c e es resolved es resolved.known resolved.readable)
+  resolved_never None resolved = absurd resolved
+
+  module _ {S : Type 0} {step : S → Question → Answer → S → Type 0} {old new : S} {o : Outcome A} (r : Runs (rules_of e) step old (make (meaning e)) o new) where
+    freely_run : IsInRun e → Runs freely step old (make (meaning e)) o new
+    freely_run h = subst (λ rules. Runs rules step old (make (meaning e)) o new) (free e.context (standing_of e).is_open h) r
+
+    pub headline : Resolves e es → Runs freely step old (make (lexical_meaning e)) o new
+    headline resolved = subst (λ t. Runs freely step old t o new) (resolved_same e.context resolved) (freely_run (in_run e.context (situation_of e) es resolved))
+
+    pub never_internal : Resolves e es → IsNotInternal o
+    never_internal resolved = ends_path IsNotInternal tt (make (lexical_meaning e)) (resolved_never e.context resolved) (headline resolved).path
+
+    pub never_const : IsInRun e → IfRefused IsFinal o
+    never_const h = ends_path (IfRefused IsFinal) tt (make (meaning e)) (made.final (meaning e) (λ x. final_eval _ (situation_of e) _ (final_dynamic _ _) x)) (freely_run h).path
+
+    pub answered : GoesByAnswers step old new
+    answered = record { events = r.events; chain = r.chain }
+
+-- ---- assignments
+
+situation_start : (e : Evaluator) → IsAtStart e → situation_of e ≡ situation_at e.lists (frames_view e.scope)
+situation_start e start =
+    let frames = frames_view e.scope in
+    λ i. record {
+      names = value_in frames;
+      environment = map (λ v. (string_bytes v.0, string_bytes v.1)) (start.environment i);
+      recipe = option_map (λ (n : Name). (name_view n).lexeme) (start.recipe i);
+      is_dependency = start.dependency i;
+      lists = e.lists;
+      shown = frames;
+      below = below_of (start.base i) frames;
+    }
+
+-- what evaluating an assignment means, by the context and the situation
+abbrev AssignedIn : {S : Type 0} → (S → Question → Answer → S → Type 0) → S → (ℕ → Bool) → Option Text → Expr → Assignment → Frames → Outcome Frames → S → Option ExecutionContext → Situation → Type 0
+AssignedIn step old is_open override x a frames o new context s = Assigned (rules_in context is_open) step old (or_override override (dynamic_meanings context s x)) (exports_in context) a frames o new
+
+module _ {S : Type 0} {step : S → Question → Answer → S → Type 0} {old new : S} (e : Evaluator) (start : IsAtStart e) (override : Option Text) (x : Expr) {a : Assignment} {frames : Frames} {o : Outcome Frames} where
+  started : Assigned (rules_of e) step old (or_override override (meaning e x)) (exports e) a frames o new → AssignedIn step old (standing_of e).is_open override x a frames o new e.context (situation_at e.lists (frames_view e.scope))
+  started h = subst (AssignedIn step old (standing_of e).is_open override x a frames o new e.context) (situation_start e start) h
+
+  -- in a run
+  pub ran_here : (c : ExecutionContext) → e.context ≡ Some c → e.lists ≡ c.module.now.settings.lists → Assigned (rules_of e) step old (or_override override (meaning e x)) (exports e) a frames o new
+      → Assigned freely step old (or_override override (dynamic_meanings (Some c) (situation_at c.module.now.settings.lists (frames_view e.scope)) x)) c.module.now.settings.export a frames o new
+  ran_here c is lists h =
+      subst (λ l. AssignedIn step old (standing_of e).is_open override x a frames o new (Some c) (situation_at l (frames_view e.scope))) lists
+      (subst (λ context. AssignedIn step old (standing_of e).is_open override x a frames o new context (situation_at e.lists (frames_view e.scope))) is (started h))
+
+-- before any run
+pub staged_here : {S : Type 0} {step : S → Question → Answer → S → Type 0} {old new : S} (e : Evaluator) (before : IsConst e) (override : Option Text) (x : Expr) {a : Assignment} {frames : Frames} {o : Outcome Frames}
+    → Assigned (rules_of e) step old (or_override override (meaning e x)) (exports e) a frames o new → Assigned (constantly (standing_of e).is_open) step old (or_override override (const_meaning (standing_of e) x)) false a frames o new
+staged_here {step = step} {old = old} {new = new} e before override x {a = a} {frames = frames} {o = o} h =
+    subst (λ context. AssignedIn step old (standing_of e).is_open override x a frames o new context (situation_at e.lists (frames_view e.scope))) before.context (started e before.start override x h)
+
+-- ---- before any run
+
+module _ (e : Evaluator) {A : Type 0} (make : (Expr → Tree Value) → Tree A) (es : List Expr) (made : IsMadeOf make es) (before : IsConst e) {S : Type 0} {step : S → Question → Answer → S → Type 0} {old new : S} {o : Outcome A} (r : Runs (rules_of e) step old (make (meaning e)) o new) where
+  const_run : Runs (constantly (standing_of e).is_open) step old (make (const_meaning (standing_of e))) o new
+  const_run =
+      subst (λ context. Runs (rules_in context (standing_of e).is_open) step old (make (dynamic_meanings context (situation_at e.lists (frames_view e.scope)))) o new) before.context
+      (subst (λ s. Runs (rules_of e) step old (make (dynamic_meanings e.context s)) o new) (situation_start e before.start) r)
+
+  told : IsTold (standing_of e).is_open (make (const_meaning (standing_of e))) o old new
+  told = const_told (standing_of e).is_open _ o (made.const (standing_of e).is_open (const_meaning (standing_of e)) (λ x. eval_alike (standing_of e).is_open _ _ _ x)) const_run
+
+  pub constants : UnlessStopped o (constant (standing_of e).is_open (make (const_meaning (standing_of e))))
+  constants = told.told
+
+  pub few : IfRefused IsConstEval o
+  few = told.few
+
+  pub still : new ≡ old
+  still = sym told.still

@@ -1,0 +1,41 @@
+// Commands that a recipe runner runs for itself.
+
+ghost use Rattle.std.specs.Prelude.{false, map, string_bytes, ◌≡◌};
+ghost use Rattle.std.specs.Option.{option_map};
+ghost use Rattle.just_value.specs.View.{frames_view};
+ghost use Rattle.just_host.specs.Interaction.{AsksOnce};
+ghost use Rattle.just_host.specs.Question.{command_question};
+ghost use Rattle.just_host.specs.View.{fixed_view, pairs_view, replied};
+
+use super::Evaluator;
+use just_host::ask::ask_command;
+use just_host::execution_context::ExecutionContext;
+use just_host::host::Host;
+use just_value::error::CommandFault;
+use just_value::scope::Scope;
+use std::alloc::Global;
+use std::collections::BTreeMap;
+
+impl<'src, 'run> Evaluator<'src, 'run> {
+    /// Asks the host to run a command in a context, with this environment, the variables of a scope, and the arguments
+    /// behind the command, where it takes some. It is not for a dry run.
+    ///
+    /// # Errors
+    ///
+    /// The host's fault, or want of memory; where memory is refused before the host is asked, it is not asked.
+    pub fn run_command<H: Host>(
+        alloc: Global,
+        host: &mut H,
+        context: &ExecutionContext<'src, 'run>,
+        env: &BTreeMap<String, String>,
+        scope: &Scope<'src, 'run>,
+        command: &str,
+        arguments: Option<&[String]>,
+    ) -> Result<String, CommandFault>
+        requires commands_run { context.now.config.now.dry_run ≡ false }
+        ensures asked { let question = command_question (fixed_view context.now) (pairs_view env.now) (frames_view scope.now) command.now (option_map (λ words. map string_bytes words.now) arguments.entry) in
+            AsksOnce H.step host.old question (replied result) host.new }
+    {
+        ask_command(alloc, host, context, env, scope, command, arguments)
+    }
+}

@@ -1,0 +1,144 @@
+// Evaluation of texts and lines.
+
+ghost use Rattle.std.specs.Prelude.{OnOk, [], string_bytes, ◌++◌, ◌≡◌, ◌∷◌};
+ghost use Rattle.just_syntax.specs.View.{fragment_view, line_view, string_context_view, view};
+ghost use Rattle.just_value.specs.Outcome.{UnlessStopped};
+ghost use Rattle.just_value.specs.View.{ended};
+ghost use Rattle.just_host.specs.Interaction.{GoesByAnswers, Runs, freely};
+ghost use Rattle.just_meaning.specs.Constant.{constant};
+ghost use Rattle.just_meaning.specs.Internal.{IfRefused, IsFinal, IsNotInternal};
+ghost use Rattle.just_meaning.specs.Line.{fragment as fragment_text, line as line_text, line_expressions, string};
+ghost use Rattle.just_meaning.specs.Stage.{const_meaning};
+ghost use Rattle.just_eval.specs.View.{HasRoom, IsConst, IsInRun, Resolves, lexical_meaning, meaning, rules_of, standing_of};
+
+use super::Evaluator;
+use just_forms::line::written;
+use just_forms::text::one_text;
+use just_host::host::Host;
+use just_syntax::expression::Expression;
+use just_syntax::fragment::Fragment;
+use just_syntax::line::Line;
+use just_syntax::string_context::StringContext;
+use just_value::error::Error;
+use std::alloc::Global;
+
+impl<'src, 'run> Evaluator<'src, 'run> {
+    /// The text of an expression where one text is wanted.
+    ///
+    /// # Errors
+    ///
+    /// As `evaluate_value`; `ListInStringContext` for a value that has not exactly one element.
+    pub fn evaluate_string<H: Host>(
+        &self,
+        alloc: Global,
+        host: &mut H,
+        expression: &Expression<'src>,
+        context: StringContext<'src>,
+    ) -> Result<String, Error<'src>>
+        requires room { HasRoom self.now }
+
+        // In a run, where all that is reached is resolved, the lexical rules give the text or the refusal, by the questions
+        // that they ask.
+        ensures headline { Resolves self.now (view expression.now ∷ []) → Runs freely H.step host.old (string (lexical_meaning self.now) (string_context_view context.entry) (view expression.now)) (ended string_bytes result) host.new }
+        ensures never_internal { Resolves self.now (view expression.now ∷ []) → IsNotInternal (ended string_bytes result) }
+
+        // Resolved or not, a run is not refused as constant evaluation is, and nothing but answered questions leads the
+        // host on.
+        ensures never_const { IsInRun self.now → IfRefused IsFinal (ended string_bytes result) }
+        ensures answered { GoesByAnswers H.step host.old host.new }
+
+        // Before any run the const rules give it, and nothing is asked.
+        ensures constants { IsConst self.now → UnlessStopped (ended string_bytes result) (constant (standing_of self.now).is_open (string (const_meaning (standing_of self.now)) (string_context_view context.entry) (view expression.now))) }
+        ensures still { IsConst self.now → host.new ≡ host.old }
+    {
+        self.evaluated_string(alloc, host, expression, context)
+    }
+
+    // The same by dynamic scoping.
+    pub(crate) fn evaluated_string<H: Host>(
+        &self,
+        alloc: Global,
+        host: &mut H,
+        expression: &Expression<'src>,
+        context: StringContext<'src>,
+    ) -> Result<String, Error<'src>>
+        requires room { HasRoom self.now }
+        ensures { Runs (rules_of self.now) H.step host.old (string (meaning self.now) (string_context_view context.entry) (view expression.now)) (ended string_bytes result) host.new }
+    {
+        let value = self.evaluated(alloc, host, expression)?;
+        one_text(value, context)
+    }
+
+    /// The text of a line: its fragments in their order. In text `{{{{` stands for `{{`; an interpolation is its value
+    /// joined by spaces. Where the line is `continued`, text that it begins with has lost its leading white space.
+    ///
+    /// # Errors
+    ///
+    /// As `evaluate_value`, of the interpolations in their order.
+    pub fn evaluate_line<H: Host>(
+        &self,
+        alloc: Global,
+        host: &mut H,
+        line: &Line<'src>,
+        continued: bool,
+    ) -> Result<String, Error<'src>>
+        requires room { HasRoom self.now }
+
+        // In a run, where all that is reached is resolved, the lexical rules give the text or the refusal, by the questions
+        // that they ask.
+        ensures headline { Resolves self.now (line_expressions (line_view line.now)) → Runs freely H.step host.old (line_text (lexical_meaning self.now) continued (line_view line.now)) (ended string_bytes result) host.new }
+        ensures never_internal { Resolves self.now (line_expressions (line_view line.now)) → IsNotInternal (ended string_bytes result) }
+
+        // Resolved or not, a run is not refused as constant evaluation is, and nothing but answered questions leads the
+        // host on.
+        ensures never_const { IsInRun self.now → IfRefused IsFinal (ended string_bytes result) }
+        ensures answered { GoesByAnswers H.step host.old host.new }
+
+        // Before any run the const rules give it, and nothing is asked.
+        ensures constants { IsConst self.now → UnlessStopped (ended string_bytes result) (constant (standing_of self.now).is_open (line_text (const_meaning (standing_of self.now)) continued (line_view line.now))) }
+        ensures still { IsConst self.now → host.new ≡ host.old }
+    {
+        self.evaluated_line(alloc, host, line, continued)
+    }
+
+    // The same by dynamic scoping.
+    fn evaluated_line<H: Host>(
+        &self,
+        alloc: Global,
+        host: &mut H,
+        line: &Line<'src>,
+        continued: bool,
+    ) -> Result<String, Error<'src>>
+        requires room { HasRoom self.now }
+        ensures { Runs (rules_of self.now) H.step host.old (line_text (meaning self.now) continued (line_view line.now)) (ended string_bytes result) host.new }
+    {
+        let mut text = String::new(alloc);
+        let mut continues = continued;
+        for fragment in &line.fragments {
+            let more = self.evaluated_fragment(alloc, host, fragment, continues)?;
+            text.push_str(&more)?;
+            continues = false;
+        }
+        Ok(text)
+    }
+
+    // The text of a fragment.
+    fn evaluated_fragment<H: Host>(
+        &self,
+        alloc: Global,
+        host: &mut H,
+        fragment: &Fragment<'src>,
+        continues: bool,
+    ) -> Result<String, Error<'src>>
+        requires room { HasRoom self.now }
+        ensures { Runs (rules_of self.now) H.step host.old (fragment_text (meaning self.now) continues (fragment_view fragment.now)) (ended string_bytes result) host.new }
+    {
+        match fragment {
+            Fragment::Text { token } => Ok(written(alloc, token.lexeme(), continues)?),
+            Fragment::Interpolation { expression } => {
+                let value = self.evaluated(alloc, host, expression)?;
+                Ok(value.join(alloc)?)
+            }
+        }
+    }
+}

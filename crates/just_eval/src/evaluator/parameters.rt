@@ -1,0 +1,275 @@
+// Evaluation of a recipe's attributes and parameters.
+
+ghost use Rattle.std.specs.Prelude.{IfOk, List, OnOk, Some, [], false, is_some, length, map, string_bytes, true, ◌++◌, ◌<◌, ◌≡◌, ◌∷◌, ◌↔◌};
+ghost use Rattle.std.specs.Option.{option_map};
+ghost use Rattle.just_syntax.specs.Plain.{Expr};
+ghost use Rattle.just_syntax.specs.View.{name_view, recipe_parameter_view, recipe_view};
+ghost use Rattle.just_value.specs.Frames.{bound_in_front, own_frame};
+ghost use Rattle.just_value.specs.View.{ended, frames_view};
+ghost use Rattle.just_host.specs.Interaction.{GoesByAnswers, Runs, RunsChecked, freely};
+ghost use Rattle.just_host.specs.View.{pairs_view};
+ghost use Rattle.just_meaning.specs.Here.{meanings};
+ghost use Rattle.just_meaning.specs.Internal.{IfRefused, IsFinal, IsNotInternal};
+ghost use Rattle.just_meaning.specs.Parameters as meant;
+ghost use Rattle.just_meaning.specs.Parameters.{HaveOneElement, parameter_bound, with_variable, words_of};
+ghost use Rattle.just_meaning.specs.View.{IsResolvedWith, recipe_in};
+ghost use Rattle.just_forms.specs.Check.{Gives};
+ghost use Rattle.just_eval.specs.View.{HasRoom, IsInRun, IsSameBut, Resolves, arguments_view, dynamic_meanings, here, meaning, rules_of, situation_of};
+
+use super::Evaluator;
+use just_forms::text::one_text;
+use just_forms::{argument, internal};
+use just_host::execution_context::ExecutionContext;
+use just_host::host::Host;
+use just_syntax::attribute::Attribute;
+use just_syntax::name::Name;
+use just_syntax::out_of_memory::OutOfMemory;
+use just_syntax::parameter::Parameter;
+use just_syntax::recipe::Recipe;
+use just_syntax::string_context::StringContext;
+use just_value::check_fault::CheckFault;
+use just_value::error::Error;
+use just_value::scope::Scope;
+use just_value::value::Value;
+use std::alloc::Global;
+use std::collections::{BTreeMap, HashSet};
+
+impl<'src, 'run> Evaluator<'src, 'run> {
+    /// Evaluates for a recipe, in a child of `scope`, what commands are run with `env` beside it. A called body's scope is
+    /// put on that of `context`.
+    pub fn new(
+        alloc: Global,
+        context: &ExecutionContext<'src, 'run>,
+        env: BTreeMap<String, String>,
+        is_dependency: bool,
+        recipe: Option<Name<'src>>,
+        scope: &'run Scope<'src, 'run>,
+    ) -> Result<Evaluator<'src, 'run>, OutOfMemory>
+        requires room { 0 < context.now.recursion_limit }
+        ensures here { IfOk result (λ e. here e ≡ recipe_in context.now (pairs_view env) is_dependency (option_map (λ n. (name_view n).lexeme) recipe.entry) ([] ∷ frames_view scope.entry.now)) }
+        ensures resolved { IfOk result (λ e. (es : List Expr) → Resolves e es ↔ IsResolvedWith context.now ([] ∷ frames_view scope.entry.now) [] [] es) }
+        ensures in_run { IfOk result IsInRun }
+        ensures room { IfOk result HasRoom }
+    {
+        Evaluator::of_recipe(alloc, context, env, is_dependency, recipe, scope)
+    }
+
+    // The same, by where it stands.
+    fn of_recipe(
+        alloc: Global,
+        context: &ExecutionContext<'src, 'run>,
+        env: BTreeMap<String, String>,
+        is_dependency: bool,
+        recipe: Option<Name<'src>>,
+        scope: &'run Scope<'src, 'run>,
+    ) -> Result<Evaluator<'src, 'run>, OutOfMemory>
+        ensures context { IfOk result (λ e. e.context ≡ Some context.now) }
+        ensures base { IfOk result (λ e. is_some e.base ≡ true) }
+        ensures situation { IfOk result (λ e. situation_of e ≡ (recipe_in context.now (pairs_view env) is_dependency (option_map (λ n. (name_view n).lexeme) recipe.entry) ([] ∷ frames_view scope.entry.now)).situation) }
+    {
+        Ok(Evaluator {
+            base: Some(context.scope),
+            context: Some(*context),
+            env,
+            is_dependency,
+            lists: context.module.settings.lists,
+            non_const_assignments: HashSet::new(alloc),
+            recipe,
+            scope: scope.child(alloc)?,
+        })
+    }
+
+    /// Evaluates the attributes and the parameters of a recipe, and gives a child of `scope` in which the parameters are
+    /// bound, the positional words, and the environment that `[env]` attributes give.
+    ///
+    /// The attributes come first, each seeing the environment so far; then the number of arguments; then the parameters in
+    /// their order, of which a default sees the earlier ones. An empty argument stands for the default, or for no element
+    /// where the parameter may have none. In place of another argument `value` stands, once for each of its elements, unless
+    /// the recipe runs as a dependency. `check` is asked of each parameter's value. A parameter that may have many elements
+    /// gives each as a word, another its join. Without lists the bound value has one element.
+    ///
+    /// # Errors
+    ///
+    /// The first refusal: as `evaluate_value`; `ListInStringContext` for the key of an attribute that has not one element;
+    /// `Internal` where the arguments are not as many as the parameters; `EmptyListArgument` for an empty argument with
+    /// nothing in its place; `Check` where the check refuses a value. `OutOfMemory` also where the check says so.
+    pub fn evaluate_parameters<H: Host, C>(
+        alloc: Global,
+        host: &mut H,
+        check: &C,
+        arguments: &[Value],
+        context: &ExecutionContext<'src, 'run>,
+        is_dependency: bool,
+        parameters: &[Parameter<'src>],
+        recipe: &Recipe<'src>,
+        scope: &'run Scope<'src, 'run>,
+    ) -> Result<(Scope<'src, 'run>, Vec<String>, BTreeMap<String, String>), Error<'src>>
+    where
+        C: Fn(&Recipe<'src>, &Parameter<'src>, &Value) -> Result<(), CheckFault>,
+        requires room { 0 < context.now.recursion_limit }
+        requires callable { C.IsAlwaysCallable check.now }
+
+        // Where all that is reached is resolved, the lexical rules give the scope, the words and the environment, or the
+        // refusal, by the questions that they ask and the verdicts of the check.
+        ensures headline { let h = recipe_in context.entry.now [] is_dependency (Some (recipe_view recipe.entry.now).name.lexeme) ([] ∷ frames_view scope.entry.now) in
+            IsResolvedWith context.entry.now h.situation.shown (recipe_view recipe.entry.now).attributes (map recipe_parameter_view parameters.entry.now) []
+            → RunsChecked freely H.step (Gives C.Fn check.entry.now recipe.entry.now) host.old (meant.parameters (meanings h) h.situation (recipe_view recipe.entry.now) (map recipe_parameter_view parameters.entry.now) arguments.entry.now) (ended arguments_view result) host.new }
+        ensures never_internal { IsResolvedWith context.entry.now ([] ∷ frames_view scope.entry.now) (recipe_view recipe.entry.now).attributes (map recipe_parameter_view parameters.entry.now) []
+            → length arguments.entry.now ≡ length parameters.entry.now → IsNotInternal (ended arguments_view result) }
+
+        // Resolved or not, it is not refused as constant evaluation is, and nothing but answered questions leads the host on.
+        ensures never_const { IfRefused IsFinal (ended arguments_view result) }
+        ensures answered { GoesByAnswers H.step host.old host.new }
+
+        // Without lists each bound parameter has one element.
+        ensures one_element { context.entry.now.module.now.settings.lists ≡ false → IfOk result (λ given. HaveOneElement (own_frame (frames_view given.0))) }
+    {
+        Evaluator::evaluated_parameters(
+            alloc,
+            host,
+            check,
+            arguments,
+            context,
+            is_dependency,
+            parameters,
+            recipe,
+            scope,
+        )
+    }
+
+    // The same by dynamic scoping.
+    fn evaluated_parameters<H: Host, C>(
+        alloc: Global,
+        host: &mut H,
+        check: &C,
+        arguments: &[Value],
+        context: &ExecutionContext<'src, 'run>,
+        is_dependency: bool,
+        parameters: &[Parameter<'src>],
+        recipe: &Recipe<'src>,
+        scope: &'run Scope<'src, 'run>,
+    ) -> Result<(Scope<'src, 'run>, Vec<String>, BTreeMap<String, String>), Error<'src>>
+    where
+        C: Fn(&Recipe<'src>, &Parameter<'src>, &Value) -> Result<(), CheckFault>,
+        requires room { 0 < context.now.recursion_limit }
+        requires callable { C.IsAlwaysCallable check.now }
+        ensures { let h = recipe_in context.entry.now [] is_dependency (Some (recipe_view recipe.entry.now).name.lexeme) ([] ∷ frames_view scope.entry.now) in
+            RunsChecked freely H.step (Gives C.Fn check.entry.now recipe.entry.now) host.old (meant.parameters (dynamic_meanings (Some context.entry.now)) h.situation (recipe_view recipe.entry.now) (map recipe_parameter_view parameters.entry.now) arguments.entry.now) (ended arguments_view result) host.new }
+    {
+        let env = BTreeMap::new(alloc);
+        let name = Some(recipe.name);
+        let mut evaluator = Evaluator::of_recipe(alloc, context, env, is_dependency, name, scope)?;
+        evaluator.evaluate_attributes(alloc, host, recipe)?;
+        if arguments.len() != parameters.len() {
+            return Err(internal::mismatched(alloc, &recipe.name));
+        }
+        let words = evaluator.bind_parameters(alloc, host, check, recipe, parameters, arguments)?;
+        let Evaluator { env, scope, .. } = evaluator;
+        Ok((scope, words, env))
+    }
+
+    // Sets the variables that `[env]` attributes give.
+    fn evaluate_attributes<H: Host>(
+        &mut self,
+        alloc: Global,
+        host: &mut H,
+        recipe: &Recipe<'src>,
+    ) -> Result<(), Error<'src>>
+        requires room { HasRoom self.old }
+        ensures same { IsSameBut self.old self.new × (self.new.scope ≡ self.old.scope) }
+        ensures environment { Runs (rules_of self.old) H.step host.old (meant.environment (dynamic_meanings self.old.context) (situation_of self.old) (recipe_view recipe.now).attributes) (ended (λ _. pairs_view self.new.env) result) host.new }
+    {
+        for (attribute, name) in recipe.attributes.iter() {
+            if let Attribute::Env(key, value) = attribute {
+                let context = StringContext::EnvKey(*name);
+                let key = self.evaluated_string(alloc, host, key, context)?;
+                let value = self.evaluated(alloc, host, value)?;
+                self.set_variable(alloc, key, value)?;
+            }
+        }
+        Ok(())
+    }
+
+    // Sets a variable to a value joined, if it has an element.
+    fn set_variable(&mut self, alloc: Global, key: String, value: Value) -> Result<(), OutOfMemory>
+        ensures same { IsSameBut self.old self.new × (self.new.scope ≡ self.old.scope) }
+        ensures set { OnOk result (pairs_view self.new.env ≡ with_variable (pairs_view self.old.env) (string_bytes key) value) }
+    {
+        if !value.is_empty() {
+            self.env.insert(key, value.join(alloc)?)?;
+        }
+        Ok(())
+    }
+
+    // Binds as many parameters to their values, and gives the positional words.
+    fn bind_parameters<H: Host, C>(
+        &mut self,
+        alloc: Global,
+        host: &mut H,
+        check: &C,
+        recipe: &Recipe<'src>,
+        parameters: &[Parameter<'src>],
+        arguments: &[Value],
+    ) -> Result<Vec<String>, Error<'src>>
+    where
+        C: Fn(&Recipe<'src>, &Parameter<'src>, &Value) -> Result<(), CheckFault>,
+        requires room { HasRoom self.old }
+        requires based { is_some self.old.base ≡ true }
+        requires callable { C.IsAlwaysCallable check.now }
+        ensures { RunsChecked (rules_of self.old) H.step (Gives C.Fn check.entry.now recipe.entry.now) host.old (meant.bindings (dynamic_meanings self.old.context) (recipe_view recipe.entry.now).name.lexeme (situation_of self.old) [] (map recipe_parameter_view parameters.entry.now) arguments.entry.now)
+            (ended (λ words. record { frames = frames_view self.new.scope; words = map string_bytes words.items; environment = pairs_view self.new.env }) result) host.new }
+    {
+        let mut words = Vec::new(alloc);
+        for (parameter, argument) in parameters.iter().zip(arguments) {
+            let value = self.parameter_value(alloc, host, recipe, parameter, argument)?;
+            let value = argument::checked(check, recipe, parameter, value)?;
+            self.bind_parameter(alloc, &mut words, parameter, value)?;
+        }
+        Ok(words)
+    }
+
+    // The value of a parameter, before it is checked.
+    fn parameter_value<H: Host>(
+        &self,
+        alloc: Global,
+        host: &mut H,
+        recipe: &Recipe<'src>,
+        parameter: &Parameter<'src>,
+        argument: &Value,
+    ) -> Result<Value, Error<'src>>
+        requires room { HasRoom self.now }
+        ensures { Runs (rules_of self.now) H.step host.old (meant.valued (meaning self.now) self.now.is_dependency (recipe_view recipe.now).name.lexeme (recipe_parameter_view parameter.now) argument.now) (ended (λ v. v) result) host.new }
+    {
+        if argument.is_empty() {
+            return match &parameter.default {
+                Some(default) => self.evaluated(alloc, host, default),
+                None => argument::no_element(alloc, parameter, recipe),
+            };
+        }
+        match &parameter.value {
+            Some(value) if !self.is_dependency => {
+                let value = self.evaluated(alloc, host, value)?;
+                Ok(argument::repeated(alloc, &value, argument.len())?)
+            }
+            _ => Ok(argument.try_clone(alloc)?),
+        }
+    }
+
+    // Binds a parameter to its value, and puts its words behind the others.
+    fn bind_parameter(
+        &mut self,
+        alloc: Global,
+        words: &mut Vec<String>,
+        parameter: &Parameter<'src>,
+        value: Value,
+    ) -> Result<(), OutOfMemory>
+        ensures same { IsSameBut self.old self.new × (self.new.env ≡ self.old.env) }
+        ensures words { OnOk result (map string_bytes words.new.items ≡ map string_bytes words.old.items ++ words_of (recipe_parameter_view parameter.now) value) }
+        ensures bound { OnOk result (frames_view self.new.scope ≡ bound_in_front (frames_view self.old.scope) (parameter_bound self.old.lists (recipe_parameter_view parameter.now) value)) }
+    {
+        argument::add_words(alloc, words, parameter, &value)?;
+        let binding = argument::binding(alloc, self.lists, parameter, value)?;
+        self.scope.bind(binding)?;
+        Ok(())
+    }
+}

@@ -1,0 +1,13 @@
+-- A value's elements so many times.
+use Rattle.std.proofs.Common.{◌≡◌, ◌∙◌, ◌+◌, ℕ, zero, suc, ◌++◌, ap, sym, add-one}
+use Rattle.std.proofs.lemmas.List.{append-nil, append_assoc}
+use Rattle.just_value.specs.Value.{Value}
+use Rattle.just_meaning.specs.Parameters.{repeated}
+
+-- once more behind the others is once more in front of them
+one_behind : (v : Value) (n : ℕ) → repeated n v ++ v ≡ repeated (suc n) v
+one_behind v zero = sym (append-nil v)
+one_behind v (suc n) = append_assoc v (repeated n v) v ∙ ap (λ w. v ++ w) (one_behind v n)
+
+pub once_more : (v : Value) (n : ℕ) → repeated n v ++ v ≡ repeated (n + 1) v
+once_more v n = one_behind v n ∙ ap (λ k. repeated k v) (sym (add-one n))

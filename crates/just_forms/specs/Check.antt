@@ -1,0 +1,38 @@
+-- What a value check that is handed in may say, on plain data.
+use Rattle.std.specs.Prelude.{◌≡◌, Result, Ok, Err, string_bytes}
+use Rattle.std.specs.Borrow.{Bor}
+use Rattle.std.specs.Fn.{Shared}
+use Rattle.just_syntax.specs.Plain as plain
+use Rattle.just_syntax.specs.View.{recipe_parameter_view}
+use Rattle.just_syntax.specs.declared.parameter.Parameter.{Parameter}
+use Rattle.just_syntax.specs.declared.recipe.Recipe.{Recipe}
+use Rattle.just_value.specs.Value.{Value}
+use Rattle.just_value.specs.declared.check_fault.CheckFault.{CheckFault}
+use Rattle.just_value.specs.declared.check_fault.CheckFault.TheVariants as faults
+use Rattle.just_value.specs.Outcome.{Outcome}
+use Rattle.just_host.specs.Interaction.{Denied, Passed, Untold, Verdict}
+use Rattle.just_meaning.specs.Parameters.{judged}
+
+-- what a check's answer says
+abbrev pub verdict_view : Result Unit CheckFault → Verdict
+verdict_view (Ok _) = Passed
+verdict_view (Err (faults.Refused message)) = Denied (string_bytes message)
+verdict_view (Err faults.OutOfMemory) = Untold
+
+-- At this recipe, at some parameter that reads as p and at the value v, the check may say a.
+pub record Gives {F : Type 0} (calls : Shared F (Bor Recipe × (Bor Parameter × (Bor Value × Unit {0}))) (Result Unit CheckFault)) (check : F) (recipe : Recipe) (p : plain.Parameter) (v : Value) (a : Verdict) : Type 0 where
+  pub recipe_ref : Bor Recipe
+  pub parameter_ref : Bor Parameter
+  pub value_ref : Bor Value
+  pub answer : Result Unit CheckFault
+  pub says : calls.post check (recipe_ref, (parameter_ref, (value_ref, tt))) answer
+  pub at_recipe : recipe_ref.now ≡ recipe
+  pub at_parameter : recipe_parameter_view parameter_ref.now ≡ p
+  pub at_value : value_ref.now ≡ v
+  pub is : verdict_view answer ≡ a
+
+-- A value is checked, and the outcome is what one of the verdicts that may be given comes to.
+pub record IsJudged {F : Type 0} (calls : Shared F (Bor Recipe × (Bor Parameter × (Bor Value × Unit {0}))) (Result Unit CheckFault)) (check : F) (recipe : Recipe) (p : plain.Parameter) (v : Value) (o : Outcome Value) : Type 0 where
+  pub verdict : Verdict
+  pub given : Gives calls check recipe p v verdict
+  pub comes_to : o ≡ judged p v verdict

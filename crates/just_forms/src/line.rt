@@ -1,0 +1,20 @@
+// Text in lines of recipes.
+
+ghost use Rattle.std.specs.Prelude.{IfOk, string_bytes, ◌≡◌};
+ghost use Rattle.just_meaning.specs.Line.{written};
+
+use just_syntax::out_of_memory::OutOfMemory;
+use just_text::replace::replace;
+use std::alloc::Global;
+
+/// Text of a line, in which `{{{{` stands for `{{`. Where it goes on the line before, its leading white space is left out.
+pub fn written(alloc: Global, lexeme: &str, continues: bool) -> Result<String, OutOfMemory>
+    ensures { IfOk result (λ text. string_bytes text ≡ written continues lexeme.now) }
+{
+    let text = replace(alloc, lexeme, "{{{{", "{{")?;
+    if continues {
+        Ok(String::from_str(alloc, text.trim_start())?)
+    } else {
+        Ok(text)
+    }
+}

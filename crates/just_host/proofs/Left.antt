@@ -1,0 +1,64 @@
+-- What is left of a row: elements that are made one after another, each from the value of a tree.
+use Rattle.std.proofs.Common.{List, [], ◌++◌, refl, ap, sym, subst, Option, Some, None, ◌≡◌}
+use Rattle.std.proofs.lemmas.List.{append-nil, append_assoc}
+use Rattle.just_value.specs.Refusal.{Refusal}
+use Rattle.just_value.specs.Outcome.{Outcome, Gave, Refused, Stopped, without_value}
+use Rattle.just_host.specs.Question.{Question, Answer}
+use Rattle.just_host.specs.Interaction.{Rules, Runs, Tree, bind, gives}
+use Rattle.just_host.proofs.Paths.{runs_on, runs_ends, runs_gives, runs_stopped}
+
+-- what is done so far is f, and the rest is put behind it
+abbrev pub behind : {A B : Type 0} → (A → B) → Outcome A → Outcome B
+behind f (Gave a) = Gave (f a)
+behind f (Refused r) = Refused r
+behind f Stopped = Stopped
+
+behind_ended : {A B : Type 0} (f : A → B) (e : Option Refusal) → behind f (without_value e) ≡ without_value e
+behind_ended f (Some r) = refl
+behind_ended f None = refl
+
+-- one more element, and then the rest
+behind_next : {X : Type 0} (made more : List X) (o : Outcome (List X)) → behind (λ xs. made ++ xs) (behind (λ xs. more ++ xs) o) ≡ behind (λ xs. (made ++ more) ++ xs) o
+behind_next made more (Gave xs) = ap Gave (sym (append_assoc made more xs))
+behind_next made more (Refused r) = refl
+behind_next made more Stopped = refl
+
+behind_nothing : {X : Type 0} (o : Outcome (List X)) → behind (λ xs. [] ++ xs) o ≡ o
+behind_nothing (Gave xs) = refl
+behind_nothing (Refused r) = refl
+behind_nothing Stopped = refl
+
+-- What is made so far, and what is left: whatever all that is left comes to from here is what the whole comes to.
+abbrev pub Left : {S X : Type 0} → Rules → (S → Question → Answer → S → Type 0) → Tree (List X) → S → Tree (List X) → S → List X → Type 0
+Left {S} {X} by step whole start left here made = (o : Outcome (List X)) (new : S) → Runs by step here left o new → Runs by step start whole (behind (λ xs. made ++ xs) o) new
+
+module _ {rules : Rules} {S : Type 0} {step : S → Question → Answer → S → Type 0} where
+  -- a value, and then the rest, of which f makes one
+  runs_more : {V A B : Type 0} {old mid new : S} (first : Tree V) (rest : Tree A) (v : V) (f : V → A → B) (o : Outcome A) → Runs rules step old first (Gave v) mid → Runs rules step mid rest o new
+      → Runs rules step old (bind first (λ v. bind rest (λ a. gives (f v a)))) (behind (f v) o) new
+  runs_more first rest v f (Gave a) r q = runs_on first _ r (runs_on rest (λ a. gives (f v a)) q (runs_gives (f v a)))
+  runs_more first rest v f (Refused s) r q = runs_on first _ r (runs_ends rest (λ a. gives (f v a)) (Some s) q)
+  runs_more first rest v f Stopped r q = runs_on first _ r (runs_ends rest (λ a. gives (f v a)) None q)
+
+  module _ {X : Type 0} (whole : Tree (List X)) where
+    pub left_all : {h : S} → Left rules step whole h whole h []
+    left_all {h = h} o new r = subst (λ x. Runs rules step h whole x new) (sym (behind_nothing o)) r
+
+    pub left_none : {start here : S} (made : List X) → Left rules step whole start (gives []) here made → Runs rules step start whole (Gave made) here
+    left_none {start = start} {here = here} made left = subst (λ xs. Runs rules step start whole (Gave xs) here) (append-nil made) (left (Gave []) here (runs_gives []))
+
+    pub left_stops : {start here : S} (left : Tree (List X)) (made : List X) → Left rules step whole start left here made → Runs rules step start whole Stopped here
+    left_stops left made rest = rest Stopped _ (runs_stopped left)
+
+    -- a first one, of which some elements are made, and more
+    module _ {V : Type 0} {start here : S} (first : Tree V) (more : Tree (List X)) (f : V → List X) (made : List X) (rest : Left rules step whole start (bind first (λ v. bind more (λ xs. gives (f v ++ xs)))) here made) where
+      pub left_next : {mid : S} (v : V) → Runs rules step here first (Gave v) mid → Left rules step whole start more mid (made ++ f v)
+      left_next v r o new q = subst (λ x. Runs rules step start whole x new) (behind_next made (f v) o) (rest (behind (λ xs. f v ++ xs) o) new (runs_more first more v (λ v xs. f v ++ xs) o r q))
+
+      -- it ends without a value
+      pub left_ends : {new : S} (e : Option Refusal) → Runs rules step here first (without_value e) new → Runs rules step start whole (without_value e) new
+      left_ends {new = new} e r = subst (λ x. Runs rules step start whole x new) (behind_ended (λ xs. made ++ xs) e) (rest (without_value e) new (runs_ends first _ e r))
+
+      -- memory runs out after its value
+      pub left_cut : {new : S} (v : V) → Runs rules step here first (Gave v) new → Runs rules step start whole Stopped new
+      left_cut {new = new} v r = rest Stopped new (runs_on first _ r (runs_stopped _))

@@ -1,0 +1,127 @@
+// What a recorder keeps of questions.
+
+ghost use Rattle.std.specs.Prelude.{◌≡◌, IfOk, map, string_bytes};
+ghost use Rattle.just_host.specs.Question.{TextOf};
+ghost use Rattle.just_host.specs.Recorded.{kind_of, recorded, text_of};
+ghost use Rattle.just_host.specs.View.{pairs_view, question_view, recorded_view, text_question_view};
+
+use crate::command_question::CommandQuestion;
+use crate::directory_kind::DirectoryKind;
+use crate::number_question::NumberQuestion;
+use crate::text_question::TextQuestion;
+use just_syntax::out_of_memory::OutOfMemory;
+use std::alloc::Global;
+use std::collections::BTreeMap;
+
+/// What a [`Recorder`](crate::recorder::Recorder) keeps of a question: what it asked for, and not the scope that it showed
+/// nor what stays the same in a run.
+#[derive(Debug, Drop)]
+pub enum Recorded {
+    /// A command, its arguments where it takes some, and the recipe's environment.
+    Command {
+        command: String,
+        arguments: Option<Vec<String>>,
+        env: BTreeMap<String, String>,
+    },
+    /// A question that a text answers, and its variable, path or name, which is empty for one that has none.
+    Text {
+        kind: TextKind,
+        text: String,
+    },
+    /// Whether something stands at a path.
+    Exists(String),
+    /// A question that a number answers.
+    Number(NumberQuestion),
+}
+
+/// The questions that a text answers, without what they hold.
+#[derive(Clone, Copy, Debug, PartialEq, Eq)]
+pub enum TextKind {
+    Variable,
+    Directory(DirectoryKind),
+    Canonicalize,
+    Read,
+    Which,
+    Executable,
+    Arch,
+    Os,
+    OsFamily,
+}
+
+impl Recorded {
+    // What is kept of a command.
+    pub(crate) fn of_command(
+        alloc: Global,
+        question: &CommandQuestion,
+    ) -> Result<Recorded, OutOfMemory>
+        ensures { IfOk result (λ r. recorded_view r ≡ recorded (question_view question.now).blind) }
+    {
+        let arguments = match question.arguments {
+            Some(arguments) => Some(copies(alloc, arguments)?),
+            None => None,
+        };
+        Ok(Recorded::Command {
+            command: String::from_str(alloc, question.command)?,
+            arguments,
+            env: env_copy(question.env)?,
+        })
+    }
+
+    // What is kept of a question for a text.
+    pub(crate) fn of_text(alloc: Global, question: TextQuestion) -> Result<Recorded, OutOfMemory>
+        ensures { IfOk result (λ r. recorded_view r ≡ recorded (TextOf (text_question_view question.entry))) }
+    {
+        Ok(Recorded::Text {
+            kind: kind_of(question),
+            text: String::from_str(alloc, text_of(question))?,
+        })
+    }
+}
+
+// A question without what it holds.
+fn kind_of(question: TextQuestion) -> TextKind
+    ensures { result ≡ kind_of (text_question_view question.entry) }
+{
+    match question {
+        TextQuestion::Variable(_) => TextKind::Variable,
+        TextQuestion::Directory(directory) => TextKind::Directory(directory),
+        TextQuestion::Canonicalize(_) => TextKind::Canonicalize,
+        TextQuestion::Read(_) => TextKind::Read,
+        TextQuestion::Which { .. } => TextKind::Which,
+        TextQuestion::Executable => TextKind::Executable,
+        TextQuestion::Arch => TextKind::Arch,
+        TextQuestion::Os => TextKind::Os,
+        TextQuestion::OsFamily => TextKind::OsFamily,
+    }
+}
+
+// The variable, path or name of a question, and the empty text where it has none.
+fn text_of(question: TextQuestion<'_>) -> &str
+    ensures { result.now ≡ text_of (text_question_view question.entry) }
+{
+    match question {
+        TextQuestion::Variable(text)
+        | TextQuestion::Canonicalize(text)
+        | TextQuestion::Read(text)
+        | TextQuestion::Which { name: text, .. } => text,
+        _ => "",
+    }
+}
+
+// The variables once more.
+fn env_copy(env: &BTreeMap<String, String>) -> Result<BTreeMap<String, String>, OutOfMemory>
+    ensures { IfOk result (λ copy. pairs_view copy ≡ pairs_view env.now) }
+{
+    Ok(env.clone()?)
+}
+
+// The texts once more.
+fn copies(alloc: Global, texts: &[String]) -> Result<Vec<String>, OutOfMemory>
+    ensures { IfOk result (λ copies. map string_bytes copies.items ≡ map string_bytes texts.now) }
+{
+    let mut all = Vec::with_capacity(alloc, texts.len())?;
+    for text in texts {
+        all.push(String::from_str(alloc, text)?)?;
+    }
+    Ok(all)
+}

@@ -1,0 +1,161 @@
+// What is evaluated for a recipe: whether its numbers are apart, and whether all is known and bound before it is read.
+
+ghost use Rattle.std.specs.Prelude.{◌↔◌, ◌⊎◌, ◌++◌, ℕ, IfOk, IsTrue, [], map};
+ghost use Rattle.just_syntax.specs.View.{assignment_view, function_view, recipe_parameter_view, view};
+ghost use Rattle.just_value.specs.Frames.{value_in};
+ghost use Rattle.just_value.specs.View.{frames_view};
+ghost use Rattle.just_meaning.specs.Here.{AllReadable, AreReadableInTurn, attribute_expressions, parameter_expressions};
+ghost use Rattle.just_meaning.specs.Resolved.{AllKnown, AreDistinct, HasValue, IsOneOf, parameter_numbers};
+ghost use Rattle.just_meaning.specs.View.{functions_view};
+ghost use Rattle.just_resolution.specs.Admitted.{IsAdmitted, MayAllStand, MayFollowInTurn, MayStand};
+ghost use Rattle.just_resolution.specs.Seen.{IsSameReader, attributes_of, expressions_view, is_name_in, is_readable};
+
+use crate::admitted::reads_readable;
+use crate::expressions::{expressions_of, recipe_expressions};
+use crate::known::is_expression_known;
+use crate::numbers::{
+    add_parameter_numbers, add_recipe_numbers, are_distinct, are_unbound, assignment_numbers,
+};
+use crate::readable::Readable;
+use just_host::execution_context::ExecutionContext;
+use just_host::justfile::Justfile;
+use just_syntax::expression::Expression;
+use just_syntax::function_definition::FunctionDefinition;
+use just_syntax::out_of_memory::OutOfMemory;
+use just_syntax::parameter::Parameter;
+use just_syntax::recipe::Recipe;
+use just_syntax::table::Table;
+use just_value::scope::Scope;
+use std::alloc::Global;
+use std::collections::BTreeSet;
+
+// Whether the numbers of assignments and of all parameters are distinct, and neither scope binds one of a parameter.
+pub(crate) fn are_parameters_apart(
+    alloc: Global,
+    module: &Justfile,
+    scope: &Scope,
+    base: &Scope,
+    parameters: &[Parameter],
+) -> Result<bool, OutOfMemory>
+    ensures { let assignments = map (λ a. a.number) (map assignment_view «module».now.assignments) in let functions = parameter_numbers (functions_view «module».now) in let own = map (λ p. p.number) (map recipe_parameter_view parameters.now) in
+        IfOk result (λ answer. IsTrue answer ↔ (AreDistinct (assignments ++ functions ++ own) × ((n : ℕ) → IsOneOf (functions ++ own) n → HasValue (value_in (frames_view scope.now)) n ⊎ HasValue (value_in (frames_view base.now)) n → ⊥))) }
+{
+    let mut numbers = assignment_numbers(alloc, &module.assignments)?;
+    let first_parameter = numbers.len();
+    add_parameter_numbers(&mut numbers, &module.functions)?;
+    add_recipe_numbers(&mut numbers, parameters)?;
+    let of_parameters = &numbers[first_parameter..];
+    if !are_unbound(scope, of_parameters) {
+        return Ok(false);
+    }
+    if !are_unbound(base, of_parameters) {
+        return Ok(false);
+    }
+    are_distinct(alloc, &numbers)
+}
+
+// Whether all that is evaluated is known, and bound before it is read.
+pub(crate) fn are_readable_here<'src, 'run>(
+    alloc: Global,
+    context: &ExecutionContext<'src, 'run>,
+    scope: &Scope<'src, 'run>,
+    recipe: Option<&Recipe<'src>>,
+    parameters: &[Parameter<'src>],
+    expressions: Vec<&Expression<'src>>,
+) -> Result<bool, OutOfMemory>
+    ensures { let functions = functions_view context.now.«module».now in let own = value_in (frames_view scope.now) in let base = value_in (frames_view context.now.scope.now) in
+        let attributes = attribute_expressions (attributes_of recipe.entry) in let ps = map recipe_parameter_view parameters.now in let es = expressions_view expressions.entry.items in
+        IfOk result (λ answer. IsTrue answer ↔ (AllKnown functions (attributes ++ parameter_expressions ps ++ es) × AllReadable functions base (HasValue own) (attributes ++ es) × AreReadableInTurn functions base own [] ps)) }
+{
+    let mut reader = Reader {
+        functions: &context.module.functions,
+        here: Readable::new(alloc, scope),
+        bodies: Readable::new(alloc, context.scope),
+        admitted: BTreeSet::new(alloc),
+    };
+    let attributes = recipe_expressions(alloc, recipe)?;
+    if !reader.may_all_stand(alloc, attributes)? {
+        return Ok(false);
+    }
+    if !reader.may_all_stand(alloc, expressions)? {
+        return Ok(false);
+    }
+    reader.may_follow(alloc, parameters)
+}
+
+// What may be read, and the functions that were looked through.
+#[derive(Drop)]
+struct Reader<'a, 'src, 'run> {
+    functions: &'a Table<FunctionDefinition<'src>>,
+    // What is evaluated may read this by itself.
+    here: Readable<'a, 'src, 'run>,
+    // Bodies may read this besides their own parameters.
+    bodies: Readable<'a, 'src, 'run>,
+    admitted: BTreeSet<&'src str>,
+}
+
+impl<'src> Reader<'_, 'src, '_> {
+    // Whether an expression is known, and reads nothing but what it may.
+    fn may_stand(
+        &mut self,
+        alloc: Global,
+        expression: &Expression<'src>,
+    ) -> Result<bool, OutOfMemory>
+        requires closed { IsAdmitted (map function_view self.old.functions.now) (is_readable self.old.bodies) (is_name_in self.old.admitted) }
+        ensures same { IsSameReader self.old self.new }
+        ensures exact { IfOk result (λ answer. IsTrue answer ↔ MayStand (map function_view self.old.functions.now) (is_readable self.old.here) (is_readable self.old.bodies) (view expression.now)) }
+        ensures closed { IfOk result (λ answer. IsTrue answer → IsAdmitted (map function_view self.old.functions.now) (is_readable self.old.bodies) (is_name_in self.new.admitted)) }
+    {
+        if !is_expression_known(alloc, self.functions, expression)? {
+            return Ok(false);
+        }
+        reads_readable(
+            alloc,
+            self.functions,
+            &self.here,
+            &self.bodies,
+            &mut self.admitted,
+            expression,
+        )
+    }
+
+    // The same of each of these expressions: the answer does not depend on which is looked at first.
+    fn may_all_stand(
+        &mut self,
+        alloc: Global,
+        expressions: Vec<&Expression<'src>>,
+    ) -> Result<bool, OutOfMemory>
+        requires closed { IsAdmitted (map function_view self.old.functions.now) (is_readable self.old.bodies) (is_name_in self.old.admitted) }
+        ensures same { IsSameReader self.old self.new }
+        ensures exact { IfOk result (λ answer. IsTrue answer ↔ MayAllStand (map function_view self.old.functions.now) (is_readable self.old.here) (is_readable self.old.bodies) (expressions_view expressions.entry.items)) }
+        ensures closed { IfOk result (λ answer. IsTrue answer → IsAdmitted (map function_view self.old.functions.now) (is_readable self.old.bodies) (is_name_in self.new.admitted)) }
+    {
+        let mut left = expressions;
+        while let Some(expression) = left.pop() {
+            if !self.may_stand(alloc, expression)? {
+                return Ok(false);
+            }
+        }
+        Ok(true)
+    }
+
+    // Whether the defaults and values of these parameters are known, and read nothing but what they may and the earlier
+    // parameters.
+    fn may_follow(
+        &mut self,
+        alloc: Global,
+        parameters: &[Parameter<'src>],
+    ) -> Result<bool, OutOfMemory>
+        requires closed { IsAdmitted (map function_view self.old.functions.now) (is_readable self.old.bodies) (is_name_in self.old.admitted) }
+        ensures exact { IfOk result (λ answer. IsTrue answer ↔ MayFollowInTurn (map function_view self.old.functions.now) (λ n. IsTrue (is_readable self.old.here n)) (is_readable self.old.bodies) (map recipe_parameter_view parameters.now)) }
+    {
+        for parameter in parameters {
+            let own = expressions_of(alloc, parameter)?;
+            if !self.may_all_stand(alloc, own)? {
+                return Ok(false);
+            }
+            self.here.take(parameter.number)?;
+        }
+        Ok(true)
+    }
+}

@@ -1,0 +1,54 @@
+// Whether what is evaluated for a recipe is resolved.
+
+ghost use Rattle.std.specs.Prelude.{◌↔◌, IfOk, IsTrue, map};
+ghost use Rattle.just_syntax.specs.View.{recipe_parameter_view};
+ghost use Rattle.just_value.specs.View.{frames_view};
+ghost use Rattle.just_meaning.specs.View.{IsResolvedWith};
+ghost use Rattle.just_resolution.specs.Seen.{attributes_of, expressions_view};
+
+use crate::here::{are_parameters_apart, are_readable_here};
+use crate::known::are_bodies_known;
+use just_host::execution_context::ExecutionContext;
+use just_syntax::expression::Expression;
+use just_syntax::out_of_memory::OutOfMemory;
+use just_syntax::parameter::Parameter;
+use just_syntax::recipe::Recipe;
+use just_value::scope::Scope;
+use std::alloc::Global;
+
+/// Whether what is evaluated for a recipe is resolved: the attributes of `recipe`, if one is given, these parameters, and
+/// these expressions, of lines for example. Then what they mean does not depend on the calls that are pending.
+///
+/// - The numbers of all assignments of the context's module, of all parameters of its functions and of these parameters
+///   are distinct, and neither `scope` nor the context's scope binds one of a parameter.
+/// - Each variable in what is evaluated, and in a function's body, has a number, and each called name takes as many
+///   arguments as the call has.
+/// - What an attribute or an expression reads by itself is bound in `scope`; what a parameter's default or value reads,
+///   there or among the earlier parameters. What a body that is reached reads is its own parameter, or bound in the
+///   context's scope.
+///
+/// Each expression and each body is looked through a bounded number of times. The expressions come as a vector, which is
+/// used up.
+///
+/// # Errors
+///
+/// `OutOfMemory` where memory was asked for and refused.
+pub fn resolved_here<'src, 'run>(
+    alloc: Global,
+    context: &ExecutionContext<'src, 'run>,
+    scope: &Scope<'src, 'run>,
+    recipe: Option<&Recipe<'src>>,
+    parameters: &[Parameter<'src>],
+    expressions: Vec<&Expression<'src>>,
+) -> Result<bool, OutOfMemory>
+    ensures exact { IfOk result (λ answer. IsTrue answer ↔ IsResolvedWith context.now (frames_view scope.now) (attributes_of recipe.entry) (map recipe_parameter_view parameters.now) (expressions_view expressions.entry.items)) }
+{
+    let module = context.module;
+    if !are_parameters_apart(alloc, module, scope, context.scope, parameters)? {
+        return Ok(false);
+    }
+    if !are_bodies_known(alloc, &module.functions)? {
+        return Ok(false);
+    }
+    are_readable_here(alloc, context, scope, recipe, parameters, expressions)
+}

@@ -1,0 +1,59 @@
+// A host that knows one command.
+
+use just_host::command_question::CommandQuestion;
+use just_host::host::Host;
+use just_host::number_question::NumberQuestion;
+use just_host::text_answer::TextAnswer;
+use just_host::text_question::TextQuestion;
+use just_syntax::out_of_memory::OutOfMemory;
+use just_value::error::CommandFault;
+use std::alloc::Global;
+
+/// Answers `date` with a day, and keeps each command that it is asked for.
+#[derive(Drop)]
+pub(crate) struct Calendar {
+    pub(crate) asked: Vec<String>,
+}
+
+impl Host for Calendar {
+    ghost use Rattle.std.specs.Prelude.{⊤};
+
+    // Nothing is said of what it answers.
+    ghost step = { λ _ _ _ _. ⊤ };
+
+    fn command(
+        &mut self,
+        alloc: Global,
+        question: &CommandQuestion,
+    ) -> Result<String, CommandFault> {
+        match self.answer(alloc, question.command) {
+            Ok(Some(text)) => Ok(text),
+            Ok(None) => Err(CommandFault::Code(127)),
+            Err(OutOfMemory) => Err(CommandFault::OutOfMemory),
+        }
+    }
+
+    fn text(&mut self, _alloc: Global, _question: TextQuestion) -> TextAnswer {
+        TextAnswer::Absent
+    }
+
+    fn exists(&mut self, _alloc: Global, _path: &str) -> Result<bool, OutOfMemory> {
+        Ok(false)
+    }
+
+    fn number(&mut self, _alloc: Global, _question: NumberQuestion) -> Result<u64, OutOfMemory> {
+        Ok(1)
+    }
+}
+
+impl Calendar {
+    // What a command writes, if it is known.
+    fn answer(&mut self, alloc: Global, command: &str) -> Result<Option<String>, OutOfMemory> {
+        self.asked.push(String::from_str(alloc, command)?)?;
+        if command == "date" {
+            Ok(Some(String::from_str(alloc, "Tuesday")?))
+        } else {
+            Ok(None)
+        }
+    }
+}

@@ -1,0 +1,126 @@
+// A host that fails from a question on.
+
+ghost use Rattle.std.specs.Prelude.{◌≡◌, false, suc, true};
+ghost use Rattle.just_value.specs.View.{fault_view};
+ghost use Rattle.just_host.specs.Question.{Failed, UnlessNoMemory};
+ghost use Rattle.just_host.specs.View.{text_replied};
+ghost use Rattle.just_script.specs.Failing.{broken};
+ghost use Rattle.just_script.specs.View.{failing_view};
+
+use just_host::command_question::CommandQuestion;
+use just_host::host::Host;
+use just_host::number_question::NumberQuestion;
+use just_host::text_answer::TextAnswer;
+use just_host::text_question::TextQuestion;
+use just_syntax::out_of_memory::OutOfMemory;
+use just_value::error::CommandFault;
+use std::alloc::Global;
+
+// What the fault of a host that fails says.
+const BROKEN: &str = "broken";
+
+/// How a host fails.
+#[derive(Clone, Copy, Debug, PartialEq, Eq)]
+pub enum How {
+    /// By the fault `broken`. A question that has no fault, for existence or for a number, is passed on all the same.
+    Fault,
+    /// By want of memory.
+    Memory,
+}
+
+/// A host that passes its first questions on to another, and fails at each later one.
+#[derive(Drop)]
+pub struct FailAt<H> {
+    host: H,
+    left: usize,
+    how: How,
+}
+
+impl<H> FailAt<H> {
+    /// A host that passes the first `n` questions on to `host`, and then fails. It takes no memory.
+    pub fn new(host: H, n: usize, how: How) -> FailAt<H>
+        ensures { failing_view result ≡ record { host = host; left = n; how = how } }
+    {
+        FailAt { host, left: n, how }
+    }
+
+    // Whether the next question is passed on, which then is one fewer.
+    fn passes(&mut self) -> bool
+        ensures passed { result ≡ true → self.old.left ≡ suc self.new.left }
+        ensures failed { result ≡ false → (self.old.left ≡ 0) × (self.new.left ≡ 0) }
+        ensures same { (self.new.host ≡ self.old.host) × (self.new.how ≡ self.old.how) }
+    {
+        if self.left == 0 {
+            return false;
+        }
+        self.left -= 1;
+        true
+    }
+}
+
+impl<H: Host> Host for FailAt<H> {
+    ghost use Rattle.just_script.specs.Failing.{PassesOrFails};
+    ghost use Rattle.just_script.specs.View.{failing_view};
+
+    ghost step = { λ old question answer new. PassesOrFails H.step (failing_view old) question answer (failing_view new) };
+
+    fn command(
+        &mut self,
+        alloc: Global,
+        question: &CommandQuestion,
+    ) -> Result<String, CommandFault> {
+        if self.passes() {
+            return self.host.command(alloc, question);
+        }
+        match self.how {
+            How::Fault => Err(broken_command(alloc)),
+            How::Memory => Err(CommandFault::OutOfMemory),
+        }
+    }
+
+    fn text(&mut self, alloc: Global, question: TextQuestion) -> TextAnswer {
+        if self.passes() {
+            return self.host.text(alloc, question);
+        }
+        match self.how {
+            How::Fault => broken_text(alloc),
+            How::Memory => TextAnswer::OutOfMemory,
+        }
+    }
+
+    fn exists(&mut self, alloc: Global, path: &str) -> Result<bool, OutOfMemory> {
+        let passes = self.passes();
+        if passes || self.how == How::Fault {
+            return self.host.exists(alloc, path);
+        }
+        Err(OutOfMemory)
+    }
+
+    fn number(&mut self, alloc: Global, question: NumberQuestion) -> Result<u64, OutOfMemory> {
+        let passes = self.passes();
+        if passes || self.how == How::Fault {
+            return self.host.number(alloc, question);
+        }
+        Err(OutOfMemory)
+    }
+}
+
+// The fault of a command, or want of memory for its text.
+fn broken_command(alloc: Global) -> CommandFault
+    ensures { UnlessNoMemory (Failed (fault_view result)) broken }
+{
+    match String::from_str(alloc, BROKEN) {
+        Ok(text) => CommandFault::Fault(text),
+        Err(_) => CommandFault::OutOfMemory,
+    }
+}
+
+// The fault in place of a text, or want of memory for what it says.
+fn broken_text(alloc: Global) -> TextAnswer
+    ensures { UnlessNoMemory (text_replied result) broken }
+{
+    match String::from_str(alloc, BROKEN) {
+        Ok(text) => TextAnswer::Fault(text),
+        Err(_) => TextAnswer::OutOfMemory,
+    }
+}

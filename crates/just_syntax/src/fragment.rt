@@ -1,0 +1,13 @@
+// Fragments of lines.
+
+use crate::expression::Expression;
+use crate::token::Token;
+
+/// A fragment of a line.
+#[derive(Drop)]
+pub enum Fragment<'src> {
+    /// Text as it is written, in which `{{{{` stands for `{{`.
+    Text { token: Token<'src> },
+    /// `{{expression}}`
+    Interpolation { expression: Expression<'src> },
+}

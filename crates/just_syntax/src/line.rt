@@ -1,0 +1,9 @@
+// Lines of recipes.
+
+use crate::fragment::Fragment;
+
+/// A line of a recipe.
+#[derive(Drop)]
+pub struct Line<'src> {
+    pub fragments: Vec<Fragment<'src>>,
+}
