@@ -138,6 +138,18 @@ def calls_of_one_function(n):
     return lines + ["run"], "".join(f'a{i} = "x"\n' for i in range(n))
 
 
+def calls_of_built_ins(n):
+    """n assignments, each of which calls a built-in function of one text."""
+    texts = {"capitalize": "Ab", "file_name": "aB", "lowercase": "ab", "quote": "'aB'", "trim": "aB", "uppercase": "AB"}
+    names = list(texts)
+    lines, answer = [], []
+    for i in range(n):
+        name = names[i % len(names)]
+        lines += ["str aB", f"call {name} 1", f"assign a{i}"]
+        answer.append(f'a{i} = "{texts[name]}"\n')
+    return lines + ["run"], "".join(answer)
+
+
 FAMILIES = [
     (chain_of_additions, 2_500),
     (assignments_in_a_row, 4_000),
@@ -151,6 +163,7 @@ FAMILIES = [
     (recursion, 112),
     (functions_in_a_row, 112),
     (calls_of_one_function, 3_000),
+    (calls_of_built_ins, 3_000),
 ]
 
 

@@ -2,10 +2,14 @@
 // what was asked and what came of it. It leans on the evaluator's public calls, the reader of cases and scripted hosts.
 #![tactic(auto)]
 
+mod blocks;
 mod context;
+mod module_run;
 mod print;
 pub mod program;
+mod script;
 pub mod stream;
+mod taken;
 #[cfg(test)]
 mod tests;
 

@@ -1,5 +1,6 @@
 // What is printed of an evaluation.
 
+use crate::taken::taken_variables;
 use just_builtins::directory::directory_word;
 use just_eval::evaluator::Evaluator;
 use just_host::fault::fault_text;
@@ -85,6 +86,16 @@ fn print_text_question(text: &mut String, kind: TextKind, about: &str) -> Result
     Ok(())
 }
 
+/// Adds a line on an order: `order`, and each variable that is taken.
+pub(crate) fn print_order(text: &mut String, taken: &[(Name, Number)]) -> Result<(), OutOfMemory> {
+    text.push_str("order")?;
+    for (name, _) in taken {
+        write!(text, " {name}")?;
+    }
+    text.push('\n')?;
+    Ok(())
+}
+
 /// Adds a scope's own bindings by rising number, each on a line: the name and the value.
 pub(crate) fn print_bindings(text: &mut String, scope: &Scope) -> Result<(), OutOfMemory> {
     for binding in scope.bindings() {
@@ -105,15 +116,8 @@ pub(crate) fn print_settled(
     references: &HashSet<Number>,
     evaluator: &Evaluator,
 ) -> Result<(), OutOfMemory> {
-    let mut printed = HashSet::new(alloc);
-    for name in order {
-        let Some(assignment) = assignments.get(name.lexeme()) else {
-            continue;
-        };
-        let number = assignment.number;
-        if references.contains(&number) && printed.insert(number)? {
-            print_standing(text, name, number, evaluator)?;
-        }
+    for (name, number) in &taken_variables(alloc, assignments, order, Some(references))? {
+        print_standing(text, name, *number, evaluator)?;
     }
     Ok(())
 }

@@ -3,10 +3,12 @@
 ghost use Rattle.std.specs.Prelude.{◌≡◌, ◌<◌, ◌≤◌, IfOk, IfSome, IsErr, length};
 ghost use Rattle.just_bench.specs.declared.stream.TheConstants.{LIMIT};
 
+use crate::blocks::evaluate_blocks;
 use crate::context::{case_config, case_module, case_search};
 use crate::print::{
     print_bindings, print_const_refusal, print_questions, print_refusal, print_settled,
 };
+use crate::script::case_script;
 use crate::stream::{StreamError, read_case, write_text};
 use just_case_lines::case::{Case, CaseError, build};
 use just_case_lines::evaluation::Evaluation;
@@ -14,16 +16,16 @@ use just_case_lines::line::parse_lines;
 use just_eval::evaluator::Evaluator;
 use just_eval::{resolved, resolved_const};
 use just_host::recorder::Recorder;
-use just_script::scripted_host::ScriptedHost;
 use just_syntax::assignment::Assignment;
 use just_syntax::number::Number;
 use just_syntax::out_of_memory::OutOfMemory;
 use just_syntax::table::Table;
-use just_value::error::{CommandFault, Error};
+use just_value::error::Error;
 use just_value::scope::Scope;
 use std::alloc::Global;
 use std::collections::HashSet;
 use std::io::{Read, Write};
+use std::mem;
 
 /// Reads a case, evaluates it, prints its answer, and gives the exit status: 0 for bindings, 2 for a refusal, 1
 /// for a case that is bad or too long, a read or a write that failed, or want of memory outside the evaluation.
@@ -74,14 +76,15 @@ fn evaluate(alloc: Global, text: &mut String, case: Case) -> Result<u8, OutOfMem
 pub(crate) fn evaluate_in<'src>(
     alloc: Global,
     text: &mut String,
-    case: Case<'src>,
+    mut case: Case<'src>,
     parent: &Scope<'src, '_>,
 ) -> Result<u8, OutOfMemory>
     ensures { IfOk result (λ status. status ≤ 2) }
 {
-    match case.evaluation {
+    match mem::replace(&mut case.evaluation, Evaluation::Run) {
         Evaluation::Run => evaluate_run(alloc, text, case, parent),
         Evaluation::Const => evaluate_const(alloc, text, case, parent),
+        Evaluation::Blocks { order } => evaluate_blocks(alloc, text, case, order, parent),
     }
 }
 
@@ -189,19 +192,4 @@ fn print_outcome<'src>(
             Ok(2)
         }
     }
-}
-
-// A host that answers commands as a case says, and has no answer to any other question.
-fn case_script(
-    alloc: Global,
-    always: Vec<(String, String)>,
-    replies: Vec<Result<String, CommandFault>>,
-) -> ScriptedHost {
-    ScriptedHost::new(
-        always,
-        replies,
-        Vec::new(alloc),
-        Vec::new(alloc),
-        Vec::new(alloc),
-    )
 }

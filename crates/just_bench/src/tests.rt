@@ -1,6 +1,7 @@
 // What no stored case can say: a case that is cut, streams that fail, hosts, and evaluations in a scope that binds
 // something.
 
+mod blocks;
 mod evaluations;
 mod fakes;
 mod functions;

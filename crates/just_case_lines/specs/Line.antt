@@ -35,6 +35,7 @@ pub data Line : Type 0 where
   Limit : ℕ → Line
   Run : Line
   Const : Line
+  Blocks : Text → Line
 
 -- a line whose word has nothing behind it, and which puts expressions together
 abbrev pub operator_line : Text → Line
@@ -114,6 +115,7 @@ line_of_word word rest =
     if bytes_eq word (codes "str") then Literal rest (codes "'" ++ rest ++ codes "'") else
     if bytes_eq word (codes "cmd") then Command rest (codes "`" ++ rest ++ codes "`") else
     if bytes_eq word (codes "fun") then led (names rest) (Function rest) else
+    if bytes_eq word (codes "blocks") then led (names rest) (Blocks rest) else
     if bytes_eq word (codes "order") then listed (names rest) (Order rest) else
     if bytes_eq word (codes "only") then listed (names rest) (Only rest) else
     simple_line word rest

@@ -29,3 +29,4 @@ line_view lines.Dry = plain.Dry
 line_view (lines.Limit limit) = plain.Limit limit
 line_view lines.Run = plain.Run
 line_view lines.Const = plain.Const
+line_view (lines.Blocks names) = plain.Blocks names.now

@@ -5,7 +5,7 @@ ghost use Rattle.std.specs.Option.{is_some, option_map};
 ghost use Rattle.std.specs.List.{list_any};
 ghost use Rattle.std.specs.Bool.{nat_eq};
 ghost use Rattle.just_syntax.specs.View.{name_view};
-ghost use Rattle.just_case_lines.specs.Case.{token_of};
+ghost use Rattle.just_case_lines.specs.Case.{second_order, token_of};
 ghost use Rattle.just_case_lines.specs.References.{Refers};
 ghost use Rattle.just_case_lines.specs.Rest.{names};
 
@@ -120,6 +120,7 @@ impl<'src> Builder<'src> {
             }
             Line::Run => self.end(Evaluation::Run),
             Line::Const => self.end(Evaluation::Const),
+            Line::Blocks { names } => self.blocks(alloc, names),
             _ => Err(LineError::Bad),
         }
     }
@@ -252,9 +253,20 @@ impl<'src> Builder<'src> {
         Ok(())
     }
 
+    // Ends the case with two runs, of which the second has the order of these names.
+    fn blocks(&mut self, alloc: Global, text: &'src str) -> Result<(), LineError>
+        ensures { OnOk result (second_order self.new.case.evaluation ≡ option_map (λ lexemes. map token_of lexemes) (names text.now)) }
+    {
+        let Some(names) = parse_names(alloc, text)? else {
+            return Err(LineError::Bad);
+        };
+        let order = token::names(alloc, &names)?;
+        self.end(Evaluation::Blocks { order })
+    }
+
     // Ends the case, if each expression is assigned.
-    fn end(&mut self, evaluation: Evaluation) -> Result<(), LineError>
-        ensures { self.new.case.evaluation ≡ evaluation }
+    fn end(&mut self, evaluation: Evaluation<'src>) -> Result<(), LineError>
+        ensures { self.new.case.evaluation ≡ evaluation.entry }
     {
         self.is_over = true;
         self.case.evaluation = evaluation;

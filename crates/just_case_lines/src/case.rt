@@ -35,8 +35,8 @@ pub struct Case<'src> {
     pub dry_run: bool,
     /// How many calls may be pending, and one more.
     pub recursion_limit: usize,
-    /// Which of the two the case ends with, `run` or `const`.
-    pub evaluation: Evaluation,
+    /// What the case ends with, `run`, `const` or `blocks`.
+    pub evaluation: Evaluation<'src>,
 }
 
 impl<'src> Case<'src> {
@@ -71,8 +71,8 @@ pub enum CaseError {
 ///
 /// # Errors
 ///
-/// `BadLine` with the place of the first bad line. A case that ends with neither `run` nor `const` is bad
-/// at the line after its last.
+/// `BadLine` with the place of the first bad line. A case that ends with none of `run`, `const` and `blocks` is
+/// bad at the line after its last.
 pub fn build<'src>(alloc: Global, lines: &'src [Line<'src>]) -> Result<Case<'src>, CaseError> {
     let mut builder = Builder::new(alloc);
     for (index, line) in lines.iter().enumerate() {

@@ -1,10 +1,14 @@
-// When a case's assignments are evaluated.
+// How a case's assignments are evaluated.
 
-/// When a case's assignments are evaluated.
-#[derive(Clone, Copy)]
-pub enum Evaluation {
+use just_syntax::name::Name;
+
+/// How a case's assignments are evaluated.
+#[derive(Drop)]
+pub enum Evaluation<'src> {
     /// In a run.
     Run,
     /// Before any run, by the const rules.
     Const,
+    /// In a run in their order, and in another run in the order of these names.
+    Blocks { order: Vec<Name<'src>> },
 }

@@ -2,7 +2,7 @@
 
 ghost use Rattle.std.specs.Prelude.{◌≡◌, ◌==◌, Some, IfOk, codes, if◌then◌else◌, length, map, position};
 ghost use Rattle.std.specs.List.{after_first, before_first};
-ghost use Rattle.just_case_lines.specs.Line.{Assign, Bad, Function, bare_line, is_skipped, led, line_of, line_of_text, line_of_word, lines_of, named, operator_line, simple_line};
+ghost use Rattle.just_case_lines.specs.Line.{Assign, Bad, bare_line, is_skipped, led, line_of, line_of_text, line_of_word, lines_of, named, operator_line, simple_line};
 ghost use Rattle.just_case_lines.specs.View.{line_view};
 
 use crate::operator::{BinaryOperator, UnaryOperator};
@@ -62,6 +62,8 @@ pub enum Line<'case> {
     Run,
     /// `const`: the assignments are evaluated before any run.
     Const,
+    /// `blocks N ..`: the assignments are evaluated in two runs, of which the second has this order.
+    Blocks { names: &'case str },
 }
 
 /// The lines of a case. Each ends with a newline, which the last may lack.
@@ -127,7 +129,11 @@ fn parse_word<'case>(
             lexeme: format!(in alloc; "`{rest}`")?,
         },
         "fun" => match parse_names(alloc, rest)? {
-            Some(names) => function_line(rest, &names),
+            Some(names) => led_line(&names, Line::Function { names: rest }),
+            None => Line::Bad,
+        },
+        "blocks" => match parse_names(alloc, rest)? {
+            Some(names) => led_line(&names, Line::Blocks { names: rest }),
             None => Line::Bad,
         },
         "order" => match parse_names(alloc, rest)? {
@@ -142,15 +148,11 @@ fn parse_word<'case>(
     })
 }
 
-// `fun` with what stands behind it, which is these names.
-fn function_line<'case>(rest: &'case str, names: &[&str]) -> Line<'case>
-    ensures { line_view result ≡ led (Some (map (λ name. name.now) names.now)) (Function rest.now) }
+// A line with these names, of which it has to have one.
+fn led_line<'case>(names: &[&str], line: Line<'case>) -> Line<'case>
+    ensures { line_view result ≡ led (Some (map (λ name. name.now) names.now)) (line_view line.entry) }
 {
-    if names.is_empty() {
-        Line::Bad
-    } else {
-        Line::Function { names: rest }
-    }
+    if names.is_empty() { Line::Bad } else { line }
 }
 
 // A line that has no literal, no command and no list of names.

@@ -1,9 +1,9 @@
-mod Closure
+pub mod Closure
 mod Ordering
 mod Readers
 mod Resolving
 mod Rows
-mod Sets
+pub mod Sets
 pub mod Standing
 mod Tables
 mod Turns

@@ -10,6 +10,7 @@ ghost use Rattle.just_meaning.specs.Reaches.{IsAmong, Stands, VariableOf, functi
 ghost use Rattle.just_resolution.specs.Seen.{is_name_in, is_number_in, is_readable, texts};
 
 use crate::mentions::mentions_in;
+use crate::numbers::own_numbers;
 use crate::readable::Readable;
 use just_syntax::expression::Expression;
 use just_syntax::function_definition::FunctionDefinition;
@@ -83,20 +84,6 @@ fn look_through_function<'src>(
         }
         None => Ok(true),
     }
-}
-
-// The numbers of parameters.
-fn own_numbers(
-    alloc: Global,
-    parameters: &[(Name, Number)],
-) -> Result<BTreeSet<Number>, OutOfMemory>
-    ensures { IfOk result (λ own. (n : ℕ) → IsTrue (is_number_in own n) ↔ IsAmong (map parameter_view parameters.now) n) }
-{
-    let mut own = BTreeSet::new(alloc);
-    for (_, number) in parameters {
-        own.insert(*number)?;
-    }
-    Ok(own)
 }
 
 // Whether an expression reads nothing by itself but own numbers and what is readable. If so, the names that it

@@ -13,18 +13,22 @@ use just_syntax::out_of_memory::OutOfMemory;
 use just_syntax::string_literal::StringLiteral;
 use std::alloc::Global;
 
-// The variables and the calls that stand in an expression.
+/// The variables and the calls that stand in an expression.
 #[derive(Drop)]
-pub(crate) struct Mentions<'src> {
-    // The names that are called, each with the number of arguments.
-    pub(crate) calls: Vec<(&'src str, usize)>,
-    // The variables' numbers: one that has none is `None`.
-    pub(crate) variables: Vec<Option<Number>>,
+pub struct Mentions<'src> {
+    /// The names that are called, each with the number of arguments.
+    pub calls: Vec<(&'src str, usize)>,
+    /// The variables' numbers: one that has none is `None`.
+    pub variables: Vec<Option<Number>>,
 }
 
-// The variables and the calls that stand in an expression. They are gathered in one walk, so that what is asked of
-// them needs no recursion.
-pub(crate) fn mentions_in<'src>(
+/// The variables and the calls that stand in an expression, in their order. They are gathered in one walk, so that what
+/// is asked of them needs no recursion.
+///
+/// # Errors
+///
+/// `OutOfMemory` where memory was asked for and refused.
+pub fn mentions_in<'src>(
     alloc: Global,
     expression: &Expression<'src>,
 ) -> Result<Mentions<'src>, OutOfMemory>

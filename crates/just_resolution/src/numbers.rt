@@ -6,7 +6,9 @@ ghost use Rattle.just_syntax.specs.View.{assignment_view, function_view, paramet
 ghost use Rattle.just_value.specs.View.{frames_view};
 ghost use Rattle.just_value.specs.Frames.{value_in};
 ghost use Rattle.just_meaning.specs.Resolved.{AreDistinct, HasValue, IsOneOf, parameter_numbers};
+ghost use Rattle.just_meaning.specs.Reaches.{IsAmong};
 ghost use Rattle.just_meaning.specs.View.{functions_view};
+ghost use Rattle.just_resolution.specs.Seen.{is_number_in};
 
 use just_host::justfile::Justfile;
 use just_syntax::assignment::Assignment;
@@ -113,4 +115,22 @@ fn is_unbound(scope: &Scope, number: Number) -> bool
     ensures { result ≡ is_none (value_in (frames_view scope.now) number) }
 {
     scope.value(number).is_none()
+}
+
+/// The numbers of a function's parameters.
+///
+/// # Errors
+///
+/// `OutOfMemory` where memory was asked for and refused.
+pub fn own_numbers(
+    alloc: Global,
+    parameters: &[(Name, Number)],
+) -> Result<BTreeSet<Number>, OutOfMemory>
+    ensures { IfOk result (λ own. (n : ℕ) → IsTrue (is_number_in own n) ↔ IsAmong (map parameter_view parameters.now) n) }
+{
+    let mut own = BTreeSet::new(alloc);
+    for (_, number) in parameters {
+        own.insert(*number)?;
+    }
+    Ok(own)
 }

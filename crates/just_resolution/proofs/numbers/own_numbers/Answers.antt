@@ -2,7 +2,7 @@ use Rattle.std.proofs.Common.{◌≡◌, ◌∙◌, true, false, sym, take}
 use Rattle.std.proofs.lemmas.List.{take_all}
 use Rattle.just_syntax.specs.View.{parameter_view}
 use Rattle.just_resolution.proofs.Sets.{no_number, number_added, own_more}
-use Rattle.just_resolution.proofs.admitted.own_numbers.Goals as goal
+use Rattle.just_resolution.proofs.numbers.own_numbers.Goals as goal
 
 pub loop-number-init : goal.loop-number-init
 loop-number-init c = λ n. ((λ h. absurd (let e : false ≡ true = sym (no_number c.new-own.result c.new-own.ensures.empty n) ∙ h in cc)), (λ h. absurd h))

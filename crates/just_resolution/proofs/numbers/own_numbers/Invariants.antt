@@ -2,7 +2,7 @@ use Rattle.std.proofs.Common.{◌↔◌, ℕ, IsTrue, map, take}
 use Rattle.just_syntax.specs.View.{parameter_view}
 use Rattle.just_meaning.specs.Reaches.{IsAmong}
 use Rattle.just_resolution.specs.Seen.{is_number_in}
-use Rattle.just_resolution.proofs.admitted.own_numbers.Given as goal
+use Rattle.just_resolution.proofs.numbers.own_numbers.Given as goal
 
 -- the numbers of the parameters so far
 abbrev pub invariant-loop-number : goal.invariant-loop-number

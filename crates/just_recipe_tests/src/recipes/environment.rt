@@ -1,0 +1,186 @@
+// In which environment the commands of a function's body are run.
+
+ghost use Rattle.std.specs.Prelude.{◌<◌};
+
+use crate::recipes::hosts::TellingHost;
+use crate::recipes::{Around, RECIPE, expressions_of, module_of_case};
+use just_case_lines::case::{Case, build};
+use just_case_lines::line::parse_lines;
+use just_case_lines::token::name;
+use just_eval::evaluator::Evaluator;
+use just_host::execution_context::ExecutionContext;
+use just_host::justfile::Justfile;
+use just_syntax::attribute::Attribute;
+use just_syntax::attribute_set::AttributeSet;
+use just_syntax::fragment::Fragment;
+use just_syntax::line::Line;
+use just_syntax::parameter::Parameter;
+use just_syntax::recipe::Recipe;
+use just_value::check_fault::CheckFault;
+use just_value::scope::Scope;
+use just_value::value::Value;
+use std::alloc::Global;
+use std::collections::BTreeMap;
+use std::test::Fail;
+
+// A recipe's attribute sets `K` to `v`; the functions, and what its line is; and what the line asks, and its text.
+const LINES: &[(&str, &str)] = &[
+    ("cmd who\nfun g\ncall g 0\n", "? who K=v () ();<who>"),
+    (
+        "cmd who\nfun g\ncall g 0\nfun f n\nstr z\ncall f 1\n",
+        "? who K=v () (n = \"z\") ();<who>",
+    ),
+    (
+        "str who\ncall shell 1\nfun g\ncall g 0\n",
+        "? who K=v () ();<who>",
+    ),
+];
+
+#[test]
+fn environment_of_a_line(rt: HostRuntime) -> Result<(), Fail> {
+    let alloc = rt.alloc();
+    for (called, expected) in LINES {
+        let case = format!(in alloc; "str v\nassign a\nstr K\nassign b\n{called}assign c\nrun")?;
+        let told = line_told(alloc, &case)?;
+        assert_eq!(rt; told.as_str(), *expected, "{called}");
+    }
+    Ok(())
+}
+
+// What the line of a case's third assignment comes to, behind what was asked, where the first two give an attribute.
+fn line_told(alloc: Global, case: &str) -> Result<String, Fail> {
+    let lines = parse_lines(alloc, case.as_bytes())?;
+    let mut left = expressions_of(alloc, build(alloc, &lines)?)?.into_iter();
+    let mut attributes = AttributeSet::new(alloc);
+    let mut fragments = Vec::new(alloc);
+    if let (Some(value), Some(key)) = (left.next(), left.next()) {
+        attributes.push(Attribute::Env(key, value), name("env"))?;
+    }
+    if let Some(expression) = left.next() {
+        fragments.push(Fragment::Interpolation { expression })?;
+    }
+    let recipe = Recipe {
+        attributes,
+        name: name(RECIPE),
+    };
+    let module = module_of_case(alloc, build(alloc, &lines)?)?;
+    told_in_module(alloc, &module, &recipe, &Line { fragments })
+}
+
+fn told_in_module<'src>(
+    alloc: Global,
+    module: &Justfile<'src>,
+    recipe: &Recipe<'src>,
+    line: &Line<'src>,
+) -> Result<String, Fail> {
+    let around = Around::new(alloc)?;
+    let scope = Scope::root(alloc, &[])?;
+    told_on(alloc, module, &around, &scope, recipe, line)
+}
+
+fn told_on<'src>(
+    alloc: Global,
+    module: &Justfile<'src>,
+    around: &Around,
+    scope: &Scope<'src, '_>,
+    recipe: &Recipe<'src>,
+    line: &Line<'src>,
+) -> Result<String, Fail> {
+    let context = around.context(module, scope, 100);
+    told_in(alloc, &context, scope, recipe, line)
+}
+
+// What a line comes to in the environment that the recipe's attributes give.
+fn told_in<'src>(
+    alloc: Global,
+    context: &ExecutionContext<'src, '_>,
+    scope: &Scope<'src, '_>,
+    recipe: &Recipe<'src>,
+    line: &Line<'src>,
+) -> Result<String, Fail>
+    requires room { 0 < context.now.recursion_limit }
+{
+    let mut host = TellingHost {
+        told: String::new(alloc),
+    };
+    let check = |_: &Recipe, _: &Parameter, _: &Value| -> Result<(), CheckFault> { Ok(()) };
+    let outcome = Evaluator::evaluate_parameters(
+        alloc,
+        &mut host,
+        &check,
+        &[],
+        context,
+        false,
+        &[],
+        recipe,
+        scope,
+    );
+    match outcome {
+        Ok((scope, _words, env)) => {
+            tell_line(alloc, &mut host, context, &scope, recipe, line, env)?
+        }
+        Err(_error) => host.told.push_str("refused")?,
+    }
+    Ok(host.told)
+}
+
+fn tell_line<'src>(
+    alloc: Global,
+    host: &mut TellingHost,
+    context: &ExecutionContext<'src, '_>,
+    scope: &Scope<'src, '_>,
+    recipe: &Recipe<'src>,
+    line: &Line<'src>,
+    env: BTreeMap<String, String>,
+) -> Result<(), Fail>
+    requires room { 0 < context.now.recursion_limit }
+{
+    let name = Some(recipe.name);
+    let evaluator = Evaluator::new(alloc, context, env, false, name, scope)?;
+    match evaluator.evaluate_line(alloc, host, line, false) {
+        Ok(text) => host.told.push_str(&text)?,
+        Err(_error) => host.told.push_str("refused")?,
+    }
+    Ok(())
+}
+
+// A module's assignments have no environment, and so none has a body that they call.
+#[test]
+fn environment_of_assignments(rt: HostRuntime) -> Result<(), Fail> {
+    let alloc = rt.alloc();
+    let lines = parse_lines(alloc, b"cmd who\nfun g\ncall g 0\nassign a\nrun")?;
+    let case = build(alloc, &lines)?;
+    let parent = Scope::root(alloc, &[])?;
+    let told = run_told(alloc, case, &parent)?;
+    assert_eq!(rt; told.as_str(), "? who () () ();");
+    Ok(())
+}
+
+// What the assignments of a case ask.
+fn run_told<'src>(
+    alloc: Global,
+    case: Case<'src>,
+    parent: &Scope<'src, '_>,
+) -> Result<String, Fail> {
+    let module = module_of_case(alloc, case)?;
+    let around = Around::new(alloc)?;
+    let mut host = TellingHost {
+        told: String::new(alloc),
+    };
+    let outcome = Evaluator::evaluate_assignments(
+        alloc,
+        &mut host,
+        &around.config,
+        &around.dotenv,
+        &module,
+        &around.overrides,
+        &*parent,
+        &around.search,
+        100,
+        None,
+    );
+    if outcome.is_err() {
+        host.told.push_str("refused")?;
+    }
+    Ok(host.told)
+}
