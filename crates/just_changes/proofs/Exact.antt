@@ -1,0 +1,42 @@
+-- The answer is exact, by what its parts told.
+use Rattle.std.proofs.Common.{◌≡◌, ◌↔◌, ◌⊎◌, inl, inr, ⊎_elim, ℕ, Bool, true, false, List, map, IsTrue, refl, ap, sym, ◌∙◌, subst}
+use Rattle.std.specs.HashMap.{HashMap}
+use Rattle.std.specs.Global.{Global}
+use Rattle.std.specs.declared.hash.BuildHasherDefault.{BuildHasherDefault}
+use Rattle.std.specs.declared.hash.FoldHasher.{FoldHasher}
+use Rattle.std.specs.declared.string.String.{String}
+use Rattle.just_syntax.specs.View.{assignment_view, function_view}
+use Rattle.just_value.specs.Frames.{Frames}
+use Rattle.just_host.specs.declared.justfile.Justfile.{Justfile}
+use Rattle.just_meaning.specs.Module.{Module}
+use Rattle.just_meaning.specs.Reaches.{function_at}
+use Rattle.just_meaning.specs.View.{override_of}
+use Rattle.just_agreement.specs.Cone.{BlocksAgree, HaveSameCone, numbered}
+use Rattle.just_changes.specs.declared.version.Version.{Version as Declared}
+use Rattle.just_changes.specs.Changed.{AreAlikeAt, IsOver}
+use Rattle.just_changes.specs.Nodes.{PlainNode, OfVariable, Version, IsListed, IsReached, IsSame, ReadsItself}
+use Rattle.just_changes.specs.View.{IsWhole, version_view}
+use Rattle.just_changes.proofs.Reaching.{exactly, version_of}
+use Rattle.just_changes.proofs.Versions.{AreAlike, alike_back, reads_alike, same_alike}
+
+-- a version is that of each module over its file
+pub over : (v : Declared) (justfile : Justfile) (given : HashMap ℕ (String Global) (BuildHasherDefault FoldHasher)) (m : Module) → IsWhole v → v.assignments.now ≡ justfile.assignments → v.functions.now ≡ justfile.functions → v.overrides.now ≡ given → IsOver justfile given m → AreAlike (version_view v) (version_of m)
+over v justfile given m whole assignments functions overrides h = record {
+  assignments = λ n. whole n ∙ ap (λ all. numbered (map assignment_view all) n) assignments ∙ ap (λ all. numbered all n) (sym h.assignments);
+  functions = λ t. ap (λ all. function_at (map function_view all) t) functions ∙ ap (λ all. function_at all t) (sym h.functions);
+  overrides = λ n. ap (λ all. override_of all n) overrides ∙ sym (h.overrides n);
+}
+
+pub exact : (m w : Module) (outer : Frames) (v u : Version) (readers : PlainNode → List PlainNode) (starts : List PlainNode) (touched : PlainNode → Bool) → AreAlike v (version_of m) → AreAlike u (version_of w)
+    → ((x y : PlainNode) → IsListed (readers x) y ↔ ReadsItself v outer y x) → ((x : PlainNode) → IsListed starts x → IsSame v u x → ⊥) → ((x : PlainNode) → IsListed starts x ⊎ IsSame v u x)
+    → ((x : PlainNode) → IsTrue (touched x) ↔ IsReached readers starts x) → (n : ℕ) → (touched (OfVariable n) ≡ false) ↔ HaveSameCone m w outer n
+exact m w outer v u readers starts touched first second reading differ all reached =
+    exactly m w outer readers starts touched
+    (λ x y. ((λ h. reads_alike v (version_of m) outer first y x ((reading x y).0 h)), (λ r. (reading x y).1 (reads_alike (version_of m) v outer (alike_back v (version_of m) first) y x r))))
+    (λ x listed same. differ x listed (same_alike (version_of m) (version_of w) v u (alike_back v (version_of m) first) (alike_back u (version_of w) second) x same))
+    (λ x. ⊎_elim (λ listed. inl listed) (λ same. inr (same_alike v u (version_of m) (version_of w) first second x same)) (all x)) reached
+
+-- the law, where cones are the same
+pub alike : BlocksAgree → (m w : Module) (outer : Frames) (n : ℕ) → HaveSameCone m w outer n → AreAlikeAt m w outer n
+alike law m w outer n same bs cs o p fixed limit one other r q talk b c at at' number again here there =
+    law.blocks m w outer bs cs o p fixed limit one other r q talk b c at at' (number ∙ sym again) (subst (HaveSameCone m w outer) (sym number) same) here there

@@ -1,0 +1,10 @@
+pub mod Covered
+pub mod Exact
+pub mod Lists
+pub mod Nodes
+pub mod Parts
+pub mod Reaching
+pub mod Readings
+pub mod Spreading
+pub mod Versions
+pub mod Whole

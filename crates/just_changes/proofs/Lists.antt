@@ -1,0 +1,97 @@
+-- Maps of lists of nodes, once a list is taken out or put in.
+use Rattle.std.proofs.Common.{◌≡◌, ◌↔◌, ◌⊎◌, inl, inr, ⊎_elim, ℕ, ◌+◌, Bool, true, false, cond, List, [], ◌∷◌, ◌++◌, length, Option, Some, None, Vec, Bor, refl, ap, sym, ◌∙◌, subst, arith}
+use Rattle.std.specs.Bool.{Decides}
+use Rattle.std.specs.Global.{Global}
+use Rattle.std.specs.BTreeMap.{BTreeMap, get, is_at}
+use Rattle.std.specs.Cmp.{unsigned_tied}
+use Rattle.std.specs.Cmp.Lexicographic.{slice_cmp}
+use Rattle.std.specs.declared.cmp.Ordering.{Ordering}
+use Rattle.std.specs.Map.{lookup, remove_entry}
+use Rattle.std.specs.Ordering.{eq_by_cmp, is_eq, nat_cmp}
+use Rattle.std.proofs.lemmas.Bool.{eq-eqb, eqb-true}
+use Rattle.std.proofs.lemmas.List.{length-map}
+use Rattle.std.proofs.lemmas.Map.Text.{is_eq-slice_cmp}
+use Rattle.std.proofs.lemmas.Slice.Eq.{bytes_eq-Decides}
+use Rattle.just_syntax.specs.Plain.{Text}
+use Rattle.just_changes.specs.declared.node.Node as declared
+use Rattle.just_changes.specs.Nodes.{PlainNode, OfFunction, OfVariable, IsListed}
+use Rattle.just_changes.specs.View.{found, node_view, nodes_view, total}
+use Rattle.just_changes.proofs.Spreading.{listed_append, total_taken}
+
+pub number_decides : (k n : ℕ) → Decides (is_at (nat_cmp k) n) (k ≡ n)
+number_decides k n = ((λ h. eqb-true k n (sym (unsigned_tied k n) ∙ h)), (λ e. unsigned_tied k n ∙ eq-eqb k n e))
+
+pub name_decides : (x y : Text) → Decides (is_eq (slice_cmp nat_cmp x y)) (x ≡ y)
+name_decides x y =
+    let both = bytes_eq-Decides x y in
+    ((λ h. both.0 (sym (is_eq-slice_cmp x y) ∙ h)), (λ e. is_eq-slice_cmp x y ∙ both.1 e))
+
+-- what is not meant stays
+pub apart : {X P : Type 0} (b : Bool) (w o : Option X) → Decides b P → (P → ⊥) → cond b w o ≡ o
+apart true w o d none = absurd (none (d.0 refl))
+apart false w o d none = refl
+
+abbrev Lists : Type 0
+Lists = Vec declared.Node Global
+
+reader_by : {P : Type 0} (b : Bool) (old mid new : Option Lists) (all : Lists) (reader y : PlainNode) → Decides b P → mid ≡ cond b None old → new ≡ cond b (Some all) mid → (P → nodes_view all.items ≡ found old ++ reader ∷ []) →
+    IsListed (found new) y ↔ ((P × (reader ≡ y)) ⊎ IsListed (found old) y)
+reader_by true old mid new all reader y d removed inserted items =
+    let same : found new ≡ found old ++ reader ∷ [] = ap found inserted ∙ items (d.0 refl) in
+    let more = listed_append (found old) (reader ∷ []) y in (
+      (λ h. ⊎_elim (λ k. inr k) (λ k. ⊎_elim (λ e. inl (d.0 refl, e)) (λ bad. absurd bad) k) (more.0 (subst (λ ys. IsListed ys y) same h))),
+      (λ h. subst (λ ys. IsListed ys y) (sym same) (more.1 (⊎_elim (λ k. inr (inl k.1)) (λ k. inl k) h))),
+    )
+reader_by false old mid new all reader y d removed inserted items =
+    let same : found new ≡ found old = ap found (inserted ∙ removed) in (
+      (λ h. inr (subst (λ ys. IsListed ys y) same h)),
+      (λ h. ⊎_elim (λ k. absurd (let e : false ≡ true = d.1 k.0 in cc)) (λ k. subst (λ ys. IsListed ys y) (sym same) k) h),
+    )
+
+abbrev name_cmp : Bor Text → Bor Text → Ordering
+name_cmp x y = slice_cmp nat_cmp x.now y.now
+
+abbrev named : BTreeMap (Bor Text) Lists → Text → Option Lists
+named m t = lookup (is_at (λ (k : Bor Text). slice_cmp nat_cmp t k.now)) m.entries
+
+abbrev numbered : BTreeMap ℕ Lists → ℕ → Option Lists
+numbered m n = lookup (is_at (nat_cmp n)) m.entries
+
+pub function_left : (old new : BTreeMap (Bor Text) Lists) (name : Bor Text) → ((q : Bor Text) → get name_cmp new q ≡ cond (is_at (name_cmp name) q) None (get name_cmp old q)) → (t : Text) → (name.now ≡ t → ⊥) → found (named new t) ≡ found (named old t)
+function_left old new name removed t other = ap found (removed (record { ref_ptr = (0, 0); now = t }) ∙ apart (is_eq (slice_cmp nat_cmp name.now t)) None (named old t) (name_decides name.now t) other)
+
+pub variable_left : (old new : BTreeMap ℕ Lists) (k : ℕ) → ((q : ℕ) → get nat_cmp new q ≡ cond (is_at (nat_cmp k) q) None (get nat_cmp old q)) → (n : ℕ) → (k ≡ n → ⊥) → found (numbered new n) ≡ found (numbered old n)
+variable_left old new k removed n other = ap found (removed n ∙ apart (is_at (nat_cmp k) n) None (numbered old n) (number_decides k n) other)
+
+pub function_reader : (old mid new : BTreeMap (Bor Text) Lists) (name : Bor Text) (all : Lists) (reader : PlainNode) → ((q : Bor Text) → get name_cmp mid q ≡ cond (is_at (name_cmp name) q) None (get name_cmp old q)) → ((q : Bor Text) → get name_cmp new q ≡ cond (is_at (name_cmp name) q) (Some all) (get name_cmp mid q))
+    → nodes_view all.items ≡ found (named old name.now) ++ reader ∷ [] → (t : Text) (y : PlainNode) → IsListed (found (named new t)) y ↔ (((name.now ≡ t) × (reader ≡ y)) ⊎ IsListed (found (named old t)) y)
+function_reader old mid new name all reader removed inserted items t y =
+    reader_by (is_eq (slice_cmp nat_cmp name.now t)) (named old t) (named mid t) (named new t) all reader y (name_decides name.now t) (removed (record { ref_ptr = (0, 0); now = t })) (inserted (record { ref_ptr = (0, 0); now = t }))
+    (λ e. items ∙ ap (λ (s : Text). found (named old s) ++ reader ∷ []) e)
+
+pub variable_reader : (old mid new : BTreeMap ℕ Lists) (k : ℕ) (all : Lists) (reader : PlainNode) → ((q : ℕ) → get nat_cmp mid q ≡ cond (is_at (nat_cmp k) q) None (get nat_cmp old q)) → ((q : ℕ) → get nat_cmp new q ≡ cond (is_at (nat_cmp k) q) (Some all) (get nat_cmp mid q))
+    → nodes_view all.items ≡ found (numbered old k) ++ reader ∷ [] → (n : ℕ) (y : PlainNode) → IsListed (found (numbered new n)) y ↔ (((k ≡ n) × (reader ≡ y)) ⊎ IsListed (found (numbered old n)) y)
+variable_reader old mid new k all reader removed inserted items n y =
+    reader_by (is_at (nat_cmp k) n) (numbered old n) (numbered mid n) (numbered new n) all reader y (number_decides k n) (removed n) (inserted n)
+    (λ e. items ∙ ap (λ (j : ℕ). found (numbered old j) ++ reader ∷ []) e)
+
+pub size_taken : {K : Type 0} (test : K → Bool) (old new : List (K × Lists)) (o : Option Lists) (items : List declared.Node) → new ≡ remove_entry test old → o ≡ lookup test old → nodes_view items ≡ found o → total new + length items ≡ total old
+size_taken test old new o items removed is seen =
+    let all = total_taken test old in
+    let left : total new ≡ total (remove_entry test old) = ap total removed in
+    let size : length (nodes_view items) ≡ length items = length-map _ _ in
+    let more : length (nodes_view items) ≡ length (found (lookup test old)) = ap length seen ∙ ap (λ (p : Option Lists). length (found p)) is in
+    omega (arith, all, left, size, more)
+
+-- one kind of node by its name or number, the other as it was
+renamed : {P Q R A B : Type 0} → (P → Q) → (Q → P) → B ↔ ((P × R) ⊎ A) → B ↔ ((Q × R) ⊎ A)
+renamed on back h = ((λ b. ⊎_elim (λ p. inl (on p.0, p.1)) (λ a. inr a) (h.0 b)), (λ s. h.1 (⊎_elim (λ q. inl (back q.0, q.1)) (λ a. inr a) s)))
+
+pub as_function : {R A B : Type 0} {s t : Text} → B ↔ (((s ≡ t) × R) ⊎ A) → B ↔ (((OfFunction s ≡ OfFunction t) × R) ⊎ A)
+as_function = renamed (λ e. ap OfFunction e) (λ e. cc)
+
+pub as_variable : {R A B : Type 0} {k n : ℕ} → B ↔ (((k ≡ n) × R) ⊎ A) → B ↔ (((OfVariable k ≡ OfVariable n) × R) ⊎ A)
+as_variable = renamed (λ e. ap OfVariable e) (λ e. cc)
+
+pub as_before : {P R A : Type 0} → (P → ⊥) → A ↔ ((P × R) ⊎ A)
+as_before none = ((λ a. inr a), (λ h. ⊎_elim (λ p. absurd (none p.0)) (λ a. a) h))

@@ -1,0 +1,94 @@
+-- Nodes that are reached, one after another.
+use Rattle.std.proofs.Common.{◌≡◌, ◌↔◌, ◌⊎◌, inl, inr, ⊎_elim, ℕ, ◌+◌, ◌<◌, Bool, true, false, not, cond, List, [], ◌∷◌, ◌++◌, length, map, Option, Some, None, IsTrue, Vec, refl, ap, sym, ◌∙◌, subst, arith, length-append}
+use Rattle.std.proofs.lemmas.List.{length-map}
+use Rattle.std.specs.Map.{lookup, remove_entry}
+use Rattle.std.proofs.lemmas.Bool.{not-false, not-true}
+use Rattle.just_changes.specs.declared.node.Node as declared
+use Rattle.just_changes.specs.Nodes.{PlainNode, IsListed, IsReached, Starts, ReadBy}
+use Rattle.just_changes.specs.View.{found, nodes_view, total}
+
+pub listed_append : (xs ys : List PlainNode) (x : PlainNode) → IsListed (xs ++ ys) x ↔ (IsListed xs x ⊎ IsListed ys x)
+listed_append [] ys x = ((λ h. inr h), (λ h. ⊎_elim (λ k. absurd k) (λ k. k) h))
+listed_append (y ∷ xs) ys x =
+    let rest = listed_append xs ys x in (
+      (λ h. ⊎_elim (λ k. inl (inl k)) (λ k. ⊎_elim (λ j. inl (inr j)) (λ j. inr j) (rest.0 k)) h),
+      (λ h. ⊎_elim (λ k. ⊎_elim (λ j. inl j) (λ j. inr (rest.1 (inl j))) k) (λ k. inr (rest.1 (inr k))) h),
+    )
+
+-- what is taken out of lists and what is left are all
+pub total_taken : {K A : Type 0} (test : K → Bool) (es : List (K × Vec declared.Node A)) → total (remove_entry test es) + length (found (lookup test es)) ≡ total es
+total_taken test [] = refl
+total_taken test (e ∷ es) = by (test e.0) refl (total_taken test es)
+  where
+    by : (b : Bool) → test e.0 ≡ b → total (remove_entry test es) + length (found (lookup test es)) ≡ total es → total (cond b es (e ∷ remove_entry test es)) + length (found (cond b (Some e.1) (lookup test es))) ≡ length e.1.items + total es
+    by true is rest = let size : length (nodes_view e.1.items) ≡ length e.1.items = length-map _ _ in omega (arith, size)
+    by false is rest = omega (arith, rest)
+
+-- Where a walk stands: what starts it is touched or pending, and so is what reads the touched; all of that is reached. The
+-- readers of what is not touched are still there.
+pub record IsWalked (readers : PlainNode → List PlainNode) (starts : List PlainNode) (left : PlainNode → List PlainNode) (touched : PlainNode → Bool) (pending : List PlainNode) : Type 0 where
+  pub begun : (x : PlainNode) → IsListed starts x → IsTrue (touched x) ⊎ IsListed pending x
+  pub closed : (x y : PlainNode) → IsTrue (touched x) → IsListed (readers x) y → IsTrue (touched y) ⊎ IsListed pending y
+  pub reached : (x : PlainNode) → IsTrue (touched x) ⊎ IsListed pending x → IsReached readers starts x
+  pub left_alone : (x : PlainNode) → touched x ≡ false → left x ≡ readers x
+
+-- one node more
+abbrev pub Adds : (PlainNode → Bool) → (PlainNode → Bool) → PlainNode → Type 0
+Adds old new node = (x : PlainNode) → IsTrue (new x) ↔ ((node ≡ x) ⊎ IsTrue (old x))
+
+module _ (readers : PlainNode → List PlainNode) (starts : List PlainNode) where
+  pub begins : (touched : PlainNode → Bool) → ((x : PlainNode) → touched x ≡ false) → IsWalked readers starts readers touched starts
+  begins touched none = record {
+    begun = λ x h. inr h;
+    closed = λ x y h r. absurd (let e : false ≡ true = sym (none x) ∙ h in cc);
+    reached = λ x h. ⊎_elim (λ k. absurd (let e : false ≡ true = sym (none x) ∙ k in cc)) (λ k. Starts k) h;
+    left_alone = λ x h. refl;
+  }
+
+  module _ (left : PlainNode → List PlainNode) (old new : PlainNode → Bool) (front : List PlainNode) (node : PlainNode) (w : IsWalked readers starts left old (front ++ node ∷ [])) (adds : Adds old new node) where
+    node_reached : IsReached readers starts node
+    node_reached = w.reached node (inr ((listed_append front (node ∷ []) node).1 (inr (inl refl))))
+
+    settled : (next : List PlainNode) → ((x : PlainNode) → IsListed front x → IsListed next x) → (x : PlainNode) → IsTrue (old x) ⊎ IsListed (front ++ node ∷ []) x → IsTrue (new x) ⊎ IsListed next x
+    settled next kept x h = ⊎_elim (λ a. inl ((adds x).1 (inr a)))
+        (λ k. ⊎_elim (λ j. inr (kept x j)) (λ j. ⊎_elim (λ same. inl ((adds x).1 (inl same))) (λ bad. absurd bad) j) ((listed_append front (node ∷ []) x).0 k)) h
+
+    new_off : (x : PlainNode) → new x ≡ false → old x ≡ false
+    new_off x off = by (old x) refl
+      where
+        by : (b : Bool) → old x ≡ b → old x ≡ false
+        by true on = absurd (let h : new x ≡ true = (adds x).1 (inr on) in let e : false ≡ true = sym off ∙ h in cc)
+        by false is = is
+
+    -- the last of what is pending was touched before
+    pub passes : IsTrue (old node) → IsWalked readers starts left new front
+    passes there = record {
+      begun = λ x h. settled front (λ y k. k) x (w.begun x h);
+      closed = λ x y h r. settled front (λ z k. k) y (⊎_elim (λ same. w.closed node y there (subst (λ z. IsListed (readers z) y) (sym same) r)) (λ k. w.closed x y k r) ((adds x).0 h));
+      reached = λ x h. ⊎_elim (λ k. ⊎_elim (λ same. subst (IsReached readers starts) same node_reached) (λ j. w.reached x (inl j)) ((adds x).0 k)) (λ k. w.reached x (inr ((listed_append front (node ∷ []) x).1 (inl k)))) h;
+      left_alone = λ x off. w.left_alone x (new_off x off);
+    }
+
+    -- the last of what is pending is touched now, and its readers are pending
+    pub touches : (later : PlainNode → List PlainNode) (taken : List PlainNode) → old node ≡ false → taken ≡ left node → ((x : PlainNode) → (node ≡ x → ⊥) → later x ≡ left x) → IsWalked readers starts later new (front ++ taken)
+    touches later taken out is others =
+        let mine : taken ≡ readers node = is ∙ w.left_alone node out in
+        let kept : (x : PlainNode) → IsListed front x → IsListed (front ++ taken) x = λ x k. (listed_append front taken x).1 (inl k) in record {
+          begun = λ x h. settled (front ++ taken) kept x (w.begun x h);
+          closed = λ x y h r. ⊎_elim
+              (λ same. inr ((listed_append front taken y).1 (inr (subst (λ ys. IsListed ys y) (sym mine) (subst (λ z. IsListed (readers z) y) (sym same) r)))))
+              (λ k. settled (front ++ taken) kept y (w.closed x y k r)) ((adds x).0 h);
+          reached = λ x h. ⊎_elim
+              (λ k. ⊎_elim (λ same. subst (IsReached readers starts) same node_reached) (λ j. w.reached x (inl j)) ((adds x).0 k))
+              (λ k. ⊎_elim (λ j. w.reached x (inr ((listed_append front (node ∷ []) x).1 (inl j)))) (λ j. ReadBy node node_reached (subst (λ ys. IsListed ys x) mine j)) ((listed_append front taken x).0 k)) h;
+          left_alone = λ x off. others x (λ same. let h : new x ≡ true = (adds x).1 (inl same) in let e : false ≡ true = sym off ∙ h in cc) ∙ w.left_alone x (new_off x off);
+        }
+
+  -- nothing is pending
+  module _ (left : PlainNode → List PlainNode) (touched : PlainNode → Bool) (w : IsWalked readers starts left touched []) where
+    all_touched : {x : PlainNode} → IsReached readers starts x → IsTrue (touched x)
+    all_touched {x} (Starts h) = ⊎_elim (λ k. k) (λ k. absurd k) (w.begun x h)
+    all_touched {x} (ReadBy z h r) = ⊎_elim (λ k. k) (λ k. absurd k) (w.closed z x (all_touched h) r)
+
+    pub ends : (x : PlainNode) → IsTrue (touched x) ↔ IsReached readers starts x
+    ends x = ((λ h. w.reached x (inl h)), (λ h. all_touched h))

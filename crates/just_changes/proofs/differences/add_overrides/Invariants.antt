@@ -1,0 +1,9 @@
+use Rattle.std.proofs.Common.{◌≡◌, ◌++◌, map}
+use Rattle.std.specs.HashMap.{keys}
+use Rattle.just_changes.specs.Nodes.{OfVariable}
+use Rattle.just_changes.specs.View.{nodes_view}
+use Rattle.just_changes.proofs.differences.add_overrides.Given as goal
+
+-- the nodes so far and those that are left are all
+abbrev pub invariant-loop-number : goal.invariant-loop-number
+invariant-loop-number l = nodes_view l.nodes.items ++ map OfVariable l.number-iterator ≡ nodes_view l.fn.nodes.items ++ map OfVariable (keys l.overrides)

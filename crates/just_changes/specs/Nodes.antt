@@ -1,0 +1,81 @@
+-- What the value of a variable rests on, and what two versions of a module have in common.
+use Rattle.std.specs.Prelude.{◌≡◌, ◌⊎◌, ℕ, List, [], ◌∷◌, Option, Some, None}
+use Rattle.just_syntax.specs.Plain.{Text, Assignment, Expr, Function}
+use Rattle.just_value.specs.Frames.{Frames, value_in}
+use Rattle.just_meaning.specs.Reaches.{VariableOf, CallOf, IsAmong, Stands}
+
+-- a variable, or a function of the file by its name
+pub data PlainNode : Type 0 where
+  OfFunction : Text → PlainNode
+  OfVariable : ℕ → PlainNode
+
+-- a module and its overrides: what stands at each number and each name
+pub record Version : Type 0 where
+  pub assignment : ℕ → Option Assignment
+  pub function : Text → Option Function
+  pub override : ℕ → Option Text
+
+-- a node is the same in two versions
+abbrev pub IsSame : Version → Version → PlainNode → Type 0
+IsSame v u (OfFunction name) = v.function name ≡ u.function name
+IsSame v u (OfVariable n) = (v.assignment n ≡ u.assignment n) × (v.override n ≡ u.override n)
+
+-- a number is neither overridden nor bound outside
+abbrev pub IsFree : Version → Frames → ℕ → Type 0
+IsFree v outer n = (v.override n ≡ None) × (value_in outer n ≡ None)
+
+-- an expression reads a variable that is not its own, or calls a function
+abbrev pub Mentions : (ℕ → Type 0) → Expr → PlainNode → Type 0
+Mentions own e (OfFunction name) = (k : ℕ) × Stands e (CallOf name k)
+Mentions own e (OfVariable n) = Stands e (VariableOf (Some n)) × (own n → ⊥)
+
+-- an assignment that is the first with its number, and evaluated, reads a node
+pub record AssignmentReads (v : Version) (outer : Frames) (a : Assignment) (x : PlainNode) : Type 0 where
+  pub first : v.assignment a.number ≡ Some a
+  pub free : IsFree v outer a.number
+  pub mentions : Mentions (λ k. ⊥) a.value x
+
+-- a function reads a node
+abbrev pub FunctionReads : Function → PlainNode → Type 0
+FunctionReads f x = Mentions (IsAmong f.parameters) f.body x
+
+-- the function with a name reads a node
+pub record NameReads (v : Version) (name : Text) (x : PlainNode) : Type 0 where
+  pub function : Function
+  pub found : v.function name ≡ Some function
+  pub reads : FunctionReads function x
+
+-- the assignment with a number reads a node
+pub record NumberReads (v : Version) (outer : Frames) (n : ℕ) (x : PlainNode) : Type 0 where
+  pub assignment : Assignment
+  pub number : assignment.number ≡ n
+  pub reads : AssignmentReads v outer assignment x
+
+-- a node reads another by itself
+abbrev pub ReadsItself : Version → Frames → PlainNode → PlainNode → Type 0
+ReadsItself v outer (OfFunction name) x = NameReads v name x
+ReadsItself v outer (OfVariable n) x = NumberReads v outer n x
+
+-- a node is this variable, which is not an own one
+abbrev pub IsOneVariable : (ℕ → Type 0) → Option ℕ → PlainNode → Type 0
+IsOneVariable own number (OfFunction name) = ⊥
+IsOneVariable own number (OfVariable n) = (number ≡ Some n) × (own n → ⊥)
+
+-- it is one of these
+abbrev pub AmongVariables : (ℕ → Type 0) → List (Option ℕ) → PlainNode → Type 0
+AmongVariables own [] x = ⊥
+AmongVariables own (v ∷ vs) x = IsOneVariable own v x ⊎ AmongVariables own vs x
+
+-- it is a function with one of these names
+abbrev pub AmongCalls : List Text → PlainNode → Type 0
+AmongCalls [] x = ⊥
+AmongCalls (t ∷ ts) x = (OfFunction t ≡ x) ⊎ AmongCalls ts x
+
+abbrev pub IsListed : List PlainNode → PlainNode → Type 0
+IsListed [] x = ⊥
+IsListed (y ∷ ys) x = (y ≡ x) ⊎ IsListed ys x
+
+-- some nodes, what reads them, and what reads that
+pub data IsReached (readers : PlainNode → List PlainNode) (starts : List PlainNode) : PlainNode → Type 0 where
+  Starts : {x : PlainNode} → IsListed starts x → IsReached readers starts x
+  ReadBy : {y : PlainNode} → (x : PlainNode) → IsReached readers starts x → IsListed (readers x) y → IsReached readers starts y

@@ -1,0 +1,69 @@
+-- What nodes, readers and versions are as plain data.
+use Rattle.std.specs.Prelude.{Vec, ◌≡◌, ℕ, ◌+◌, ◌++◌, Bool, List, [], ◌∷◌, Option, Some, None, map, length}
+use Rattle.std.specs.Option.{option_map}
+use Rattle.std.specs.Borrow.{Bor}
+use Rattle.std.specs.Map.{lookup}
+use Rattle.std.specs.BTreeMap.{BTreeMap, is_at}
+use Rattle.std.specs.HashMap.{keys}
+use Rattle.just_agreement.specs.Cone.{numbered}
+use Rattle.std.specs.Cmp.Lexicographic.{slice_cmp}
+use Rattle.std.specs.Ordering.{nat_cmp}
+use Rattle.just_syntax.specs.Plain.{Text, Assignment}
+use Rattle.just_syntax.specs.View.{assignment_view, function_view}
+use Rattle.just_meaning.specs.Reaches.{function_at}
+use Rattle.just_meaning.specs.View.{override_of}
+use Rattle.just_resolution.specs.Seen.{is_name_in, is_number_in}
+use Rattle.just_syntax.specs.declared.assignment.Assignment as declared
+use Rattle.just_changes.specs.declared.node.Node as declared_node
+use Rattle.just_changes.specs.declared.node.Node.TheVariants as nodes
+use Rattle.just_changes.specs.declared.readers.Readers.{Readers}
+use Rattle.just_changes.specs.declared.touched.Touched.{Touched}
+use Rattle.just_changes.specs.declared.version.Version.{Version as Declared}
+use Rattle.just_changes.specs.Nodes.{PlainNode, OfFunction, OfVariable, Version}
+
+abbrev pub node_view : declared_node.Node → PlainNode
+node_view (nodes.Function name) = OfFunction name.now
+node_view (nodes.Variable n) = OfVariable n
+
+abbrev pub nodes_view : List declared_node.Node → List PlainNode
+nodes_view ns = map node_view ns
+
+-- the nodes in a list that was found
+abbrev pub found : {A : Type 0} → Option (Vec declared_node.Node A) → List PlainNode
+found None = []
+found (Some ns) = nodes_view ns.items
+
+abbrev pub readers_of : Readers → PlainNode → List PlainNode
+readers_of r (OfFunction name) = found (lookup (is_at (λ (k : Bor Text). slice_cmp nat_cmp name k.now)) r.of_functions.entries)
+readers_of r (OfVariable n) = found (lookup (is_at (nat_cmp n)) r.of_variables.entries)
+
+abbrev pub is_touched : Touched → PlainNode → Bool
+is_touched t (OfFunction name) = is_name_in t.functions name
+is_touched t (OfVariable n) = is_number_in t.variables n
+
+-- how many nodes lists have
+abbrev pub total : {K A : Type 0} → List (K × Vec declared_node.Node A) → ℕ
+total [] = 0
+total (e ∷ es) = length e.1.items + total es
+
+abbrev pub size : Readers → ℕ
+size r = total r.of_functions.entries + total r.of_variables.entries
+
+-- the first assignment with a number
+abbrev pub assignment_in : BTreeMap ℕ (Bor declared.Assignment) → ℕ → Option Assignment
+assignment_in all n = option_map (λ a. assignment_view a.now) (lookup (is_at (nat_cmp n)) all.entries)
+
+abbrev pub version_view : Declared → Version
+version_view v = record {
+  assignment = assignment_in v.numbered;
+  function = function_at (map function_view v.functions.now);
+  override = override_of v.overrides.now;
+}
+
+-- a version has the assignments of its file by their numbers
+abbrev pub IsWhole : Declared → Type 0
+IsWhole v = (n : ℕ) → assignment_in v.numbered n ≡ numbered (map assignment_view v.assignments.now) n
+
+-- all variables and functions that a version knows
+abbrev pub all_nodes : Declared → List PlainNode
+all_nodes v = map (λ a. OfVariable a.number) (map assignment_view v.assignments.now) ++ map (λ f. OfFunction f.name.lexeme) (map function_view v.functions.now) ++ map OfVariable (keys v.overrides.now)

@@ -1,0 +1,61 @@
+// Which variables an edit changes.
+
+ghost use Rattle.std.specs.Prelude.{◌≡◌, ◌↔◌, ℕ, IfOk, false};
+ghost use Rattle.just_agreement.specs.Cone.{HaveSameCone};
+ghost use Rattle.just_meaning.specs.Module.{Module};
+ghost use Rattle.just_resolution.specs.Seen.{is_number_in};
+ghost use Rattle.just_value.specs.View.{frames_view};
+ghost use Rattle.just_changes.specs.Changed.{AreAlikeAt, IsOver};
+
+use crate::differences::differences;
+use crate::reading::readers_in;
+use crate::touched::spread;
+use crate::version::Version;
+use just_agreement::laws::blocks_agree;
+use just_host::justfile::Justfile;
+use just_syntax::number::Number;
+use just_syntax::out_of_memory::OutOfMemory;
+use just_value::scope::Scope;
+use std::alloc::Global;
+use std::collections::{BTreeSet, HashMap};
+
+/// The numbers of the variables that an edit changes: exactly those whose cone differs. An editor or a build tool that kept
+/// the values of the others need not evaluate them again.
+///
+/// The cone of a variable is the variable itself, and of each member that is evaluated what its expression reads, by
+/// itself or in the bodies of the functions that it reaches. A member is evaluated if it is neither overridden nor bound
+/// in `parent`. Cones differ where a member has another assignment or another override, or one that is evaluated reaches
+/// another function. A number that is missing in one module, or overridden without an assignment, is told as well.
+///
+/// Variables are the same by their numbers, and functions by their names: an edit keeps the numbers of what it keeps.
+/// Assignments and functions are compared whole, flags and tokens with their places and paths included, since a refusal
+/// names its place: an edit that moves the lines behind it changes what stands there. The order of evaluation, the
+/// settings and the other fields do not count.
+///
+/// Neither module need be resolved. Where both are, two runs in one context below `parent` give each other number one
+/// value or refusal, by the same questions, if whatever both ask is answered alike.
+///
+/// Each assignment, override and function is looked at a bounded number of times.
+///
+/// # Errors
+///
+/// `OutOfMemory` where memory was asked for and refused.
+pub fn changed<'src>(
+    alloc: Global,
+    before: &Justfile<'src>,
+    before_overrides: &HashMap<Number, String>,
+    after: &Justfile<'src>,
+    after_overrides: &HashMap<Number, String>,
+    parent: &Scope,
+) -> Result<BTreeSet<Number>, OutOfMemory>
+    ensures exact { IfOk result (λ numbers. (m w : Module) → IsOver before.now before_overrides.now m → IsOver after.now after_overrides.now w → (n : ℕ) → (is_number_in numbers n ≡ false) ↔ HaveSameCone m w (frames_view parent.now) n) }
+    ensures alike { IfOk result (λ numbers. (m w : Module) → IsOver before.now before_overrides.now m → IsOver after.now after_overrides.now w → (n : ℕ) → is_number_in numbers n ≡ false → AreAlikeAt m w (frames_view parent.now) n) }
+{
+    blocks_agree();
+    let before = Version::new(alloc, before, before_overrides)?;
+    let after = Version::new(alloc, after, after_overrides)?;
+    let readers = readers_in(alloc, &before, parent)?;
+    let nodes = differences(alloc, &before, &after)?;
+    let touched = spread(alloc, readers, nodes)?;
+    Ok(touched.variables)
+}

@@ -1,0 +1,36 @@
+// What the value of a variable may rest on.
+
+ghost use Rattle.std.specs.Prelude.{◌≡◌, ◌++◌, [], ◌∷◌, OnOk};
+ghost use Rattle.just_changes.specs.View.{node_view, nodes_view};
+
+use just_syntax::number::Number;
+use just_syntax::out_of_memory::OutOfMemory;
+
+// A variable, or a function of the file by its name.
+#[derive(Drop)]
+pub(crate) enum Node<'src> {
+    Function { name: &'src str },
+    Variable { number: Number },
+}
+
+impl<'src> Node<'src> {
+    // The same node once more.
+    pub(crate) fn duplicate(&self) -> Node<'src>
+        ensures { node_view result ≡ node_view self.now }
+    {
+        match self {
+            Node::Function { name } => Node::Function { name },
+            Node::Variable { number } => Node::Variable { number: *number },
+        }
+    }
+}
+
+// Adds a node to a list.
+pub(crate) fn push<'src>(nodes: &mut Vec<Node<'src>>, node: &Node<'src>) -> Result<(), OutOfMemory>
+    ensures { OnOk result (nodes_view nodes.new.items ≡ nodes_view nodes.old.items ++ node_view node.now ∷ []) }
+{
+    match nodes.push(node.duplicate()) {
+        Ok(()) => Ok(()),
+        Err(_) => Err(OutOfMemory),
+    }
+}

@@ -1,0 +1,260 @@
+// Pairs of modules, and the variables that the edit from one to the other changes.
+
+use just_case_lines::case::{Case, build};
+use just_case_lines::line::{Line, parse_lines};
+use just_case_lines::token::name;
+use just_changes::changed::changed;
+use just_host::justfile::Justfile;
+use just_host::settings::Settings;
+use just_syntax::attribute_set::AttributeSet;
+use just_syntax::number::Number;
+use just_syntax::out_of_memory::OutOfMemory;
+use just_value::binding::Binding;
+use just_value::scope::Scope;
+use just_value::value::Value;
+use std::alloc::Global;
+use std::collections::{BTreeSet, HashMap};
+use std::test::Fail;
+
+// Each case begins with this line, so that the variables `a` to `e` have the numbers 0 to 4.
+const HEAD: &str = "only a b c d e\n";
+
+const TAIL: &str = "run";
+
+// Lines before the edit, lines after it, and the numbers that are changed.
+const EDITS: &[(&str, &str, &str)] = &[
+    // Nothing stands there.
+    ("", "", ""),
+    // Nothing is edited.
+    (
+        "str x\nassign a\nvar a\nassign b\n",
+        "str x\nassign a\nvar a\nassign b\n",
+        "",
+    ),
+    // What is edited is read by another, and by one that reads that.
+    (
+        "str x\nassign a\nvar a\nassign b\nvar b\nassign c\nstr y\nassign d\n",
+        "str z\nassign a\nvar a\nassign b\nvar b\nassign c\nstr y\nassign d\n",
+        "0 1 2 ",
+    ),
+    // What is edited is read by none.
+    (
+        "str x\nassign a\nvar a\nassign b\nvar b\nassign c\nstr y\nassign d\n",
+        "str x\nassign a\nvar a\nassign b\nvar b\nassign c\nstr z\nassign d\n",
+        "3 ",
+    ),
+    // The order of the lines is another.
+    (
+        "str x\nassign a\nvar a\nassign b\nstr y\nassign d\n",
+        "str y\nassign d\nvar a\nassign b\nstr x\nassign a\n",
+        "",
+    ),
+    // Only the flag of an assignment is another.
+    (
+        "str x\nassign a\nvar a\nassign b\n",
+        "str x\nassign a\nvar a\nexport b\n",
+        "1 ",
+    ),
+    // An assignment is added, removed, or has another name.
+    (
+        "str x\nassign a\n",
+        "str x\nassign a\nvar a\nassign b\n",
+        "1 ",
+    ),
+    (
+        "str x\nassign a\nvar a\nassign b\nvar b\nassign c\n",
+        "str x\nassign a\nvar b\nassign c\n",
+        "1 2 ",
+    ),
+    (
+        "str x\nassign a\nvar a\nassign b\n",
+        "str x\nassign a\nvar a\nassign e\n",
+        "1 4 ",
+    ),
+    ("", "str x\nassign a\n", "0 "),
+    ("str x\nassign a\n", "", "0 "),
+    // An override is added, removed, or another.
+    (
+        "str x\nassign a\nvar a\nassign b\nstr y\nassign c\n",
+        "str x\nassign a\nvar a\nassign b\nstr y\nassign c\noverride a z\n",
+        "0 1 ",
+    ),
+    (
+        "str x\nassign a\nvar a\nassign b\noverride a z\n",
+        "str x\nassign a\nvar a\nassign b\n",
+        "0 1 ",
+    ),
+    (
+        "str x\nassign a\nvar a\nassign b\noverride a z\n",
+        "str x\nassign a\nvar a\nassign b\noverride a w\n",
+        "0 1 ",
+    ),
+    // An overridden variable does not read what its expression reads.
+    (
+        "str x\nassign a\nvar a\nassign b\nvar b\nassign c\noverride b z\n",
+        "str y\nassign a\nvar a\nassign b\nvar b\nassign c\noverride b z\n",
+        "0 ",
+    ),
+    // A function is edited: what calls it is changed, by itself or through another function.
+    (
+        "str x\nfun f\nstr y\nfun g\ncall f 0\nassign a\ncall g 0\nassign b\n",
+        "str z\nfun f\nstr y\nfun g\ncall f 0\nassign a\ncall g 0\nassign b\n",
+        "0 ",
+    ),
+    (
+        "str x\nfun f\ncall f 0\nfun g\ncall g 0\nassign a\nvar a\nassign b\nstr y\nassign c\n",
+        "str z\nfun f\ncall f 0\nfun g\ncall g 0\nassign a\nvar a\nassign b\nstr y\nassign c\n",
+        "0 1 ",
+    ),
+    // A variable that a body reads is edited.
+    (
+        "str x\nassign a\nvar a\nfun f\ncall f 0\nfun g\ncall g 0\nassign b\nstr y\nassign c\n",
+        "str z\nassign a\nvar a\nfun f\ncall f 0\nfun g\ncall g 0\nassign b\nstr y\nassign c\n",
+        "0 1 ",
+    ),
+    // A parameter is no variable outside: another override of its number changes its number alone.
+    (
+        "var e\nfun f e\nstr x\ncall f 1\nassign a\n",
+        "var e\nfun f e\nstr x\ncall f 1\nassign a\noverride e z\n",
+        "4 ",
+    ),
+    // Functions that call each other for ever.
+    (
+        "call g 0\nfun f\ncall f 0\nfun g\ncall f 0\nassign a\nstr y\nassign b\n",
+        "call g 0\nfun f\ncall f 0\ngroup\nfun g\ncall f 0\nassign a\nstr y\nassign b\n",
+        "0 ",
+    ),
+    // A function that is added stands before a built-in one of its name.
+    (
+        "str x\ncall trim 1\nassign a\nstr y\ncall quote 1\nassign b\n",
+        "str x\ncall trim 1\nassign a\nstr y\ncall quote 1\nassign b\nvar e\nfun trim e\n",
+        "0 ",
+    ),
+    // Variables that read each other for ever, which no run takes.
+    (
+        "var b\nassign a\nvar a\nassign b\nstr x\nassign c\n",
+        "var b\nassign a\nvar a\ngroup\nassign b\nstr x\nassign c\n",
+        "0 1 ",
+    ),
+    // All forms of expressions, one of which has another operand deep inside.
+    (
+        "cmd x\nvar a\nand\nstr y\nor\nstr z\nstr w\neq\nvar b\ngroup\nif\nlist 1\nstr v\nroot\njoin\nassign c\n",
+        "cmd x\nvar a\nand\nstr y\nor\nstr z\nstr w\nne\nvar b\ngroup\nif\nlist 1\nstr v\nroot\njoin\nassign c\n",
+        "2 ",
+    ),
+    (
+        "cmd x\nvar a\nand\nstr y\nor\nstr z\nstr w\neq\nvar b\ngroup\nif\nlist 1\nstr v\nroot\njoin\nassign c\n",
+        "cmd x\nvar a\nand\nstr y\nor\nstr z\nstr w\neq\nvar b\ngroup\nif\nlist 1\nstr v\nroot\njoin\nassign c\n",
+        "",
+    ),
+];
+
+// The same where `a` is bound outside: its expression is not evaluated, but its assignment counts.
+const BOUND_OUTSIDE: &[(&str, &str, &str)] = &[
+    (
+        "var c\nassign a\nvar a\nassign b\nstr x\nassign c\n",
+        "var c\nassign a\nvar a\nassign b\nstr y\nassign c\n",
+        "2 ",
+    ),
+    (
+        "var c\nassign a\nvar a\nassign b\nstr x\nassign c\n",
+        "str z\nassign a\nvar a\nassign b\nstr x\nassign c\n",
+        "0 1 ",
+    ),
+    ("var a\nassign b\n", "var a\nassign b\n", ""),
+];
+
+/// The numbers that an edit of a case changes.
+pub(crate) fn changed_numbers(
+    alloc: Global,
+    before_lines: &[Line],
+    after_lines: &[Line],
+    outer: &Scope,
+) -> Result<BTreeSet<Number>, Fail> {
+    let (before, before_overrides) = module_of(alloc, build(alloc, before_lines)?)?;
+    let (after, after_overrides) = module_of(alloc, build(alloc, after_lines)?)?;
+    Ok(changed(
+        alloc,
+        &before,
+        &before_overrides,
+        &after,
+        &after_overrides,
+        outer,
+    )?)
+}
+
+// A module with what a case describes, and its overrides.
+fn module_of<'src>(
+    alloc: Global,
+    case: Case<'src>,
+) -> Result<(Justfile<'src>, HashMap<Number, String>), OutOfMemory> {
+    let Case {
+        assignments,
+        evaluation_order,
+        functions,
+        overrides,
+        ..
+    } = case;
+    let justfile = Justfile {
+        assignments,
+        evaluation_order,
+        functions,
+        module_path: String::new(alloc),
+        settings: Settings::new(alloc),
+        source: String::new(alloc),
+        submodule: false,
+        unexports: Vec::new(alloc),
+        working_directory: String::new(alloc),
+    };
+    Ok((justfile, overrides))
+}
+
+// The numbers that an edit changes, a space behind each.
+fn told(alloc: Global, before: &str, after: &str, outer: &Scope) -> Result<String, Fail> {
+    let before_text = format!(in alloc; "{HEAD}{before}{TAIL}")?;
+    let after_text = format!(in alloc; "{HEAD}{after}{TAIL}")?;
+    let before_lines = parse_lines(alloc, before_text.as_bytes())?;
+    let after_lines = parse_lines(alloc, after_text.as_bytes())?;
+    let numbers = changed_numbers(alloc, &before_lines, &after_lines, outer)?;
+    let mut told = String::new(alloc);
+    for place in 0..5 {
+        if numbers.contains(&Number::new(place)) {
+            let number = format!(in alloc; "{place} ")?;
+            told.push_str(&number)?;
+        }
+    }
+    Ok(told)
+}
+
+#[test]
+fn edits(rt: HostRuntime) -> Result<(), Fail> {
+    let alloc = rt.alloc();
+    let outer = Scope::root(alloc, &[])?;
+    for (before, after, expected) in EDITS {
+        let told = told(alloc, before, after, &outer)?;
+        assert_eq!(rt; told.as_str(), *expected, "{before}to\n{after}");
+    }
+    Ok(())
+}
+
+#[test]
+fn bound_outside(rt: HostRuntime) -> Result<(), Fail> {
+    let alloc = rt.alloc();
+    let mut outer = Scope::root(alloc, &[])?;
+    outer.bind(Binding {
+        attributes: AttributeSet::new(alloc),
+        eager: false,
+        export: false,
+        file_depth: 0,
+        name: name("a"),
+        number: Number::new(0),
+        prelude: false,
+        private: false,
+        value: Value::new(alloc),
+    })?;
+    for (before, after, expected) in BOUND_OUTSIDE {
+        let told = told(alloc, before, after, &outer)?;
+        assert_eq!(rt; told.as_str(), *expected, "{before}to\n{after}");
+    }
+    Ok(())
+}
