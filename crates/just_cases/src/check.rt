@@ -13,7 +13,8 @@ use std::rt::{Env, Files};
 use std::{env, fs, io, str};
 
 /// Runs the cases of a folder, prints each that differs from its file or that its constants contradict, and how many
-/// there were, and gives the exit status: 0 if there is no such case, and else 1. The folder is the program's argument, or without one that in which it runs.
+/// there were, and gives the exit status: 0 if there is no such case, and else 1. The folder is the program's argument, or
+/// without one that in which it runs.
 pub(crate) fn check_cases<R: AllocGlobal + Env + Eprint + Files + Print>(rt: &R) -> u8
     ensures { result ≤ 1 }
 {

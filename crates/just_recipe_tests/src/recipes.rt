@@ -4,6 +4,7 @@ mod calls;
 mod environment;
 mod hosts;
 mod lines;
+mod parameter_rows;
 mod parameters;
 mod sizes;
 
