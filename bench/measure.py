@@ -151,7 +151,7 @@ def calls_of_built_ins(n):
 
 
 FAMILIES = [
-    (chain_of_additions, 2_500),
+    (chain_of_additions, 1_100),
     (assignments_in_a_row, 4_000),
     (constants_in_a_row, 4_000),
     (commands_with_replies, 3_000),
@@ -269,15 +269,27 @@ def called_a_thousand_times(depth, tower):
     return nested(depth, tower, "call f 0") + ["fun f", "call f 0", "assign a", "limit 1000", "run"]
 
 
-def ends_by_itself(program, name, lines):
-    run = Run([program], ("\n".join(lines) + "\n").encode(), STACK)
-    if run.status == 0:
-        return True
-    if run.status < 0 and -run.status in (signal.SIGSEGV, signal.SIGBUS, signal.SIGABRT):
-        return False
-    if run.status == 2 and run.output.startswith((b"refused 1 Assert ", b"refused 11 RecursionLimit ")):
-        return True
-    sys.exit(f"{name}: status {run.status}")
+def printed(depth, tower):
+    """The tower stands in the condition of an assertion that fails before it is reached, and is printed with it."""
+    return ["var p", "fun g p", "list 0"] + nested(depth, tower, "str x")[2:] + ["and", "assert", "assign a", "run"]
+
+
+def tried(program, name, lines, stack=STACK):
+    """The status of a case, below 0 where a signal ended it, and whether memory was wanted."""
+    run = Run([program], ("\n".join(lines) + "\n").encode(), stack)
+    wants = (run.status, run.output) in [(1, b""), (2, b"refused 12 OutOfMemory\n")]
+    ends = run.status == 2 and run.output.startswith((b"refused 1 Assert ", b"refused 11 RecursionLimit "))
+    if run.status > 0 and not wants and not ends:
+        sys.exit(f"{name}: status {run.status}")
+    return run.status, wants
+
+
+def is_answered(program, name, lines):
+    """Whether a case is answered, and not refused for want of memory. No signal may end it."""
+    status, wants = tried(program, name, lines)
+    if status < 0:
+        sys.exit(f"{name}: ended by signal {-status}")
+    return not wants
 
 
 def most_levels(lines_of):
@@ -287,29 +299,57 @@ def most_levels(lines_of):
 
 
 def deepest(program, name, lines_of):
-    """The depth of the deepest tower that ends by itself, and whether a case could hold a deeper one."""
-    good, bad = 0, most_levels(lines_of) + 1
-    if ends_by_itself(program, name, lines_of(bad - 1)):
-        return bad - 1, False
+    """The depth of the deepest tower that is answered. One twice as deep is refused, if a case can hold it."""
+    most = most_levels(lines_of)
+    good, bad = 0, most + 1
     while bad - good > 1:
         middle = (good + bad) // 2
-        if ends_by_itself(program, name, lines_of(middle)):
+        if is_answered(program, name, lines_of(middle)):
             good = middle
         else:
             bad = middle
-    return good, True
+    twice = min(2 * good, most)
+    if good < twice and is_answered(program, name, lines_of(twice)):
+        sys.exit(f"{name}: {twice} levels are answered, and {bad} are not")
+    return good
 
 
 def measure_depth(program):
-    print(f"depth: how many forms may nest on a stack of {STACK} bytes")
-    for use in [evaluated, only_dropped, called_a_thousand_times]:
+    print(f"depth: how many forms may nest on a stack of {STACK} bytes; no signal ends a deeper tower")
+    for use in [evaluated, printed, only_dropped, called_a_thousand_times]:
         for word, tower in TOWERS.items():
             name = f"{word}, {use.__name__}"
-            depth, is_bounded = deepest(program, name, lambda n: use(n, tower))
-            level = f"{STACK // (depth + 1)} bytes a level" if is_bounded else "as many as a case holds"
-            if use is called_a_thousand_times:
-                level = f"{STACK // 1000} bytes a call"
-            print(f"{name}: {depth} ({level})")
+            print(f"{name}: {deepest(program, name, lambda n: use(n, tower))}")
+
+
+# --- frames ---
+
+
+def least_stack(program, name, lines):
+    """The smallest stack that a case ends by itself on, in bytes, to a page."""
+    page = 4096
+    bad, good = 0, STACK // page
+    while good - bad > 1:
+        middle = (good + bad) // 2
+        if tried(program, name, lines, middle * page)[0] < 0:
+            bad = middle
+        else:
+            good = middle
+    return good * page
+
+
+def bytes_a_level(program, name, lines_of, levels):
+    """How many bytes of stack each level takes, of which there are so many and twice so many."""
+    return (least_stack(program, name, lines_of(2 * levels)) - least_stack(program, name, lines_of(levels))) / levels
+
+
+def measure_frames(program):
+    print("frames: how many bytes of stack a level takes")
+    for use in [evaluated, printed, only_dropped]:
+        for word, tower in TOWERS.items():
+            name = f"{word}, {use.__name__}"
+            print(f"{name}: {bytes_a_level(program, name, lambda n: use(n, tower), 3_000):.0f}")
+    print(f"a pending call: {bytes_a_level(program, 'recursion', lambda n: recursion(n)[0], 500):.0f}")
 
 
 # --- memory ---
@@ -360,6 +400,8 @@ CASES = {
     "constants": "str x\nassign a\ncmd c\nassign b\nvar b\nassign d\nvar a\nstr z\nadd\nassign e\noverride e 1\nonly a b d e\nconst\n",
     "refused constant": "str a\nstr a\nne\nassert\nassign x\nconst\n",
     "unevaluated constant": "var x\nassign a\nconst\n",
+    "blocks": "cmd p\nassign a\nstr k\ncall env 1\nvar a\nadd\nassign b\ndotenv k v\nreply 1\nreply 2\nonly a b\nblocks b a\n",
+    "refused block": "cmd p\nassign a\ncmd q\nassign b\nreply 1\nfail 3\nblocks b a\n",
     "bad line": "str a\nassign a\nadd\n",
 }
 
@@ -411,7 +453,7 @@ def refuse_each(program, library, name, case):
     print(f"{name}: {place - same} allocations; of the runs that one was refused in, {told}")
 
 
-MODES = {"growth": measure_growth, "instructions": measure_instructions, "depth": measure_depth, "memory": measure_memory}
+MODES = {"growth": measure_growth, "instructions": measure_instructions, "depth": measure_depth, "frames": measure_frames, "memory": measure_memory}
 
 
 def main():

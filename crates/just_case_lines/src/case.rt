@@ -64,6 +64,8 @@ impl<'src> Case<'src> {
 pub enum CaseError {
     /// The place of the first bad line, from 1.
     BadLine(usize),
+    /// Memory was asked for and refused, or an expression has more than 54,000 levels of nesting: it could not be let go
+    /// on a stack of 8 MiB.
     OutOfMemory,
 }
 
@@ -72,7 +74,8 @@ pub enum CaseError {
 /// # Errors
 ///
 /// `BadLine` with the place of the first bad line. A case that ends with none of `run`, `const` and `blocks` is
-/// bad at the line after its last.
+/// bad at the line after its last. `OutOfMemory` where memory was asked for and refused, or where an expression nests
+/// deeper than the stack has room for.
 pub fn build<'src>(alloc: Global, lines: &'src [Line<'src>]) -> Result<Case<'src>, CaseError> {
     let mut builder = Builder::new(alloc);
     for (index, line) in lines.iter().enumerate() {

@@ -11,6 +11,7 @@ use std::alloc::{AllocError, AllocFailed};
 pub(crate) enum LineError {
     /// It does not go with the lines before it.
     Bad,
+    /// Memory was asked for and refused, or an expression nests deeper than the stack has room for.
     OutOfMemory,
 }
 

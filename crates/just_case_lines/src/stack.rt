@@ -9,11 +9,23 @@ use just_syntax::number::Number;
 use just_syntax::string_literal::StringLiteral;
 use std::alloc::Global;
 
+// How many forms may stand in one another. What walks over an expression without evaluating it, as letting it go and the
+// test of resolution do, takes at most 144 bytes of stack a level, and so ends within 8 MiB. Evaluation has a room of its
+// own.
+const MOST_LEVELS: usize = 54_000;
+
 /// The expressions that are not yet assigned. A line takes its operands from the top, of which the uppermost is
 /// the rightmost.
 #[derive(Drop)]
 pub(crate) struct Stack<'src> {
-    expressions: Vec<Expression<'src>>,
+    expressions: Vec<Nested<'src>>,
+}
+
+// An expression, and how many forms stand in one another there.
+#[derive(Drop)]
+struct Nested<'src> {
+    expression: Expression<'src>,
+    levels: usize,
 }
 
 impl<'src> Stack<'src> {
@@ -32,7 +44,7 @@ impl<'src> Stack<'src> {
     /// Takes the expression on top.
     pub(crate) fn pop(&mut self) -> Result<Expression<'src>, LineError> {
         match self.expressions.pop() {
-            Some(expression) => Ok(expression),
+            Some(nested) => Ok(nested.expression),
             None => Err(LineError::Bad),
         }
     }
@@ -49,7 +61,7 @@ impl<'src> Stack<'src> {
             lexeme,
             indented: false,
         };
-        self.push(Expression::StringLiteral { string_literal })
+        self.push(Expression::StringLiteral { string_literal }, 0)
     }
 
     /// Pushes a command.
@@ -61,14 +73,14 @@ impl<'src> Stack<'src> {
     ) -> Result<(), LineError> {
         let contents = String::from_str(alloc, text)?;
         let token = token(lexeme);
-        self.push(Expression::Backtick { contents, token })
+        self.push(Expression::Backtick { contents, token }, 0)
     }
 
     /// Pushes a variable.
     pub(crate) fn variable(&mut self, lexeme: &'src str, number: Number) -> Result<(), LineError> {
         let name = name(lexeme);
         let number = Some(number);
-        self.push(Expression::Variable { name, number })
+        self.push(Expression::Variable { name, number }, 0)
     }
 
     /// Puts one expression in its place with what is made of it.
@@ -77,17 +89,8 @@ impl<'src> Stack<'src> {
         alloc: Global,
         operator: UnaryOperator,
     ) -> Result<(), LineError> {
-        let operand = self.pop_boxed(alloc)?;
-        self.push(match operator {
-            UnaryOperator::Root => Expression::Join {
-                lhs: None,
-                operator: token("/"),
-                rhs: operand,
-            },
-            UnaryOperator::Not => Expression::Not { operand },
-            UnaryOperator::Group => Expression::Group { contents: operand },
-            UnaryOperator::Assert => assertion(operand, None),
-        })
+        let (operand, levels) = self.pop_boxed(alloc)?;
+        self.push(of_operand(operator, operand), deeper(levels))
     }
 
     /// Puts two expressions together.
@@ -96,57 +99,95 @@ impl<'src> Stack<'src> {
         alloc: Global,
         operator: BinaryOperator,
     ) -> Result<(), LineError> {
-        let rhs = self.pop_boxed(alloc)?;
-        let lhs = self.pop_boxed(alloc)?;
-        self.push(together(operator, lhs, rhs))
+        let (rhs, right) = self.pop_boxed(alloc)?;
+        let (lhs, left) = self.pop_boxed(alloc)?;
+        self.push(together(operator, lhs, rhs), deeper(left.max(right)))
     }
 
     /// Puts a condition, a consequence and an otherwise together.
     pub(crate) fn conditional(&mut self, alloc: Global) -> Result<(), LineError> {
-        let otherwise = self.pop_boxed(alloc)?;
-        let consequence = self.pop_boxed(alloc)?;
-        let condition = self.pop_boxed(alloc)?;
-        self.push(Expression::Conditional {
+        let (otherwise, third) = self.pop_boxed(alloc)?;
+        let (consequence, second) = self.pop_boxed(alloc)?;
+        let (condition, first) = self.pop_boxed(alloc)?;
+        let conditional = Expression::Conditional {
             condition,
             consequence,
             otherwise: Some(otherwise),
-        })
+        };
+        self.push(conditional, deeper(first.max(second).max(third)))
     }
 
     /// Makes a list of so many expressions.
-    pub(crate) fn list(&mut self, count: usize) -> Result<(), LineError> {
-        let elements = self.pop_several(count)?;
-        self.push(Expression::List {
-            elements,
-            token: token("["),
-        })
+    pub(crate) fn list(&mut self, alloc: Global, count: usize) -> Result<(), LineError> {
+        let (elements, levels) = self.pop_several(alloc, count)?;
+        let token = token("[");
+        self.push(Expression::List { elements, token }, deeper(levels))
     }
 
     /// Makes a call, with so many expressions as its arguments.
-    pub(crate) fn call(&mut self, lexeme: &'src str, count: usize) -> Result<(), LineError> {
-        let arguments = self.pop_several(count)?;
+    pub(crate) fn call(
+        &mut self,
+        alloc: Global,
+        lexeme: &'src str,
+        count: usize,
+    ) -> Result<(), LineError> {
+        let (arguments, levels) = self.pop_several(alloc, count)?;
         let name = name(lexeme);
-        self.push(Expression::Call { arguments, name })
+        self.push(Expression::Call { arguments, name }, deeper(levels))
     }
 
-    // Takes so many expressions from the top, in the order in which they were pushed.
-    fn pop_several(&mut self, count: usize) -> Result<Vec<Expression<'src>>, LineError> {
+    // Takes so many expressions from the top, in the order in which they were pushed, and tells the levels of the deepest.
+    fn pop_several(
+        &mut self,
+        alloc: Global,
+        count: usize,
+    ) -> Result<(Vec<Expression<'src>>, usize), LineError> {
         if self.expressions.len() < count {
             return Err(LineError::Bad);
         }
-        Ok(self.expressions.split_off(self.expressions.len() - count)?)
+        let mut expressions = Vec::with_capacity(alloc, count)?;
+        let mut levels = 0;
+        for nested in self.expressions.split_off(self.expressions.len() - count)? {
+            levels = levels.max(nested.levels);
+            expressions.push(nested.expression)?;
+        }
+        Ok((expressions, levels))
     }
 
-    // Pushes an expression.
-    fn push(&mut self, expression: Expression<'src>) -> Result<(), LineError> {
-        self.expressions.push(expression)?;
+    // Pushes an expression of so many levels, if it may have so many.
+    fn push(&mut self, expression: Expression<'src>, levels: usize) -> Result<(), LineError> {
+        if levels > MOST_LEVELS {
+            return Err(LineError::OutOfMemory);
+        }
+        self.expressions.push(Nested { expression, levels })?;
         Ok(())
     }
 
-    // Takes the expression on top, to be a part of another.
-    fn pop_boxed(&mut self, alloc: Global) -> Result<Box<Expression<'src>>, LineError> {
-        let expression = self.pop()?;
-        Ok(Box::new(alloc, expression)?)
+    // Takes the expression on top, to be a part of another, and tells its levels.
+    fn pop_boxed(&mut self, alloc: Global) -> Result<(Box<Expression<'src>>, usize), LineError> {
+        match self.expressions.pop() {
+            Some(Nested { expression, levels }) => Ok((Box::new(alloc, expression)?, levels)),
+            None => Err(LineError::Bad),
+        }
+    }
+}
+
+// The levels of a form whose deepest part has so many.
+fn deeper(levels: usize) -> usize {
+    levels.saturating_add(1)
+}
+
+// What an operator makes of one expression.
+fn of_operand<'src>(operator: UnaryOperator, operand: Box<Expression<'src>>) -> Expression<'src> {
+    match operator {
+        UnaryOperator::Root => Expression::Join {
+            lhs: None,
+            operator: token("/"),
+            rhs: operand,
+        },
+        UnaryOperator::Not => Expression::Not { operand },
+        UnaryOperator::Group => Expression::Group { contents: operand },
+        UnaryOperator::Assert => assertion(operand, None),
     }
 }
 

@@ -43,6 +43,10 @@ use std::alloc::Global;
 use std::collections::{BTreeMap, HashMap, HashSet};
 
 /// Evaluates the assignments of a module, one after another, in a scope of its own.
+///
+/// Each evaluation may take as many bytes of stack as its host says by `stack_room`; without a word of the host, and in the
+/// calls that have none, `STACK_ROOM` bytes, which suits a stack of 8 MiB. Where forms and calls nest deeper than that
+/// suffices for, it ends as `OutOfMemory`, with a context and without.
 #[derive(Drop)]
 pub struct Evaluator<'src, 'run> {
     // What a called body's scope is put on, where that is not the own scope.
@@ -70,7 +74,8 @@ impl<'src, 'run> Evaluator<'src, 'run> {
     /// not go together (`ListOperation`), a regular expression operator (`LeftOutRegex`), too many pending calls
     /// (`RecursionLimit`); of built-in functions their own message (`FunctionCall`), a list where one wants a text
     /// (`ListInStringContext`), and one that is left out (`LeftOut`). On a module that is not resolved also
-    /// `Internal`. `OutOfMemory` comes where memory was asked for and refused, or where the host says so.
+    /// `Internal`. `OutOfMemory` comes where memory was asked for and refused, where the host says so, or where forms
+    /// and calls nest deeper than the stack has room for (`Evaluator`).
     pub fn evaluate_assignments<H: Host>(
         alloc: Global,
         host: &mut H,
@@ -194,9 +199,10 @@ impl<'src, 'run> Evaluator<'src, 'run> {
     ///
     /// # Errors
     ///
-    /// The first refusal of a part, in the order of the parts; `OutOfMemory` where memory was asked for and refused, or
-    /// where the host says so. On an evaluator from `evaluate_const_assignments` the const rules hold, and the host is not
-    /// asked: `Const` comes at the first call, command or open variable.
+    /// The first refusal of a part, in the order of the parts; `OutOfMemory` where memory was asked for and refused,
+    /// where the host says so, or where forms and calls nest deeper than the stack has room for. On an evaluator from
+    /// `evaluate_const_assignments` the const rules hold, and the host is not asked: `Const` comes at the first call,
+    /// command or open variable.
     pub fn evaluate_value<H: Host>(
         &self,
         alloc: Global,
@@ -282,7 +288,9 @@ impl<'src, 'run> Evaluator<'src, 'run> {
         requires room { HasRoom self.now }
         ensures { Runs (rules_of self.now) H.step host.old (meaning self.now (view expression.now)) (ended (λ v. v) result) host.new }
     {
-        self.expressions().evaluate_value(alloc, host, expression)
+        let room = host.stack_room();
+        self.expressions()
+            .evaluate_value(alloc, host, expression, room)
     }
 
     // Evaluates expressions with all that is bound so far.
@@ -294,13 +302,13 @@ impl<'src, 'run> Evaluator<'src, 'run> {
         ensures situation { situation result ≡ situation_of self.now }
     {
         ExpressionEvaluator {
-            context: self.context,
+            context: self.context.as_ref(),
             calls_left: self.calls_left(),
             env: &self.env,
             is_dependency: self.is_dependency,
             lists: self.lists,
             non_const_assignments: &self.non_const_assignments,
-            recipe: self.recipe,
+            recipe: self.recipe.as_ref(),
             scope: &self.scope,
             below: match self.base {
                 Some(base) => base,

@@ -1,5 +1,6 @@
 -- What runs of calls come to.
-use Rattle.std.proofs.Common.{◌≡◌, ℕ, List, [], ◌∷◌, length, Option, Some, None, sym, ap, ◌∙◌, refl, subst}
+use Rattle.std.proofs.Common.{◌≡◌, ℕ, List, [], ◌∷◌, length, Bor, Option, Some, None, sym, ap, ◌∙◌, refl, subst}
+use Rattle.std.specs.Option.{option_copied}
 use Rattle.just_syntax.specs.declared.expression.Expression.{Expression}
 use Rattle.just_syntax.specs.Plain.{Token, Function, Expr}
 use Rattle.just_value.specs.Value.{Value}
@@ -16,7 +17,7 @@ use Rattle.just_meaning.specs.Meaning.{Program, Situation, called, eval}
 use Rattle.just_meaning.specs.View.{program_view}
 use Rattle.just_forms.specs.Call.{EndsBefore, Enters, Reached, entered, look}
 use Rattle.just_forms.proofs.Commands.{itself}
-use Rattle.just_expression.specs.View.{deeper, is_non_const, program, program_of, row, rules, situation}
+use Rattle.just_expression.specs.View.{context_of, deeper, is_non_const, program, program_of, row, rules, situation}
 use Rattle.just_expression.specs.declared.evaluator.ExpressionEvaluator.{ExpressionEvaluator}
 use Rattle.just_expression.proofs.Leaves.{passes}
 
@@ -30,23 +31,26 @@ pub body_runs : {rules : Rules} {S : Type 0} {step : S → Question → Answer �
 body_runs {rules = rules} {step = step} {old = old} {new = new} p calls inner own e o is r = subst (λ i. Runs rules step old (eval p (dynamic p calls) i e) o new) is r
 
 -- the runs of a call, in a context
-module _ {S : Type 0} (step : S → Question → Answer → S → Type 0) (e : ExpressionEvaluator) (c : ExecutionContext) (is : e.context ≡ Some c) (t : Token) (xs : List Expression) where
+module _ {S : Type 0} (step : S → Question → Answer → S → Type 0) (e : ExpressionEvaluator) (c : Bor ExecutionContext) (is : e.context ≡ Some c) (t : Token) (xs : List Expression) where
+  given : context_of e ≡ Some c.now
+  given = ap option_copied is
+
   abbrev call : Tree Value
   call = called (program e) t (callee (program e).functions t.lexeme) (deeper e) (situation e) (length xs) (row e xs)
 
   entering : {old new : S} (o : Outcome Value) → Runs (rules e) step old call o new → Runs (rules e) step old (note (Entered t) call) o new
-  entering o r = runs_note (passes e.context (is_non_const e) c (Entered t) is) r
+  entering o r = runs_note (passes (context_of e) (is_non_const e) c.now (Entered t) given) r
 
   -- it ends before its arguments
-  pub call_refused : {h : S} (r : Option Refusal) → EndsBefore (program_view c) t (callee (program_view c).functions t.lexeme) e.calls_left (length xs) r → Runs (rules e) step h (note (Entered t) call) (without_value r) h
+  pub call_refused : {h : S} (r : Option Refusal) → EndsBefore (program_view c.now) t (callee (program_view c.now).functions t.lexeme) e.calls_left (length xs) r → Runs (rules e) step h (note (Entered t) call) (without_value r) h
   call_refused None ends = entering _ (runs_stopped call)
   call_refused {h = h} (Some r) ends =
-      let here = subst (λ o. EndsBefore (program_of o) t (callee (program_of o).functions t.lexeme) e.calls_left (length xs) (Some r)) (sym is) ends in
+      let here = subst (λ o. EndsBefore (program_of o) t (callee (program_of o).functions t.lexeme) e.calls_left (length xs) (Some r)) (sym given) ends in
       entering _ (subst (λ x. Runs (rules e) step h x (without_value (Some r)) h) (sym (here (situation e) (row e xs))) (runs_done _ _ refl))
 
-  module _ (r : Reached) (enters : Enters (program_view c) t (callee (program_view c).functions t.lexeme) e.calls_left (length xs) r) where
+  module _ (r : Reached) (enters : Enters (program_view c.now) t (callee (program_view c.now).functions t.lexeme) e.calls_left (length xs) r) where
     call_enters : call ≡ bind (row e xs (look r t)) (entered (program e) (situation e) t r)
-    call_enters = subst (λ o. Enters (program_of o) t (callee (program_of o).functions t.lexeme) e.calls_left (length xs) r) (sym is) enters (situation e) (row e xs)
+    call_enters = subst (λ o. Enters (program_of o) t (callee (program_of o).functions t.lexeme) e.calls_left (length xs) r) (sym given) enters (situation e) (row e xs)
 
     -- an argument ends it
     pub call_ends : {old new : S} (o : Option Refusal) → Runs (rules e) step old (row e xs (look r t)) (without_value o) new → Runs (rules e) step old (note (Entered t) call) (without_value o) new

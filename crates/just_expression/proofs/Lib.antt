@@ -1,5 +1,4 @@
 mod Calls
 mod Leaves
-mod Measure
 mod Rows
 mod Texts

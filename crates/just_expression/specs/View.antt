@@ -1,7 +1,7 @@
 -- What an evaluator of expressions stands in, as plain data, and what an expression means there.
 use Rattle.std.specs.Prelude.{ℕ, Bool, false, List, Option, Some, None, Result, nat_eq}
 use Rattle.std.specs.List.{list_any}
-use Rattle.std.specs.Option.{option_map}
+use Rattle.std.specs.Option.{option_copied, option_map}
 use Rattle.just_syntax.specs.Plain.{Expr}
 use Rattle.just_syntax.specs.View.{name_view, views}
 use Rattle.just_syntax.specs.declared.expression.Expression.{Expression}
@@ -39,15 +39,19 @@ abbrev pub situation : ExpressionEvaluator → Situation
 situation e = record {
   names = value_in (frames_view e.scope.now);
   environment = pairs_view e.env.now;
-  recipe = option_map (λ (n : Name). (name_view n).lexeme) e.recipe;
+  recipe = option_map (λ (n : Name). (name_view n).lexeme) (option_copied e.recipe);
   is_dependency = e.is_dependency;
   lists = e.lists;
   shown = frames_view e.scope.now;
   below = frames_view e.below.now;
 }
 
+-- what stays the same, if there is a run
+abbrev pub context_of : ExpressionEvaluator → Option ExecutionContext
+context_of e = option_copied e.context
+
 abbrev pub program : ExpressionEvaluator → Program
-program e = program_of e.context
+program e = program_of (context_of e)
 
 abbrev pub deeper : ExpressionEvaluator → Deeper
 deeper e = dynamic (program e) e.calls_left
@@ -57,7 +61,7 @@ abbrev pub is_non_const : ExpressionEvaluator → ℕ → Bool
 is_non_const e n = list_any (nat_eq n) e.non_const_assignments.now.keys
 
 abbrev pub rules : ExpressionEvaluator → Rules
-rules e = rules_in e.context (is_non_const e)
+rules e = rules_in (context_of e) (is_non_const e)
 
 -- what an expression means here
 abbrev pub meaning : ExpressionEvaluator → Expr → Tree Value

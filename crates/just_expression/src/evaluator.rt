@@ -1,17 +1,19 @@
 // Evaluates expressions, in the order of their parts.
 
-ghost use Rattle.std.specs.Prelude.{Some, [], ◌∷◌, ◌≡◌};
+ghost use Rattle.std.specs.Prelude.{[], ◌∷◌};
 ghost use Rattle.std.specs.Option.{option_map};
 ghost use Rattle.just_syntax.specs.View.{name_view, token_view, view};
 ghost use Rattle.just_syntax.specs.declared.list_operator.ListOperator.TheVariants.{Concatenate, Join};
 ghost use Rattle.just_host.specs.Interaction.{gives};
-ghost use Rattle.just_meaning.specs.Meaning.{assertion, assertion_text, branch, choice, combination, command, comparison, conjunction, disjunction, negation, succession, variable};
-ghost use Rattle.just_expression.specs.View.{Answers, deeper, is_non_const, meaning, open_in, program, situation};
+ghost use Rattle.just_meaning.specs.Meaning.{assertion, assertion_text, branch, choice, combination, comparison, conjunction, disjunction, negation, succession};
+ghost use Rattle.just_expression.specs.View.{Answers, deeper, meaning, program, situation};
 
 mod call;
+mod leaf;
 mod row;
 
-use just_forms::{command, form, internal, variable};
+use crate::{printing, stack};
+use just_forms::form;
 use just_host::execution_context::ExecutionContext;
 use just_host::host::Host;
 use just_syntax::conditional_operator::ConditionalOperator;
@@ -20,7 +22,6 @@ use just_syntax::list_operator::ListOperator;
 use just_syntax::name::Name;
 use just_syntax::number::Number;
 use just_syntax::token::Token;
-use just_value::const_error::ConstError;
 use just_value::error::Error;
 use just_value::scope::Scope;
 use just_value::value::Value;
@@ -31,7 +32,7 @@ use std::collections::{BTreeMap, HashSet};
 #[derive(Clone, Copy)]
 pub struct ExpressionEvaluator<'src, 'run, 'here> {
     /// What stays the same in a run. Without it nothing may be called and no command be run: the const rules hold.
-    pub context: Option<ExecutionContext<'src, 'run>>,
+    pub context: Option<&'here ExecutionContext<'src, 'run>>,
     /// How many further calls may be pending.
     pub calls_left: usize,
     /// The recipe's environment.
@@ -43,7 +44,7 @@ pub struct ExpressionEvaluator<'src, 'run, 'here> {
     /// The variables that have no constant value, where the const rules hold.
     pub non_const_assignments: &'here HashSet<Number>,
     /// The recipe that is run, if any.
-    pub recipe: Option<Name<'src>>,
+    pub recipe: Option<&'here Name<'src>>,
     /// What can be read, and what commands are shown.
     pub scope: &'here Scope<'src, 'here>,
     /// What the scope of a called body is put on.
@@ -51,69 +52,80 @@ pub struct ExpressionEvaluator<'src, 'run, 'here> {
 }
 
 impl<'src, 'run, 'here> ExpressionEvaluator<'src, 'run, 'here> {
-    /// The value of an expression, by what it asks of the host.
+    /// The value of an expression, by what it asks of the host, within so many bytes of stack. What its form costs is taken
+    /// off, and each part is handed what is left, so that the recursion ends by its room alone.
     ///
     /// Each form is a function of its own, so that the frame of this one stays small: expressions may nest as deep as
     /// the stack has room.
     ///
     /// # Errors
     ///
-    /// The first refusal of a part, in the order of the parts; `OutOfMemory` where memory was asked for and refused, or
-    /// where the host says so. Without a context `Const` at the first call, command or variable with no constant value.
+    /// The first refusal of a part, in the order of the parts; `OutOfMemory` where memory was asked for and refused,
+    /// where the host says so, or where the expression, with the bodies that it calls, nests deeper than `room` suffices
+    /// for. Without a context `Const` at the first call, command or variable with no constant value.
     #[cycle(evaluate)]
     pub fn evaluate_value<H: Host>(
         &self,
         alloc: Global,
         host: &mut H,
         expression: &Expression<'src>,
+        room: usize,
     ) -> Result<Value, Error<'src>>
         ensures { Answers self.now H.step host.old (meaning self.now (view expression.now)) result host.new }
     {
+        let cost = stack::cost_of(expression);
+        if room < cost {
+            return Err(Error::OutOfMemory);
+        }
+        let room = room - cost;
         match expression {
-            Expression::And { lhs, rhs } => self.evaluate_and(alloc, host, lhs, rhs),
+            Expression::And { lhs, rhs } => self.evaluate_and(alloc, host, lhs, rhs, room),
             Expression::Assert {
                 condition,
                 message,
                 name,
-            } => self.evaluate_assert(alloc, host, condition, message.as_deref(), name),
+            } => self.evaluate_assert(alloc, host, condition, message.as_deref(), name, room),
             Expression::Backtick { contents, token } => {
                 self.evaluate_backtick(alloc, host, contents, token)
             }
             Expression::Call { arguments, name } => {
-                self.evaluate_call(alloc, host, name, arguments)
+                self.evaluate_call(alloc, host, name, arguments, room)
             }
             Expression::Comparison {
                 lhs,
                 operator,
                 rhs,
                 token,
-            } => self.evaluate_comparison(alloc, host, lhs, *operator, rhs, token),
+            } => self.evaluate_comparison(alloc, host, lhs, *operator, rhs, token, room),
             Expression::Concatenation { lhs, operator, rhs } => {
-                self.evaluate_concatenation(alloc, host, lhs, operator, rhs)
+                self.evaluate_concatenation(alloc, host, lhs, operator, rhs, room)
             }
             Expression::Conditional {
                 condition,
                 consequence,
                 otherwise,
             } => {
-                self.evaluate_conditional(alloc, host, condition, consequence, otherwise.as_deref())
+                let otherwise = otherwise.as_deref();
+                self.evaluate_conditional(alloc, host, condition, consequence, otherwise, room)
             }
             Expression::FormatString { start, expressions } => {
-                self.evaluate_format_string(alloc, host, start, expressions)
+                self.evaluate_format_string(alloc, host, start, expressions, room)
             }
-            Expression::Group { contents } => self.evaluate_group(alloc, host, contents),
+            Expression::Group { contents } => self.evaluate_group(alloc, host, contents, room),
             Expression::Join { lhs, operator, rhs } => match lhs {
-                Some(lhs) => self.evaluate_join(alloc, host, lhs, operator, rhs),
-                None => self.evaluate_root(alloc, host, operator, rhs),
+                Some(lhs) => self.evaluate_join(alloc, host, lhs, operator, rhs, room),
+                None => self.evaluate_root(alloc, host, operator, rhs, room),
             },
-            Expression::List { elements, token: _ } => self.evaluate_list(alloc, host, elements),
+            Expression::List { elements, token: _ } => {
+                self.evaluate_list(alloc, host, elements, room)
+            }
             Expression::ListConcatenation {
                 lhs,
                 operator: _,
                 rhs,
-            } => self.evaluate_list_concatenation(alloc, host, lhs, rhs),
-            Expression::Not { operand } => self.evaluate_not(alloc, host, operand),
-            Expression::Or { lhs, rhs } => self.evaluate_or(alloc, host, lhs, rhs),
+            } => self.evaluate_list_concatenation(alloc, host, lhs, rhs, room),
+            Expression::Not { operand } => self.evaluate_not(alloc, host, operand, room),
+            Expression::Or { lhs, rhs } => self.evaluate_or(alloc, host, lhs, rhs, room),
             Expression::StringLiteral { string_literal } => {
                 form::string_literal(alloc, string_literal)
             }
@@ -131,10 +143,11 @@ impl<'src, 'run, 'here> ExpressionEvaluator<'src, 'run, 'here> {
         alloc: Global,
         host: &mut H,
         contents: &Expression<'src>,
+        room: usize,
     ) -> Result<Value, Error<'src>>
         ensures { Answers self.now H.step host.old (meaning self.now (view contents.now)) result host.new }
     {
-        self.evaluate_value(alloc, host, contents)
+        self.evaluate_value(alloc, host, contents, room)
     }
 
     // The value of `lhs && rhs`.
@@ -146,12 +159,13 @@ impl<'src, 'run, 'here> ExpressionEvaluator<'src, 'run, 'here> {
         host: &mut H,
         lhs: &Expression<'src>,
         rhs: &Expression<'src>,
+        room: usize,
     ) -> Result<Value, Error<'src>>
         ensures { Answers self.now H.step host.old (conjunction (meaning self.now (view lhs.now)) (meaning self.now (view rhs.now))) result host.new }
     {
-        let value = self.evaluate_value(alloc, host, lhs)?;
+        let value = self.evaluate_value(alloc, host, lhs, room)?;
         if value.is_truthy() {
-            self.evaluate_value(alloc, host, rhs)
+            self.evaluate_value(alloc, host, rhs, room)
         } else {
             Ok(Value::new(alloc))
         }
@@ -166,14 +180,15 @@ impl<'src, 'run, 'here> ExpressionEvaluator<'src, 'run, 'here> {
         host: &mut H,
         lhs: &Expression<'src>,
         rhs: &Expression<'src>,
+        room: usize,
     ) -> Result<Value, Error<'src>>
         ensures { Answers self.now H.step host.old (disjunction (meaning self.now (view lhs.now)) (meaning self.now (view rhs.now))) result host.new }
     {
-        let value = self.evaluate_value(alloc, host, lhs)?;
+        let value = self.evaluate_value(alloc, host, lhs, room)?;
         if value.is_truthy() {
             Ok(value)
         } else {
-            self.evaluate_value(alloc, host, rhs)
+            self.evaluate_value(alloc, host, rhs, room)
         }
     }
 
@@ -185,10 +200,11 @@ impl<'src, 'run, 'here> ExpressionEvaluator<'src, 'run, 'here> {
         alloc: Global,
         host: &mut H,
         operand: &Expression<'src>,
+        room: usize,
     ) -> Result<Value, Error<'src>>
         ensures { Answers self.now H.step host.old (negation (meaning self.now (view operand.now))) result host.new }
     {
-        let value = self.evaluate_value(alloc, host, operand)?;
+        let value = self.evaluate_value(alloc, host, operand, room)?;
         Ok(Value::from_bool(alloc, !value.is_truthy())?)
     }
 
@@ -203,14 +219,15 @@ impl<'src, 'run, 'here> ExpressionEvaluator<'src, 'run, 'here> {
         operator: ConditionalOperator,
         rhs: &Expression<'src>,
         token: &Token<'src>,
+        room: usize,
     ) -> Result<Value, Error<'src>>
         ensures { Answers self.now H.step host.old (comparison operator (token_view token.now) (meaning self.now (view lhs.now)) (meaning self.now (view rhs.now))) result host.new }
     {
         if form::is_regex(operator) {
             return Err(Error::LeftOutRegex { token: *token });
         }
-        let left = self.evaluate_value(alloc, host, lhs)?;
-        let right = self.evaluate_value(alloc, host, rhs)?;
+        let left = self.evaluate_value(alloc, host, lhs, room)?;
+        let right = self.evaluate_value(alloc, host, rhs, room)?;
         Ok(Value::from_bool(alloc, form::compares(operator, &left, &right))?)
     }
 
@@ -224,17 +241,18 @@ impl<'src, 'run, 'here> ExpressionEvaluator<'src, 'run, 'here> {
         condition: &Expression<'src>,
         consequence: &Expression<'src>,
         otherwise: Option<&Expression<'src>>,
+        room: usize,
     ) -> Result<Value, Error<'src>>
         ensures { Answers self.now H.step host.old (choice (meaning self.now (view condition.now)) (meaning self.now (view consequence.now)) (branch (program self.now) (deeper self.now) (situation self.now) (option_map (λ e. view e.now) otherwise.entry))) result host.new }
     {
-        let value = self.evaluate_value(alloc, host, condition)?;
+        let value = self.evaluate_value(alloc, host, condition, room)?;
         let taken = if value.is_truthy() {
             Some(consequence)
         } else {
             otherwise
         };
         match taken {
-            Some(taken) => self.evaluate_value(alloc, host, taken),
+            Some(taken) => self.evaluate_value(alloc, host, taken, room),
             None => Ok(Value::new(alloc)),
         }
     }
@@ -249,11 +267,12 @@ impl<'src, 'run, 'here> ExpressionEvaluator<'src, 'run, 'here> {
         lhs: &Expression<'src>,
         operator: &Token<'src>,
         rhs: &Expression<'src>,
+        room: usize,
     ) -> Result<Value, Error<'src>>
         ensures { Answers self.now H.step host.old (combination Concatenate (meaning self.now (view lhs.now)) (token_view operator.now) (meaning self.now (view rhs.now))) result host.new }
     {
-        let left = self.evaluate_value(alloc, host, lhs)?;
-        let right = self.evaluate_value(alloc, host, rhs)?;
+        let left = self.evaluate_value(alloc, host, lhs, room)?;
+        let right = self.evaluate_value(alloc, host, rhs, room)?;
         left.apply(alloc, &right, ListOperator::Concatenate, *operator)
     }
 
@@ -267,11 +286,12 @@ impl<'src, 'run, 'here> ExpressionEvaluator<'src, 'run, 'here> {
         lhs: &Expression<'src>,
         operator: &Token<'src>,
         rhs: &Expression<'src>,
+        room: usize,
     ) -> Result<Value, Error<'src>>
         ensures { Answers self.now H.step host.old (combination Join (meaning self.now (view lhs.now)) (token_view operator.now) (meaning self.now (view rhs.now))) result host.new }
     {
-        let left = self.evaluate_value(alloc, host, lhs)?;
-        let right = self.evaluate_value(alloc, host, rhs)?;
+        let left = self.evaluate_value(alloc, host, lhs, room)?;
+        let right = self.evaluate_value(alloc, host, rhs, room)?;
         left.apply(alloc, &right, ListOperator::Join, *operator)
     }
 
@@ -284,10 +304,11 @@ impl<'src, 'run, 'here> ExpressionEvaluator<'src, 'run, 'here> {
         host: &mut H,
         operator: &Token<'src>,
         rhs: &Expression<'src>,
+        room: usize,
     ) -> Result<Value, Error<'src>>
         ensures { Answers self.now H.step host.old (combination Join (gives ([] ∷ [])) (token_view operator.now) (meaning self.now (view rhs.now))) result host.new }
     {
-        let right = self.evaluate_value(alloc, host, rhs)?;
+        let right = self.evaluate_value(alloc, host, rhs, room)?;
         let left = form::empty_text(alloc)?;
         left.apply(alloc, &right, ListOperator::Join, *operator)
     }
@@ -301,11 +322,12 @@ impl<'src, 'run, 'here> ExpressionEvaluator<'src, 'run, 'here> {
         host: &mut H,
         lhs: &Expression<'src>,
         rhs: &Expression<'src>,
+        room: usize,
     ) -> Result<Value, Error<'src>>
         ensures { Answers self.now H.step host.old (succession (meaning self.now (view lhs.now)) (meaning self.now (view rhs.now))) result host.new }
     {
-        let left = self.evaluate_value(alloc, host, lhs)?;
-        let right = self.evaluate_value(alloc, host, rhs)?;
+        let left = self.evaluate_value(alloc, host, lhs, room)?;
+        let right = self.evaluate_value(alloc, host, rhs, room)?;
         Ok(form::extended(left, right)?)
     }
 
@@ -319,72 +341,24 @@ impl<'src, 'run, 'here> ExpressionEvaluator<'src, 'run, 'here> {
         condition: &Expression<'src>,
         message: Option<&Expression<'src>>,
         name: &Name<'src>,
+        room: usize,
     ) -> Result<Value, Error<'src>>
         ensures { Answers self.now H.step host.old (assertion (situation self.now).lists (name_view name.now) (meaning self.now (view condition.now)) (assertion_text (program self.now) (deeper self.now) (situation self.now) (view condition.now) (option_map (λ e. view e.now) message.entry))) result host.new }
     {
-        let value = self.evaluate_value(alloc, host, condition)?;
+        let value = self.evaluate_value(alloc, host, condition, room)?;
         if value.is_truthy() {
             return Ok(form::asserted(alloc, self.lists, value)?);
         }
         let message = match message {
             Some(message) => {
-                let value = self.evaluate_value(alloc, host, message)?;
+                let value = self.evaluate_value(alloc, host, message, room)?;
                 value.join(alloc)?
             }
-            None => form::in_backticks(alloc, condition)?,
+            None => printing::in_backticks(alloc, condition, room)?,
         };
         Err(Error::Assert {
             message,
             name: *name,
         })
-    }
-
-    // The value of a variable. The host is not asked.
-    #[inline(never)]
-    fn evaluate_variable<H: Host>(
-        &self,
-        alloc: Global,
-        host: &H,
-        name: &Name<'src>,
-        number: Option<Number>,
-    ) -> Result<Value, Error<'src>>
-        ensures { Answers self.now H.step host.now (variable (name_view name.now) number (situation self.now).names) result host.now }
-    {
-        let Some(number) = number else {
-            return Err(internal::unresolved(alloc, name));
-        };
-        if self.is_open(number) {
-            return Err(Error::Const(ConstError::Variable(*name)));
-        }
-        variable::value_of(alloc, self.scope, name, number)
-    }
-
-    // Whether a variable is open: the const rules hold, and it has no constant value.
-    fn is_open(&self, number: Number) -> bool
-        ensures { result ≡ open_in self.now.context (is_non_const self.now) number }
-    {
-        match self.context {
-            Some(_) => false,
-            None => variable::is_open(self.non_const_assignments, number),
-        }
-    }
-
-    // The value of a command expression.
-    #[inline(never)]
-    fn evaluate_backtick<H: Host>(
-        &self,
-        alloc: Global,
-        host: &mut H,
-        contents: &str,
-        token: &Token<'src>,
-    ) -> Result<Value, Error<'src>>
-        ensures { Answers self.now H.step host.old (command (program self.now).fixed (situation self.now) contents.now (token_view token.now)) result host.new }
-    {
-        match &self.context {
-            Some(context) => {
-                command::written(alloc, host, context, self.env, self.scope, contents, token)
-            }
-            None => Err(Error::Const(ConstError::Backtick(*token))),
-        }
     }
 }

@@ -3,3 +3,5 @@
 #![tactic(auto)]
 
 pub mod evaluator;
+mod printing;
+mod stack;

@@ -11,6 +11,10 @@ use just_syntax::out_of_memory::OutOfMemory;
 use just_value::error::CommandFault;
 use std::alloc::Global;
 
+/// How many bytes of stack evaluation may take on a stack of 8 MiB. Half a MiB is left for what calls evaluation, for what
+/// the innermost form calls, and for the host.
+pub const STACK_ROOM: usize = 15 * 512 * 1024;
+
 /// Whoever answers the questions of evaluation.
 ///
 /// `step` tells which answers a host may give: from a state, a question may get an answer and leave the host
@@ -34,4 +38,11 @@ pub trait Host {
     /// Gives the number that a question is for.
     fn number(&mut self, alloc: Global, question: NumberQuestion) -> Result<u64, OutOfMemory>
         ensures { step self.old (number_question question) (numbered result) self.new };
+
+    /// How many bytes of stack evaluation may take from where it is called. A host on a stack of another size than 8 MiB
+    /// says what suits it, with room left for itself; no clause speaks of it, since an evaluation that has less room only
+    /// ends earlier, for want of memory. It is no question, and no step.
+    fn stack_room(&self) -> usize {
+        STACK_ROOM
+    }
 }

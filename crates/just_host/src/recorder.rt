@@ -98,4 +98,8 @@ impl<H: Host> Host for Recorder<H> {
         self.keep(Recorded::Number(question))?;
         self.host.number(alloc, question)
     }
+
+    fn stack_room(&self) -> usize {
+        self.host.stack_room()
+    }
 }

@@ -103,6 +103,10 @@ impl<H: Host> Host for FailAt<H> {
         }
         Err(OutOfMemory)
     }
+
+    fn stack_room(&self) -> usize {
+        self.host.stack_room()
+    }
 }
 
 // The fault of a command, or want of memory for its text.

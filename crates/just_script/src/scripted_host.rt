@@ -17,9 +17,12 @@ use just_value::error::CommandFault;
 use std::alloc::Global;
 use std::vec::IntoIter;
 
+// It takes little stack itself, and nor does the program that it was made for, so that 320 KiB of 8 MiB are enough for both.
+const STACK_ROOM: usize = 7_872 * 1024;
+
 /// A host that answers by a script. A command that is always answered gets its text, and any other the next of
 /// the replies, and then the fault `no reply`. Each other kind of question has a list of answers, taken in their
-/// order, and then gets `Absent`, `false` or 0.
+/// order, and then gets `Absent`, `false` or 0. Evaluation may take 7,872 KiB of stack.
 #[derive(Drop)]
 pub struct ScriptedHost {
     always: Vec<(String, String)>,
@@ -88,6 +91,10 @@ impl Host for ScriptedHost {
 
     fn number(&mut self, _alloc: Global, _question: NumberQuestion) -> Result<u64, OutOfMemory> {
         Ok(self.numbers.next().unwrap_or(0))
+    }
+
+    fn stack_room(&self) -> usize {
+        STACK_ROOM
     }
 }
 

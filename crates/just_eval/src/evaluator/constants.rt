@@ -43,7 +43,7 @@ impl<'src, 'run> Evaluator<'src, 'run> {
     ///
     /// Any other refusal ends the stage, as `ConstEval`: a failed assertion, lists that do not go together, a regular
     /// expression operator; where the stage is not resolved also `Internal`. `OutOfMemory` comes where memory was asked
-    /// for and refused.
+    /// for and refused, or where forms nest deeper than the stack has room for.
     pub fn evaluate_const_assignments(
         alloc: Global,
         assignments: &Table<Assignment<'src>>,
@@ -125,7 +125,7 @@ impl<'src, 'run> Evaluator<'src, 'run> {
     /// # Errors
     ///
     /// The first refusal, as `ConstEval`: `Const` at the first call, command or open variable. `OutOfMemory` where memory
-    /// was asked for and refused.
+    /// was asked for and refused, or where forms nest deeper than the stack has room for.
     pub fn evaluate_value_const(
         &self,
         alloc: Global,

@@ -33,7 +33,7 @@ impl<'src, 'run> Evaluator<'src, 'run> {
     ///
     /// The first refusal, as `ConstEval`: `Const` at the first call, command or open variable; `ListInStringContext` where
     /// one text is wanted; `EmptyInterpreter` where a command and its arguments have no element. `OutOfMemory` where
-    /// memory was asked for and refused.
+    /// memory was asked for and refused, or where forms nest deeper than the stack has room for.
     pub fn evaluate_sets(
         &self,
         alloc: Global,
@@ -98,7 +98,7 @@ impl<'src, 'run> Evaluator<'src, 'run> {
     /// # Errors
     ///
     /// The first refusal, as `ConstEval`: `EmptyInterpreter` where there is no element at all. `OutOfMemory` where memory
-    /// was asked for and refused.
+    /// was asked for and refused, or where forms nest deeper than the stack has room for.
     pub fn evaluate_interpreter(
         &self,
         alloc: Global,

@@ -9,9 +9,10 @@ ghost use Rattle.just_builtins.specs.Table.{function_named};
 ghost use Rattle.just_meaning.specs.Callee.{callee};
 ghost use Rattle.just_meaning.specs.Closings.{dynamic, inside};
 ghost use Rattle.just_meaning.specs.Meaning.{built_in_call, called, eval};
-ghost use Rattle.just_expression.specs.View.{Answers, deeper, program, row, situation};
+ghost use Rattle.just_expression.specs.View.{Answers, context_of, deeper, program, row, situation};
 
 use super::ExpressionEvaluator;
+use crate::stack;
 use just_builtins::function::Function;
 use just_forms::builtin;
 use just_forms::callee::{Callee, reached};
@@ -37,17 +38,18 @@ impl<'src, 'run, 'here> ExpressionEvaluator<'src, 'run, 'here> {
         host: &mut H,
         name: &Name<'src>,
         arguments: &[Expression<'src>],
+        room: usize,
     ) -> Result<Value, Error<'src>>
         ensures { let t = name_view name.now in let p = program self.now in
             Answers self.now H.step host.old (note (Entered t) (called p t (callee p.functions t.lexeme) (deeper self.now) (situation self.now) (length arguments.now) (row self.now arguments.now))) result host.new }
     {
-        let Some(context) = &self.context else {
+        let Some(context) = self.context else {
             return Err(Error::Const(ConstError::FunctionCall(*name)));
         };
         let callee = reached(alloc, context, name, self.calls_left, arguments.len())?;
-        let mut values = Vec::new(alloc);
+        let mut values = Vec::with_capacity(alloc, arguments.len())?;
         for argument in arguments {
-            let value = self.evaluate_value(alloc, host, argument)?;
+            let value = self.evaluate_value(alloc, host, argument, room)?;
             if !callee.takes(values.len(), &value) {
                 return builtin::refuse_list(name, value);
             }
@@ -58,7 +60,7 @@ impl<'src, 'run, 'here> ExpressionEvaluator<'src, 'run, 'here> {
                 self.call_builtin_function(alloc, host, context, name, function, values)
             }
             Callee::Defined(function, calls_left) => {
-                self.evaluate_body(alloc, host, function, calls_left, values)
+                self.evaluate_body(alloc, host, function, calls_left, values, room)
             }
         }
     }
@@ -74,11 +76,16 @@ impl<'src, 'run, 'here> ExpressionEvaluator<'src, 'run, 'here> {
         function: &FunctionDefinition<'src>,
         calls_left: usize,
         values: Vec<Value>,
+        room: usize,
     ) -> Result<Value, Error<'src>>
         requires count { length function.now.parameters.items ≡ length values.items }
         ensures { let p = program self.now in let f = function_view function.now in let s = situation self.now in
             Answers self.now H.step host.old (eval p (dynamic p calls_left) (inside (value_in s.below) s f values.items) f.body) result host.new }
     {
+        if room < stack::BODY {
+            return Err(Error::OutOfMemory);
+        }
+        let room = room - stack::BODY;
         let scope = called_scope(alloc, &function.parameters, values, self.below)?;
         let evaluator = ExpressionEvaluator {
             context: self.context,
@@ -91,7 +98,7 @@ impl<'src, 'run, 'here> ExpressionEvaluator<'src, 'run, 'here> {
             scope: &scope,
             below: &scope,
         };
-        evaluator.evaluate_value(alloc, host, &function.body)
+        evaluator.evaluate_value(alloc, host, &function.body, room)
     }
 
     // What a built-in function answers here.
@@ -105,7 +112,7 @@ impl<'src, 'run, 'here> ExpressionEvaluator<'src, 'run, 'here> {
         function: Function,
         values: Vec<Value>,
     ) -> Result<Value, Error<'src>>
-        requires here { self.now.context ≡ Some context.now }
+        requires here { context_of self.now ≡ Some context.now }
         requires named { function_named (name_view name.now).lexeme ≡ Some function }
         requires count { IsExpected function (length values.items) }
         requires texts { HasTexts function values.items }
@@ -116,7 +123,7 @@ impl<'src, 'run, 'here> ExpressionEvaluator<'src, 'run, 'here> {
             execution_context: context,
             is_dependency: self.is_dependency,
             name: *name,
-            recipe: self.recipe,
+            recipe: self.recipe.copied(),
             scope: self.scope,
         };
         builtin::call(alloc, host, &context, function, &values)

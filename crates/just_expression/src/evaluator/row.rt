@@ -24,12 +24,13 @@ impl<'src, 'run, 'here> ExpressionEvaluator<'src, 'run, 'here> {
         alloc: Global,
         host: &mut H,
         elements: &[Expression<'src>],
+        room: usize,
     ) -> Result<Value, Error<'src>>
         ensures { Answers self.now H.step host.old (bind (row self.now elements.now as_it_is) (λ vs. gives (flatten vs))) result host.new }
     {
         let mut all = Value::new(alloc);
         for element in elements {
-            let value = self.evaluate_value(alloc, host, element)?;
+            let value = self.evaluate_value(alloc, host, element, room)?;
             all = form::extended(all, value)?;
         }
         Ok(all)
@@ -44,12 +45,13 @@ impl<'src, 'run, 'here> ExpressionEvaluator<'src, 'run, 'here> {
         host: &mut H,
         start: &StringLiteral<'src>,
         expressions: &[(Expression<'src>, StringLiteral<'src>)],
+        room: usize,
     ) -> Result<Value, Error<'src>>
         ensures { Answers self.now H.step host.old (bind (eval_pieces (program self.now) (deeper self.now) (situation self.now) (piece_views expressions.now)) (λ text. gives (formatted (literal_view start.now) text ∷ []))) result host.new }
     {
         let mut text = String::from_str(alloc, &start.cooked)?;
         for (expression, literal) in expressions {
-            let value = self.evaluate_value(alloc, host, expression)?;
+            let value = self.evaluate_value(alloc, host, expression, room)?;
             text.push_str(&value.join(alloc)?)?;
             text.push_str(&literal.cooked)?;
         }

@@ -45,4 +45,8 @@ impl<H: Host> Host for Watched<H> {
         self.was_asked = true;
         self.host.number(alloc, question)
     }
+
+    fn stack_room(&self) -> usize {
+        self.host.stack_room()
+    }
 }

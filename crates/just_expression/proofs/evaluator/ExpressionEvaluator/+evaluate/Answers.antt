@@ -16,7 +16,6 @@ use Rattle.just_forms.specs.Call.{BuiltIn, Defined, look, reached_view, wants_te
 use Rattle.just_expression.specs.View.{meaning, program, row, situation}
 use Rattle.just_expression.proofs.Calls.{body_runs, call_ends, call_refused, call_runs, inside_is, looked_at}
 use Rattle.just_expression.proofs.Leaves.{not_both}
-use Rattle.just_expression.proofs.Measure.{one_fewer}
 use Rattle.just_host.proofs.Left.{left_all}
 use Rattle.just_expression.proofs.Rows.{call_is, flatten_more, format_string_is, list_is, pieces_all, pieces_cut, pieces_end, pieces_next, row_all, row_cut, row_ends, row_next}
 use Rattle.just_expression.proofs.Texts.{more_texts}
@@ -351,6 +350,11 @@ evaluate_call-returns-in_err-callee g t c =
     let p = err_from_is_err_and c.from_residual.result c.from_residual.ensures.1 in
     rw (p.1, p.2) (call_refused _ c.args.self.now c.in-Some.context c.in-Some.is (name_view c.args.name.now) c.args.arguments.now _ c.in_err-callee.ensures.refused)
 
+pub evaluate_call-returns-in_err-values : goal.evaluate_call-returns-in_err-values
+evaluate_call-returns-in_err-values g t c =
+    let p = err_from_is_err_and c.from_residual-in_err-values.result c.from_residual-in_err-values.ensures.1 in
+    rw (p.1, p.2) (runs_stopped _)
+
 pub evaluate_call-returns-in_err-value : goal.evaluate_call-returns-in_err-value
 evaluate_call-returns-in_err-value g t c =
     let self = c.args.self.now in
@@ -399,10 +403,8 @@ evaluate_call-loop-argument-preserved g t c =
 
 pub evaluate_call-evaluate_body-requires : goal.evaluate_call-evaluate_body-requires
 evaluate_call-evaluate_body-requires g t c κs within =
-    let self = c.args.self.now in
     let fits = rw c.in-Defined.is at c.in_ok-callee.ensures.fits in
-    let h = one_fewer self.context c.in-Some.context c.in-Some.is self.calls_left c.in-Defined.calls_left (name_view c.args.name.now).lexeme c.in-Defined.function.now fits.0 fits.1 in
-    (omega (arith, h), (within, omega (arith, fits.2, c.loop-argument.invariant.count)))
+    (omega arith, (within, omega (arith, fits.2, c.loop-argument.invariant.count)))
 
 pub evaluate_call-returns-in-BuiltIn : goal.evaluate_call-returns-in-BuiltIn
 evaluate_call-returns-in-BuiltIn g t c =
@@ -419,6 +421,12 @@ evaluate_call-returns-in-Defined g t c =
     let r = Defined (function_view c.in-Defined.function.now) c.in-Defined.calls_left in
     call_runs _ self c.in-Some.context c.in-Some.is name c.args.arguments.now r (rw c.in-Defined.is at c.in_ok-callee.ensures.enters) c.loop-argument.values.items _
     (row_all _ self c.args.host.now (look r name) c.args.arguments.now c.loop-argument.argument-index c.loop-argument.values.items c.loop-argument-test.false (rw c.in-Defined.is at c.loop-argument.invariant.rest)) c.evaluate_body.ensures
+
+pub evaluate_value-returns-then-room-cost : goal.evaluate_value-returns-then-room-cost
+evaluate_value-returns-then-room-cost g t c = runs_stopped _
+
+pub evaluate_body-returns-then-room-lt-BODY : goal.evaluate_body-returns-then-room-lt-BODY
+evaluate_body-returns-then-room-lt-BODY g t c = runs_stopped _
 
 pub evaluate_body-returns-in_err-scope : goal.evaluate_body-returns-in_err-scope
 evaluate_body-returns-in_err-scope g t c =

@@ -1,68 +1,61 @@
-use Rattle.std.proofs.Common.{◌≡◌, ◌*◌, ◌+◌, ◌++◌, max, suc, ℕ, List, length, string_bytes, Option, Some, None, Bor}
-use Rattle.just_syntax.specs.declared.expression.Expression.{Expression, size-Expression}
+use Rattle.std.proofs.Common.{◌≡◌, ◌*◌, ◌++◌, suc, List, length, string_bytes}
 use Rattle.just_syntax.specs.Plain.{Text}
 use Rattle.just_syntax.specs.View.{name_view}
 use Rattle.just_value.specs.Value.{Value}
 use Rattle.just_meaning.specs.Meaning.{as_it_is, flatten}
 use Rattle.just_forms.specs.Call.{look, reached_view, wants_text}
-use Rattle.just_expression.proofs.Measure.{calls_room, functions_of, room}
 use Rattle.just_expression.proofs.Rows.{PiecesLeft, RowLeft}
 use Rattle.just_expression.proofs.Texts.{AreTexts}
 use Rattle.just_expression.proofs.evaluator.ExpressionEvaluator.+evaluate.Given as goal
 
-abbrev size_of : Option (Bor Expression) → ℕ
-size_of None = 0
-size_of (Some e) = size-Expression e.now
-
--- the size of what is left, and one more where there are several parts, or two
+-- Each level takes some of the room that it is handed. Within one the form comes after the entry, and a body after both.
 abbrev pub decreases-evaluate_value : goal.decreases-evaluate_value
-decreases-evaluate_value g l = calls_room l.self.now + (2 * size-Expression l.expression.now)
+decreases-evaluate_value g l = 3 * l.room
+
+abbrev pub decreases-evaluate_body : goal.decreases-evaluate_body
+decreases-evaluate_body g l = suc (3 * l.room)
 
 abbrev pub decreases-evaluate_and : goal.decreases-evaluate_and
-decreases-evaluate_and g l = calls_room l.self.now + (suc (2 * max (size-Expression l.lhs.now) (size-Expression l.rhs.now)))
+decreases-evaluate_and g l = suc (suc (3 * l.room))
 
 abbrev pub decreases-evaluate_assert : goal.decreases-evaluate_assert
-decreases-evaluate_assert g l = calls_room l.self.now + (suc (2 * max (size-Expression l.condition.now) (size_of l.message)))
-
-abbrev pub decreases-evaluate_group : goal.decreases-evaluate_group
-decreases-evaluate_group g l = calls_room l.self.now + (suc (2 * size-Expression l.contents.now))
+decreases-evaluate_assert g l = suc (suc (3 * l.room))
 
 abbrev pub decreases-evaluate_call : goal.decreases-evaluate_call
-decreases-evaluate_call g l = calls_room l.self.now + suc (2 * goal.size-evaluate_call g l)
-
--- a body, with one further call fewer
-abbrev pub decreases-evaluate_body : goal.decreases-evaluate_body
-decreases-evaluate_body g l = room l.calls_left (functions_of l.self.now.context) + suc (2 * size-Expression l.function.now.body)
+decreases-evaluate_call g l = suc (suc (3 * l.room))
 
 abbrev pub decreases-evaluate_comparison : goal.decreases-evaluate_comparison
-decreases-evaluate_comparison g l = calls_room l.self.now + (suc (2 * max (size-Expression l.lhs.now) (size-Expression l.rhs.now)))
+decreases-evaluate_comparison g l = suc (suc (3 * l.room))
 
 abbrev pub decreases-evaluate_concatenation : goal.decreases-evaluate_concatenation
-decreases-evaluate_concatenation g l = calls_room l.self.now + (suc (2 * max (size-Expression l.lhs.now) (size-Expression l.rhs.now)))
+decreases-evaluate_concatenation g l = suc (suc (3 * l.room))
 
 abbrev pub decreases-evaluate_conditional : goal.decreases-evaluate_conditional
-decreases-evaluate_conditional g l = calls_room l.self.now + (suc (2 * max (max (size-Expression l.condition.now) (size-Expression l.consequence.now)) (size_of l.otherwise)))
+decreases-evaluate_conditional g l = suc (suc (3 * l.room))
 
 abbrev pub decreases-evaluate_format_string : goal.decreases-evaluate_format_string
-decreases-evaluate_format_string g l = calls_room l.self.now + (suc (2 * goal.size-evaluate_format_string g l))
+decreases-evaluate_format_string g l = suc (suc (3 * l.room))
+
+abbrev pub decreases-evaluate_group : goal.decreases-evaluate_group
+decreases-evaluate_group g l = suc (suc (3 * l.room))
 
 abbrev pub decreases-evaluate_join : goal.decreases-evaluate_join
-decreases-evaluate_join g l = calls_room l.self.now + suc (2 * max (size-Expression l.lhs.now) (size-Expression l.rhs.now))
+decreases-evaluate_join g l = suc (suc (3 * l.room))
 
 abbrev pub decreases-evaluate_root : goal.decreases-evaluate_root
-decreases-evaluate_root g l = calls_room l.self.now + suc (2 * size-Expression l.rhs.now)
+decreases-evaluate_root g l = suc (suc (3 * l.room))
 
 abbrev pub decreases-evaluate_list : goal.decreases-evaluate_list
-decreases-evaluate_list g l = calls_room l.self.now + (suc (2 * goal.size-evaluate_list g l))
+decreases-evaluate_list g l = suc (suc (3 * l.room))
 
 abbrev pub decreases-evaluate_list_concatenation : goal.decreases-evaluate_list_concatenation
-decreases-evaluate_list_concatenation g l = calls_room l.self.now + (suc (2 * max (size-Expression l.lhs.now) (size-Expression l.rhs.now)))
+decreases-evaluate_list_concatenation g l = suc (suc (3 * l.room))
 
 abbrev pub decreases-evaluate_not : goal.decreases-evaluate_not
-decreases-evaluate_not g l = calls_room l.self.now + (suc (2 * size-Expression l.operand.now))
+decreases-evaluate_not g l = suc (suc (3 * l.room))
 
 abbrev pub decreases-evaluate_or : goal.decreases-evaluate_or
-decreases-evaluate_or g l = calls_room l.self.now + (suc (2 * max (size-Expression l.lhs.now) (size-Expression l.rhs.now)))
+decreases-evaluate_or g l = suc (suc (3 * l.room))
 
 -- the elements of the values so far
 abbrev pub invariant-evaluate_list-loop-element : goal.invariant-evaluate_list-loop-element

@@ -1,0 +1,101 @@
+// Prints expressions, where the stack has room for it.
+
+ghost use Rattle.std.specs.Prelude.{IfOk, string_bytes, ◌++◌, ◌∷◌, [], ◌≡◌};
+ghost use Rattle.just_syntax.specs.Printed.{printed};
+ghost use Rattle.just_syntax.specs.View.{view};
+
+use crate::stack;
+use just_forms::form;
+use just_syntax::expression::Expression;
+use just_syntax::out_of_memory::OutOfMemory;
+use just_syntax::string_literal::StringLiteral;
+use std::alloc::Global;
+
+// What an assertion without a message says: its condition, in backticks. Parts of the condition that were never evaluated
+// are printed too, and they may nest deeper than those that were.
+#[inline(never)]
+pub(crate) fn in_backticks(
+    alloc: Global,
+    condition: &Expression,
+    room: usize,
+) -> Result<String, OutOfMemory>
+    ensures { IfOk result (λ text. string_bytes text ≡ (96 ∷ printed (view condition.now)) ++ 96 ∷ []) }
+{
+    if fits(condition, room) {
+        form::in_backticks(alloc, condition)
+    } else {
+        Err(OutOfMemory)
+    }
+}
+
+// Whether an expression is printed within so many bytes of stack. It takes less of the stack than printing does.
+#[cycle(fits)]
+fn fits(expression: &Expression, room: usize) -> bool {
+    if room < stack::PRINTED {
+        return false;
+    }
+    let room = room - stack::PRINTED;
+    match expression {
+        Expression::And { lhs, rhs } => both_fit(lhs, rhs, room),
+        Expression::Assert {
+            condition,
+            message,
+            ..
+        } => fits(condition, room) && part_fits(message.as_deref(), room),
+        Expression::Backtick { .. } => true,
+        Expression::Call { arguments, .. } => row_fits(arguments, room),
+        Expression::Comparison { lhs, rhs, .. } => both_fit(lhs, rhs, room),
+        Expression::Concatenation { lhs, rhs, .. } => both_fit(lhs, rhs, room),
+        Expression::Conditional {
+            condition,
+            consequence,
+            otherwise,
+        } => both_fit(condition, consequence, room) && part_fits(otherwise.as_deref(), room),
+        Expression::FormatString { expressions, .. } => pieces_fit(expressions, room),
+        Expression::Group { contents } => fits(contents, room),
+        Expression::Join { lhs, rhs, .. } => part_fits(lhs.as_deref(), room) && fits(rhs, room),
+        Expression::List { elements, .. } => row_fits(elements, room),
+        Expression::ListConcatenation { lhs, rhs, .. } => both_fit(lhs, rhs, room),
+        Expression::Not { operand } => fits(operand, room),
+        Expression::Or { lhs, rhs } => both_fit(lhs, rhs, room),
+        Expression::StringLiteral { .. } => true,
+        Expression::Variable { .. } => true,
+    }
+}
+
+// Whether two expressions are.
+#[cycle(fits)]
+fn both_fit(lhs: &Expression, rhs: &Expression, room: usize) -> bool {
+    fits(lhs, room) && fits(rhs, room)
+}
+
+// Whether a part is, if it is there.
+#[cycle(fits)]
+fn part_fits(part: Option<&Expression>, room: usize) -> bool {
+    match part {
+        Some(part) => fits(part, room),
+        None => true,
+    }
+}
+
+// Whether each of some expressions is.
+#[cycle(fits)]
+fn row_fits(expressions: &[Expression], room: usize) -> bool {
+    for expression in expressions {
+        if !fits(expression, room) {
+            return false;
+        }
+    }
+    true
+}
+
+// Whether each interpolation is.
+#[cycle(fits)]
+fn pieces_fit(expressions: &[(Expression, StringLiteral)], room: usize) -> bool {
+    for (expression, _) in expressions {
+        if !fits(expression, room) {
+            return false;
+        }
+    }
+    true
+}
