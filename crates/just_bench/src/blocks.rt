@@ -3,15 +3,16 @@
 ghost use Rattle.std.specs.Prelude.{◌≡◌, ◌≤◌, [], IfOk, drop, map};
 ghost use Rattle.just_host.specs.View.{recorded_view, records_view};
 
+use crate::around::Around;
 use crate::context::{case_config, case_module, case_search};
 use crate::module_run::ModuleRun;
 use crate::print::{print_order, print_questions, print_refusal};
 use crate::script::{case_script, script_copy};
 use crate::taken::taken_variables;
 use just_case_lines::case::Case;
+use just_host::host::Host;
 use just_host::recorded::Recorded;
 use just_host::recorder::Recorder;
-use just_script::scripted_host::ScriptedHost;
 use just_syntax::name::Name;
 use just_syntax::number::Number;
 use just_syntax::out_of_memory::OutOfMemory;
@@ -28,17 +29,20 @@ struct Blocks<'src, 'run> {
 
 /// Evaluates a case in two runs, each with a host of its own: in its order, and then in that of these names. Adds what
 /// each asks for each variable and, where none is refused, whether they agree, and gives the exit status.
-pub(crate) fn evaluate_blocks<'src>(
+pub(crate) fn evaluate_blocks<'src, A: Around>(
     alloc: Global,
     text: &mut String,
     case: Case<'src>,
     second: Vec<Name<'src>>,
     parent: &Scope<'src, '_>,
+    around: &A,
 ) -> Result<u8, OutOfMemory>
     ensures { IfOk result (λ status. status ≤ 2) }
 {
-    let mut first_host = Recorder::new(alloc, script_copy(alloc, &case.always, &case.replies)?);
-    let mut second_host = Recorder::new(alloc, case_script(alloc, case.always, case.replies));
+    let script = script_copy(alloc, &case.always, &case.replies)?;
+    let mut first_host = Recorder::new(alloc, around.around(script));
+    let script = case_script(alloc, case.always, case.replies);
+    let mut second_host = Recorder::new(alloc, around.around(script));
     let order = case.evaluation_order;
     let mut run = ModuleRun {
         config: case_config(alloc, case.dry_run)?,
@@ -71,11 +75,11 @@ pub(crate) fn evaluate_blocks<'src>(
 
 // Runs a module in an order, with a host that was asked nothing. Adds the variables that are taken, and behind each what is
 // asked for it. A refusal is added where it ends the run, of which then nothing is given.
-fn print_run<'src, 'run>(
+fn print_run<'src, 'run, H: Host>(
     alloc: Global,
     text: &mut String,
     run: &mut ModuleRun<'src>,
-    host: &mut Recorder<ScriptedHost>,
+    host: &mut Recorder<H>,
     order: &[Name<'src>],
     parent: &'run Scope<'src, '_>,
 ) -> Result<Option<Blocks<'src, 'run>>, OutOfMemory>

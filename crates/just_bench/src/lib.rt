@@ -2,6 +2,7 @@
 // what was asked and what came of it. It leans on the evaluator's public calls, the reader of cases and scripted hosts.
 #![tactic(auto)]
 
+mod around;
 mod blocks;
 mod context;
 mod module_run;

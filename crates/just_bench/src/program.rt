@@ -3,6 +3,7 @@
 ghost use Rattle.std.specs.Prelude.{◌≡◌, ◌<◌, ◌≤◌, IfOk, IfSome, IsErr, length};
 ghost use Rattle.just_bench.specs.declared.stream.TheConstants.{LIMIT};
 
+use crate::around::{Around, Bare, Failing};
 use crate::blocks::evaluate_blocks;
 use crate::context::{case_config, case_module, case_search};
 use crate::print::{
@@ -16,6 +17,7 @@ use just_case_lines::line::parse_lines;
 use just_eval::evaluator::Evaluator;
 use just_eval::{resolved, resolved_const};
 use just_host::recorder::Recorder;
+use just_script::fail_at::How;
 use just_syntax::assignment::Assignment;
 use just_syntax::number::Number;
 use just_syntax::out_of_memory::OutOfMemory;
@@ -29,21 +31,49 @@ use std::mem;
 
 /// Reads a case, evaluates it, prints its answer, and gives the exit status: 0 for bindings, 2 for a refusal, 1
 /// for a case that is bad or too long, a read or a write that failed, or want of memory outside the evaluation.
-pub fn run<R: Read + Drop, W: Write + Drop>(alloc: Global, mut reader: R, mut writer: W) -> u8
+pub fn run<R: Read + Drop, W: Write + Drop>(alloc: Global, reader: R, writer: W) -> u8
     ensures status { result ≤ 2 }
     ensures too_long { IfSome (R.remaining reader) (λ case. LIMIT < length case → result ≡ 1) }
 {
-    match answer(alloc, &mut reader, &mut writer) {
+    run_around(alloc, reader, writer, &Bare {})
+}
+
+/// The same where the host passes the first `passed` questions of a run on, and fails at each later one.
+pub fn run_failing<R: Read + Drop, W: Write + Drop>(
+    alloc: Global,
+    reader: R,
+    writer: W,
+    passed: usize,
+    how: How,
+) -> u8
+    ensures status { result ≤ 2 }
+    ensures too_long { IfSome (R.remaining reader) (λ case. LIMIT < length case → result ≡ 1) }
+{
+    run_around(alloc, reader, writer, &Failing { passed, how })
+}
+
+// The same around the hosts of the case.
+fn run_around<R: Read + Drop, W: Write + Drop, A: Around>(
+    alloc: Global,
+    mut reader: R,
+    mut writer: W,
+    around: &A,
+) -> u8
+    ensures status { result ≤ 2 }
+    ensures too_long { IfSome (R.remaining reader) (λ case. LIMIT < length case → result ≡ 1) }
+{
+    match answer(alloc, &mut reader, &mut writer, around) {
         Ok(status) => status,
         Err(_) => 1,
     }
 }
 
 // What the texts of a case's expressions are pieces of, the bytes and the lines, outlives them here.
-fn answer<R: Read, W: Write>(
+fn answer<R: Read, W: Write, A: Around>(
     alloc: Global,
     reader: &mut R,
     writer: &mut W,
+    around: &A,
 ) -> Result<u8, StreamError>
     ensures status { IfOk result (λ status. status ≤ 2) }
     ensures too_long { IfSome (R.remaining reader.old) (λ case. LIMIT < length case → IsErr result) }
@@ -53,7 +83,7 @@ fn answer<R: Read, W: Write>(
     let lines = parse_lines(alloc, &bytes)?;
     let mut text = String::new(alloc);
     let status = match build(alloc, &lines) {
-        Ok(case) => evaluate(alloc, &mut text, case)?,
+        Ok(case) => evaluate(alloc, &mut text, case, around)?,
         Err(CaseError::BadLine(place)) => {
             writeln!(text, "bad line {place}")?;
             1
@@ -65,35 +95,42 @@ fn answer<R: Read, W: Write>(
 }
 
 // Evaluates a case in a scope that binds nothing, adds what is printed of it, and gives the exit status.
-fn evaluate(alloc: Global, text: &mut String, case: Case) -> Result<u8, OutOfMemory>
+fn evaluate<A: Around>(
+    alloc: Global,
+    text: &mut String,
+    case: Case,
+    around: &A,
+) -> Result<u8, OutOfMemory>
     ensures { IfOk result (λ status. status ≤ 2) }
 {
     let parent = Scope::root(alloc, &[])?;
-    evaluate_in(alloc, text, case, &parent)
+    evaluate_in(alloc, text, case, &parent, around)
 }
 
 // The same in a scope, whose bindings the case sees.
-pub(crate) fn evaluate_in<'src>(
+pub(crate) fn evaluate_in<'src, A: Around>(
     alloc: Global,
     text: &mut String,
     mut case: Case<'src>,
     parent: &Scope<'src, '_>,
+    around: &A,
 ) -> Result<u8, OutOfMemory>
     ensures { IfOk result (λ status. status ≤ 2) }
 {
     match mem::replace(&mut case.evaluation, Evaluation::Run) {
-        Evaluation::Run => evaluate_run(alloc, text, case, parent),
+        Evaluation::Run => evaluate_run(alloc, text, case, parent, around),
         Evaluation::Const => evaluate_const(alloc, text, case, parent),
-        Evaluation::Blocks { order } => evaluate_blocks(alloc, text, case, order, parent),
+        Evaluation::Blocks { order } => evaluate_blocks(alloc, text, case, order, parent, around),
     }
 }
 
 // Evaluates a case in a run.
-fn evaluate_run<'src>(
+fn evaluate_run<'src, A: Around>(
     alloc: Global,
     text: &mut String,
     case: Case<'src>,
     parent: &Scope<'src, '_>,
+    around: &A,
 ) -> Result<u8, OutOfMemory>
     ensures { IfOk result (λ status. status ≤ 2) }
 {
@@ -102,7 +139,7 @@ fn evaluate_run<'src>(
     let config = case_config(alloc, case.dry_run)?;
     let search = case_search(alloc)?;
     let script = case_script(alloc, case.always, case.replies);
-    let mut host = Recorder::new(alloc, script);
+    let mut host = Recorder::new(alloc, around.around(script));
     if !resolved(alloc, &module, parent, case.references.as_ref())? {
         text.push_str("unresolved\n")?;
     }

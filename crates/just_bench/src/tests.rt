@@ -3,6 +3,7 @@
 
 mod blocks;
 mod evaluations;
+mod failing;
 mod fakes;
 mod functions;
 mod hosts;

@@ -4,6 +4,7 @@ ghost use Rattle.std.specs.Prelude.{◌≡◌, ◌↔◌, IsNone};
 
 use crate::contradiction::Contradiction;
 use crate::stored_case::StoredCase;
+use just_bench::fail_at::How;
 use std::fmt;
 
 /// How a case differs from what its file says.
@@ -19,6 +20,14 @@ pub(crate) enum Difference {
     Answer,
     /// What is constant before its run says otherwise.
     Constants(Contradiction),
+    /// Where this many questions are passed on and each later one fails, the answer is not what that calls for.
+    Failing { passed: usize, how: How },
+    /// Cut behind this many bytes, it has an answer that no cut calls for.
+    Cut { length: usize },
+    /// It is not ended by a read that fails behind this many.
+    Read { reads: usize },
+    /// It is not ended by a write, or by the flush behind the last, that fails behind this many writes.
+    Write { writes: usize },
 }
 
 impl Difference {
@@ -50,6 +59,19 @@ impl fmt::Display for Difference {
             ),
             Difference::Answer => write!(f, "another answer"),
             Difference::Constants(contradiction) => write!(f, "{contradiction}"),
+            Difference::Failing { passed, how } => write!(
+                f,
+                "another answer where all but {passed} questions fail: {how:?}"
+            ),
+            Difference::Cut { length } => write!(f, "another answer to its first {length} bytes"),
+            Difference::Read { reads } => write!(
+                f,
+                "goes on behind {reads} reads and a failed one"
+            ),
+            Difference::Write { writes } => write!(
+                f,
+                "goes on behind {writes} writes and a failed one"
+            ),
         }
     }
 }

@@ -5,9 +5,13 @@
 mod agreement;
 mod check;
 mod contradiction;
+mod cutting;
 mod difference;
+mod failing;
 mod outcome;
 mod stored_case;
+mod streams;
+mod tally;
 
 use crate::check::check_cases;
 use std::process::ExitCode;

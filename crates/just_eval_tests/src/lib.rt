@@ -4,4 +4,6 @@
 #[cfg(test)]
 mod constants;
 #[cfg(test)]
+mod interpreters;
+#[cfg(test)]
 mod settings;

@@ -3,6 +3,7 @@
 ghost use Rattle.just_eval.specs.View.{IsConst};
 
 use crate::constants::said;
+use crate::interpreters::interpreter;
 use just_case_lines::case::{Case, build};
 use just_case_lines::line::parse_lines;
 use just_case_lines::token::{name, token};
@@ -11,7 +12,6 @@ use just_host::settings::Settings;
 use just_syntax::assignment::Assignment;
 use just_syntax::expression::Expression;
 use just_syntax::indentation::Indentation;
-use just_syntax::interpreter::Interpreter;
 use just_syntax::out_of_memory::OutOfMemory;
 use just_syntax::set::Set;
 use just_syntax::setting::Setting;
@@ -84,24 +84,6 @@ fn setting<'src>(name: &str, value: Expression<'src>) -> Option<Setting<'src>> {
         "windows-shell" => Setting::WindowsShell(interpreter(value)?),
         "working-directory" => Setting::WorkingDirectory(value),
         _ => return None,
-    })
-}
-
-fn interpreter<'src>(list: Expression<'src>) -> Option<Interpreter<Expression<'src>>> {
-    let Expression::List {
-        mut elements,
-        token: _,
-    } = list
-    else {
-        return None;
-    };
-    if elements.is_empty() {
-        return None;
-    }
-    let command = elements.remove(0);
-    Some(Interpreter {
-        arguments: elements,
-        command,
     })
 }
 

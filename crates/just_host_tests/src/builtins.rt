@@ -15,7 +15,10 @@ use questions::{
     COMMANDS, DIRECTORIES, DRY_COMMANDS, EXECUTABLES, FILES, FILES_WITH_LISTS, Question, SYSTEM,
     VARIABLES,
 };
-use rows::{CALLS, CALLS_WITHOUT_LISTS, OTHER_SURROUNDINGS, Row, SHAPES, SURROUNDINGS};
+use rows::{
+    CALLS, CALLS_WITHOUT_LISTS, IN_NO_FILE, OTHER_SURROUNDINGS, Row, SHAPES, SURROUNDINGS,
+    WITHOUT_A_PARENT,
+};
 use std::alloc::Global;
 use std::process::Abort;
 use std::test::Fail;
@@ -137,6 +140,15 @@ fn surroundings(rt: HostRuntime) -> Result<(), Fail> {
     let alloc = rt.alloc();
     compare_calls(&rt, alloc, true, SURROUNDINGS)?;
     compare(&rt, alloc, &Around::at_the_root(alloc)?, OTHER_SURROUNDINGS)
+}
+
+#[test]
+fn surroundings_without_a_parent(rt: HostRuntime) -> Result<(), Fail> {
+    let alloc = rt.alloc();
+    let around = Around::in_a_recipe(alloc, "", "/", "justfile")?;
+    compare(&rt, alloc, &around, WITHOUT_A_PARENT)?;
+    let around = Around::in_a_recipe(alloc, "/j", "/", "")?;
+    compare(&rt, alloc, &around, IN_NO_FILE)
 }
 
 #[test]

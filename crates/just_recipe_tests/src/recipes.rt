@@ -1,7 +1,10 @@
 // Lines, parameters and attributes of recipes. The assignments of a case give their expressions, by their names.
 
 mod calls;
+mod checks;
+mod conditions;
 mod environment;
+mod failing;
 mod hosts;
 mod lines;
 mod parameter_rows;

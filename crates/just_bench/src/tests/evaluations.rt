@@ -1,5 +1,6 @@
 // Evaluations in a scope that binds something.
 
+use crate::around::Bare;
 use crate::context::{case_config, case_module, case_search};
 use crate::print::{print_bindings, print_refusal};
 use crate::program::evaluate_in;
@@ -7,6 +8,7 @@ use just_case_lines::case::{Case, build};
 use just_case_lines::line::parse_lines;
 use just_case_lines::token::{name, token};
 use just_eval::evaluator::Evaluator;
+use just_eval::resolved;
 use just_host::command_question::CommandQuestion;
 use just_host::host::Host;
 use just_host::number_question::NumberQuestion;
@@ -106,7 +108,7 @@ pub(crate) fn answers_outside_nothing(
     let described = build(alloc, &lines)?;
     let parent = outer(alloc, Value::new(alloc))?;
     let mut text = String::new(alloc);
-    let answered = evaluate_in(alloc, &mut text, described, &parent)?;
+    let answered = evaluate_in(alloc, &mut text, described, &parent, &Bare {})?;
     assert_eq!(rt; answered, status, "{case}");
     assert_eq!(rt; text.as_str(), answer);
     Ok(())
@@ -138,7 +140,7 @@ fn host_out_of_memory(rt: HostRuntime) -> Result<(), Fail> {
     case.replies.push(Err(CommandFault::OutOfMemory))?;
     let parent = Scope::root(alloc, &[])?;
     let mut text = String::new(alloc);
-    assert_eq!(rt; evaluate_in(alloc, &mut text, case, &parent)?, 2);
+    assert_eq!(rt; evaluate_in(alloc, &mut text, case, &parent, &Bare {})?, 2);
     assert_eq!(rt;
         text.as_str(),
         "? command \"one\"\n? command \"two\"\nrefused 12 OutOfMemory\n"
@@ -286,11 +288,11 @@ fn variable_without_a_number(rt: HostRuntime) -> Result<(), Fail> {
         alloc,
         assignments,
         &parent,
-        "refused 6 Internal \"attempted to evaluate unresolved variable `y`\"\n",
+        "unresolved\nrefused 6 Internal \"attempted to evaluate unresolved variable `y`\"\n",
     )
 }
 
-// The assignments of a module of `x` ask nothing, and their bindings or their refusal are printed so.
+// The assignments of a module of `x` ask nothing, and whether it is unresolved, and its bindings or its refusal, are printed so.
 fn prints<'src>(
     rt: &impl Abort,
     alloc: Global,
@@ -305,11 +307,14 @@ fn prints<'src>(
     let dotenv = BTreeMap::new(alloc);
     let overrides = HashMap::new(alloc);
     let mut host = CountingHost { asked: 0 };
+    let mut text = String::new(alloc);
+    if !resolved(alloc, &module, parent, None)? {
+        text.push_str("unresolved\n")?;
+    }
     let outcome = Evaluator::evaluate_assignments(
         alloc, &mut host, &config, &dotenv, &module, &overrides, parent, &search, 100, None,
     );
     assert_eq!(rt; host.asked, 0);
-    let mut text = String::new(alloc);
     match outcome {
         Ok(scope) => print_bindings(&mut text, &scope)?,
         Err(error) => print_refusal(alloc, &mut text, &error)?,

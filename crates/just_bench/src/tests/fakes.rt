@@ -41,12 +41,13 @@ impl Read for EndlessReader {
     }
 }
 
-// Takes some bytes a write, and fails behind some writes.
+// Takes some bytes a write, and fails behind some writes, or where it is flushed.
 #[derive(Drop)]
 pub(crate) struct PieceWriter {
     pub(crate) written: Vec<u8>,
     pub(crate) piece: usize,
     pub(crate) good_writes: u64,
+    pub(crate) can_flush: bool,
 }
 
 impl Write for PieceWriter {
@@ -61,7 +62,10 @@ impl Write for PieceWriter {
     }
 
     fn flush(&mut self) -> io::Result<()> {
-        Ok(())
+        if self.can_flush {
+            return Ok(());
+        }
+        Err(io::Error::from(io::ErrorKind::Interrupted))
     }
 }
 
@@ -81,5 +85,6 @@ pub(crate) fn whole_writer(alloc: Global) -> PieceWriter {
         written: Vec::new(alloc),
         piece: usize::MAX,
         good_writes: u64::MAX,
+        can_flush: true,
     }
 }

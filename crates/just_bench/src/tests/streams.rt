@@ -68,6 +68,19 @@ fn ends_at_a_write_that_takes_nothing(rt: HostRuntime) -> Result<(), Fail> {
 }
 
 #[test]
+fn ends_at_a_failed_flush(rt: HostRuntime) -> Result<(), Fail> {
+    for case in [STORED_CASE.as_bytes(), b"run".as_slice(), b"add".as_slice()] {
+        let mut whole = whole_writer(rt.alloc());
+        run(rt.alloc(), whole_reader(case), &mut whole);
+        let mut out = whole_writer(rt.alloc());
+        out.can_flush = false;
+        assert_eq!(rt; run(rt.alloc(), whole_reader(case), &mut out), 1);
+        assert_eq!(rt; out.written.as_slice(), whole.written.as_slice());
+    }
+    Ok(())
+}
+
+#[test]
 fn reads_an_endless_case_to_its_limit(rt: HostRuntime) -> Result<(), Fail> {
     let mut out = whole_writer(rt.alloc());
     let mut case = EndlessReader { given: 0 };

@@ -24,6 +24,9 @@ use just_value::value::Value;
 use std::alloc::Global;
 use std::collections::{BTreeMap, HashMap};
 
+// The file that functions are called in, where no test says otherwise.
+const CALLER: &str = "shared/é.just";
+
 /// What a built-in function is called in, but for its name.
 #[derive(Drop)]
 pub struct Around<'src> {
@@ -36,6 +39,8 @@ pub struct Around<'src> {
     pub search: Search,
     pub is_dependency: bool,
     pub recipe: Option<Name<'src>>,
+    /// The path of the file that calls it.
+    pub caller: &'src str,
 }
 
 fn token<'src>(lexeme: &'src str, path: &'src str) -> Token<'src> {
@@ -68,21 +73,33 @@ impl<'src> Around<'src> {
             search: search(alloc, "/work/justfile")?,
             is_dependency: false,
             recipe: None,
+            caller: CALLER,
         })
     }
 
     /// In the recipe `build`, which runs as a dependency, with paths that have no parent.
     pub fn at_the_root(alloc: Global) -> Result<Around<'src>, OutOfMemory> {
+        Around::in_a_recipe(alloc, "/", "", CALLER)
+    }
+
+    /// The same with these paths of the justfile, of the module's source and of the file that calls.
+    pub fn in_a_recipe(
+        alloc: Global,
+        justfile: &str,
+        source: &str,
+        caller: &'src str,
+    ) -> Result<Around<'src>, OutOfMemory> {
         Ok(Around {
             config: config(alloc, Some(12))?,
             dotenv: BTreeMap::new(alloc),
             env: BTreeMap::new(alloc),
-            module: module(alloc, true, "", "")?,
+            module: module(alloc, true, "", source)?,
             overrides: HashMap::new(alloc),
             scope: Scope::root(alloc, &[])?,
-            search: search(alloc, "/")?,
+            search: search(alloc, justfile)?,
             is_dependency: true,
             recipe: Some(name("build")),
+            caller,
         })
     }
 }
@@ -215,7 +232,7 @@ fn called<'src, H: Host>(
     called_in(alloc, host, around, &execution_context, name, arguments)
 }
 
-// The same, in a context. The name stands in the file `shared/é.just`.
+// The same, in a context. The name stands in the caller's file.
 fn called_in<'src, 'run, H: Host>(
     alloc: Global,
     host: &mut H,
@@ -236,7 +253,7 @@ fn called_in<'src, 'run, H: Host>(
         execution_context,
         is_dependency: around.is_dependency,
         name: Name {
-            token: token(name.lexeme(), "shared/é.just"),
+            token: token(name.lexeme(), around.caller),
         },
         recipe: around.recipe,
         scope: execution_context.scope,

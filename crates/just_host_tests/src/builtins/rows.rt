@@ -83,8 +83,10 @@ pub const CALLS: &[Row] = &[
     ("trim_end", &[" a b\u{3000}"], " a b"),
     ("trim_end_match", &["fabab", "ab"], "fab"),
     ("trim_end_matches", &["fbaabab", "ab"], "fba"),
+    ("trim_end_matches", &["", ""], ""),
     ("trim_start", &["\u{a0} a b\n"], "a b\n"),
     ("trim_start_match", &["ababf", "ab"], "abf"),
+    ("trim_start_match", &["a", ""], "a"),
     ("trim_start_matches", &["ababbaf", "ab"], "baf"),
     ("uppercase", &["Foo bar1"], "FOO BAR1"),
 ];
@@ -137,5 +139,21 @@ pub const OTHER_SURROUNDINGS: &[Row] = &[
     ("num_jobs", &[], "12"),
     ("recipe_name", &[], "build"),
     ("source_file", &[], "! path `/` has no parent"),
+    ("source_directory", &[], "! path `/` has no parent"),
+];
+
+/// Calls where the justfile's path is the empty text, and the module's source is the root.
+pub const WITHOUT_A_PARENT: &[Row] = &[
+    (
+        "justfile_directory",
+        &[],
+        "! could not resolve justfile directory, justfile `` had no parent",
+    ),
+    ("module_directory", &[], "! path `/` has no parent"),
+];
+
+/// Calls in a file of the empty path, where the justfile is `/j`.
+pub const IN_NO_FILE: &[Row] = &[
+    ("source_file", &[], "/"),
     ("source_directory", &[], "! path `/` has no parent"),
 ];

@@ -2,15 +2,18 @@
 
 ghost use Rattle.std.specs.Prelude.{◌<◌};
 
+use crate::recipes::failing::{Failing, NEVER};
 use crate::recipes::hosts::TellingHost;
 use crate::recipes::{Around, RECIPE, empty_module};
 use just_case_lines::token::{name, token};
 use just_eval::evaluator::Evaluator;
 use just_host::execution_context::ExecutionContext;
 use just_host::justfile::Justfile;
+use just_script::fail_at::How;
 use just_syntax::expression::Expression;
+use just_syntax::out_of_memory::OutOfMemory;
 use just_syntax::string_context::StringContext;
-use just_value::error::CommandFault;
+use just_value::error::{CommandFault, Error};
 use just_value::scope::Scope;
 use std::alloc::Global;
 use std::collections::BTreeMap;
@@ -25,7 +28,7 @@ fn env(alloc: Global) -> Result<BTreeMap<String, String>, Fail> {
 
 #[test]
 fn a_command_a_value_and_a_text(rt: HostRuntime) -> Result<(), Fail> {
-    let told = told(rt.alloc())?;
+    let told = told(rt.alloc(), NEVER)?;
     assert_eq!(rt;
         told.as_str(),
         "? run A=x ();<run>;? c A=x () ();\"<c>\";? c A=x () ();<c>;"
@@ -33,12 +36,57 @@ fn a_command_a_value_and_a_text(rt: HostRuntime) -> Result<(), Fail> {
     Ok(())
 }
 
+// What each call asks, and what comes of it.
+const CALLS: &[(&str, &str)] = &[
+    ("? run A=x ();", "<run>;"),
+    ("? c A=x () ();", "\"<c>\";"),
+    ("? c A=x () ();", "<c>;"),
+];
+
+// What is asked of a host that fails is refused, and what was asked before is not.
+#[test]
+fn calls_whose_question_fails(rt: HostRuntime) -> Result<(), Fail> {
+    let alloc = rt.alloc();
+    for how in [How::Fault, How::Memory] {
+        for passed in 0..CALLS.len() + 1 {
+            let told = told(alloc, Failing { passed, how })?;
+            let expected = expected(alloc, passed, how)?;
+            assert_eq!(rt; told.as_str(), expected.as_str(), "{how:?} {passed}");
+        }
+    }
+    Ok(())
+}
+
+// What is told of the calls where so many questions are passed on.
+fn expected(alloc: Global, passed: usize, how: How) -> Result<String, OutOfMemory> {
+    let mut expected = String::new(alloc);
+    let mut left = passed;
+    for (question, answer) in CALLS {
+        expected.push_str(question)?;
+        if left == 0 {
+            expected.push_str(refusal(how))?;
+        } else {
+            expected.push_str(answer)?;
+            left -= 1;
+        }
+    }
+    Ok(expected)
+}
+
+// How the refusal of a call whose question fails is told.
+fn refusal(how: How) -> &'static str {
+    match how {
+        How::Fault => "refused;",
+        How::Memory => "no memory;",
+    }
+}
+
 // What was asked, each time with what came of it.
-fn told(alloc: Global) -> Result<String, Fail> {
+fn told(alloc: Global, failing: Failing) -> Result<String, Fail> {
     let module = empty_module(alloc)?;
     let around = Around::new(alloc)?;
     let scope = Scope::root(alloc, &[])?;
-    told_on(alloc, &module, &around, &scope)
+    told_on(alloc, &module, &around, &scope, failing)
 }
 
 fn told_on<'src>(
@@ -46,14 +94,13 @@ fn told_on<'src>(
     module: &Justfile<'src>,
     around: &Around,
     scope: &Scope<'src, '_>,
+    failing: Failing,
 ) -> Result<String, Fail> {
     let context = around.context(module, scope, 100);
-    let mut host = TellingHost {
-        told: String::new(alloc),
-    };
+    let mut host = TellingHost::new(alloc, failing);
     run(alloc, &mut host, &context, scope)?;
     evaluate(alloc, &mut host, &context, scope)?;
-    Ok(host.told)
+    Ok(host.into_told())
 }
 
 fn run<'src>(
@@ -69,6 +116,7 @@ fn run<'src>(
     let env = env(alloc)?;
     match Evaluator::run_command(alloc, host, context, &env, scope, "run", None) {
         Ok(text) => write!(host.told, "{text};")?,
+        Err(CommandFault::OutOfMemory) => host.told.push_str("no memory;")?,
         Err(_fault) => host.told.push_str("refused;")?,
     }
     Ok(())
@@ -90,11 +138,13 @@ fn evaluate<'src>(
     let evaluator = Evaluator::new(alloc, context, env(alloc)?, false, recipe, scope)?;
     match evaluator.evaluate_value(alloc, host, &command) {
         Ok(value) => write!(host.told, "{value};")?,
+        Err(Error::OutOfMemory) => host.told.push_str("no memory;")?,
         Err(_error) => host.told.push_str("refused;")?,
     }
     let place = StringContext::Setting(name("set"));
     match evaluator.evaluate_string(alloc, host, &command, place) {
         Ok(text) => write!(host.told, "{text};")?,
+        Err(Error::OutOfMemory) => host.told.push_str("no memory;")?,
         Err(_error) => host.told.push_str("refused;")?,
     }
     Ok(())

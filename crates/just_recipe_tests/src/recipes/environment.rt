@@ -2,6 +2,7 @@
 
 ghost use Rattle.std.specs.Prelude.{◌<◌};
 
+use crate::recipes::failing::{Failing, NEVER, each_way, told_failing};
 use crate::recipes::hosts::TellingHost;
 use crate::recipes::{Around, RECIPE, expressions_of, module_of_case};
 use just_case_lines::case::{Case, build};
@@ -17,6 +18,7 @@ use just_syntax::line::Line;
 use just_syntax::parameter::Parameter;
 use just_syntax::recipe::Recipe;
 use just_value::check_fault::CheckFault;
+use just_value::error::Error;
 use just_value::scope::Scope;
 use just_value::value::Value;
 use std::alloc::Global;
@@ -39,16 +41,19 @@ const LINES: &[(&str, &str)] = &[
 #[test]
 fn environment_of_a_line(rt: HostRuntime) -> Result<(), Fail> {
     let alloc = rt.alloc();
-    for (called, expected) in LINES {
+    for (called, whole) in LINES {
         let case = format!(in alloc; "str v\nassign a\nstr K\nassign b\n{called}assign c\nrun")?;
-        let told = line_told(alloc, &case)?;
-        assert_eq!(rt; told.as_str(), *expected, "{called}");
+        for failing in &each_way(alloc, whole)? {
+            let told = line_told(alloc, &case, *failing)?;
+            let expected = told_failing(alloc, whole, *failing)?;
+            assert_eq!(rt; told.as_str(), expected.as_str(), "{called} {failing:?}");
+        }
     }
     Ok(())
 }
 
 // What the line of a case's third assignment comes to, behind what was asked, where the first two give an attribute.
-fn line_told(alloc: Global, case: &str) -> Result<String, Fail> {
+fn line_told(alloc: Global, case: &str, failing: Failing) -> Result<String, Fail> {
     let lines = parse_lines(alloc, case.as_bytes())?;
     let mut left = expressions_of(alloc, build(alloc, &lines)?)?.into_iter();
     let mut attributes = AttributeSet::new(alloc);
@@ -64,7 +69,7 @@ fn line_told(alloc: Global, case: &str) -> Result<String, Fail> {
         name: name(RECIPE),
     };
     let module = module_of_case(alloc, build(alloc, &lines)?)?;
-    told_in_module(alloc, &module, &recipe, &Line { fragments })
+    told_in_module(alloc, &module, &recipe, &Line { fragments }, failing)
 }
 
 fn told_in_module<'src>(
@@ -72,10 +77,11 @@ fn told_in_module<'src>(
     module: &Justfile<'src>,
     recipe: &Recipe<'src>,
     line: &Line<'src>,
+    failing: Failing,
 ) -> Result<String, Fail> {
     let around = Around::new(alloc)?;
     let scope = Scope::root(alloc, &[])?;
-    told_on(alloc, module, &around, &scope, recipe, line)
+    told_on(alloc, module, &around, &scope, recipe, line, failing)
 }
 
 fn told_on<'src>(
@@ -85,9 +91,10 @@ fn told_on<'src>(
     scope: &Scope<'src, '_>,
     recipe: &Recipe<'src>,
     line: &Line<'src>,
+    failing: Failing,
 ) -> Result<String, Fail> {
     let context = around.context(module, scope, 100);
-    told_in(alloc, &context, scope, recipe, line)
+    told_in(alloc, &context, scope, recipe, line, failing)
 }
 
 // What a line comes to in the environment that the recipe's attributes give.
@@ -97,12 +104,11 @@ fn told_in<'src>(
     scope: &Scope<'src, '_>,
     recipe: &Recipe<'src>,
     line: &Line<'src>,
+    failing: Failing,
 ) -> Result<String, Fail>
     requires room { 0 < context.now.recursion_limit }
 {
-    let mut host = TellingHost {
-        told: String::new(alloc),
-    };
+    let mut host = TellingHost::new(alloc, failing);
     let check = |_: &Recipe, _: &Parameter, _: &Value| -> Result<(), CheckFault> { Ok(()) };
     let outcome = Evaluator::evaluate_parameters(
         alloc,
@@ -119,9 +125,10 @@ fn told_in<'src>(
         Ok((scope, _words, env)) => {
             tell_line(alloc, &mut host, context, &scope, recipe, line, env)?
         }
+        Err(Error::OutOfMemory) => host.told.push_str("no memory")?,
         Err(_error) => host.told.push_str("refused")?,
     }
-    Ok(host.told)
+    Ok(host.into_told())
 }
 
 fn tell_line<'src>(
@@ -139,6 +146,7 @@ fn tell_line<'src>(
     let evaluator = Evaluator::new(alloc, context, env, false, name, scope)?;
     match evaluator.evaluate_line(alloc, host, line, false) {
         Ok(text) => host.told.push_str(&text)?,
+        Err(Error::OutOfMemory) => host.told.push_str("no memory")?,
         Err(_error) => host.told.push_str("refused")?,
     }
     Ok(())
@@ -164,9 +172,7 @@ fn run_told<'src>(
 ) -> Result<String, Fail> {
     let module = module_of_case(alloc, case)?;
     let around = Around::new(alloc)?;
-    let mut host = TellingHost {
-        told: String::new(alloc),
-    };
+    let mut host = TellingHost::new(alloc, NEVER);
     let outcome = Evaluator::evaluate_assignments(
         alloc,
         &mut host,
@@ -182,5 +188,5 @@ fn run_told<'src>(
     if outcome.is_err() {
         host.told.push_str("refused")?;
     }
-    Ok(host.told)
+    Ok(host.into_told())
 }

@@ -1,24 +1,23 @@
-// A host that tells what it is asked.
+// A host that tells what it is asked, and fails from a question on.
 
+use crate::recipes::failing::Failing;
 use just_host::command_question::CommandQuestion;
 use just_host::host::Host;
 use just_host::number_question::NumberQuestion;
 use just_host::text_answer::TextAnswer;
 use just_host::text_question::TextQuestion;
+use just_script::fail_at::FailAt;
 use just_syntax::out_of_memory::OutOfMemory;
 use just_value::error::CommandFault;
 use just_value::frame::Frame;
 use just_value::scope::Scope;
 use std::alloc::Global;
 
-/// Tells each command with its environment and what the frames bind that it is shown, and answers it with its own text in
-/// angle brackets.
+/// Answers each command with its own text in angle brackets, and knows nothing else.
 #[derive(Drop)]
-pub(crate) struct TellingHost {
-    pub(crate) told: String,
-}
+pub(crate) struct BracketHost {}
 
-impl Host for TellingHost {
+impl Host for BracketHost {
     ghost use Rattle.std.specs.Prelude.{⊤};
 
     ghost step = { λ _ _ _ _. ⊤ };
@@ -28,9 +27,10 @@ impl Host for TellingHost {
         alloc: Global,
         question: &CommandQuestion,
     ) -> Result<String, CommandFault> {
-        match answer(alloc, &mut self.told, question) {
+        let command = question.command;
+        match format!(in alloc; "<{command}>") {
             Ok(text) => Ok(text),
-            Err(OutOfMemory) => Err(CommandFault::OutOfMemory),
+            Err(_) => Err(CommandFault::OutOfMemory),
         }
     }
 
@@ -47,11 +47,61 @@ impl Host for TellingHost {
     }
 }
 
-fn answer(
-    alloc: Global,
-    told: &mut String,
-    question: &CommandQuestion,
-) -> Result<String, OutOfMemory> {
+/// Tells each command with its environment and what the frames bind that it is shown, and asks a host that may fail.
+#[derive(Drop)]
+pub(crate) struct TellingHost {
+    pub(crate) told: String,
+    host: FailAt<BracketHost>,
+}
+
+impl TellingHost {
+    /// A host that passes so many questions on, and then fails.
+    pub(crate) fn new(alloc: Global, failing: Failing) -> TellingHost {
+        TellingHost {
+            told: String::new(alloc),
+            host: FailAt::new(BracketHost {}, failing.passed, failing.how),
+        }
+    }
+
+    /// What was told.
+    pub(crate) fn into_told(self) -> String {
+        let TellingHost { told, host } = self;
+        drop(host);
+        told
+    }
+}
+
+impl Host for TellingHost {
+    ghost use Rattle.std.specs.Prelude.{⊤};
+
+    ghost step = { λ _ _ _ _. ⊤ };
+
+    fn command(
+        &mut self,
+        alloc: Global,
+        question: &CommandQuestion,
+    ) -> Result<String, CommandFault> {
+        match tell_command(&mut self.told, question) {
+            Ok(()) => self.host.command(alloc, question),
+            Err(OutOfMemory) => Err(CommandFault::OutOfMemory),
+        }
+    }
+
+    fn text(&mut self, alloc: Global, question: TextQuestion) -> TextAnswer {
+        self.host.text(alloc, question)
+    }
+
+    fn exists(&mut self, alloc: Global, path: &str) -> Result<bool, OutOfMemory> {
+        self.host.exists(alloc, path)
+    }
+
+    fn number(&mut self, alloc: Global, question: NumberQuestion) -> Result<u64, OutOfMemory> {
+        self.host.number(alloc, question)
+    }
+}
+
+// Adds a command, its environment and the frames.
+fn tell_command(told: &mut String, question: &CommandQuestion) -> Result<(), OutOfMemory> {
     let command = question.command;
     write!(told, "? {command}")?;
     for (key, value) in question.env {
@@ -59,7 +109,7 @@ fn answer(
     }
     tell_frames(told, question.scope)?;
     told.push(';')?;
-    Ok(format!(in alloc; "<{command}>")?)
+    Ok(())
 }
 
 // Adds the frames, innermost first, each in parentheses.

@@ -2,6 +2,7 @@
 
 ghost use Rattle.std.specs.Prelude.{◌<◌};
 
+use crate::recipes::failing::{Failing, NEVER, each_way, told_failing};
 use crate::recipes::hosts::TellingHost;
 use crate::recipes::{Around, RECIPE, empty_module, expressions_of, module_of_case};
 use just_case_lines::case::build;
@@ -95,8 +96,21 @@ const LINES: &[(&str, &[Piece], bool, &str)] = &[
 fn text_fragments(rt: HostRuntime) -> Result<(), Fail> {
     let alloc = rt.alloc();
     for (case, pieces, continued, expected) in LINES {
-        let told = line_told(alloc, case, pieces, *continued)?;
+        let told = line_told(alloc, case, pieces, *continued, NEVER)?;
         assert_eq!(rt; told.as_str(), *expected, "{case}");
+    }
+    Ok(())
+}
+
+#[test]
+fn lines_whose_questions_fail(rt: HostRuntime) -> Result<(), Fail> {
+    let alloc = rt.alloc();
+    for (case, pieces, continued, whole) in LINES {
+        for failing in &each_way(alloc, whole)? {
+            let told = line_told(alloc, case, pieces, *continued, *failing)?;
+            let expected = told_failing(alloc, whole, *failing)?;
+            assert_eq!(rt; told.as_str(), expected.as_str(), "{case} {failing:?}");
+        }
     }
     Ok(())
 }
@@ -115,25 +129,31 @@ fn frames_from_a_line(rt: HostRuntime) -> Result<(), Fail> {
         ("call r 0\nassign a\nrun", "build"),
     ] {
         let case = format!(in alloc; "{functions}{last}")?;
-        let told = line_told(alloc, &case, &[Interpolated], false)?;
+        let told = line_told(alloc, &case, &[Interpolated], false, NEVER)?;
         assert_eq!(rt; told.as_str(), expected, "{last}");
     }
     Ok(())
 }
 
 // What a line comes to, behind what was asked, where the recipe's scope binds `p` to `z`.
-fn line_told(alloc: Global, case: &str, pieces: &[Piece], continued: bool) -> Result<String, Fail> {
+fn line_told(
+    alloc: Global,
+    case: &str,
+    pieces: &[Piece],
+    continued: bool,
+    failing: Failing,
+) -> Result<String, Fail> {
     let lines = parse_lines(alloc, case.as_bytes())?;
     let expressions = expressions_of(alloc, build(alloc, &lines)?)?;
     let line = line_of(alloc, pieces, expressions)?;
     let module = module_of_case(alloc, build(alloc, &lines)?)?;
-    told_in_module(alloc, &module, &line, continued)
+    told_in_module(alloc, &module, &line, continued, failing)
 }
 
 /// The same for a line that calls no function of a file.
 pub(crate) fn told(alloc: Global, line: &Line) -> Result<String, Fail> {
     let module = empty_module(alloc)?;
-    told_in_module(alloc, &module, line, false)
+    told_in_module(alloc, &module, line, false, NEVER)
 }
 
 fn told_in_module<'src>(
@@ -141,10 +161,11 @@ fn told_in_module<'src>(
     module: &Justfile<'src>,
     line: &Line<'src>,
     continued: bool,
+    failing: Failing,
 ) -> Result<String, Fail> {
     let around = Around::new(alloc)?;
     let base = Scope::root(alloc, &[])?;
-    told_on(alloc, module, &around, &base, line, continued)
+    told_on(alloc, module, &around, &base, line, continued, failing)
 }
 
 // The same where the module's assignments gave a scope.
@@ -155,11 +176,12 @@ fn told_on<'src>(
     base: &Scope<'src, '_>,
     line: &Line<'src>,
     continued: bool,
+    failing: Failing,
 ) -> Result<String, Fail> {
     let mut scope = base.child(alloc)?;
     scope.bind(bound(alloc, Value::from_text(alloc, "z")?))?;
     let context = around.context(module, base, 100);
-    told_in(alloc, &context, &scope, line, continued)
+    told_in(alloc, &context, &scope, line, continued, failing)
 }
 
 // A line of pieces, of which each interpolated one takes the next expression.
@@ -192,12 +214,11 @@ fn told_in<'src>(
     scope: &Scope<'src, '_>,
     line: &Line<'src>,
     continued: bool,
+    failing: Failing,
 ) -> Result<String, Fail>
     requires room { 0 < context.now.recursion_limit }
 {
-    let mut host = TellingHost {
-        told: String::new(alloc),
-    };
+    let mut host = TellingHost::new(alloc, failing);
     if !is_resolved(alloc, context, scope, line)? {
         host.told.push_str("unresolved;")?;
     }
@@ -209,7 +230,7 @@ fn told_in<'src>(
         Err(Error::OutOfMemory) => host.told.push_str("no memory")?,
         Err(_error) => host.told.push_str("refused")?,
     }
-    Ok(host.told)
+    Ok(host.into_told())
 }
 
 fn is_resolved<'src>(

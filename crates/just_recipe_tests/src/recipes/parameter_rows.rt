@@ -1,14 +1,18 @@
-// What parameters and attributes of recipes come to, a row a case.
+// Tables of parameters and attributes of recipes.
 
-// The case begins with the names of the parameters, so that their numbers are their places. The assignments `d-N`
-// and `v-N` are the default and the value of the parameter N; `k-1` and `e-1` the key and the value of an `[env]` attribute.
-//
-// Parameters are written as words: `+` or `*` before the name for the kind, and behind a slash `f` for a flag, `m` for one
-// that may be given more than once, `x` for an exported one. The recipe may run as a dependency.
+/// A case, parameters, arguments, whether the recipe may run as a dependency, and what comes of it, behind what was asked.
+///
+/// The case begins with the names of the parameters, so that their numbers are their places. The assignments `d-N`
+/// and `v-N` are the default and the value of the parameter N; `k-1` and `e-1` the key and the value of an `[env]` attribute.
+///
+/// Parameters are written as words: `+` or `*` before the name for the kind, and behind a slash `f` for a flag, `m` for one
+/// that may be given more than once, `x` for an exported one. The recipe may run as a dependency.
 pub(crate) type Row<'a> = (&'a str, &'a str, &'a [&'a [&'a str]], bool, &'a str);
 
-const NONE: &[&str] = &[];
+/// No element.
+pub(crate) const NONE: &[&str] = &[];
 
+/// Recipes of parameters and attributes.
 pub(crate) const ROWS: &[Row] = &[
     // No parameter, and no attribute.
     ("run", "", &[], false, "words; () env;"),
@@ -157,8 +161,8 @@ pub(crate) const ROWS: &[Row] = &[
     ),
 ];
 
-// A default's command sees the environment and the earlier parameters; the body of a function that an attribute or a default
-// calls sees the environment so far, and no parameter.
+/// A default's command sees the environment and the earlier parameters; the body of a function that an attribute or a default
+/// calls sees the environment so far, and no parameter.
 pub(crate) const BODY_ENVIRONMENT: &[Row] = &[
     (
         "only p q\nstr A\nassign k-1\nstr x\nassign e-1\ncmd d\nassign d-q\nrun",

@@ -2,6 +2,8 @@
 
 ghost use Rattle.std.specs.Prelude.{◌<◌};
 
+use crate::recipes::conditions::{Check, Conditions};
+use crate::recipes::failing::{NEVER, each_way, told_failing};
 use crate::recipes::hosts::{TellingHost, tell_frame};
 use crate::recipes::parameter_rows::{BODY_ENVIRONMENT, ROWS, Row};
 use crate::recipes::{Around, RECIPE, empty_module, module_of_case};
@@ -22,7 +24,6 @@ use just_syntax::parameter::Parameter;
 use just_syntax::parameter_kind::ParameterKind;
 use just_syntax::recipe::Recipe;
 use just_syntax::table::Table;
-use just_value::check_fault::CheckFault;
 use just_value::error::Error;
 use just_value::scope::Scope;
 use just_value::value::Value;
@@ -31,10 +32,23 @@ use std::collections::BTreeMap;
 use std::process::Abort;
 use std::test::Fail;
 
+// Compares what comes of recipes with what is wanted, also where their questions fail.
 fn compare(rt: &impl Abort, alloc: Global, rows: &[Row<'static>]) -> Result<(), Fail> {
-    for (case, parameters, arguments, is_dependency, expected) in rows {
-        let told = parameters_told(alloc, case, parameters, arguments, *is_dependency)?;
-        assert_eq!(rt; told.as_str(), *expected, "{case} {parameters}");
+    for (case, parameters, arguments, is_dependency, whole) in rows {
+        for failing in &each_way(alloc, whole)? {
+            let conditions = Conditions {
+                is_dependency: *is_dependency,
+                check: Check::RefusesNo,
+                failing: *failing,
+            };
+            let told = parameters_told(alloc, case, parameters, arguments, conditions)?;
+            let expected = told_failing(alloc, whole, *failing)?;
+            assert_eq!(rt;
+                told.as_str(),
+                expected.as_str(),
+                "{case} {parameters} {failing:?}"
+            );
+        }
     }
     Ok(())
 }
@@ -49,13 +63,13 @@ fn body_environment(rt: HostRuntime) -> Result<(), Fail> {
     compare(&rt, rt.alloc(), BODY_ENVIRONMENT)
 }
 
-// What a recipe's parameters come to, behind what was asked.
-fn parameters_told(
+/// What a recipe's parameters come to, behind what was asked.
+pub(crate) fn parameters_told(
     alloc: Global,
     case: &str,
     written: &'static str,
     given: &[&[&str]],
-    is_dependency: bool,
+    conditions: Conditions,
 ) -> Result<String, Fail> {
     let lines = parse_lines(alloc, case.as_bytes())?;
     let assignments = assignments_of(build(alloc, &lines)?);
@@ -66,19 +80,19 @@ fn parameters_told(
     };
     let arguments = arguments_of(alloc, given)?;
     let module = module_of_case(alloc, build(alloc, &lines)?)?;
-    told_in_module(
-        alloc,
-        &module,
-        &parameters,
-        &recipe,
-        &arguments,
-        is_dependency,
-    )
+    told_in_module(alloc, &module, &parameters, &recipe, &arguments, conditions)
 }
 
 fn assignments_of<'src>(case: Case<'src>) -> Table<Assignment<'src>> {
     case.assignments
 }
+
+// No dependency, and no host that fails.
+const PLAIN: Conditions = Conditions {
+    is_dependency: false,
+    check: Check::RefusesNo,
+    failing: NEVER,
+};
 
 /// The same for parameters and arguments of a recipe that calls no function of a file.
 pub(crate) fn told<'src>(
@@ -88,7 +102,7 @@ pub(crate) fn told<'src>(
     arguments: &[Value],
 ) -> Result<String, Fail> {
     let module = empty_module(alloc)?;
-    told_in_module(alloc, &module, parameters, recipe, arguments, false)
+    told_in_module(alloc, &module, parameters, recipe, arguments, PLAIN)
 }
 
 fn told_in_module<'src>(
@@ -97,19 +111,12 @@ fn told_in_module<'src>(
     parameters: &[Parameter<'src>],
     recipe: &Recipe<'src>,
     arguments: &[Value],
-    is_dependency: bool,
+    conditions: Conditions,
 ) -> Result<String, Fail> {
     let around = Around::new(alloc)?;
     let scope = Scope::root(alloc, &[])?;
     told_on(
-        alloc,
-        module,
-        &around,
-        &scope,
-        parameters,
-        recipe,
-        arguments,
-        is_dependency,
+        alloc, module, &around, &scope, parameters, recipe, arguments, conditions,
     )
 }
 
@@ -122,17 +129,11 @@ fn told_on<'src>(
     parameters: &[Parameter<'src>],
     recipe: &Recipe<'src>,
     arguments: &[Value],
-    is_dependency: bool,
+    conditions: Conditions,
 ) -> Result<String, Fail> {
     let context = around.context(module, scope, 100);
     told_in(
-        alloc,
-        &context,
-        scope,
-        parameters,
-        recipe,
-        arguments,
-        is_dependency,
+        alloc, &context, scope, parameters, recipe, arguments, conditions,
     )
 }
 
@@ -233,24 +234,23 @@ fn told_in<'src>(
     parameters: &[Parameter<'src>],
     recipe: &Recipe<'src>,
     arguments: &[Value],
-    is_dependency: bool,
+    conditions: Conditions,
 ) -> Result<String, Fail>
     requires room { 0 < context.now.recursion_limit }
 {
-    let mut host = TellingHost {
-        told: String::new(alloc),
-    };
+    let mut host = TellingHost::new(alloc, conditions.failing);
     if !is_resolved(alloc, context, scope, parameters, recipe)? {
         host.told.push_str("unresolved;")?;
     }
-    let check = |_: &Recipe, _: &Parameter, value: &Value| refuses_no(alloc, value);
+    let way = conditions.check;
+    let check = |_: &Recipe, _: &Parameter, value: &Value| way.check(alloc, value);
     let outcome = Evaluator::evaluate_parameters(
         alloc,
         &mut host,
         &check,
         arguments,
         context,
-        is_dependency,
+        conditions.is_dependency,
         parameters,
         recipe,
         scope,
@@ -259,7 +259,7 @@ fn told_in<'src>(
         Ok((scope, words, env)) => tell(&mut host.told, &scope, &words, &env)?,
         Err(error) => tell_refusal(&mut host.told, &error)?,
     }
-    Ok(host.told)
+    Ok(host.into_told())
 }
 
 fn is_resolved<'src>(
@@ -271,17 +271,6 @@ fn is_resolved<'src>(
 ) -> Result<bool, OutOfMemory> {
     let lines = Vec::new(alloc);
     resolved_here(alloc, context, scope, Some(recipe), parameters, lines)
-}
-
-// Refuses the one text `no`.
-fn refuses_no(alloc: Global, value: &Value) -> Result<(), CheckFault> {
-    match value.elements() {
-        [text] if text.as_str() == "no" => match String::from_str(alloc, "no") {
-            Ok(message) => Err(CheckFault::Refused(message)),
-            Err(_) => Err(CheckFault::OutOfMemory),
-        },
-        _ => Ok(()),
-    }
 }
 
 fn tell(

@@ -1,0 +1,52 @@
+// What stands between an evaluation and the hosts of a case.
+
+ghost use Rattle.std.specs.Prelude.{◌≡◌};
+ghost use Rattle.just_script.specs.View.{failing_view};
+ghost use Rattle.just_script.specs.declared.scripted_host.ScriptedHost.{ScriptedHost};
+
+use just_host::host::Host;
+use just_script::fail_at::{FailAt, How};
+use just_script::scripted_host::ScriptedHost;
+
+/// What stands between an evaluation and the hosts of a case. `gives` tells which host is made of a case's own.
+pub(crate) trait Around {
+    type Made: Host + Drop;
+
+    ghost gives: { Self → ScriptedHost → Self.Made → Type 0 };
+
+    /// The host that an evaluation asks, around one of the case. It takes no memory.
+    fn around(&self, host: ScriptedHost) -> Self::Made
+        ensures { gives self.now host result };
+}
+
+/// Nothing: the host of a case itself is asked.
+#[derive(Drop)]
+pub(crate) struct Bare {}
+
+impl Around for Bare {
+    type Made = ScriptedHost;
+
+    ghost gives = { λ _ host made. made ≡ host };
+
+    fn around(&self, host: ScriptedHost) -> ScriptedHost {
+        host
+    }
+}
+
+/// A host that fails from a question on.
+#[derive(Drop)]
+pub(crate) struct Failing {
+    /// How many questions are passed on.
+    pub(crate) passed: usize,
+    pub(crate) how: How,
+}
+
+impl Around for Failing {
+    type Made = FailAt<ScriptedHost>;
+
+    ghost gives = { λ self host made. failing_view made ≡ record { host = host; left = self.passed; how = self.how } };
+
+    fn around(&self, host: ScriptedHost) -> FailAt<ScriptedHost> {
+        FailAt::new(host, self.passed, self.how)
+    }
+}

@@ -1,0 +1,126 @@
+// Cases whose reader or writer fails.
+
+use crate::difference::Difference;
+use crate::stored_case::StoredCase;
+use crate::tally::Tally;
+use just_bench::program::run;
+use just_syntax::out_of_memory::OutOfMemory;
+use std::alloc::Global;
+use std::io::{self, Read, Write};
+
+// A longer case is read and written whole.
+const LONGEST: usize = 600;
+
+// In how many pieces a case is read, and an answer written, at most.
+const PIECES: usize = 8;
+
+// Gives a text in pieces, and fails behind some reads.
+#[derive(Drop)]
+struct FailingReader<'text> {
+    text: &'text [u8],
+    piece: usize,
+    good_reads: usize,
+}
+
+impl Read for FailingReader<'_> {
+    fn read(&mut self, buf: &mut [u8]) -> io::Result<usize> {
+        if self.good_reads == 0 {
+            return Err(io::Error::from(io::ErrorKind::BrokenPipe));
+        }
+        self.good_reads -= 1;
+        let count = self.piece.min(self.text.len()).min(buf.len());
+        let (piece, rest) = self.text.split_at(count);
+        buf[..count].copy_from_slice(piece);
+        self.text = rest;
+        Ok(count)
+    }
+}
+
+// Takes a text in pieces, and fails behind some writes, and where it is flushed.
+#[derive(Drop)]
+struct FailingWriter {
+    written: Vec<u8>,
+    piece: usize,
+    good_writes: usize,
+}
+
+impl Write for FailingWriter {
+    fn write(&mut self, buf: &[u8]) -> io::Result<usize> {
+        if self.good_writes == 0 {
+            return Err(io::Error::from(io::ErrorKind::BrokenPipe));
+        }
+        self.good_writes -= 1;
+        let count = self.piece.min(buf.len());
+        self.written.extend_from_slice(&buf[..count])?;
+        Ok(count)
+    }
+
+    fn flush(&mut self) -> io::Result<()> {
+        Err(io::Error::from(io::ErrorKind::BrokenPipe))
+    }
+}
+
+/// Reads a case and writes its answer in pieces, of which each in turn fails, and at last the flush. Gives the first
+/// that does not end with status 1, what was written before it, and nothing else.
+pub(crate) fn check_streams(
+    alloc: Global,
+    tally: &mut Tally,
+    stored: &StoredCase,
+) -> Result<Option<Difference>, OutOfMemory> {
+    if stored.case.len() > LONGEST {
+        return Ok(None);
+    }
+    // One read more tells that the case has ended.
+    let piece = piece_of(stored.case);
+    for reads in 0..pieces(stored.case, piece).saturating_add(1) {
+        let ends = ends_at_read(alloc, stored, piece, reads);
+        tally.count(!ends);
+        if !ends {
+            return Ok(Some(Difference::Read { reads }));
+        }
+    }
+    // Behind the last write the flush fails.
+    let piece = piece_of(stored.answer);
+    for writes in 0..pieces(stored.answer, piece).saturating_add(1) {
+        let ends = ends_at_write(alloc, stored, piece, writes);
+        tally.count(!ends);
+        if !ends {
+            return Ok(Some(Difference::Write { writes }));
+        }
+    }
+    Ok(None)
+}
+
+// How many bytes a piece of a text has.
+fn piece_of(text: &[u8]) -> usize {
+    (text.len() / PIECES).saturating_add(1)
+}
+
+// How many pieces of so many bytes a text has.
+fn pieces(text: &[u8], piece: usize) -> usize {
+    text.chunks(piece.max(1)).count()
+}
+
+// Whether a case that is read so far ends with status 1, and nothing is written.
+fn ends_at_read(alloc: Global, stored: &StoredCase, piece: usize, reads: usize) -> bool {
+    let mut answer = Vec::new(alloc);
+    let reader = FailingReader {
+        text: stored.case,
+        piece,
+        good_reads: reads,
+    };
+    let status = run(alloc, reader, &mut answer);
+    status == 1 && answer.is_empty()
+}
+
+// Whether a case whose answer is written so far ends with status 1, and that much of its answer is written.
+fn ends_at_write(alloc: Global, stored: &StoredCase, piece: usize, writes: usize) -> bool {
+    let mut writer = FailingWriter {
+        written: Vec::new(alloc),
+        piece,
+        good_writes: writes,
+    };
+    let status = run(alloc, stored.case, &mut writer);
+    let length = piece.saturating_mul(writes).min(stored.answer.len());
+    status == 1 && writer.written.len() == length && stored.answer.starts_with(&writer.written)
+}

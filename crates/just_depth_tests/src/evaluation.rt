@@ -1,0 +1,81 @@
+// Evaluates the assignments of a case.
+
+use just_case_lines::case::Case;
+use just_eval::evaluator::Evaluator;
+use just_host::config::Config;
+use just_host::host::Host;
+use just_host::justfile::Justfile;
+use just_host::search::Search;
+use just_host::settings::Settings;
+use just_syntax::out_of_memory::OutOfMemory;
+use just_value::error::Error;
+use just_value::scope::Scope;
+use std::alloc::Global;
+
+// Whether a case's assignments end for want of memory with this host.
+pub(crate) fn wants_memory<H: Host>(
+    alloc: Global,
+    host: &mut H,
+    case: Case,
+) -> Result<bool, OutOfMemory> {
+    let parent = Scope::root(alloc, &[])?;
+    wants_memory_in(alloc, host, case, &parent)
+}
+
+// The same in a scope.
+fn wants_memory_in<'src, H: Host>(
+    alloc: Global,
+    host: &mut H,
+    case: Case<'src>,
+    parent: &Scope<'src, '_>,
+) -> Result<bool, OutOfMemory> {
+    let Case {
+        assignments,
+        evaluation_order,
+        functions,
+        overrides,
+        dotenv,
+        recursion_limit,
+        ..
+    } = case;
+    let module = Justfile {
+        assignments,
+        evaluation_order,
+        functions,
+        module_path: String::new(alloc),
+        settings: Settings::new(alloc),
+        source: String::from_str(alloc, "/work/justfile")?,
+        submodule: false,
+        unexports: Vec::new(alloc),
+        working_directory: String::from_str(alloc, "/work")?,
+    };
+    let config = Config {
+        dry_run: false,
+        invocation_directory: String::from_str(alloc, "/work")?,
+        jobs: None,
+        quiet: false,
+        shell: None,
+        shell_args: None,
+        shell_command: false,
+    };
+    let search = Search {
+        justfile: String::from_str(alloc, "/work/justfile")?,
+        working_directory: String::from_str(alloc, "/work")?,
+    };
+    let outcome = Evaluator::evaluate_assignments(
+        alloc,
+        host,
+        &config,
+        &dotenv,
+        &module,
+        &overrides,
+        parent,
+        &search,
+        recursion_limit.max(1),
+        None,
+    );
+    match outcome {
+        Err(Error::OutOfMemory) => Ok(true),
+        _ => Ok(false),
+    }
+}

@@ -1,0 +1,14 @@
+// Tests of how deep forms and calls may nest. They take a stack of 8 MiB, as the program does; `rt try` compiles them with
+// checks, whose frames are several times as large, and runs out of stack.
+#![tactic(auto)]
+
+#[cfg(test)]
+mod evaluation;
+#[cfg(test)]
+mod pending;
+#[cfg(test)]
+mod rooms;
+#[cfg(test)]
+mod silent;
+#[cfg(test)]
+mod towers;

@@ -1,0 +1,132 @@
+// Forms around forms: however deep, a case ends by an answer, a refusal or a status.
+
+use just_bench::program::run;
+use just_bench::stream::LIMIT;
+use just_syntax::out_of_memory::OutOfMemory;
+use std::alloc::Global;
+use std::process::Abort;
+use std::test::Fail;
+
+// What stands before and behind the expression that a form is put around.
+pub(crate) const FORMS: [(&str, &str); 25] = [
+    ("", "group\n"),
+    ("", "not\n"),
+    ("", "list 1\n"),
+    ("", "str x\nand\n"),
+    ("str x\n", "and\n"),
+    ("", "str x\nor\n"),
+    ("list 0\n", "or\n"),
+    ("", "str x\nstr x\nif\n"),
+    ("str x\n", "str x\nif\n"),
+    ("list 0\nstr x\n", "if\n"),
+    ("", "str x\nwhen\n"),
+    ("", "str x\ncat\n"),
+    ("str x\n", "cat\n"),
+    ("", "assert\n"),
+    ("", "str x\nassertm\n"),
+    ("list 0\n", "assertm\n"),
+    ("", "str x\nadd\n"),
+    ("str x\n", "add\n"),
+    ("", "str x\njoin\n"),
+    ("str x\n", "join\n"),
+    ("", "root\n"),
+    ("", "str x\neq\n"),
+    ("str x\n", "eq\n"),
+    ("", "call g 1\n"),
+    ("", "call trim 1\n"),
+];
+
+// More levels than evaluation has room for, whatever the form, and one fewer than an expression of a case may have: in some
+// towers an empty list, which is a level itself, stands beside the innermost form.
+const MOST_LEVELS: usize = 53_999;
+
+pub(crate) const WANT: &str = "refused 12 OutOfMemory\n";
+
+// Adds a text so often.
+fn repeat(text: &mut String, piece: &str, count: usize) -> Result<(), OutOfMemory> {
+    for _ in 0..count {
+        text.push_str(piece)?;
+    }
+    Ok(())
+}
+
+// The lines of a form around itself, so many levels of it, with this at its innermost place. `g` is a function.
+pub(crate) fn tower(
+    alloc: Global,
+    form: (&str, &str),
+    levels: usize,
+    innermost: &str,
+) -> Result<String, OutOfMemory> {
+    let (before, behind) = form;
+    let mut text = String::from_str(alloc, "var p\nfun g p\n")?;
+    repeat(&mut text, before, levels)?;
+    text.push_str(innermost)?;
+    repeat(&mut text, behind, levels)?;
+    Ok(text)
+}
+
+// A case has this answer and this status.
+fn answers(rt: &impl Abort, alloc: Global, case: &str, answer: &str, status: u8, name: &str) {
+    let mut out = Vec::new(alloc);
+    assert_eq!(rt; run(alloc, case.as_bytes(), &mut out), status, "{name}");
+    assert_eq!(rt; out.as_slice(), answer.as_bytes(), "{name}");
+}
+
+// As many levels as a case holds, up to 250,000, are more than an expression may have: there is no answer.
+#[test]
+fn as_deep_as_a_case_holds(rt: HostRuntime) -> Result<(), Fail> {
+    let alloc = rt.alloc();
+    for (before, behind) in FORMS {
+        let levels = ((LIMIT - 100) / before.len().saturating_add(behind.len()).max(1)).min(
+            250_000,
+        );
+        let mut case = tower(alloc, (before, behind), levels, "str x\n")?;
+        case.push_str("assign a\nrun\n")?;
+        answers(&rt, alloc, &case, "", 1, behind);
+    }
+    Ok(())
+}
+
+// At the most levels that it may have an expression is refused where it is evaluated, and let go where it is not.
+#[test]
+fn as_deep_as_an_expression_may_be(rt: HostRuntime) -> Result<(), Fail> {
+    let alloc = rt.alloc();
+    for form in FORMS {
+        let mut case = tower(alloc, form, MOST_LEVELS, "str x\n")?;
+        case.push_str("assign a\n")?;
+        let whole = case.len();
+        case.push_str("run\n")?;
+        answers(&rt, alloc, &case, WANT, 2, form.1);
+        case.truncate(whole);
+        case.push_str("override a 5\nrun\n")?;
+        answers(&rt, alloc, &case, "a = \"5\"\n", 0, form.1);
+    }
+    Ok(())
+}
+
+// What an assertion prints of its condition was not evaluated, and nests deeper than is left of the room.
+#[test]
+fn printed_deeper_than_evaluated(rt: HostRuntime) -> Result<(), Fail> {
+    let alloc = rt.alloc();
+    for form in FORMS {
+        let mut case = String::from_str(alloc, "var p\nfun g p\nlist 0\n")?;
+        repeat(&mut case, form.0, 30_000)?;
+        case.push_str("str x\n")?;
+        repeat(&mut case, form.1, 30_000)?;
+        case.push_str("and\nassert\n")?;
+        repeat(&mut case, "group\n", 16_000)?;
+        case.push_str("assign a\nrun\n")?;
+        answers(&rt, alloc, &case, WANT, 2, form.1);
+    }
+    Ok(())
+}
+
+// Before any run too.
+#[test]
+fn before_any_run(rt: HostRuntime) -> Result<(), Fail> {
+    let alloc = rt.alloc();
+    let mut case = tower(alloc, ("", "group\n"), MOST_LEVELS, "str x\n")?;
+    case.push_str("assign a\nconst\n")?;
+    answers(&rt, alloc, &case, "refused: OutOfMemory\n", 2, "group");
+    Ok(())
+}
