@@ -11,8 +11,9 @@ use Rattle.just_meaning.specs.Meaning.{eval}
 use Rattle.just_meaning.specs.Closings.{lexical}
 use Rattle.just_meaning.specs.Module.{Module, Block, assigned, events_of, lexically, or_override, situation_at}
 use Rattle.just_laws.specs.Laws.{AreAnsweredAlike, AreSame}
+use Rattle.just_laws.proofs.Alike.{alike_paths}
 use Rattle.just_agreement.specs.Cone.{IsEvaluated, numbered}
-use Rattle.just_agreement.proofs.Alike.{Alike, Whole, alike_lexical, alike_override, alike_paths}
+use Rattle.just_agreement.proofs.Alike.{Alike, Whole, alike_lexical, alike_override, alike_to_the_end}
 use Rattle.just_agreement.proofs.Blocks.{AllMet, IsGiven, IsIn, Met, among_blocks, gave_same, met_outside, never_both, one_met, some_same}
 
 -- Two modules that are the same for these variables, which are closed under what their assignments read.
@@ -74,7 +75,7 @@ module _ (m w : Module) (outer : Frames) (C : ℕ → Type 0) (matched : AreMatc
     agree_here : (before : List Block) → AllAgree before → (b : Block) → Met m outer before b → IsIn bs b → Agrees b
     agree_here before agreed b k own c at among number here there =
         alike_paths
-        (assigned_alike k.assignment (k.frame ∷ outer) (l.frame ∷ outer) among' k.found (subst (λ n. value_in outer n ≡ None) (sym k.number) (met_outside m outer before b k)) names)
+        (alike_to_the_end (assigned_alike k.assignment (k.frame ∷ outer) (l.frame ∷ outer) among' k.found (subst (λ n. value_in outer n ≡ None) (sym k.number) (met_outside m outer before b k)) names))
         k.path (subst (λ a. Path freely (assigned lexically w (l.frame ∷ outer) a) c.events c.outcome) (sym same) l.path) here there
         (λ e f i j. talk e f (among_blocks bs b own e i) (among_blocks cs c at f j))
       where

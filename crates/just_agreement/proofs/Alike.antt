@@ -8,8 +8,7 @@ use Rattle.just_value.specs.Refusal.{Internal}
 use Rattle.just_value.specs.Outcome.{Outcome, Gave, Refused, Stopped}
 use Rattle.just_host.specs.Fixed.{Fixed}
 use Rattle.just_host.specs.Question.{Question, Answer}
-use Rattle.just_host.specs.Interaction as interaction
-use Rattle.just_host.specs.Interaction.{Note, Read, Entered, Command, Event, Asked, Checked, Noted, Tree, Verdict, done, ask, note, check, bind, refuses, Path, Ends, Stops, Notes, Checks, Shuts, freely}
+use Rattle.just_host.specs.Interaction.{Note, Read, Entered, Command, Tree, Verdict, done, ask, note, check, bind, refuses}
 use Rattle.just_builtins.specs.Called.{tree}
 use Rattle.just_builtins.specs.Meaning.{reply}
 use Rattle.just_builtins.specs.Reply as replies
@@ -24,7 +23,7 @@ use Rattle.just_meaning.specs.Messages.{miscounted_text}
 use Rattle.just_meaning.specs.Closings.{lexical, inside, with_parameters}
 use Rattle.just_meaning.specs.Module.{or_override}
 use Rattle.just_meaning.proofs.Reached.{reaches_on}
-use Rattle.just_laws.specs.Laws.{AreAnsweredAlike, AreSame}
+use Rattle.just_laws.proofs.Alike as frames
 use Rattle.just_laws.proofs.Ends.{AllEnd, HasCount, ends_any, row_counts}
 use Rattle.just_laws.proofs.Overlays.{parameters_same}
 use Rattle.just_agreement.specs.Foretold.{is_shut}
@@ -252,19 +251,9 @@ alike_lexical fixed functions others base other k s names shown below e same own
 
 -- ---- paths
 
--- two paths down trees that are alike, neither stopped and both answered alike
-pub alike_paths : {A : Type 0} {t u : Tree A} {es fs : List Event} {o p : Outcome A} → Alike Whole t u → Path freely t es o → Path freely u fs p → o ≢ Stopped → p ≢ Stopped → AreAnsweredAlike es fs → (o ≡ p) × AreSame es fs
-alike_paths Done Ends Ends here there h = (refl, tt)
-alike_paths (Both w blind k) (interaction.Asks {a = a} {es = es} p) (interaction.Asks {next = l} {a = b} {es = fs} {o = end} q) here there h =
-    let answer : a ≡ b = h _ _ (inl refl) (inl refl) blind in
-    let rest = alike_paths (k a) p (subst (λ x. Path freely (l x) fs end) (sym answer) q) here there (λ x y i j. h x y (inr i) (inr j)) in
-    (rest.0, (blind, answer, rest.1))
-alike_paths (Same s k) (Notes e p) (Notes f q) here there h = let rest = alike_paths (k refl) p q here there (λ x y i j. h x y (inr i) (inr j)) in (rest.0, (refl, rest.1))
-alike_paths (SameCheck w k) (Checks {a = a} {es = es} p) (Checks {next = l} {a = b} {es = fs} {o = end} q) here there h =
-    let verdict : a ≡ b = h _ _ (inl refl) (inl refl) refl refl in
-    let rest = alike_paths (k a) p (subst (λ x. Path freely (l x) fs end) (sym verdict) q) here there (λ x y i j. h x y (inr i) (inr j)) in
-    (rest.0, (refl, refl, verdict, rest.1))
-alike_paths same Stops q here there h = absurd (here refl)
-alike_paths same p Stops here there h = absurd (there refl)
-alike_paths same (Shuts e) q here there h = absurd (cc)
-alike_paths same p (Shuts e) here there h = absurd (cc)
+-- trees that are alike to the end are so as the laws of two paths have it
+pub alike_to_the_end : {A : Type 0} {t u : Tree A} → Alike Whole t u → frames.Alike t u
+alike_to_the_end Done = frames.Done
+alike_to_the_end (Both w blind k) = frames.Both blind (λ a. alike_to_the_end (k a))
+alike_to_the_end (Same s k) = frames.Same (alike_to_the_end (k refl))
+alike_to_the_end (SameCheck w k) = frames.SameCheck (λ a. alike_to_the_end (k a))

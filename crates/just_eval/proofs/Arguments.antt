@@ -1,5 +1,5 @@
 -- How a recipe's attributes and parameters are evaluated.
-use Rattle.std.proofs.Common.{◌≡◌, Bool, true, Option, Some, None, refl, sym, ap, ◌∙◌, subst, Bor}
+use Rattle.std.proofs.Common.{◌≡◌, Bool, true, List, Option, Some, None, refl, sym, ap, ◌∙◌, subst, Bor}
 use Rattle.std.specs.Fn.{Shared}
 use Rattle.std.specs.Option.{is_some, option_map}
 use Rattle.std.specs.Prelude.{Result}
@@ -27,16 +27,12 @@ use Rattle.just_eval.specs.declared.evaluator.Evaluator.{Evaluator}
 
 -- ---- where it stands
 
+-- where it stands, but for the environment, the frames that are seen and those below a called body's
+abbrev placed : Evaluator → List (Text × Text) → Frames → Frames → Situation
+placed e environment shown below = record (situation_of e) { names = value_in shown; environment = environment; shown = shown; below = below }
+
 -- what is the same but for the scope and the environment
-situation_but : (e f : Evaluator) → IsSameBut e f → situation_of f ≡ record {
-  names = value_in (frames_view f.scope);
-  environment = pairs_view f.env;
-  recipe = option_map (λ (n : Name). (name_view n).lexeme) e.recipe;
-  is_dependency = e.is_dependency;
-  lists = e.lists;
-  shown = frames_view f.scope;
-  below = below_of e.base (frames_view f.scope);
-}
+situation_but : (e f : Evaluator) → IsSameBut e f → situation_of f ≡ placed e (pairs_view f.env) (frames_view f.scope) (below_of e.base (frames_view f.scope))
 situation_but e f same = λ i. record {
   names = value_in (frames_view f.scope);
   environment = pairs_view f.env;
@@ -49,46 +45,14 @@ situation_but e f same = λ i. record {
 
 -- one more variable
 pub situation_set : (e f : Evaluator) → IsSameBut e f → f.scope ≡ e.scope → situation_of f ≡ record (situation_of e) { environment = pairs_view f.env }
-situation_set e f same scope = situation_but e f same ∙ ap (λ (s : Scope). record {
-  names = value_in (frames_view s);
-  environment = pairs_view f.env;
-  recipe = option_map (λ (n : Name). (name_view n).lexeme) e.recipe;
-  is_dependency = e.is_dependency;
-  lists = e.lists;
-  shown = frames_view s;
-  below = below_of e.base (frames_view s);
-}) scope
+situation_set e f same scope = situation_but e f same ∙ ap (λ (s : Scope). placed e (pairs_view f.env) (frames_view s) (below_of e.base (frames_view s))) scope
 
 -- one more parameter
 pub situation_bound : (e f : Evaluator) (frames : Frames) → IsSameBut e f → f.env ≡ e.env → is_some e.base ≡ true → frames_view f.scope ≡ frames → situation_of f ≡ seeing frames (situation_of e)
 situation_bound e f frames same env based is = situation_but e f same ∙ by e.base refl based
   where
-    by : (base : Option (Bor Scope)) → e.base ≡ base → is_some base ≡ true → ◌≡◌ {A = Situation} (record {
-      names = value_in (frames_view f.scope);
-      environment = pairs_view f.env;
-      recipe = option_map (λ (n : Name). (name_view n).lexeme) e.recipe;
-      is_dependency = e.is_dependency;
-      lists = e.lists;
-      shown = frames_view f.scope;
-      below = below_of base (frames_view f.scope);
-    }) (record {
-      names = value_in frames;
-      environment = pairs_view e.env;
-      recipe = option_map (λ (n : Name). (name_view n).lexeme) e.recipe;
-      is_dependency = e.is_dependency;
-      lists = e.lists;
-      shown = frames;
-      below = below_of base (frames_view e.scope);
-    })
-    by (Some base) e' some = λ i. record {
-      names = value_in (is i);
-      environment = pairs_view (env i);
-      recipe = option_map (λ (n : Name). (name_view n).lexeme) e.recipe;
-      is_dependency = e.is_dependency;
-      lists = e.lists;
-      shown = is i;
-      below = frames_view base.now;
-    }
+    by : (base : Option (Bor Scope)) → e.base ≡ base → is_some base ≡ true → placed e (pairs_view f.env) (frames_view f.scope) (below_of base (frames_view f.scope)) ≡ placed e (pairs_view e.env) frames (below_of base (frames_view e.scope))
+    by (Some base) e' some = λ i. placed e (pairs_view (env i)) (is i) (frames_view base.now)
     by None e' some = absurd (cc)
 
 -- ---- one parameter

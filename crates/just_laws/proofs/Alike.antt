@@ -18,7 +18,7 @@ use Rattle.just_meaning.specs.Closings.{lexical, inside, with_parameters}
 use Rattle.just_laws.specs.Laws.{AreAnsweredAlike, AreSame, FramesDoNotMatter, with_frames}
 
 -- the same questions, frames aside, and the same ends
-data Alike {A : Type 0} : Tree A → Tree A → Type 0 where
+pub data Alike {A : Type 0} : Tree A → Tree A → Type 0 where
   Done : {o : Outcome A} → Alike (done o) (done o)
   Both : {q r : Question} {k l : Answer → Tree A} → q.blind ≡ r.blind → ((a : Answer) → Alike (k a) (l a)) → Alike (ask q k) (ask r l)
   Same : {x : Note} {t u : Tree A} → Alike t u → Alike (note x t) (note x u)
@@ -107,7 +107,8 @@ lexical_blind c base (suc n) = λ f s shown below vs.
 
 -- ---- paths
 
-alike_paths : {A : Type 0} {t u : Tree A} {es fs : List Event} {o p : Outcome A} → Alike t u → Path freely t es o → Path freely u fs p → o ≢ Stopped → p ≢ Stopped → AreAnsweredAlike es fs → (o ≡ p) × AreSame es fs
+-- two paths down trees that are alike, neither stopped and both answered alike
+pub alike_paths : {A : Type 0} {t u : Tree A} {es fs : List Event} {o p : Outcome A} → Alike t u → Path freely t es o → Path freely u fs p → o ≢ Stopped → p ≢ Stopped → AreAnsweredAlike es fs → (o ≡ p) × AreSame es fs
 alike_paths Done Ends Ends here there h = (refl, tt)
 alike_paths (Both blind k) (interaction.Asks {a = a} {es = es} p) (interaction.Asks {next = l} {a = b} {es = fs} {o = w} q) here there h =
     let answer : a ≡ b = h _ _ (inl refl) (inl refl) blind in

@@ -1,102 +1,50 @@
 -- A resolved module meets no refusal that is Internal.
-use Rattle.std.proofs.Common.{◌≡◌, ⊎_elim, inl, inr, ◌⊎◌, ℕ, zero, suc, ◌-◌, Bool, true, false, List, [], ◌∷◌, ◌++◌, length, map, nat_eq, if◌then◌else◌, Option, Some, None, refl, sym, ap, ◌∙◌, subst, arith}
+use Rattle.std.proofs.Common.{◌≡◌, ⊎_elim, inl, inr, ◌⊎◌, ℕ, zero, suc, ◌-◌, Bool, true, false, List, [], ◌∷◌, length, map, nat_eq, if◌then◌else◌, Option, Some, None, refl, sym, ap, ◌∙◌, subst, arith}
 use Rattle.std.proofs.lemmas.Bool.Decides.{nat_tests}
-use Rattle.just_syntax.specs.Plain.{Text, Token, Assignment, Function, Expr, And, Assert, AssertOnly, Backtick, Call, Comparison, Concatenation, Conditional, ConditionalOnly, FormatString, Group, Join, JoinOnly, ListOf, ListConcatenation, Not, Or, StringLiteral, Variable, Exprs, Nil, Cons, count, Pieces, NoPiece, Piece}
-use Rattle.just_syntax.specs.Printed.{printed}
-use Rattle.just_syntax.specs.declared.list_operator.ListOperator.{ListOperator}
-use Rattle.just_syntax.specs.declared.list_operator.ListOperator.TheVariants as operators
-use Rattle.just_syntax.specs.ListOperator.{separator}
-use Rattle.just_value.specs.Value.{Value, Names, is_truthy, joined}
+use Rattle.just_syntax.specs.Plain.{Text, Token, Assignment, Function, Expr, count}
+use Rattle.just_value.specs.Value.{Value, Names}
 use Rattle.just_value.specs.Frames.{Bound, Frame, Frames, value_in, value_of}
-use Rattle.just_value.specs.Applied.{applied, value_or_lists}
-use Rattle.just_value.specs.Refusal.{Code, Internal, Message, NoMemory}
-use Rattle.just_value.specs.Outcome.{Outcome, Gave, Refused, Stopped}
+use Rattle.just_value.specs.Refusal.{Refusal, Internal}
+use Rattle.just_value.specs.Outcome.{Outcome}
 use Rattle.just_value.proofs.Values.{value_innermost}
-use Rattle.just_host.specs.Question.{Answer, Replied, Failed}
-use Rattle.just_host.specs.Interaction.{Tree, done, bind, gives, refuses}
-use Rattle.just_builtins.specs.Called.{Called, Returned, Said, tree}
-use Rattle.just_builtins.specs.Meaning.{reply}
-use Rattle.just_builtins.specs.Reply as replies
-use Rattle.just_builtins.specs.Reply.{Reply}
-use Rattle.just_builtins.specs.Shape.{builtin_of, is_text}
+use Rattle.just_host.specs.Interaction.{Tree, bind, refuses}
 use Rattle.just_builtins.specs.Table.{function_named, is_left_out}
 use Rattle.just_builtins.specs.declared.function.Function as built_in
 use Rattle.just_meaning.specs.Callee.{Defined, BuiltIn, LeftOut, Accepts, accepts, built_in_or_unknown, callee, defined_or, undefined}
 use Rattle.just_meaning.specs.Assignments.{assignment_at}
-use Rattle.just_meaning.specs.Reaches.{Mention, VariableOf, CallOf, function_at, IsAmong, Stands, StandsIn, StandsInPieces, Reaches, Here, Reads, ReadsBeyond}
+use Rattle.just_meaning.specs.Reaches.{Mention, VariableOf, CallOf, function_at, IsAmong, Stands, Reaches, Here, Reads, ReadsBeyond}
 use Rattle.just_meaning.specs.Resolved.{IsKnown, AllKnown, IsOneOf, HasValue, AreAssignments, AreInOrder, with_taken, IsResolved}
 use Rattle.just_meaning.specs.Messages.{miscounted_text}
-use Rattle.just_meaning.specs.Meaning.{Program, Situation, Deeper, AtLimit, Room, Row, answered, argument, as_it_is, assertion, built_in_call, built_in_context, called, combination, eval, eval_row, eval_pieces, is_regex, named, returned, texts_of}
+use Rattle.just_meaning.specs.Meaning.{Program, Situation, Deeper, AtLimit, Room, Row, as_it_is, built_in_call, called, eval, named, texts_of}
 use Rattle.just_meaning.specs.Closings.{inside, lexical}
 use Rattle.just_meaning.specs.Module.{Module, Block, Run, Finished, Stops, Unknown, Passes, Skips, Binds, Breaks, Halts, assigned, bound_of, lexically, or_override, situation_at}
-use Rattle.just_meaning.specs.Internal.{IsNotInternal}
+use Rattle.just_meaning.specs.Internal.{IsInternal, IsNotInternal}
 use Rattle.just_meaning.proofs.Callees.{callable}
 use Rattle.just_laws.specs.Laws.{ResolvedIsNeverInternal}
-use Rattle.just_laws.proofs.Ends.{AllEnd, HasCount, ends_bind, ends_both, ends_path, row_counts}
+use Rattle.just_laws.proofs.Ends.{AllEnd, HasCount, ends_path}
 use Rattle.just_laws.proofs.Bound.{has_put}
 use Rattle.just_laws.proofs.Overlays.{parameters_have}
 use Rattle.just_meaning.proofs.Reached.{reaches_on}
 use Rattle.just_laws.proofs.Reached.{known_found}
+use Rattle.just_laws.proofs.Refused.{Fits, IsRowRefused, Permits, refused_bind, refused_built_in, refused_eval, refused_such}
 
 -- ---- trees
+
+-- it is no refusal that only an unresolved module meets
+abbrev IsOther : Refusal → Type 0
+IsOther r = IsInternal r → ⊥
 
 -- no end of the tree is such a refusal
 abbrev pub IsNeverInternal : {A : Type 0} → Tree A → Type 0
 IsNeverInternal t = AllEnd IsNotInternal t
 
--- on from the values that satisfy more
-bind_such : {A B : Type 0} (P : Outcome A → Type 0) (t : Tree A) (go : A → Tree B) → AllEnd P t → IsNeverInternal t → ((a : A) → P (Gave a) → IsNeverInternal (go a)) → IsNeverInternal (bind t go)
-bind_such {A = A} P t go p h k = ends_bind (λ o. P o × IsNotInternal o) IsNotInternal t go (ends_both P IsNotInternal t p h) on
-  where
-    on : (o : Outcome A) → P o × IsNotInternal o → IsNeverInternal (bind (done o) go)
-    on (Gave a) h = k a h.0
-    on (Refused r) h = h.1
-    on Stopped h = tt
+permits_others : Permits IsOther
+permits_others = record { assertion = λ message t none. none; command = λ t f none. none; function = λ t message none. none; list = λ context v none. none; operation = λ l o r t none. none; regex = λ t none. none }
 
 pub bind_never : {A B : Type 0} (t : Tree A) (go : A → Tree B) → IsNeverInternal t → ((a : A) → IsNeverInternal (go a)) → IsNeverInternal (bind t go)
-bind_never t go h k = bind_such IsNotInternal t go h h (λ a such. k a)
-
-two_never : {A B D : Type 0} (t : Tree A) (u : Tree B) (go : A → B → Tree D) → IsNeverInternal t → IsNeverInternal u → ((v : A) (w : B) → IsNeverInternal (go v w)) → IsNeverInternal (bind t (λ v. bind u (go v)))
-two_never t u go h k l = bind_never t _ h (λ v. bind_never u (go v) k (l v))
-
-pub if_never : {A : Type 0} (b : Bool) (x y : Tree A) → IsNeverInternal x → IsNeverInternal y → IsNeverInternal (if b then x else y)
-if_never true x y h k = h
-if_never false x y h k = k
+bind_never t go h k = refused_bind IsOther t go h k
 
 -- ---- expressions
-
-answered_not : (t : Token) (a : Answer) → IsNotInternal (answered t a)
-answered_not t (Replied text) = tt
-answered_not t (Failed (Code n)) = λ none. none
-answered_not t (Failed (Message text)) = λ none. none
-answered_not t (Failed NoMemory) = tt
-answered_not t _ = tt
-
-lists_not : (o : Option Value) (xs : Value) (k : ListOperator) (ys : Value) (t : Token) → IsNotInternal (value_or_lists o xs k ys t)
-lists_not (Some v) xs k ys t = tt
-lists_not None xs k ys t = λ none. none
-
-both_never : (o : ListOperator) (l r : Tree Value) (t : Token) → IsNeverInternal l → IsNeverInternal r → IsNeverInternal (combination o l t r)
-both_never o l r t h k = two_never l r _ h k (λ v w. lists_not (applied (separator o) v w) v o w t)
-
-assertion_never : (lists : Bool) (t : Token) (e : Tree Value) (m : Tree Text) → IsNeverInternal e → IsNeverInternal m → IsNeverInternal (assertion lists t e m)
-assertion_never lists t e m h k = bind_never e _ h (λ v. if_never (is_truthy v) _ _ tt (bind_never m _ k (λ text none. none)))
-
-reply_never : (shown : Frames) (r : Reply) → IsNeverInternal (tree shown r)
-reply_never shown (replies.Answers v) = tt
-reply_never shown (replies.Fails message) = tt
-reply_never shown (replies.Asks q next) = λ a. reply_never shown (next a)
-reply_never shown replies.Stops = tt
-
-returned_never : (t : Token) (r : Called) → IsNeverInternal (returned t r)
-returned_never t (Returned v) = tt
-returned_never t (Said message) = λ none. none
-
-argument_never : (is_text : Bool) (t : Token) (v : Value) → IsNeverInternal (argument is_text t v)
-argument_never false t v = tt
-argument_never true t [] = λ none. none
-argument_never true t (text ∷ []) = tt
-argument_never true t (text ∷ next ∷ texts) = λ none. none
 
 -- what a call may still do is never refused so, of these functions and so many values
 abbrev IsSound : (Text → Type 0) → List Function → Situation → Deeper → Type 0
@@ -110,73 +58,42 @@ Holds C functions names (VariableOf (Some n)) = HasValue names n
 Holds C functions names (CallOf f n) = C f × Accepts (callee functions f) n
 
 module _ (c : Program) (d : Deeper) (s : Situation) (C : Text → Type 0) (sound : IsSound C c.functions s d) where
-  abbrev Has : (Mention → Type 0) → Type 0
-  Has stands = (x : Mention) → stands x → Holds C c.functions s.names x
+  -- a call of one of these that takes so many arguments
+  abbrev IsCallable : Text → ℕ → Type 0
+  IsCallable f n = C f × Accepts (callee c.functions f) n
 
-  -- however its values are looked at, unless a look at a value refuses so
-  abbrev IsRowNever : Row → Type 0
-  IsRowNever row = (look : ℕ → Value → Tree Value) → ((i : ℕ) (v : Value) → IsNeverInternal (look i v)) → IsNeverInternal (row look)
-
-  defined_never : (t : Token) (n : ℕ) (row : Row) → C t.lexeme → AllEnd (HasCount n) (row as_it_is) → IsRowNever row →
+  defined_never : (t : Token) (n : ℕ) (row : Row) → C t.lexeme → AllEnd (HasCount n) (row as_it_is) → IsRowRefused IsOther row →
       (f : Function) → function_at c.functions t.lexeme ≡ Some f → n ≡ length f.parameters → (d' : Deeper) → IsSound C c.functions s d' → IsNeverInternal (called c t (Defined f) d' s n row)
   defined_never t n row reached counted h f e count AtLimit sound' = λ none. none
   defined_never t n row reached counted h f e count (Room run) sound' =
       let yes' : nat_eq n (length f.parameters) ≡ true = grind (arith, nat_tests) in
       subst (λ b. IsNeverInternal (if b then bind (row as_it_is) (run f s) else refuses (Internal (miscounted_text t.lexeme) t))) (sym yes')
-      (bind_such (HasCount n) (row as_it_is) (run f s) counted (h as_it_is (λ i v. tt)) (λ vs l. sound' t.lexeme f vs reached e (sym count ∙ sym l)))
+      (refused_such IsOther (HasCount n) (row as_it_is) (run f s) counted (h as_it_is (λ i v. tt)) (λ vs l. sound' t.lexeme f vs reached e (sym count ∙ sym l)))
 
-  undefined_never : (t : Token) (n : ℕ) (row : Row) → IsRowNever row → (out : Bool) (found : Option built_in.Function) → let other = if out then LeftOut else built_in_or_unknown found in Accepts other n → IsNeverInternal (called c t other d s n row)
+  undefined_never : (t : Token) (n : ℕ) (row : Row) → IsRowRefused IsOther row → (out : Bool) (found : Option built_in.Function) → let other = if out then LeftOut else built_in_or_unknown found in Accepts other n → IsNeverInternal (called c t other d s n row)
   undefined_never t n row h true found fits = λ none. none
   undefined_never t n row h false None fits = absurd fits
   undefined_never t n row h false (Some f) fits =
       let yes' : accepts (BuiltIn f) n ≡ true = (callable (BuiltIn f) n).1 fits in
       subst (λ b. IsNeverInternal (if b then bind (row (texts_of f t)) (built_in_call c s t f) else refuses (Internal (miscounted_text t.lexeme) t))) (sym yes')
-      (bind_never (row (texts_of f t)) _ (h (texts_of f t) (λ i v. argument_never (is_text f i) t v))
-      (λ vs. let r = reply (builtin_of f) (built_in_context c s t) vs in bind_never (tree s.shown r) (returned t) (reply_never s.shown r) (λ r. returned_never t r)))
+      (refused_built_in IsOther permits_others c s t f row h)
 
-  called_never : (t : Token) (n : ℕ) (row : Row) → C t.lexeme → AllEnd (HasCount n) (row as_it_is) → IsRowNever row →
+  called_never : (t : Token) (n : ℕ) (row : Row) → C t.lexeme → AllEnd (HasCount n) (row as_it_is) → IsRowRefused IsOther row →
       (found : Option Function) → function_at c.functions t.lexeme ≡ found → Accepts (defined_or found (undefined t.lexeme)) n → IsNeverInternal (called c t (defined_or found (undefined t.lexeme)) d s n row)
   called_never t n row reached counted h None e fits = undefined_never t n row h (is_left_out t.lexeme) (function_named t.lexeme) fits
   called_never t n row reached counted h (Some f) e fits = defined_never t n row reached counted h f e fits d sound
 
-  mutual
-    -- where all that stands in it holds
-    eval_never : (e : Expr) → Has (Stands e) → IsNeverInternal (eval c d s e)
-    eval_never (And l r) has = bind_never (eval c d s l) _ (eval_never l (λ x y. has x (inl y))) (λ v. if_never (is_truthy v) _ _ (eval_never r (λ x y. has x (inr y))) tt)
-    eval_never (Assert e m t) has =
-        assertion_never s.lists t (eval c d s e) (bind (eval c d s m) (λ w. gives (joined w))) (eval_never e (λ x y. has x (inl y)))
-        (bind_never (eval c d s m) _ (eval_never m (λ x y. has x (inr y))) (λ w. tt))
-    eval_never (AssertOnly e t) has = assertion_never s.lists t (eval c d s e) (gives ((96 ∷ printed e) ++ 96 ∷ [])) (eval_never e has) tt
-    eval_never (Backtick text t) has = if_never c.fixed.config.dry_run _ _ tt (λ a. answered_not t a)
-    eval_never (Call t es) has =
-        let call = has (CallOf t.lexeme (count es)) (inl refl) in
-        called_never t (count es) (eval_row c d s 0 es) call.0 (row_counts c d s 0 es as_it_is) (λ look h. row_never 0 es look h (λ x y. has x (inr y))) (function_at c.functions t.lexeme) refl call.1
-    eval_never (Comparison l o r t) has = if_never (is_regex o) _ _ (λ none. none) (two_never (eval c d s l) (eval c d s r) _ (eval_never l (λ x y. has x (inl y))) (eval_never r (λ x y. has x (inr y))) (λ v w. tt))
-    eval_never (Concatenation l t r) has = both_never operators.Concatenate (eval c d s l) (eval c d s r) t (eval_never l (λ x y. has x (inl y))) (eval_never r (λ x y. has x (inr y)))
-    eval_never (Conditional e a b) has =
-        bind_never (eval c d s e) _ (eval_never e (λ x y. has x (inl y))) (λ v. if_never (is_truthy v) _ _ (eval_never a (λ x y. has x (inr (inl y)))) (eval_never b (λ x y. has x (inr (inr y)))))
-    eval_never (ConditionalOnly e a) has = bind_never (eval c d s e) _ (eval_never e (λ x y. has x (inl y))) (λ v. if_never (is_truthy v) _ _ (eval_never a (λ x y. has x (inr y))) tt)
-    eval_never (FormatString start pieces) has = bind_never (eval_pieces c d s pieces) _ (pieces_never pieces has) (λ text. tt)
-    eval_never (Group e) has = eval_never e has
-    eval_never (Join l t r) has = both_never operators.Join (eval c d s l) (eval c d s r) t (eval_never l (λ x y. has x (inl y))) (eval_never r (λ x y. has x (inr y)))
-    eval_never (JoinOnly t r) has = both_never operators.Join (gives ([] ∷ [])) (eval c d s r) t tt (eval_never r has)
-    eval_never (ListOf es t) has = bind_never (eval_row c d s 0 es as_it_is) _ (row_never 0 es as_it_is (λ i v. tt) has) (λ vs. tt)
-    eval_never (ListConcatenation l t r) has = two_never (eval c d s l) (eval c d s r) _ (eval_never l (λ x y. has x (inl y))) (eval_never r (λ x y. has x (inr y))) (λ v w. tt)
-    eval_never (Not e) has = bind_never (eval c d s e) _ (eval_never e has) (λ v. tt)
-    eval_never (Or l r) has = bind_never (eval c d s l) _ (eval_never l (λ x y. has x (inl y))) (λ v. if_never (is_truthy v) _ _ tt (eval_never r (λ x y. has x (inr y))))
-    eval_never (StringLiteral literal) has = tt
-    eval_never (Variable t None) has = absurd (has (VariableOf None) refl)
-    eval_never (Variable t (Some n)) has = let v = has (VariableOf (Some n)) refl in subst (λ o. IsNotInternal (named t o)) (sym v.1) tt
+  holds_fit : (x : Mention) → Holds C c.functions s.names x → Fits IsOther IsCallable s.names x
+  holds_fit (VariableOf None) h = absurd h
+  holds_fit (VariableOf (Some n)) h = λ t. subst (λ o. IsNotInternal (named t o)) (sym h.1) tt
+  holds_fit (CallOf f n) h = h
 
-    row_never : (i : ℕ) (es : Exprs) (look : ℕ → Value → Tree Value) → ((i : ℕ) (v : Value) → IsNeverInternal (look i v)) → Has (StandsIn es) → IsNeverInternal (eval_row c d s i es look)
-    row_never i Nil look h has = tt
-    row_never i (Cons e es) look h has =
-        bind_never (bind (eval c d s e) (look i)) _ (bind_never (eval c d s e) (look i) (eval_never e (λ x y. has x (inl y))) (λ v. h i v))
-        (λ v. bind_never (eval_row c d s (suc i) es look) _ (row_never (suc i) es look h (λ x y. has x (inr y))) (λ vs. tt))
-
-    pieces_never : (pieces : Pieces) → Has (StandsInPieces pieces) → IsNeverInternal (eval_pieces c d s pieces)
-    pieces_never NoPiece has = tt
-    pieces_never (Piece e literal pieces) has = bind_never (eval c d s e) _ (eval_never e (λ x y. has x (inl y))) (λ v. bind_never (eval_pieces c d s pieces) _ (pieces_never pieces (λ x y. has x (inr y))) (λ text. tt))
+  -- where all that stands in it holds
+  eval_never : (e : Expr) → ((x : Mention) → Stands e x → Holds C c.functions s.names x) → IsNeverInternal (eval c d s e)
+  eval_never e has =
+      refused_eval IsOther permits_others c d s IsCallable
+      (λ t n row call counted h. called_never t n row call.0 counted h (function_at c.functions t.lexeme) refl call.1)
+      e (λ x stands. holds_fit x (has x stands))
 
 -- ---- by the number of calls left
 
