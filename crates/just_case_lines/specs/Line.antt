@@ -92,19 +92,14 @@ abbrev pub limit : ℕ → Line
 limit zero = Bad
 limit (suc n) = Limit (suc n)
 
--- a line that has no literal, no command and no list of names, by its word and what stands behind it
-abbrev pub simple_line : Text → Text → Line
-simple_line word rest =
-    if bytes_eq word (codes "var") then named rest (Variable rest) else
-    if bytes_eq word (codes "assign") then named rest (Assign rest false) else
-    if bytes_eq word (codes "export") then named rest (Assign rest true) else
-    if bytes_eq word (codes "list") then numbered (number rest) ListOf else
-    if bytes_eq word (codes "call") then named (word_of rest) (numbered (number (rest_of rest)) (Call (word_of rest))) else
-    if bytes_eq word (codes "override") then named (word_of rest) (Override (word_of rest) (rest_of rest)) else
-    if bytes_eq word (codes "dotenv") then named (word_of rest) (Dotenv (word_of rest) (rest_of rest)) else
-    if bytes_eq word (codes "reply") then Reply rest else
+-- a line with another word, by its word and what stands behind it
+abbrev pub rare_line : Text → Text → Line
+rare_line word rest =
+    if bytes_eq word (codes "fun") then led (names rest) (Function rest) else
+    if bytes_eq word (codes "order") then listed (names rest) (Order rest) else
+    if bytes_eq word (codes "only") then listed (names rest) (Only rest) else
+    if bytes_eq word (codes "blocks") then led (names rest) (Blocks rest) else
     if bytes_eq word (codes "fail") then numbered (number rest) Fail else
-    if bytes_eq word (codes "always") then Always rest else
     if bytes_eq word (codes "limit") then numbered (number rest) limit else
     if length rest == 0 then bare_line word else
     Bad
@@ -112,13 +107,18 @@ simple_line word rest =
 -- a line by its word and what stands behind it
 abbrev pub line_of_word : Text → Text → Line
 line_of_word word rest =
+    if bytes_eq word (codes "var") then named rest (Variable rest) else
+    if bytes_eq word (codes "assign") then named rest (Assign rest false) else
     if bytes_eq word (codes "str") then Literal rest (codes "'" ++ rest ++ codes "'") else
     if bytes_eq word (codes "cmd") then Command rest (codes "`" ++ rest ++ codes "`") else
-    if bytes_eq word (codes "fun") then led (names rest) (Function rest) else
-    if bytes_eq word (codes "blocks") then led (names rest) (Blocks rest) else
-    if bytes_eq word (codes "order") then listed (names rest) (Order rest) else
-    if bytes_eq word (codes "only") then listed (names rest) (Only rest) else
-    simple_line word rest
+    if bytes_eq word (codes "call") then named (word_of rest) (numbered (number (rest_of rest)) (Call (word_of rest))) else
+    if bytes_eq word (codes "list") then numbered (number rest) ListOf else
+    if bytes_eq word (codes "reply") then Reply rest else
+    if bytes_eq word (codes "always") then Always rest else
+    if bytes_eq word (codes "dotenv") then named (word_of rest) (Dotenv (word_of rest) (rest_of rest)) else
+    if bytes_eq word (codes "override") then named (word_of rest) (Override (word_of rest) (rest_of rest)) else
+    if bytes_eq word (codes "export") then named rest (Assign rest true) else
+    rare_line word rest
 
 -- it is empty, or it begins with `#`
 abbrev pub is_skipped : Text → Bool

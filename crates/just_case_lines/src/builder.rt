@@ -142,14 +142,13 @@ impl<'src> Builder<'src> {
         self.stack.variable(name, number)
     }
 
-    // Assigns the expression on top to a name that has none.
+    // Assigns the expression on top to a name that has none. One that takes an earlier one's place, so that there are no
+    // more than before, ends the case.
     fn assign(&mut self, lexeme: &'src str, export: bool) -> Result<(), LineError> {
         let value = self.stack.pop()?;
-        if self.case.assignments.get(lexeme).is_some() {
-            return Err(LineError::Bad);
-        }
         let number = self.numbering.number_of(lexeme)?;
         let name = token::name(lexeme);
+        let earlier = self.case.assignments.len();
         self.case.assignments.insert(Assignment {
             eager: false,
             export,
@@ -158,11 +157,15 @@ impl<'src> Builder<'src> {
             private: false,
             value,
         })?;
+        if self.case.assignments.len() == earlier {
+            return Err(LineError::Bad);
+        }
         self.case.evaluation_order.push(name)?;
         Ok(())
     }
 
-    // Defines a function, of which there is none of this name, with the expression on top as its body.
+    // Defines a function, of which there is none of this name, with the expression on top as its body. Again, one that
+    // takes an earlier one's place ends the case.
     fn function(&mut self, alloc: Global, text: &'src str) -> Result<(), LineError> {
         let Some(names) = parse_names(alloc, text)? else {
             return Err(LineError::Bad);
@@ -171,16 +174,17 @@ impl<'src> Builder<'src> {
             return Err(LineError::Bad);
         };
         let body = self.stack.pop()?;
-        if self.case.functions.get(*name).is_some() {
-            return Err(LineError::Bad);
-        }
         let numbers = self.numbering.numbers_of(alloc, parameters)?;
         let parameters = token::parameters(alloc, parameters, &numbers)?;
+        let earlier = self.case.functions.len();
         self.case.functions.insert(FunctionDefinition {
             body,
             name: token::name(*name),
             parameters,
         })?;
+        if self.case.functions.len() == earlier {
+            return Err(LineError::Bad);
+        }
         Ok(())
     }
 

@@ -2,7 +2,8 @@
 
 ghost use Rattle.std.specs.Prelude.{◌≡◌, ◌==◌, Some, IfOk, codes, if◌then◌else◌, length, map, position};
 ghost use Rattle.std.specs.List.{after_first, before_first};
-ghost use Rattle.just_case_lines.specs.Line.{Assign, Bad, bare_line, is_skipped, led, line_of, line_of_text, line_of_word, lines_of, named, operator_line, simple_line};
+ghost use Rattle.just_case_lines.specs.Line.{Assign, Bad, Call, Dotenv, Fail, ListOf, Override, Variable, bare_line, is_skipped, led, limit, line_of, line_of_text, line_of_word, lines_of, named, numbered, operator_line, rare_line};
+ghost use Rattle.just_case_lines.specs.Rest.{number, rest_of, word_of};
 ghost use Rattle.just_case_lines.specs.View.{line_view};
 
 use crate::operator::{BinaryOperator, UnaryOperator};
@@ -111,7 +112,7 @@ fn is_skipped(text: &str) -> bool
     }
 }
 
-// A line by its word and what stands behind it.
+// A line by its word and what stands behind it. The words of which a case has many come first.
 fn parse_word<'case>(
     alloc: Global,
     word: &str,
@@ -120,6 +121,8 @@ fn parse_word<'case>(
     ensures { IfOk result (λ line. line_view line ≡ line_of_word word.now rest.now) }
 {
     Ok(match word {
+        "var" => variable_line(rest),
+        "assign" => assign_line(rest, false),
         "str" => Line::Literal {
             text: rest,
             lexeme: format!(in alloc; "'{rest}'")?,
@@ -128,12 +131,28 @@ fn parse_word<'case>(
             text: rest,
             lexeme: format!(in alloc; "`{rest}`")?,
         },
+        "call" => call_line(rest),
+        "list" => list_line(rest),
+        "reply" => Line::Reply { text: rest },
+        "always" => Line::Always { text: rest },
+        "dotenv" => dotenv_line(rest),
+        "override" => override_line(rest),
+        "export" => assign_line(rest, true),
+        _ => parse_rare(alloc, word, rest)?,
+    })
+}
+
+// A line with another word.
+fn parse_rare<'case>(
+    alloc: Global,
+    word: &str,
+    rest: &'case str,
+) -> Result<Line<'case>, OutOfMemory>
+    ensures { IfOk result (λ line. line_view line ≡ rare_line word.now rest.now) }
+{
+    Ok(match word {
         "fun" => match parse_names(alloc, rest)? {
             Some(names) => led_line(&names, Line::Function { names: rest }),
-            None => Line::Bad,
-        },
-        "blocks" => match parse_names(alloc, rest)? {
-            Some(names) => led_line(&names, Line::Blocks { names: rest }),
             None => Line::Bad,
         },
         "order" => match parse_names(alloc, rest)? {
@@ -144,7 +163,13 @@ fn parse_word<'case>(
             Some(_) => Line::Only { names: rest },
             None => Line::Bad,
         },
-        _ => simple_line(word, rest),
+        "blocks" => match parse_names(alloc, rest)? {
+            Some(names) => led_line(&names, Line::Blocks { names: rest }),
+            None => Line::Bad,
+        },
+        "fail" => fail_line(rest),
+        "limit" => limit_line(rest),
+        _ => closed_line(word, rest),
     })
 }
 
@@ -153,26 +178,6 @@ fn led_line<'case>(names: &[&str], line: Line<'case>) -> Line<'case>
     ensures { line_view result ≡ led (Some (map (λ name. name.now) names.now)) (line_view line.entry) }
 {
     if names.is_empty() { Line::Bad } else { line }
-}
-
-// A line that has no literal, no command and no list of names.
-fn simple_line<'case>(word: &str, rest: &'case str) -> Line<'case>
-    ensures { line_view result ≡ simple_line word.now rest.now }
-{
-    match word {
-        "var" => variable_line(rest),
-        "assign" => assign_line(rest, false),
-        "export" => assign_line(rest, true),
-        "list" => list_line(rest),
-        "call" => call_line(rest),
-        "override" => override_line(rest),
-        "dotenv" => dotenv_line(rest),
-        "reply" => Line::Reply { text: rest },
-        "fail" => fail_line(rest),
-        "always" => Line::Always { text: rest },
-        "limit" => limit_line(rest),
-        _ => closed_line(word, rest),
-    }
 }
 
 // A line that is bad if anything stands behind its word.
@@ -188,7 +193,7 @@ fn closed_line<'case>(word: &str, rest: &str) -> Line<'case>
 
 // `var` with what stands behind it.
 fn variable_line(rest: &str) -> Line<'_>
-    ensures { line_view result ≡ simple_line (codes "var") rest.now }
+    ensures { line_view result ≡ named rest.now (Variable rest.now) }
 {
     if is_name(rest) {
         Line::Variable { name: rest }
@@ -210,7 +215,7 @@ fn assign_line(rest: &str, export: bool) -> Line<'_>
 
 // `list` with what stands behind it.
 fn list_line(rest: &str) -> Line<'_>
-    ensures { line_view result ≡ simple_line (codes "list") rest.now }
+    ensures { line_view result ≡ numbered (number rest.now) ListOf }
 {
     match parse_number(rest) {
         Some(count) => Line::List { count },
@@ -220,7 +225,7 @@ fn list_line(rest: &str) -> Line<'_>
 
 // `call` with what stands behind it.
 fn call_line(rest: &str) -> Line<'_>
-    ensures { line_view result ≡ simple_line (codes "call") rest.now }
+    ensures { line_view result ≡ named (word_of rest.now) (numbered (number (rest_of rest.now)) (Call (word_of rest.now))) }
 {
     let (name, count) = split_word(rest);
     match parse_number(count) {
@@ -231,7 +236,7 @@ fn call_line(rest: &str) -> Line<'_>
 
 // `override` with what stands behind it.
 fn override_line(rest: &str) -> Line<'_>
-    ensures { line_view result ≡ simple_line (codes "override") rest.now }
+    ensures { line_view result ≡ named (word_of rest.now) (Override (word_of rest.now) (rest_of rest.now)) }
 {
     let (name, text) = split_word(rest);
     if is_name(name) {
@@ -243,7 +248,7 @@ fn override_line(rest: &str) -> Line<'_>
 
 // `dotenv` with what stands behind it.
 fn dotenv_line(rest: &str) -> Line<'_>
-    ensures { line_view result ≡ simple_line (codes "dotenv") rest.now }
+    ensures { line_view result ≡ named (word_of rest.now) (Dotenv (word_of rest.now) (rest_of rest.now)) }
 {
     let (name, text) = split_word(rest);
     if is_name(name) {
@@ -255,7 +260,7 @@ fn dotenv_line(rest: &str) -> Line<'_>
 
 // `limit` with what stands behind it.
 fn limit_line(rest: &str) -> Line<'_>
-    ensures { line_view result ≡ simple_line (codes "limit") rest.now }
+    ensures { line_view result ≡ numbered (number rest.now) limit }
 {
     match parse_number(rest) {
         None | Some(0) => Line::Bad,
@@ -265,7 +270,7 @@ fn limit_line(rest: &str) -> Line<'_>
 
 // `fail` with what stands behind it.
 fn fail_line(rest: &str) -> Line<'_>
-    ensures { line_view result ≡ simple_line (codes "fail") rest.now }
+    ensures { line_view result ≡ numbered (number rest.now) Fail }
 {
     match parse_number(rest) {
         Some(code) => Line::Fail { code },
