@@ -182,7 +182,7 @@ impl<'src, 'run> Evaluator<'src, 'run> {
     ) -> Result<(), Error<'src>>
         requires start { IsAtStart self.old }
         requires here { self.old.context ≡ Some context }
-        requires lists { self.old.lists ≡ context.module.now.settings.lists }
+        requires lists { self.old.lists ≡ context.«module».now.settings.lists }
         ensures same { IsSame self.old self.new × IsAtStart self.new }
         ensures ran { Ran H.step host.old dynamically (module_view context.entry references.entry) (frames_view self.old.scope) (name_view name.entry ∷ []) (ended (λ _. frames_view self.new.scope) result) host.new }
     {

@@ -1,5 +1,5 @@
 -- Expressions whose parts are no boxes, and the rows of an evaluator.
-use Rattle.std.proofs.Common.{◌≡◌, ℕ, ◌+◌, ◌<◌, ◌≤◌, List, [], ◌∷◌, ◌++◌, length, get_or, drop, add-one, refl, ap, sym, ◌∙◌, subst, Option, Some, None}
+use Rattle.std.proofs.Common.{◌≡◌, ℕ, ◌+◌, ◌<◌, ◌≤◌, List, [], ◌∷◌, ◌++◌, length, get_or, drop, add-one, ap, sym, ◌∙◌, subst, Option}
 use Rattle.std.proofs.lemmas.List.{append-nil, append_assoc, drop_all}
 use Rattle.just_syntax.specs.declared.expression.Expression.{Expression}
 use Rattle.just_syntax.specs.declared.expression.Expression.TheViews as expressions

@@ -52,8 +52,9 @@ pub struct ExpressionEvaluator<'src, 'run, 'here> {
 }
 
 impl<'src, 'run, 'here> ExpressionEvaluator<'src, 'run, 'here> {
-    /// The value of an expression, by what it asks of the host, within so many bytes of stack. What its form costs is taken
-    /// off, and each part is handed what is left, so that the recursion ends by its room alone.
+    /// The value of an expression, by what it asks of the host, within so many bytes of stack. Each part is handed what its
+    /// form leaves, so that the recursion ends by its room alone; whether the room suffices is looked at once a level, for
+    /// the form that takes most.
     ///
     /// Each form is a function of its own, so that the frame of this one stays small: expressions may nest as deep as
     /// the stack has room.
@@ -73,31 +74,38 @@ impl<'src, 'run, 'here> ExpressionEvaluator<'src, 'run, 'here> {
     ) -> Result<Value, Error<'src>>
         ensures { Answers self.now H.step host.old (meaning self.now (view expression.now)) result host.new }
     {
-        let cost = stack::cost_of(expression);
-        if room < cost {
+        if room < stack::FORM {
             return Err(Error::OutOfMemory);
         }
-        let room = room - cost;
         match expression {
-            Expression::And { lhs, rhs } => self.evaluate_and(alloc, host, lhs, rhs, room),
+            Expression::And { lhs, rhs } => {
+                self.evaluate_and(alloc, host, lhs, rhs, room - stack::AND)
+            }
             Expression::Assert {
                 condition,
                 message,
                 name,
-            } => self.evaluate_assert(alloc, host, condition, message.as_deref(), name, room),
+            } => {
+                let room = room - stack::ASSERT;
+                self.evaluate_assert(alloc, host, condition, message.as_deref(), name, room)
+            }
             Expression::Backtick { contents, token } => {
                 self.evaluate_backtick(alloc, host, contents, token)
             }
             Expression::Call { arguments, name } => {
-                self.evaluate_call(alloc, host, name, arguments, room)
+                self.evaluate_call(alloc, host, name, arguments, room - stack::CALL)
             }
             Expression::Comparison {
                 lhs,
                 operator,
                 rhs,
                 token,
-            } => self.evaluate_comparison(alloc, host, lhs, *operator, rhs, token, room),
+            } => {
+                let room = room - stack::COMPARISON;
+                self.evaluate_comparison(alloc, host, lhs, *operator, rhs, token, room)
+            }
             Expression::Concatenation { lhs, operator, rhs } => {
+                let room = room - stack::CONCATENATION;
                 self.evaluate_concatenation(alloc, host, lhs, operator, rhs, room)
             }
             Expression::Conditional {
@@ -105,27 +113,40 @@ impl<'src, 'run, 'here> ExpressionEvaluator<'src, 'run, 'here> {
                 consequence,
                 otherwise,
             } => {
+                let room = room - stack::CONDITIONAL;
                 let otherwise = otherwise.as_deref();
                 self.evaluate_conditional(alloc, host, condition, consequence, otherwise, room)
             }
             Expression::FormatString { start, expressions } => {
+                let room = room - stack::FORMAT_STRING;
                 self.evaluate_format_string(alloc, host, start, expressions, room)
             }
-            Expression::Group { contents } => self.evaluate_group(alloc, host, contents, room),
+            Expression::Group { contents } => {
+                self.evaluate_group(alloc, host, contents, room - stack::GROUP)
+            }
             Expression::Join { lhs, operator, rhs } => match lhs {
-                Some(lhs) => self.evaluate_join(alloc, host, lhs, operator, rhs, room),
-                None => self.evaluate_root(alloc, host, operator, rhs, room),
+                Some(lhs) => {
+                    self.evaluate_join(alloc, host, lhs, operator, rhs, room - stack::JOIN)
+                }
+                None => self.evaluate_root(alloc, host, operator, rhs, room - stack::ROOT),
             },
             Expression::List { elements, token: _ } => {
-                self.evaluate_list(alloc, host, elements, room)
+                self.evaluate_list(alloc, host, elements, room - stack::LIST)
             }
             Expression::ListConcatenation {
                 lhs,
                 operator: _,
                 rhs,
-            } => self.evaluate_list_concatenation(alloc, host, lhs, rhs, room),
-            Expression::Not { operand } => self.evaluate_not(alloc, host, operand, room),
-            Expression::Or { lhs, rhs } => self.evaluate_or(alloc, host, lhs, rhs, room),
+            } => {
+                let room = room - stack::LIST_CONCATENATION;
+                self.evaluate_list_concatenation(alloc, host, lhs, rhs, room)
+            }
+            Expression::Not { operand } => {
+                self.evaluate_not(alloc, host, operand, room - stack::NOT)
+            }
+            Expression::Or { lhs, rhs } => {
+                self.evaluate_or(alloc, host, lhs, rhs, room - stack::OR)
+            }
             Expression::StringLiteral { string_literal } => {
                 form::string_literal(alloc, string_literal)
             }

@@ -3,36 +3,39 @@
 // What a level of nesting takes is measured by `bench/run frames`, in the program as LLVM builds it: the frames of the
 // recursion's one entry and of the form's own function. It counts as a multiple of 16 bytes, which frames come in.
 
-ghost use Rattle.std.specs.Prelude.{◌<◌};
+// What the form that takes most takes around its parts. What has no parts takes no more than parentheses do.
+pub(crate) const FORM: usize = CALL;
 
-use just_syntax::expression::Expression;
+pub(crate) const AND: usize = 656;
+
+pub(crate) const ASSERT: usize = 848;
+
+pub(crate) const CALL: usize = 1024;
+
+pub(crate) const COMPARISON: usize = 816;
+
+pub(crate) const CONCATENATION: usize = 816;
+
+pub(crate) const CONDITIONAL: usize = 656;
+
+pub(crate) const FORMAT_STRING: usize = 816;
+
+pub(crate) const GROUP: usize = 432;
+
+pub(crate) const JOIN: usize = 816;
+
+pub(crate) const LIST: usize = 624;
+
+pub(crate) const LIST_CONCATENATION: usize = 704;
+
+pub(crate) const NOT: usize = 560;
+
+pub(crate) const OR: usize = 656;
+
+pub(crate) const ROOT: usize = 720;
 
 // What the body of a called function takes before its expression.
 pub(crate) const BODY: usize = 464;
 
 // What a level of printing takes.
 pub(crate) const PRINTED: usize = 160;
-
-// What a form takes around its parts. What has no parts takes no more than parentheses do.
-pub(crate) fn cost_of(expression: &Expression) -> usize
-    ensures { 0 < result }
-{
-    match expression {
-        Expression::And { lhs: _, rhs: _ } | Expression::Or { lhs: _, rhs: _ } => 656,
-        Expression::Assert { .. } => 848,
-        Expression::Call { .. } => 1024,
-        Expression::Comparison { .. } => 816,
-        Expression::Concatenation { .. } => 816,
-        Expression::Conditional { .. } => 656,
-        Expression::FormatString { .. } => 816,
-        Expression::Join { lhs: Some(_), .. } => 816,
-        Expression::Join { lhs: None, .. } => 720,
-        Expression::List { .. } => 624,
-        Expression::ListConcatenation { .. } => 704,
-        Expression::Not { .. } => 560,
-        Expression::Backtick { .. }
-        | Expression::Group { .. }
-        | Expression::StringLiteral { .. }
-        | Expression::Variable { .. } => 432,
-    }
-}

@@ -18,7 +18,7 @@ use std::alloc::Global;
 use std::vec::IntoIter;
 
 // It takes little stack itself, and nor does the program that it was made for, so that 320 KiB of 8 MiB are enough for both.
-const STACK_ROOM: usize = 7_872 * 1024;
+const PROGRAM_ROOM: usize = 7_872 * 1024;
 
 /// A host that answers by a script. A command that is always answered gets its text, and any other the next of
 /// the replies, and then the fault `no reply`. Each other kind of question has a list of answers, taken in their
@@ -94,7 +94,7 @@ impl Host for ScriptedHost {
     }
 
     fn stack_room(&self) -> usize {
-        STACK_ROOM
+        PROGRAM_ROOM
     }
 }
 

@@ -422,8 +422,8 @@ evaluate_call-returns-in-Defined g t c =
     call_runs _ self c.in-Some.context c.in-Some.is name c.args.arguments.now r (rw c.in-Defined.is at c.in_ok-callee.ensures.enters) c.loop-argument.values.items _
     (row_all _ self c.args.host.now (look r name) c.args.arguments.now c.loop-argument.argument-index c.loop-argument.values.items c.loop-argument-test.false (rw c.in-Defined.is at c.loop-argument.invariant.rest)) c.evaluate_body.ensures
 
-pub evaluate_value-returns-then-room-cost : goal.evaluate_value-returns-then-room-cost
-evaluate_value-returns-then-room-cost g t c = runs_stopped _
+pub evaluate_value-returns-then-room-lt-FORM : goal.evaluate_value-returns-then-room-lt-FORM
+evaluate_value-returns-then-room-lt-FORM g t c = runs_stopped _
 
 pub evaluate_body-returns-then-room-lt-BODY : goal.evaluate_body-returns-then-room-lt-BODY
 evaluate_body-returns-then-room-lt-BODY g t c = runs_stopped _
