@@ -209,7 +209,8 @@ def counted(program, name, case, answer):
     """How many instructions a case with a known answer takes."""
     with tempfile.NamedTemporaryFile("r") as told:
         command = ["valgrind", "--tool=cachegrind", "--cache-sim=no", "--cachegrind-out-file=/dev/null", f"--log-file={told.name}", program]
-        run = Run(command, case)
+        # (the loader looks through all variables that there are)
+        run = Run(command, case, environment={"PATH": os.defpath})
         if run.output != answer:
             sys.exit(f"{name}: status {run.status}, or a wrong answer")
         line = next(line for line in told.read().splitlines() if "I   refs:" in line or "I refs:" in line)
