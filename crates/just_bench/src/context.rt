@@ -41,21 +41,12 @@ pub(crate) fn case_module<'src>(
 
 /// How the program counts as called.
 pub(crate) fn case_config(alloc: Global, dry_run: bool) -> Result<Config, OutOfMemory> {
-    Ok(Config {
-        dry_run,
-        invocation_directory: String::from_str(alloc, DIRECTORY)?,
-        jobs: None,
-        quiet: false,
-        shell: None,
-        shell_args: None,
-        shell_command: false,
-    })
+    let mut config = Config::new(alloc, DIRECTORY)?;
+    config.dry_run = dry_run;
+    Ok(config)
 }
 
 /// What counts as found before.
 pub(crate) fn case_search(alloc: Global) -> Result<Search, OutOfMemory> {
-    Ok(Search {
-        justfile: String::from_str(alloc, JUSTFILE)?,
-        working_directory: String::from_str(alloc, DIRECTORY)?,
-    })
+    Search::new(alloc, JUSTFILE, DIRECTORY)
 }

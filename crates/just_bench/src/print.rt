@@ -1,11 +1,9 @@
 // What is printed of an evaluation.
 
 use crate::taken::taken_variables;
-use just_builtins::directory::directory_word;
 use just_eval::evaluator::Evaluator;
 use just_host::fault::fault_text;
-use just_host::number_question::NumberQuestion;
-use just_host::recorded::{Recorded, TextKind};
+use just_host::recorded::Recorded;
 use just_syntax::assignment::Assignment;
 use just_syntax::name::Name;
 use just_syntax::number::Number;
@@ -18,70 +16,13 @@ use just_value::scope::Scope;
 use std::alloc::Global;
 use std::collections::HashSet;
 
-/// Adds the questions, each on a line: `?`, the kind, and what is asked for, its texts quoted.
+/// Adds the questions, each on a line behind `? `.
 pub(crate) fn print_questions(
     text: &mut String,
     questions: &[Recorded],
 ) -> Result<(), OutOfMemory> {
     for question in questions {
-        print_question(text, question)?;
-        text.push('\n')?;
-    }
-    Ok(())
-}
-
-// Adds a question.
-fn print_question(text: &mut String, question: &Recorded) -> Result<(), OutOfMemory> {
-    match question {
-        Recorded::Command {
-            command,
-            arguments,
-            ..
-        } => {
-            let command = Element(command);
-            write!(text, "? command {command}")?;
-            if let Some(arguments) = arguments {
-                print_arguments(text, arguments)?;
-            }
-        }
-        Recorded::Text { kind, text: about } => print_text_question(text, *kind, about)?,
-        Recorded::Exists(path) => {
-            let path = Element(path);
-            write!(text, "? exists {path}")?;
-        }
-        Recorded::Number(NumberQuestion::ProcessId) => {
-            text.push_str("? number process_id")?;
-        }
-        Recorded::Number(NumberQuestion::Cpus) => text.push_str("? number cpus")?,
-    }
-    Ok(())
-}
-
-// Adds quoted texts, each behind a space.
-fn print_arguments(text: &mut String, arguments: &[String]) -> Result<(), OutOfMemory> {
-    for argument in arguments {
-        let argument = Element(argument);
-        write!(text, " {argument}")?;
-    }
-    Ok(())
-}
-
-// Adds a question for a text, which is about a variable, a path or a name.
-fn print_text_question(text: &mut String, kind: TextKind, about: &str) -> Result<(), OutOfMemory> {
-    let about = Element(about);
-    match kind {
-        TextKind::Variable => write!(text, "? variable {about}")?,
-        TextKind::Directory(directory) => {
-            let directory = directory_word(directory);
-            write!(text, "? directory {directory}")?;
-        }
-        TextKind::Canonicalize => write!(text, "? canonicalize {about}")?,
-        TextKind::Read => write!(text, "? read {about}")?,
-        TextKind::Which => write!(text, "? which {about}")?,
-        TextKind::Executable => text.push_str("? executable")?,
-        TextKind::Arch => text.push_str("? arch")?,
-        TextKind::Os => text.push_str("? os")?,
-        TextKind::OsFamily => text.push_str("? os_family")?,
+        writeln!(text, "? {question}")?;
     }
     Ok(())
 }

@@ -29,8 +29,10 @@ use std::collections::HashSet;
 use std::io::{Read, Write};
 use std::mem;
 
-/// Reads a case, evaluates it, prints its answer, and gives the exit status: 0 for bindings, 2 for a refusal, 1
-/// for a case that is bad or too long, a read or a write that failed, or want of memory outside the evaluation.
+/// Reads a case, evaluates it, prints its answer, and gives the exit status: 0 for bindings, 2 for a refusal, want of memory in
+/// the evaluation among these, 1 for a case that is bad or longer than `LIMIT` bytes, a read or a write that failed, or want of
+/// memory outside the evaluation. The answer is written once it is whole, so nothing is written where a read fails, the case is
+/// too long, or memory outside the evaluation is refused.
 pub fn run<R: Read + Drop, W: Write + Drop>(alloc: Global, reader: R, writer: W) -> u8
     ensures status { result ≤ 2 }
     ensures too_long { IfSome (R.remaining reader) (λ case. LIMIT < length case → result ≡ 1) }
@@ -38,7 +40,8 @@ pub fn run<R: Read + Drop, W: Write + Drop>(alloc: Global, reader: R, writer: W)
     run_around(alloc, reader, writer, &Bare {})
 }
 
-/// The same where the host passes the first `passed` questions of a run on, and fails at each later one.
+/// [`run`], where the host passes the first `passed` questions of a run on, and fails at each later one, as `how` says. The
+/// status, and what want of memory leaves, are as there.
 pub fn run_failing<R: Read + Drop, W: Write + Drop>(
     alloc: Global,
     reader: R,

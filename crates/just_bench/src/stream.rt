@@ -46,12 +46,12 @@ impl From<io::Error> for StreamError {
     }
 }
 
-/// All bytes of a reader. Nothing is read behind a read that fails or gives no byte, nor once there are more
-/// than `LIMIT`.
+/// All bytes of a reader. Nothing is read behind a read that fails or gives no byte, nor once there are more than `LIMIT`.
 ///
 /// # Errors
 ///
-/// `Failed` where a read fails, and `TooLong` where there are more than `LIMIT` bytes. What was read is lost.
+/// `Failed` where a read fails, `TooLong` where there are more than `LIMIT` bytes, and `OutOfMemory` where memory was asked for
+/// and refused. What was read is lost: the bytes are dropped.
 pub fn read_case<R: Read>(alloc: Global, reader: &mut R) -> Result<Vec<u8>, StreamError>
     ensures within { IfOk result (λ bytes. vec_len bytes ≤ LIMIT) }
     ensures whole { IfOk result (λ bytes. IfSome (R.remaining reader.old) (λ rest. bytes.items ≡ rest)) }
@@ -69,7 +69,7 @@ pub fn read_case<R: Read>(alloc: Global, reader: &mut R) -> Result<Vec<u8>, Stre
     Err(StreamError::TooLong)
 }
 
-/// Writes a whole text.
+/// Writes a whole text, and flushes. It takes no memory.
 ///
 /// # Errors
 ///

@@ -9,9 +9,9 @@ use Rattle.just_value.specs.Value.{Value}
 use Rattle.just_host.specs.Fault.{fault_text}
 use Rattle.just_host.specs.Fixed.{working_directory}
 use Rattle.just_host.specs.Function.{Context}
+use Rattle.just_host.specs.Printed.{directory_word}
 use Rattle.just_host.specs.Question.{Answer, Replied, Failed, Absent, NotText, Found, Numbered, TextQuestion, Variable, Directory, Canonicalize, Read, Which, Executable, TextOf, ExistsAt, NumberOf, command_question}
 use Rattle.just_host.specs.declared.directory_kind.DirectoryKind.{DirectoryKind}
-use Rattle.just_host.specs.declared.directory_kind.DirectoryKind.TheVariants as kinds
 use Rattle.just_host.specs.declared.number_question.NumberQuestion.{NumberQuestion}
 use Rattle.just_builtins.specs.Message.{no_answer, no_directory, directory_not_unicode, directory_unreadable, not_canonicalized, canonical_not_unicode, not_read, executable_unknown, executable_not_unicode, variable_not_unicode, variable_unreadable, no_variable, not_found}
 use Rattle.just_builtins.specs.Reply.{Reply, Answers, Fails, Asks, Stops, says}
@@ -37,17 +37,6 @@ asks_system name q = asks_text q (Fails (no_answer name)) (λ text. no_answer na
 -- the path of the running program
 abbrev pub asks_executable : Reply
 asks_executable = asks_text Executable (Fails (executable_unknown not_found)) executable_not_unicode executable_unknown
-
--- the word for a kind of directory
-abbrev pub directory_word : DirectoryKind → Text
-directory_word kinds.Cache = codes "cache"
-directory_word kinds.Config = codes "config"
-directory_word kinds.ConfigLocal = codes "local config"
-directory_word kinds.Data = codes "data"
-directory_word kinds.DataLocal = codes "local data"
-directory_word kinds.Executable = codes "executable"
-directory_word kinds.Home = codes "home"
-directory_word kinds.Runtime = codes "runtime"
 
 -- a directory of the user's
 abbrev pub asks_directory : DirectoryKind → Reply

@@ -1,9 +1,8 @@
 // The directories that the system keeps for its user.
 
-ghost use Rattle.std.specs.Prelude.{◌≡◌};
 ghost use Rattle.just_value.specs.Frames.{Frames};
 ghost use Rattle.just_host.specs.View.{text_replied};
-ghost use Rattle.just_builtins.specs.Asking.{asks_directory, directory_word, text_answered};
+ghost use Rattle.just_builtins.specs.Asking.{asks_directory, text_answered};
 ghost use Rattle.just_builtins.specs.Called.{Asked, Gives};
 ghost use Rattle.just_builtins.specs.Message.{directory_not_unicode, directory_unreadable, no_directory};
 ghost use Rattle.just_builtins.specs.Reply.{Fails};
@@ -16,22 +15,6 @@ use just_host::text_answer::TextAnswer;
 use just_host::text_question::TextQuestion;
 use just_value::value::Value;
 use std::alloc::Global;
-
-/// The word for a kind of directory, as messages say it.
-pub fn directory_word(kind: DirectoryKind) -> &'static str
-    ensures { result.now ≡ directory_word kind }
-{
-    match kind {
-        DirectoryKind::Cache => "cache",
-        DirectoryKind::Config => "config",
-        DirectoryKind::ConfigLocal => "local config",
-        DirectoryKind::Data => "data",
-        DirectoryKind::DataLocal => "local data",
-        DirectoryKind::Executable => "executable",
-        DirectoryKind::Home => "home",
-        DirectoryKind::Runtime => "runtime",
-    }
-}
 
 /// The path of a directory of this kind.
 ///
@@ -47,7 +30,7 @@ pub(crate) fn directory<H: Host>(
     ensures { (shown : Frames) → Asked H.step host.old shown (asks_directory kind) result host.new }
 {
     let answer = host.text(alloc, TextQuestion::Directory(kind));
-    directory_answered(alloc, directory_word(kind), answer)
+    directory_answered(alloc, kind.word(), answer)
 }
 
 // What the answer to it leads to.

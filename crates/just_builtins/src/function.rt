@@ -1,15 +1,18 @@
 // The built-in functions, by the shapes of their arguments.
 
-ghost use Rattle.std.specs.Prelude.{◌≡◌, Bool, Err, false, length};
+ghost use Rattle.std.specs.Prelude.{◌≡◌, Bool, Err, IsTrue, false, length, map};
 ghost use Rattle.std.specs.Range.{range_inclusive_end, range_inclusive_exhausted, range_inclusive_start};
+ghost use Rattle.just_syntax.specs.Plain.{Text};
 ghost use Rattle.just_value.specs.View.{frames_view};
 ghost use Rattle.just_host.specs.Interaction.{Runs, freely};
 ghost use Rattle.just_host.specs.View.{function_context_view};
 ghost use Rattle.just_builtins.specs.Argument.{HasTexts, IsExpected};
 ghost use Rattle.just_builtins.specs.Called.{AskedBy, outcome, tree};
 ghost use Rattle.just_builtins.specs.Meaning.{reply};
+ghost use Rattle.just_builtins.specs.Order.{rises};
 ghost use Rattle.just_builtins.specs.Shape.{builtin_of, fewest_arguments, is_text, most_arguments};
-ghost use Rattle.just_builtins.specs.Table.{IsUnnamed, function_named, is_left_out};
+ghost use Rattle.just_builtins.specs.Table.{IsUnnamed, find_in, function_named, is_left_out};
+ghost use Rattle.just_builtins.specs.View.{entry_view};
 ghost use Rattle.just_builtins.specs.declared.call_fault.CallFault.TheVariants.{Internal};
 
 use crate::argument::{second, second_text, text_at};
@@ -70,7 +73,8 @@ pub enum Function {
 }
 
 impl Function {
-    /// How few and how many arguments a call may have. It takes no memory.
+    /// How few and how many arguments a call may have; where any number will do, the most is `usize::MAX`. It takes no memory.
+    /// Upstream's `Function::expected_arguments`.
     pub fn expected_arguments(&self) -> RangeInclusive<usize>
         ensures fewest { range_inclusive_start result ≡ fewest_arguments self.now }
         ensures most { range_inclusive_end result ≡ most_arguments self.now }
@@ -120,13 +124,14 @@ impl Function {
         }
     }
 
-    /// Calls it with its arguments: what it asks of the host, and its value.
+    /// Calls it with the values of its arguments: what it asks of the host, and its value. Upstream's
+    /// `Evaluator::evaluate_builtin_function`, once these are evaluated.
     ///
     /// # Errors
     ///
-    /// `Message` where the function says why it gives no value; `OutOfMemory` where memory was asked for and
-    /// refused, or where the host says so; `Internal` only where no name stands for the function, and then nothing is
-    /// asked.
+    /// `Message` where the function says why it gives no value; `OutOfMemory` where memory was asked for and refused, or where
+    /// the host says so; `Internal` only where no name stands for the function, and then nothing is asked. What the host was
+    /// asked before a refusal stays asked.
     pub fn call<H: Host>(
         self,
         alloc: Global,
@@ -196,12 +201,23 @@ impl Function {
     }
 }
 
-/// The built-in function of a name, unless it is left out. `_dir` at the end of a name stands for `_directory`,
-/// and `_dir_native` for `_directory_native`. It takes no memory.
+/// The built-in function of a name, unless it is left out. `_dir` at the end of a name stands for `_directory`, and
+/// `_dir_native` for `_directory_native`. It takes no memory. Upstream's `function::get`, where none is left out.
 pub fn get(name: &str) -> Option<Function>
     ensures { result ≡ function_named name.now }
 {
     find_function(&TABLE, name)
+}
+
+/// All names of built-in functions, each with the function that it stands for, in the strict order of their bytes: 77 names of
+/// 63 functions, since a name that ends with `_directory` or `_directory_native` has a shorter one with `_dir` or
+/// `_dir_native` beside it. [`Function::expected_arguments`] and [`Function::is_text`] tell what each takes. It takes no
+/// memory.
+pub fn functions() -> &'static [(&'static str, Function)]
+    ensures rising { IsTrue (rises (map (λ entry. entry.0.now) result.now)) }
+    ensures named { (name : Text) → find_in (map entry_view result.now) name ≡ function_named name }
+{
+    &TABLE
 }
 
 /// Whether a name is one of a built-in function that is left out. `_dir` and `_dir_native` at its end stand for

@@ -6,7 +6,7 @@ mod argument;
 mod binary;
 pub mod builtin;
 pub mod call_fault;
-pub mod directory;
+mod directory;
 mod environment;
 mod file;
 pub mod function;

@@ -1,13 +1,11 @@
 -- Names keep their numbers.
 use Rattle.std.proofs.Common.{◌≡◌, ℕ, true, List, [], ◌∷◌, ◌++◌, map, Some, refl, sym, ap, ◌∙◌, ⊎_elim}
-use Rattle.std.specs.Bool.{nat_eq}
-use Rattle.std.specs.List.{list_any}
 use Rattle.std.specs.Str.{bytes_eq}
 use Rattle.std.proofs.lemmas.Bool.{cases_Bool}
 use Rattle.std.proofs.lemmas.List.{map-append}
 use Rattle.std.proofs.lemmas.Slice.Eq.{bytes_eq-Decides}
 use Rattle.just_syntax.specs.Plain.{Text}
-use Rattle.just_case_lines.specs.Numbering.{AreNumbered, Numbers, has_number, number_of}
+use Rattle.just_case_lines.specs.Numbering.{AreNumbered, Numbers, number_of}
 use Rattle.just_case_lines.specs.declared.numbering.Numbering.{Numbering}
 
 -- a name that had a number has it still
@@ -36,13 +34,3 @@ one_more old new name number n names numbers are =
     ∙ ap (λ x. map (number_of new) names ++ x ∷ []) n.named
     ∙ ap (λ xs. xs ++ Some number ∷ []) (all_kept old new name number n names numbers are)
     ∙ sym (map-append Some numbers (number ∷ []))
-
--- a number is among these exactly if a name has it
-pub is_had : (numbering : Numbering) (names : List Text) (numbers : List ℕ) → AreNumbered numbering names numbers → (n : ℕ) → list_any (λ number. nat_eq number n) numbers ≡ list_any (has_number numbering n) names
-is_had numbering [] [] are n = refl
-is_had numbering [] (k ∷ ks) are n = absurd cc
-is_had numbering (x ∷ xs) [] are n = absurd cc
-is_had numbering (x ∷ xs) (k ∷ ks) are n =
-    let had : number_of numbering x ≡ Some k = cc in
-    let rest : AreNumbered numbering xs ks = cc in
-    rw (had, is_had numbering xs ks rest n) refl

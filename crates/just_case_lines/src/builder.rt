@@ -1,9 +1,7 @@
 // A case so far.
 
-ghost use Rattle.std.specs.Prelude.{ℕ, ◌≡◌, Some, IfSome, IfOk, IsSomeAnd, OnOk, false, true, map, unwrap_or};
+ghost use Rattle.std.specs.Prelude.{◌≡◌, Some, IfSome, IsSomeAnd, OnOk, map, unwrap_or};
 ghost use Rattle.std.specs.Option.{is_some, option_map};
-ghost use Rattle.std.specs.List.{list_any};
-ghost use Rattle.std.specs.Bool.{nat_eq};
 ghost use Rattle.just_syntax.specs.View.{name_view};
 ghost use Rattle.just_case_lines.specs.Case.{second_order, token_of};
 ghost use Rattle.just_case_lines.specs.References.{Refers};
@@ -20,11 +18,9 @@ use crate::token;
 use just_syntax::assignment::Assignment;
 use just_syntax::function_definition::FunctionDefinition;
 use just_syntax::name::Name;
-use just_syntax::number::Number;
-use just_syntax::out_of_memory::OutOfMemory;
+use just_syntax::variables::set_of;
 use just_value::error::CommandFault;
 use std::alloc::Global;
-use std::collections::HashSet;
 
 /// A case so far, and what the next line needs of those before it.
 #[derive(Drop)]
@@ -148,15 +144,10 @@ impl<'src> Builder<'src> {
         let value = self.stack.pop()?;
         let number = self.numbering.number_of(lexeme)?;
         let name = token::name(lexeme);
+        let mut assignment = Assignment::new(name, number, value);
+        assignment.export = export;
         let earlier = self.case.assignments.len();
-        self.case.assignments.insert(Assignment {
-            eager: false,
-            export,
-            name,
-            number,
-            private: false,
-            value,
-        })?;
+        self.case.assignments.insert(assignment)?;
         if self.case.assignments.len() == earlier {
             return Err(LineError::Bad);
         }
@@ -176,12 +167,11 @@ impl<'src> Builder<'src> {
         let body = self.stack.pop()?;
         let numbers = self.numbering.numbers_of(alloc, parameters)?;
         let parameters = token::parameters(alloc, parameters, &numbers)?;
+        let name = token::name(*name);
         let earlier = self.case.functions.len();
-        self.case.functions.insert(FunctionDefinition {
-            body,
-            name: token::name(*name),
-            parameters,
-        })?;
+        self.case
+            .functions
+            .insert(FunctionDefinition::new(name, parameters, body))?;
         if self.case.functions.len() == earlier {
             return Err(LineError::Bad);
         }
@@ -280,15 +270,4 @@ impl<'src> Builder<'src> {
             Err(LineError::Bad)
         }
     }
-}
-
-// The set of some numbers.
-fn set_of(alloc: Global, numbers: &[Number]) -> Result<HashSet<Number>, OutOfMemory>
-    ensures { IfOk result (λ set. (n : ℕ) → list_any (nat_eq n) set.keys ≡ list_any (λ number. nat_eq number n) numbers.now) }
-{
-    let mut set = HashSet::new(alloc);
-    for number in numbers {
-        set.insert(*number)?;
-    }
-    Ok(set)
 }

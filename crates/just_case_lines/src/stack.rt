@@ -6,7 +6,6 @@ use crate::token::{name, token};
 use just_syntax::conditional_operator::ConditionalOperator;
 use just_syntax::expression::Expression;
 use just_syntax::number::Number;
-use just_syntax::string_literal::StringLiteral;
 use std::alloc::Global;
 
 // How many forms may stand in one another. What walks over an expression without evaluating it, as letting it go and the
@@ -56,12 +55,7 @@ impl<'src> Stack<'src> {
         text: &str,
         lexeme: &'src str,
     ) -> Result<(), LineError> {
-        let string_literal = StringLiteral {
-            cooked: String::from_str(alloc, text)?,
-            lexeme,
-            indented: false,
-        };
-        self.push(Expression::StringLiteral { string_literal }, 0)
+        self.push(Expression::literal(alloc, text, lexeme)?, 0)
     }
 
     /// Pushes a command.
@@ -71,16 +65,12 @@ impl<'src> Stack<'src> {
         text: &str,
         lexeme: &'src str,
     ) -> Result<(), LineError> {
-        let contents = String::from_str(alloc, text)?;
-        let token = token(lexeme);
-        self.push(Expression::Backtick { contents, token }, 0)
+        self.push(Expression::backtick(alloc, text, token(lexeme))?, 0)
     }
 
     /// Pushes a variable.
     pub(crate) fn variable(&mut self, lexeme: &'src str, number: Number) -> Result<(), LineError> {
-        let name = name(lexeme);
-        let number = Some(number);
-        self.push(Expression::Variable { name, number }, 0)
+        self.push(Expression::variable(name(lexeme), number), 0)
     }
 
     /// Puts one expression in its place with what is made of it.

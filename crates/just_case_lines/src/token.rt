@@ -7,6 +7,7 @@ ghost use Rattle.just_case_lines.specs.Case.{token_of};
 use just_syntax::name::Name;
 use just_syntax::number::Number;
 use just_syntax::out_of_memory::OutOfMemory;
+use just_syntax::place::Place;
 use just_syntax::token::Token;
 use std::alloc::Global;
 
@@ -14,22 +15,14 @@ use std::alloc::Global;
 pub fn token(lexeme: &str) -> Token<'_>
     ensures { token_view result ≡ token_of lexeme.now }
 {
-    Token {
-        column: 0,
-        line: 0,
-        offset: 0,
-        lexeme,
-        path: "justfile",
-    }
+    Token::new(lexeme, Some(Place::start_of("justfile")))
 }
 
 /// A name of a case.
 pub fn name(lexeme: &str) -> Name<'_>
     ensures { name_view result ≡ token_of lexeme.now }
 {
-    Name {
-        token: token(lexeme),
-    }
+    Name::new(lexeme, Some(Place::start_of("justfile")))
 }
 
 /// Names of a case, in their order.

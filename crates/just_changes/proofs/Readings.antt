@@ -1,12 +1,10 @@
 -- What is read, one reading after another.
-use Rattle.std.proofs.Common.{◌≡◌, ◌↔◌, ◌⊎◌, inl, inr, ⊎_elim, ℕ, Bool, true, false, ◌+◌, ◌<◌, List, [], ◌∷◌, length, map, drop, get_or, Option, Some, None, Bor, IsTrue, refl, ap, sym, ◌∙◌, subst}
+use Rattle.std.proofs.Common.{◌≡◌, ◌↔◌, ◌⊎◌, inl, inr, ⊎_elim, ℕ, Bool, true, false, List, [], ◌∷◌, Option, Some, None, ap, sym, ◌∙◌, subst}
 use Rattle.just_syntax.specs.Plain.{Text, Expr}
-use Rattle.just_meaning.specs.Reaches.{VariableOf, CallOf, Stands}
-use Rattle.just_resolution.specs.Mentions as gathered
-use Rattle.just_resolution.specs.Mentions.{called_names, mentions, nothing}
-use Rattle.just_resolution.proofs.Sets.{front_at}
-use Rattle.just_resolution.proofs.Standing.{IsIn, all_called, mentioned}
-use Rattle.just_changes.specs.Nodes.{PlainNode, OfFunction, OfVariable, AmongCalls, AmongVariables, IsOneVariable, Mentions}
+use Rattle.just_meaning.specs.Reaches.{Mention, VariableOf, CallOf}
+use Rattle.just_resolution.specs.Sites.{Site, sites_in}
+use Rattle.just_resolution.proofs.Standing.{Mentioned, mentioned}
+use Rattle.just_changes.specs.Nodes.{PlainNode, OfFunction, OfVariable, AmongSites, IsOneMention, IsOneVariable, Mentions}
 
 -- ---- what is there and what is left
 
@@ -44,13 +42,6 @@ same_more on back added = (
   (λ h. added.1 (⊎_elim (λ q. inl (back q)) (λ a. inr a) h)),
 )
 
--- two were added, one after the other
-pub two_more : {A B C R P Q M : Type 0} → B ↔ ((R × P) ⊎ A) → C ↔ ((R × Q) ⊎ B) → (M → P ⊎ Q) → (P ⊎ Q → M) → C ↔ ((R × M) ⊎ A)
-two_more first second out back = (
-  (λ c. ⊎_elim (λ q. inl (q.0, back (inr q.1))) (λ b. ⊎_elim (λ p. inl (p.0, back (inl p.1))) (λ a. inr a) (first.0 b)) (second.0 c)),
-  (λ h. ⊎_elim (λ m. ⊎_elim (λ p. second.1 (inr (first.1 (inl (m.0, p))))) (λ q. second.1 (inl (m.0, q))) (out m.1)) (λ a. second.1 (inr (first.1 (inr a)))) h),
-)
-
 -- ---- single variables
 
 pub no_variable : (own : ℕ → Type 0) (number : Option ℕ) (x : PlainNode) → number ≡ None → IsOneVariable own number x → ⊥
@@ -69,65 +60,53 @@ pub variable_one : (own : ℕ → Type 0) (number : Option ℕ) (k : ℕ) (x : P
 variable_one own number k (OfFunction t) is h = absurd h
 variable_one own number k (OfVariable n) is h = let e : Some k ≡ Some n = sym is ∙ h.0 in let f : k ≡ n = cc in ap OfVariable f
 
--- ---- single calls
-
--- the names of the calls that are left
-abbrev pub names_left : List (Bor Text × ℕ) → ℕ → List Text
-names_left calls i = map (λ c. c.0.now) (drop i calls)
-
-next_name : (calls : List (Bor Text × ℕ)) (i : ℕ) (d : Bor Text × ℕ) → i < length calls → names_left calls i ≡ (get_or calls i d).0.now ∷ names_left calls (i + 1)
-next_name calls i d h = ap (map (λ (c : Bor Text × ℕ). c.0.now)) (front_at calls i d h)
-
-pub call_out : (calls : List (Bor Text × ℕ)) (i : ℕ) (d : Bor Text × ℕ) (x : PlainNode) → i < length calls → AmongCalls (names_left calls i) x → (OfFunction (get_or calls i d).0.now ≡ x) ⊎ AmongCalls (names_left calls (i + 1)) x
-call_out calls i d x h all = subst (λ ts. AmongCalls ts x) (next_name calls i d h) all
-
-pub call_back : (calls : List (Bor Text × ℕ)) (i : ℕ) (d : Bor Text × ℕ) (x : PlainNode) → i < length calls → (OfFunction (get_or calls i d).0.now ≡ x) ⊎ AmongCalls (names_left calls (i + 1)) x → AmongCalls (names_left calls i) x
-call_back calls i d x h all = subst (λ ts. AmongCalls ts x) (sym (next_name calls i d h)) all
-
 -- ---- what is mentioned
 
-among_variables : (own : ℕ → Type 0) (vs : List (Option ℕ)) (n : ℕ) → AmongVariables own vs (OfVariable n) ↔ (IsIn vs (Some n) × (own n → ⊥))
-among_variables own [] n = ((λ h. absurd h), (λ h. h.0))
-among_variables own (v ∷ vs) n =
-    let rest = among_variables own vs n in (
-      (λ h. ⊎_elim (λ k. (inl k.0, k.1)) (λ k. let r = rest.0 k in (inr r.0, r.1)) h),
-      (λ h. ⊎_elim (λ k. inl (k, h.1)) (λ k. inr (rest.1 (k, h.1))) h.0),
+-- one site more, where those behind it are known: a function that is called there
+function_by : (own : ℕ → Type 0) (ss : List Site) (t : Text) (m : Mention) → AmongSites own ss (OfFunction t) ↔ ((k : ℕ) × Mentioned ss (CallOf t k)) →
+    (IsOneMention own m (OfFunction t) ⊎ AmongSites own ss (OfFunction t)) ↔ ((k : ℕ) × ((m ≡ CallOf t k) ⊎ Mentioned ss (CallOf t k)))
+function_by own ss t (CallOf name j) rest = (
+  (λ h. ⊎_elim (λ e. (j, inl (let same : name ≡ t = cc in ap (λ (u : Text). CallOf u j) same))) (λ k. let r = rest.0 k in (r.0, inr r.1)) h),
+  (λ h. ⊎_elim (λ e. inl (let same : name ≡ t = cc in ap OfFunction same)) (λ k. inr (rest.1 (h.0, k))) h.1),
+)
+function_by own ss t (VariableOf number) rest = (
+  (λ h. ⊎_elim (λ bad. absurd bad) (λ k. let r = rest.0 k in (r.0, inr r.1)) h),
+  (λ h. ⊎_elim (λ e. absurd (let bad : VariableOf number ≡ CallOf t h.0 = e in cc)) (λ k. inr (rest.1 (h.0, k))) h.1),
+)
+
+-- a function that is called at one of these sites
+function_among : (own : ℕ → Type 0) (ss : List Site) (t : Text) → AmongSites own ss (OfFunction t) ↔ ((k : ℕ) × Mentioned ss (CallOf t k))
+function_among own [] t = ((λ h. absurd h), (λ h. absurd h.1))
+function_among own (s ∷ ss) t = function_by own ss t s.mention (function_among own ss t)
+
+-- one site more: a variable there, which is not an own one
+variable_by : (own : ℕ → Type 0) (ss : List Site) (n : ℕ) (m : Mention) → AmongSites own ss (OfVariable n) ↔ (Mentioned ss (VariableOf (Some n)) × (own n → ⊥)) →
+    (IsOneMention own m (OfVariable n) ⊎ AmongSites own ss (OfVariable n)) ↔ (((m ≡ VariableOf (Some n)) ⊎ Mentioned ss (VariableOf (Some n))) × (own n → ⊥))
+variable_by own ss n (CallOf name j) rest = (
+  (λ h. ⊎_elim (λ e. absurd (let bad : OfFunction name ≡ OfVariable n = e in cc)) (λ k. let r = rest.0 k in (inr r.0, r.1)) h),
+  (λ h. ⊎_elim (λ e. absurd (let bad : CallOf name j ≡ VariableOf (Some n) = e in cc)) (λ k. inr (rest.1 (k, h.1))) h.0),
+)
+variable_by own ss n (VariableOf number) rest = (
+  (λ h. ⊎_elim (λ k. (inl (ap VariableOf k.0), k.1)) (λ k. let r = rest.0 k in (inr r.0, r.1)) h),
+  (λ h. ⊎_elim (λ e. inl (let same : number ≡ Some n = cc in same, h.1)) (λ k. inr (rest.1 (k, h.1))) h.0),
+)
+
+-- a variable at one of these sites, which is not an own one
+variable_among : (own : ℕ → Type 0) (ss : List Site) (n : ℕ) → AmongSites own ss (OfVariable n) ↔ (Mentioned ss (VariableOf (Some n)) × (own n → ⊥))
+variable_among own [] n = ((λ h. absurd h), (λ h. h.0))
+variable_among own (s ∷ ss) n = variable_by own ss n s.mention (variable_among own ss n)
+
+-- what stands at the sites of an expression is what is mentioned
+pub sites_are : (own : ℕ → Type 0) (e : Expr) (x : PlainNode) → Mentions own e x ↔ AmongSites own (sites_in e) x
+sites_are own e (OfFunction t) =
+    let all = function_among own (sites_in e) t in (
+      (λ h. all.1 (h.0, (mentioned e (CallOf t h.0)).1 h.1)),
+      (λ h. let k = all.0 h in (k.0, (mentioned e (CallOf t k.0)).0 k.1)),
     )
-
-no_function : (own : ℕ → Type 0) (vs : List (Option ℕ)) (t : Text) → AmongVariables own vs (OfFunction t) → ⊥
-no_function own [] t h = h
-no_function own (v ∷ vs) t h = ⊎_elim (λ k. k) (λ k. no_function own vs t k) h
-
-among_calls : (ts : List Text) (t : Text) → AmongCalls ts (OfFunction t) ↔ IsIn ts t
-among_calls [] t = ((λ h. h), (λ h. h))
-among_calls (s ∷ ts) t =
-    let rest = among_calls ts t in (
-      (λ h. ⊎_elim (λ e. inl (cc)) (λ k. inr (rest.0 k)) h),
-      (λ h. ⊎_elim (λ e. inl (ap OfFunction e)) (λ k. inr (rest.1 k)) h),
-    )
-
-no_call : (ts : List Text) (n : ℕ) → AmongCalls ts (OfVariable n) → ⊥
-no_call [] n h = h
-no_call (s ∷ ts) n h = ⊎_elim (λ e. absurd (cc)) (λ k. no_call ts n k) h
-
-pub names_seen : (calls : List (Bor Text × ℕ)) → map (λ (c : Bor Text × ℕ). c.0.now) calls ≡ map (λ (c : Text × ℕ). c.0) (map (λ (c : Bor Text × ℕ). (c.0.now, c.1)) calls)
-names_seen [] = refl
-names_seen (c ∷ cs) = ap (λ (names : List Text). c.0.now ∷ names) (names_seen cs)
-
--- what was gathered is what is mentioned
-pub gathered_is : (own : ℕ → Type 0) (e : Expr) (ms : gathered.Mentions) → ms ≡ mentions nothing e → (x : PlainNode) → Mentions own e x ↔ (AmongVariables own ms.variables x ⊎ AmongCalls (called_names ms) x)
-gathered_is own e ms is (OfFunction t) =
-    let calls = among_calls (called_names ms) t in
-    let all = all_called e t in
-    let same : called_names ms ≡ called_names (mentions nothing e) = ap called_names is in (
-      (λ h. inr (calls.1 (subst (λ names. IsIn names t) (sym same) (all.1 h)))),
-      (λ h. ⊎_elim (λ k. absurd (no_function own ms.variables t k)) (λ k. all.0 (subst (λ names. IsIn names t) same (calls.0 k))) h),
-    )
-gathered_is own e ms is (OfVariable n) =
-    let variables = among_variables own ms.variables n in
-    let all = mentioned e ms is (VariableOf (Some n)) in (
-      (λ h. inl (variables.1 (all.1 h.0, h.1))),
-      (λ h. ⊎_elim (λ k. let r = variables.0 k in (all.0 r.0, r.1)) (λ k. absurd (no_call (called_names ms) n k)) h),
+sites_are own e (OfVariable n) =
+    let all = variable_among own (sites_in e) n in (
+      (λ h. all.1 ((mentioned e (VariableOf (Some n))).1 h.0, h.1)),
+      (λ h. let k = all.0 h in ((mentioned e (VariableOf (Some n))).0 k.0, k.1)),
     )
 
 -- the same own numbers

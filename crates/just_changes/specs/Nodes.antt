@@ -2,7 +2,8 @@
 use Rattle.std.specs.Prelude.{◌≡◌, ◌⊎◌, ℕ, List, [], ◌∷◌, Option, Some, None}
 use Rattle.just_syntax.specs.Plain.{Text, Assignment, Expr, Function}
 use Rattle.just_value.specs.Frames.{Frames, value_in}
-use Rattle.just_meaning.specs.Reaches.{VariableOf, CallOf, IsAmong, Stands}
+use Rattle.just_meaning.specs.Reaches.{Mention, VariableOf, CallOf, IsAmong, Stands}
+use Rattle.just_resolution.specs.Sites.{Site}
 
 -- a variable, or a function of the file by its name
 pub data PlainNode : Type 0 where
@@ -61,15 +62,15 @@ abbrev pub IsOneVariable : (ℕ → Type 0) → Option ℕ → PlainNode → Typ
 IsOneVariable own number (OfFunction name) = ⊥
 IsOneVariable own number (OfVariable n) = (number ≡ Some n) × (own n → ⊥)
 
--- it is one of these
-abbrev pub AmongVariables : (ℕ → Type 0) → List (Option ℕ) → PlainNode → Type 0
-AmongVariables own [] x = ⊥
-AmongVariables own (v ∷ vs) x = IsOneVariable own v x ⊎ AmongVariables own vs x
+-- it is that variable, or the function that is called
+abbrev pub IsOneMention : (ℕ → Type 0) → Mention → PlainNode → Type 0
+IsOneMention own (VariableOf number) x = IsOneVariable own number x
+IsOneMention own (CallOf name k) x = OfFunction name ≡ x
 
--- it is a function with one of these names
-abbrev pub AmongCalls : List Text → PlainNode → Type 0
-AmongCalls [] x = ⊥
-AmongCalls (t ∷ ts) x = (OfFunction t ≡ x) ⊎ AmongCalls ts x
+-- it stands at one of these sites
+abbrev pub AmongSites : (ℕ → Type 0) → List Site → PlainNode → Type 0
+AmongSites own [] x = ⊥
+AmongSites own (s ∷ ss) x = IsOneMention own s.mention x ⊎ AmongSites own ss x
 
 abbrev pub IsListed : List PlainNode → PlainNode → Type 0
 IsListed [] x = ⊥

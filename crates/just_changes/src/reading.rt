@@ -1,20 +1,22 @@
 // What reads what in a module.
 
-ghost use Rattle.std.specs.Prelude.{◌≡◌, ◌↔◌, ◌⊎◌, ℕ, IfOk, OnOk, IsTrue, map};
+ghost use Rattle.std.specs.Prelude.{◌≡◌, ◌↔◌, ◌⊎◌, ℕ, IfOk, OnOk, IsTrue};
 ghost use Rattle.just_syntax.specs.View.{assignment_view, function_view, view};
 ghost use Rattle.just_value.specs.View.{frames_view};
-ghost use Rattle.just_resolution.specs.Seen.{is_number_in};
-ghost use Rattle.just_changes.specs.Nodes.{AmongCalls, AmongVariables, AssignmentReads, FunctionReads, IsListed, IsOneVariable, Mentions, OfFunction, OfVariable, PlainNode, ReadsItself};
+ghost use Rattle.just_resolution.specs.Seen.{is_number_in, site_view, sites_view};
+ghost use Rattle.just_changes.specs.Nodes.{AmongSites, AssignmentReads, FunctionReads, IsListed, IsOneMention, IsOneVariable, Mentions, OfFunction, OfVariable, PlainNode, ReadsItself};
 ghost use Rattle.just_changes.specs.View.{IsWhole, node_view, readers_of, version_view};
 
 use crate::node::Node;
 use crate::readers::Readers;
 use crate::version::Version;
-use just_resolution::mentions::mentions_in;
 use just_resolution::numbers::own_numbers;
+use just_resolution::site::{Mention, Site};
+use just_resolution::sites::sites_in;
 use just_syntax::assignment::Assignment;
 use just_syntax::expression::Expression;
 use just_syntax::function_definition::FunctionDefinition;
+use just_syntax::name::Name;
 use just_syntax::number::Number;
 use just_syntax::out_of_memory::OutOfMemory;
 use just_value::scope::Scope;
@@ -88,25 +90,39 @@ fn add_mentions<'src>(
 ) -> Result<(), OutOfMemory>
     ensures { OnOk result ((x y : PlainNode) → IsListed (readers_of readers.new x) y ↔ (((node_view reader.now ≡ y) × Mentions (λ n. IsTrue (is_number_in own.now n)) (view expression.now) x) ⊎ IsListed (readers_of readers.old x) y)) }
 {
-    let mentions = mentions_in(alloc, expression)?;
-    add_variables(readers, reader, own, &mentions.variables)?;
-    add_calls(readers, reader, &mentions.calls)?;
+    let sites = sites_in(alloc, expression)?;
+    add_sites(readers, reader, own, &sites)?;
     Ok(())
 }
 
-// Adds a reader of variables, own numbers aside.
-fn add_variables<'src>(
+// Adds a reader of what stands at these sites, own numbers aside.
+fn add_sites<'src>(
     readers: &mut Readers<'src>,
     reader: &Node<'src>,
     own: &BTreeSet<Number>,
-    variables: &[Option<Number>],
+    sites: &[Site<'src>],
 ) -> Result<(), OutOfMemory>
-    ensures { OnOk result ((x y : PlainNode) → IsListed (readers_of readers.new x) y ↔ (((node_view reader.now ≡ y) × AmongVariables (λ n. IsTrue (is_number_in own.now n)) variables.now x) ⊎ IsListed (readers_of readers.old x) y)) }
+    ensures { OnOk result ((x y : PlainNode) → IsListed (readers_of readers.new x) y ↔ (((node_view reader.now ≡ y) × AmongSites (λ n. IsTrue (is_number_in own.now n)) (sites_view sites.now) x) ⊎ IsListed (readers_of readers.old x) y)) }
 {
-    for number in variables {
-        add_variable(readers, reader, own, *number)?;
+    for site in sites {
+        add_site(readers, reader, own, site)?;
     }
     Ok(())
+}
+
+// Adds a reader of what stands at a site, own numbers aside.
+fn add_site<'src>(
+    readers: &mut Readers<'src>,
+    reader: &Node<'src>,
+    own: &BTreeSet<Number>,
+    site: &Site<'src>,
+) -> Result<(), OutOfMemory>
+    ensures { OnOk result ((x y : PlainNode) → IsListed (readers_of readers.new x) y ↔ (((node_view reader.now ≡ y) × IsOneMention (λ n. IsTrue (is_number_in own.now n)) (site_view site.now).mention x) ⊎ IsListed (readers_of readers.old x) y)) }
+{
+    match site.mention {
+        Mention::Call { arguments: _ } => add_call(readers, reader, &site.name),
+        Mention::Variable { number } => add_variable(readers, reader, own, number),
+    }
 }
 
 // Adds a reader of a variable, unless it has no number or an own one.
@@ -128,16 +144,15 @@ fn add_variable<'src>(
     Ok(())
 }
 
-// Adds a reader of functions.
-fn add_calls<'src>(
+// Adds a reader of the function with a name.
+fn add_call<'src>(
     readers: &mut Readers<'src>,
     reader: &Node<'src>,
-    calls: &[(&'src str, usize)],
+    name: &Name<'src>,
 ) -> Result<(), OutOfMemory>
-    ensures { OnOk result ((x y : PlainNode) → IsListed (readers_of readers.new x) y ↔ (((node_view reader.now ≡ y) × AmongCalls (map (λ c. c.0.now) calls.now) x) ⊎ IsListed (readers_of readers.old x) y)) }
+    ensures { OnOk result ((x y : PlainNode) → IsListed (readers_of readers.new x) y ↔ (((node_view reader.now ≡ y) × (OfFunction name.now.token.lexeme.now ≡ x)) ⊎ IsListed (readers_of readers.old x) y)) }
 {
-    for (name, _) in calls {
-        readers.add(&Node::Function { name }, reader)?;
-    }
+    let name = name.lexeme();
+    readers.add(&Node::Function { name }, reader)?;
     Ok(())
 }

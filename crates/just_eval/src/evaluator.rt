@@ -62,20 +62,23 @@ pub struct Evaluator<'src, 'run> {
 }
 
 impl<'src, 'run> Evaluator<'src, 'run> {
-    /// Evaluates the assignments of a module in its evaluation order, those that are referenced where a set of
-    /// references is given, and gives a child of `parent` with their bindings.
+    /// Evaluates the assignments of a module in its evaluation order, those that are referenced where a set of references is
+    /// given, and gives a child of `parent` with their bindings. Upstream's `Evaluator::evaluate_assignments`.
     ///
-    /// A number that `parent` binds, or that is bound already, is neither evaluated nor overridden. Else an
-    /// override is one element, and without one the expression is evaluated; the host is asked what it reaches.
+    /// A number that `parent` binds, or that is bound already, is neither evaluated nor overridden. Else an override is one
+    /// element, and without one the expression is evaluated; the host is asked what it reaches. `recursion_limit` is how many
+    /// calls may be pending, and one more, so it is at least 1.
     ///
     /// # Errors
     ///
-    /// The first refusal ends the run: a failed assertion (`Assert`), a command's fault (`Backtick`), lists that do
-    /// not go together (`ListOperation`), a regular expression operator (`LeftOutRegex`), too many pending calls
-    /// (`RecursionLimit`); of built-in functions their own message (`FunctionCall`), a list where one wants a text
-    /// (`ListInStringContext`), and one that is left out (`LeftOut`). On a module that is not resolved also
-    /// `Internal`. `OutOfMemory` comes where memory was asked for and refused, where the host says so, or where forms
-    /// and calls nest deeper than the stack has room for (`Evaluator`).
+    /// The first refusal ends the run: a failed assertion (`Assert`), a command's fault (`Backtick`), lists that do not go
+    /// together (`ListOperation`), a regular expression operator (`LeftOutRegex`), too many pending calls (`RecursionLimit`);
+    /// of built-in functions their own message (`FunctionCall`), a list where one wants a text (`ListInStringContext`), and one
+    /// that is left out (`LeftOut`). On a module that is not resolved also `Internal`. `OutOfMemory` comes where memory was
+    /// asked for and refused, where the host says so, or where forms and calls nest deeper than the stack has room for
+    /// (`Evaluator`).
+    ///
+    /// A refusal gives no scope: what was bound is dropped, and what the host was asked before it stays asked.
     pub fn evaluate_assignments<H: Host>(
         alloc: Global,
         host: &mut H,
@@ -195,14 +198,16 @@ impl<'src, 'run> Evaluator<'src, 'run> {
         self.evaluate_assignment(alloc, host, context.overrides, assignment)
     }
 
-    /// The value of an expression, with what is bound.
+    /// The value of an expression, with what is bound. Upstream's `Evaluator::evaluate_value`.
     ///
     /// # Errors
     ///
-    /// The first refusal of a part, in the order of the parts; `OutOfMemory` where memory was asked for and refused,
-    /// where the host says so, or where forms and calls nest deeper than the stack has room for. On an evaluator from
-    /// `evaluate_const_assignments` the const rules hold, and the host is not asked: `Const` comes at the first call,
-    /// command or open variable.
+    /// The first refusal of a part, in the order of the parts, of the kinds that `evaluate_assignments` has; `OutOfMemory`
+    /// where memory was asked for and refused, where the host says so, or where forms and calls nest deeper than the stack has
+    /// room for. On an evaluator from `evaluate_const_assignments` the const rules hold, and the host is not asked: `Const`
+    /// comes at the first call, command or open variable.
+    ///
+    /// A refusal leaves the evaluator as it was, and what the host was asked before it stays asked.
     pub fn evaluate_value<H: Host>(
         &self,
         alloc: Global,

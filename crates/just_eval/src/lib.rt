@@ -1,12 +1,14 @@
 // Evaluation of a module's assignments: the calls that upstream's `Evaluator` has, with their public clauses. It leans on
-// the recursion over expressions, takes its clauses to the lexical rules by the laws, and passes on the laws and the test
-// of resolution.
+// the recursion over expressions, takes its clauses to the lexical rules by the laws, and passes on the laws, the tests of
+// resolution and, in `prelude`, what a caller needs.
 #![tactic(auto)]
 
 pub mod evaluator;
-mod no_host;
+pub mod prelude;
 
 pub use just_laws::laws;
+pub use just_resolution::fault::Fault;
+pub use just_resolution::first_fault::first_fault;
 pub use just_resolution::resolved::resolved;
 pub use just_resolution::resolved_const::resolved_const;
 pub use just_resolution::resolved_here::resolved_here;

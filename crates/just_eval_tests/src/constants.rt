@@ -6,58 +6,18 @@ use just_case_lines::case::{Case, build};
 use just_case_lines::line::parse_lines;
 use just_case_lines::token::name;
 use just_eval::evaluator::Evaluator;
-use just_host::command_question::CommandQuestion;
-use just_host::host::Host;
-use just_host::number_question::NumberQuestion;
-use just_host::text_answer::TextAnswer;
-use just_host::text_question::TextQuestion;
+use just_host::no_host::NoHost;
+use just_host::recorder::Recorder;
 use just_syntax::assignment::Assignment;
 use just_syntax::number::Number;
 use just_syntax::out_of_memory::OutOfMemory;
 use just_syntax::string_context::StringContext;
 use just_syntax::table::Table;
 use just_value::compile_error::CompileError;
-use just_value::error::CommandFault;
 use just_value::scope::Scope;
 use std::alloc::Global;
 use std::collections::HashSet;
 use std::test::Fail;
-
-// Counts the questions.
-#[derive(Drop)]
-struct CountingHost {
-    asked: u64,
-}
-
-impl Host for CountingHost {
-    ghost use Rattle.std.specs.Prelude.{⊤};
-
-    ghost step = { λ _ _ _ _. ⊤ };
-
-    fn command(
-        &mut self,
-        alloc: Global,
-        _question: &CommandQuestion,
-    ) -> Result<String, CommandFault> {
-        self.asked = self.asked.saturating_add(1);
-        Ok(String::new(alloc))
-    }
-
-    fn text(&mut self, _alloc: Global, _question: TextQuestion) -> TextAnswer {
-        self.asked = self.asked.saturating_add(1);
-        TextAnswer::Absent
-    }
-
-    fn exists(&mut self, _alloc: Global, _path: &str) -> Result<bool, OutOfMemory> {
-        self.asked = self.asked.saturating_add(1);
-        Ok(false)
-    }
-
-    fn number(&mut self, _alloc: Global, _question: NumberQuestion) -> Result<u64, OutOfMemory> {
-        self.asked = self.asked.saturating_add(1);
-        Ok(0)
-    }
-}
 
 // What an expression comes to, as a value, as a text in the setting `set`, and with a host that is not asked.
 const EXPRESSIONS: &[(&str, &str, &str)] = &[
@@ -219,12 +179,12 @@ fn told_by<'src>(
         Ok(string) => write!(text, "{string}; ")?,
         Err(error) => write!(text, "{}; ", said(alloc, &error)?)?,
     }
-    let mut host = CountingHost { asked: 0 };
+    let mut host = Recorder::new(alloc, NoHost);
     match evaluator.evaluate_value(alloc, &mut host, expression) {
         Ok(value) => write!(text, "{value}; ")?,
         Err(error) => write!(text, "{}; ", said(alloc, &error.unwrap_const())?)?,
     }
-    let asked = host.asked;
+    let asked = host.questions().len();
     write!(text, "{asked}; ")?;
     add_numbers(&mut text, evaluator)?;
     Ok(text)

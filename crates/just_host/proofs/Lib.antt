@@ -1,3 +1,4 @@
 pub mod Paths
 pub mod Left
 pub mod Checked
+pub mod Changes

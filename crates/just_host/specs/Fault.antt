@@ -1,10 +1,10 @@
--- What a command's fault says.
-use Rattle.std.specs.Prelude.{[], ◌++◌, codes}
-use Rattle.std.specs.Fmt.{signed_decimal}
+-- What a command's fault says as a message.
+use Rattle.std.specs.Prelude.{[]}
 use Rattle.just_syntax.specs.Plain.{Text}
-use Rattle.just_value.specs.Refusal.{Fault, Code, Message, NoMemory}
+use Rattle.just_value.specs.Refusal.{Fault, NoMemory}
+use Rattle.just_value.specs.Said.{command_fault_text}
 
+-- nothing for want of memory, which is no message
 abbrev pub fault_text : Fault → Text
-fault_text (Code n) = codes "process exited with status code " ++ signed_decimal n
-fault_text (Message text) = text
 fault_text NoMemory = []
+fault_text fault = command_fault_text fault

@@ -1,9 +1,14 @@
 pub mod Fault
 pub mod Settings
+pub mod Justfile
 pub mod Fixed
 pub mod Function
 pub mod Question
 pub mod Interaction
 pub mod Recorded
+pub mod Printed
+pub mod CommandLine
+pub mod Exports
 pub mod View
 pub mod MapHost
+pub mod NoHost

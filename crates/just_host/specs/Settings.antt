@@ -13,6 +13,10 @@ pub record Config : Type 0 where
   pub shell_args : Option (List Text)
   pub shell_command : Bool
 
+-- the program called in a directory, with nothing said of how
+abbrev pub called_in : Text → Config
+called_in directory = record { dry_run = false; invocation_directory = directory; jobs = None; quiet = false; shell = None; shell_args = None; shell_command = false }
+
 pub record Settings : Type 0 where
   pub allow_duplicate_recipes : Bool
   pub allow_duplicate_variables : Bool

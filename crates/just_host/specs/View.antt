@@ -6,14 +6,18 @@ use Rattle.std.specs.BTreeMap.{BTreeMap}
 use Rattle.std.specs.declared.string.String.{String}
 use Rattle.just_syntax.specs.Plain.{Text, Interpreter}
 use Rattle.just_syntax.specs.declared.out_of_memory.OutOfMemory.{OutOfMemory}
-use Rattle.just_syntax.specs.View.{interpreter_view, name_view}
+use Rattle.just_syntax.specs.View.{assignment_view, function_view, interpreter_view, name_view}
 use Rattle.just_value.specs.Refusal.{Message, NoMemory}
 use Rattle.just_value.specs.View.{frames_view, fault_view}
 use Rattle.just_value.specs.declared.error.CommandFault.{CommandFault}
 use Rattle.just_host.specs.declared.config.Config.{Config}
+use Rattle.just_host.specs.declared.justfile.Justfile.{Justfile}
+use Rattle.just_host.specs.declared.search.Search.{Search}
 use Rattle.just_host.specs.declared.settings.Settings.{Settings}
 use Rattle.just_host.specs.declared.execution_context.ExecutionContext.{ExecutionContext}
 use Rattle.just_host.specs.declared.command_question.CommandQuestion.{CommandQuestion}
+use Rattle.just_host.specs.declared.exports.EnvironmentChange.{EnvironmentChange}
+use Rattle.just_host.specs.declared.exports.EnvironmentChange.TheVariants as changes
 use Rattle.just_host.specs.declared.function.Context as declared_function
 use Rattle.just_host.specs.declared.number_question.NumberQuestion.{NumberQuestion}
 use Rattle.just_host.specs.declared.text_answer.TextAnswer.{TextAnswer}
@@ -23,12 +27,14 @@ use Rattle.just_host.specs.declared.text_question.TextQuestion.TheVariants as te
 use Rattle.just_host.specs.declared.recorded.Recorded.{Recorded}
 use Rattle.just_host.specs.declared.recorded.Recorded.TheVariants as recorded
 use Rattle.just_host.specs.declared.recorder.Recorder.{Recorder}
+use Rattle.just_host.specs.Exports.{Change, Sets, Removes}
 use Rattle.just_host.specs.Recorded.{Kept, KeptCommand, KeptText, KeptExistence, KeptNumber}
 use Rattle.just_host.specs.Settings as plain
+use Rattle.just_host.specs.Justfile as modules
 use Rattle.just_host.specs.Question as questions
 use Rattle.just_host.specs.Fixed.{Fixed}
 use Rattle.just_host.specs.Function as functions
-use Rattle.just_host.specs.Question.{Question, CommandOf, TextOf, ExistsAt, NumberOf, frameless, Answer, Replied, Failed, Absent, NotText, Found, Numbered}
+use Rattle.just_host.specs.Question.{BlindCommand, Question, CommandOf, TextOf, ExistsAt, NumberOf, frameless, Answer, Replied, Failed, Absent, NotText, Found, Numbered}
 
 -- a map of texts: its pairs, by rising key
 abbrev pub pairs_view : {A B : Type 0} → BTreeMap (String A) (String B) → List (Text × Text)
@@ -73,6 +79,22 @@ settings_view s = record {
   working_directory = option_map string_bytes s.working_directory;
 }
 
+abbrev pub search_view : Search → modules.Search
+search_view s = record { justfile = string_bytes s.justfile; working_directory = string_bytes s.working_directory }
+
+abbrev pub justfile_view : Justfile → modules.Justfile
+justfile_view j = record {
+  assignments = map assignment_view j.assignments;
+  evaluation_order = map name_view j.evaluation_order.items;
+  functions = map function_view j.functions;
+  module_path = string_bytes j.module_path;
+  settings = settings_view j.settings;
+  source = string_bytes j.source;
+  submodule = j.submodule;
+  unexports = map string_bytes j.unexports.items;
+  working_directory = string_bytes j.working_directory;
+}
+
 abbrev pub fixed_view : ExecutionContext → Fixed
 fixed_view c = record {
   config = config_view c.config.now;
@@ -97,20 +119,26 @@ function_context_view c = record {
   recipe = option_map (λ name. name.token.lexeme.now) c.recipe;
 }
 
-abbrev pub question_view : CommandQuestion → Question
-question_view q = record {
-  blind = CommandOf (record {
-    command = q.command.now;
-    arguments = option_map (λ words. map string_bytes words.now) q.arguments;
-    environment = pairs_view q.env.now;
-    config = config_view q.config.now;
-    dotenv = pairs_view q.dotenv.now;
-    settings = settings_view q.settings.now;
-    unexports = map string_bytes q.unexports.now;
-    working_directory = q.working_directory.now;
-  });
-  shown = frames_view q.scope.now;
+-- a command, but for the frames that it sees
+abbrev pub command_view : CommandQuestion → BlindCommand
+command_view q = record {
+  command = q.command.now;
+  arguments = option_map (λ words. map string_bytes words.now) q.arguments;
+  environment = pairs_view q.env.now;
+  config = config_view q.config.now;
+  dotenv = pairs_view q.dotenv.now;
+  settings = settings_view q.settings.now;
+  unexports = map string_bytes q.unexports.now;
+  working_directory = q.working_directory.now;
 }
+
+abbrev pub question_view : CommandQuestion → Question
+question_view q = record { blind = CommandOf (command_view q); shown = frames_view q.scope.now }
+
+-- a change of an environment
+abbrev pub change_view : EnvironmentChange → Change
+change_view (changes.Set name text) = Sets name.now (string_bytes text)
+change_view (changes.Remove name) = Removes name.now
 
 -- a command's text or fault, as an answer
 abbrev pub replied : {A : Type 0} → Result (String A) CommandFault → Answer

@@ -15,12 +15,14 @@ use just_value::scope::Scope;
 use std::alloc::Global;
 use std::collections::BTreeMap;
 
-/// Asks a host to run a command in a context, with a recipe's environment, the variables that can be seen, and
-/// the arguments behind the command, where it takes some. The text is what the host answered, as it stands.
+/// Asks a host to run a command in a context, with a recipe's environment, the variables that can be seen, and the arguments
+/// behind the command, where it takes some. It is not for a dry run. The text is what the host answered, as it stands.
+/// Upstream's `Evaluator::run_command`, which starts the process.
 ///
 /// # Errors
 ///
-/// The host's fault, or want of memory; where memory is refused before the host is asked, it is not asked.
+/// The host's fault, or `OutOfMemory` where the host says so, or where memory was asked for and refused before the host is
+/// asked: then it is not asked, and stays as it was.
 pub fn ask_command<'src, 'run, H: Host>(
     alloc: Global,
     host: &mut H,

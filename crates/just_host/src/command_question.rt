@@ -1,9 +1,17 @@
 // Commands to be run.
 
+ghost use Rattle.std.specs.Prelude.{◌≡◌, ◌++◌, IfOk, OnOk, map, string_bytes};
+ghost use Rattle.just_host.specs.CommandLine.{command_line};
+ghost use Rattle.just_host.specs.View.{command_view};
+
 use crate::config::Config;
+use crate::printed::write_command;
 use crate::settings::Settings;
+use just_syntax::out_of_memory::OutOfMemory;
 use just_value::scope::Scope;
+use std::alloc::Global;
 use std::collections::BTreeMap;
+use std::fmt;
 
 /// A command to be run, and all that it is run with.
 #[derive(Clone, Copy)]
@@ -22,4 +30,60 @@ pub struct CommandQuestion<'src, 'run, 'question> {
     pub unexports: &'run [String],
     /// The directory that the command is run in.
     pub working_directory: &'question str,
+}
+
+impl CommandQuestion<'_, '_, '_> {
+    /// The words that the command is run with, the program first: the shell, its arguments, the command, and behind it the
+    /// arguments where it takes some. `takes_shell_name` says whether the shell takes a name for itself before these, as `sh`
+    /// does behind `-c`; then that is the command once more, also where the arguments are none. The words are lent. Upstream's
+    /// `Evaluator::run_command` makes them.
+    ///
+    /// # Errors
+    ///
+    /// `OutOfMemory`, where memory was asked for and refused: nothing is made.
+    pub fn command_line(
+        &self,
+        alloc: Global,
+        takes_shell_name: bool,
+    ) -> Result<Vec<&str>, OutOfMemory>
+        ensures { IfOk result (λ words. map (λ word. word.now) words.items ≡ command_line takes_shell_name (command_view self.now)) }
+    {
+        let (shell, arguments) = self.settings.shell(alloc, self.config)?;
+        let mut words = Vec::new(alloc);
+        words.push(shell)?;
+        words.extend_from_slice(&arguments)?;
+        words.push(self.command)?;
+        if let Some(arguments) = self.arguments {
+            if takes_shell_name {
+                words.push(self.command)?;
+            }
+            add_texts(&mut words, arguments)?;
+        }
+        Ok(words)
+    }
+}
+
+// Adds texts, lent.
+fn add_texts<'text>(words: &mut Vec<&'text str>, texts: &'text [String]) -> Result<(), OutOfMemory>
+    ensures { OnOk result (map (λ word. word.now) words.new.items ≡ map (λ word. word.now) words.old.items ++ map string_bytes texts.now) }
+{
+    for text in texts {
+        words.push(text)?;
+    }
+    Ok(())
+}
+
+// The command and its arguments, where it takes some, as `command "a" "b"`.
+impl fmt::Display for CommandQuestion<'_, '_, '_> {
+    ghost use Rattle.std.specs.Prelude.{Some};
+    ghost use Rattle.just_host.specs.Printed.{printed};
+    ghost use Rattle.just_host.specs.View.{question_view};
+
+    ghost output = { λ question. Some (printed (question_view question).blind) };
+
+    ghost styled_output = { λ question _. Some (printed (question_view question).blind) };
+
+    fn fmt<W: fmt::Write>(&self, f: &mut fmt::Formatter<W>) -> fmt::Result {
+        write_command(f, self.command, self.arguments)
+    }
 }

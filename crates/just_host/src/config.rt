@@ -1,5 +1,12 @@
 // How the program was called.
 
+ghost use Rattle.std.specs.Prelude.{◌≡◌, IfOk};
+ghost use Rattle.just_host.specs.Settings.{called_in};
+ghost use Rattle.just_host.specs.View.{config_view};
+
+use just_syntax::out_of_memory::OutOfMemory;
+use std::alloc::Global;
+
 /// How the program was called.
 #[derive(Debug, Drop)]
 pub struct Config {
@@ -17,4 +24,26 @@ pub struct Config {
     pub shell_args: Option<Vec<String>>,
     /// It is kept, and nothing here reads it.
     pub shell_command: bool,
+}
+
+impl Config {
+    /// The program called in a directory, with nothing said of how: commands are run, as many recipes at once as may be, what
+    /// commands write to standard error is shown, and the shell is the one that is set.
+    ///
+    /// # Errors
+    ///
+    /// `OutOfMemory`, where the path cannot be copied: nothing is made.
+    pub fn new(alloc: Global, invocation_directory: &str) -> Result<Config, OutOfMemory>
+        ensures { IfOk result (λ config. config_view config ≡ called_in invocation_directory.now) }
+    {
+        Ok(Config {
+            dry_run: false,
+            invocation_directory: String::from_str(alloc, invocation_directory)?,
+            jobs: None,
+            quiet: false,
+            shell: None,
+            shell_args: None,
+            shell_command: false,
+        })
+    }
 }

@@ -1,5 +1,10 @@
 // The directories that a host is asked for.
 
+ghost use Rattle.std.specs.Prelude.{◌≡◌};
+ghost use Rattle.just_host.specs.Printed.{directory_word};
+
+use std::fmt;
+
 /// A directory that the system keeps for its user.
 #[derive(Clone, Copy, Debug, PartialEq, Eq)]
 pub enum DirectoryKind {
@@ -15,4 +20,37 @@ pub enum DirectoryKind {
     Home,
     /// Files that last as long as the user is there.
     Runtime,
+}
+
+impl DirectoryKind {
+    /// The word for it: `cache`, `config`, `local config`, `data`, `local data`, `executable`, `home` or `runtime`. It takes no
+    /// memory.
+    pub fn word(self) -> &'static str
+        ensures { result.now ≡ directory_word self }
+    {
+        match self {
+            DirectoryKind::Cache => "cache",
+            DirectoryKind::Config => "config",
+            DirectoryKind::ConfigLocal => "local config",
+            DirectoryKind::Data => "data",
+            DirectoryKind::DataLocal => "local data",
+            DirectoryKind::Executable => "executable",
+            DirectoryKind::Home => "home",
+            DirectoryKind::Runtime => "runtime",
+        }
+    }
+}
+
+// Its word.
+impl fmt::Display for DirectoryKind {
+    ghost use Rattle.std.specs.Prelude.{Some};
+    ghost use Rattle.just_host.specs.Printed.{directory_word};
+
+    ghost output = { λ kind. Some (directory_word kind) };
+
+    ghost styled_output = { λ kind _. Some (directory_word kind) };
+
+    fn fmt<W: fmt::Write>(&self, f: &mut fmt::Formatter<W>) -> fmt::Result {
+        f.write_str(self.word())
+    }
 }

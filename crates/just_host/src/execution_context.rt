@@ -14,6 +14,9 @@ use just_value::scope::Scope;
 use std::alloc::Global;
 use std::collections::{BTreeMap, HashMap};
 
+/// How many calls may be pending, and one more, where nothing else is said.
+pub const RECURSION_LIMIT: usize = 100;
+
 /// What stays the same while a module is evaluated.
 #[derive(Clone, Copy)]
 pub struct ExecutionContext<'src, 'run> {
@@ -30,8 +33,34 @@ pub struct ExecutionContext<'src, 'run> {
 }
 
 impl<'src, 'run> ExecutionContext<'src, 'run> {
-    /// The directory that commands are run in: the module's own for a submodule, else that of the search,
-    /// joined with the one that is set.
+    /// What these come to, under a recursion limit of [`RECURSION_LIMIT`]. It takes no memory.
+    pub fn new(
+        config: &'run Config,
+        dotenv: &'run BTreeMap<String, String>,
+        module: &'run Justfile<'src>,
+        overrides: &'run HashMap<Number, String>,
+        scope: &'run Scope<'src, 'run>,
+        search: &'run Search,
+    ) -> ExecutionContext<'src, 'run>
+        ensures { result ≡ record { config = config.entry; dotenv = dotenv.entry; «module» = «module».entry; overrides = overrides.entry; recursion_limit = RECURSION_LIMIT; scope = scope.entry; search = search.entry } }
+    {
+        ExecutionContext {
+            config,
+            dotenv,
+            module,
+            overrides,
+            recursion_limit: RECURSION_LIMIT,
+            scope,
+            search,
+        }
+    }
+
+    /// The directory that commands are run in: the module's own for a submodule, else that of the search, joined with the one
+    /// that is set. Upstream's `ExecutionContext::working_directory`.
+    ///
+    /// # Errors
+    ///
+    /// `OutOfMemory`, where memory was asked for and refused: nothing is made.
     pub fn working_directory(&self, alloc: Global) -> Result<String, OutOfMemory>
         ensures { IfOk result (λ text. string_bytes text ≡ working_directory (fixed_view self.now)) }
     {

@@ -19,23 +19,37 @@ pub const STACK_ROOM: usize = 15 * 512 * 1024;
 ///
 /// `step` tells which answers a host may give: from a state, a question may get an answer and leave the host
 /// in another state. It sees plain texts and numbers, and of a command's scope its frames, innermost first.
-/// Each call is one step. A host that has no memory for an answer says so by the answer.
+/// Each call is one step. A host that has no memory for an answer says so by the answer, and what that leaves is its affair.
 pub trait Host {
     ghost step: { Self → Question → Answer → Self → Type 0 };
 
     /// Runs a command and gives what it wrote, which is taken as it stands, or why there is no text.
+    ///
+    /// # Errors
+    ///
+    /// `Code` with the status that the command failed with; `Fault` where it could not be run, or where what it wrote is no
+    /// text; `OutOfMemory` where there is no memory for the answer. Each is a step too, and the command may have been run.
     fn command(&mut self, alloc: Global, question: &CommandQuestion) -> Result<String, CommandFault>
         ensures { step self.old (question_view question.now) (replied result) self.new };
 
-    /// Gives the text that a question is for, or why there is none.
+    /// Gives the text that a question is for, or why there is none: `Absent`, `NotText`, `Fault`, or `OutOfMemory` where there
+    /// is no memory for the answer. Each is a step too.
     fn text(&mut self, alloc: Global, question: TextQuestion) -> TextAnswer
         ensures { step self.old (text_question question.entry) (text_replied result) self.new };
 
     /// Tells whether something stands at a path. What cannot be found out is not there.
+    ///
+    /// # Errors
+    ///
+    /// `OutOfMemory`, where there is no memory to find it out. That is a step too.
     fn exists(&mut self, alloc: Global, path: &str) -> Result<bool, OutOfMemory>
         ensures { step self.old (existence_question path.now) (found result) self.new };
 
     /// Gives the number that a question is for.
+    ///
+    /// # Errors
+    ///
+    /// `OutOfMemory`, where there is no memory to find it out. That is a step too.
     fn number(&mut self, alloc: Global, question: NumberQuestion) -> Result<u64, OutOfMemory>
         ensures { step self.old (number_question question) (numbered result) self.new };
 

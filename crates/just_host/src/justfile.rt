@@ -1,12 +1,16 @@
 // Modules.
 
-ghost use Rattle.std.specs.Prelude.{◌≡◌};
+ghost use Rattle.std.specs.Prelude.{◌≡◌, IfOk};
+ghost use Rattle.just_host.specs.Justfile.{empty_root};
+ghost use Rattle.just_host.specs.View.{justfile_view};
 
 use crate::settings::Settings;
 use just_syntax::assignment::Assignment;
 use just_syntax::function_definition::FunctionDefinition;
 use just_syntax::name::Name;
+use just_syntax::out_of_memory::OutOfMemory;
 use just_syntax::table::Table;
+use std::alloc::Global;
 
 /// A resolved module.
 #[derive(Drop)]
@@ -26,8 +30,34 @@ pub struct Justfile<'src> {
     pub working_directory: String,
 }
 
-impl Justfile<'_> {
-    /// Whether it is a module within another.
+impl<'src> Justfile<'src> {
+    /// A root module with nothing in it, which sets nothing: read from the file at the path `source`, and working in a
+    /// directory. An assignment that is put into its table is evaluated once its name stands in the order too.
+    ///
+    /// # Errors
+    ///
+    /// `OutOfMemory`, where a path cannot be copied: nothing is made.
+    pub fn new(
+        alloc: Global,
+        source: &str,
+        working_directory: &str,
+    ) -> Result<Justfile<'src>, OutOfMemory>
+        ensures { IfOk result (λ «module». justfile_view «module» ≡ empty_root source.now working_directory.now) }
+    {
+        Ok(Justfile {
+            assignments: Table::new(alloc),
+            evaluation_order: Vec::new(alloc),
+            functions: Table::new(alloc),
+            module_path: String::new(alloc),
+            settings: Settings::new(alloc),
+            source: String::from_str(alloc, source)?,
+            submodule: false,
+            unexports: Vec::new(alloc),
+            working_directory: String::from_str(alloc, working_directory)?,
+        })
+    }
+
+    /// Whether it is a module within another. Upstream's `Justfile::is_submodule`.
     pub fn is_submodule(&self) -> bool
         ensures { result ≡ self.now.submodule }
     {

@@ -1,5 +1,7 @@
 // Questions that a number answers.
 
+use std::fmt;
+
 /// A question that a number answers.
 #[derive(Clone, Copy, Debug, PartialEq, Eq)]
 pub enum NumberQuestion {
@@ -7,4 +9,22 @@ pub enum NumberQuestion {
     ProcessId,
     /// How many processors there are to run on.
     Cpus,
+}
+
+// `number process_id` or `number cpus`.
+impl fmt::Display for NumberQuestion {
+    ghost use Rattle.std.specs.Prelude.{Some};
+    ghost use Rattle.just_host.specs.Printed.{printed};
+    ghost use Rattle.just_host.specs.Question.{NumberOf};
+
+    ghost output = { λ question. Some (printed (NumberOf question)) };
+
+    ghost styled_output = { λ question _. Some (printed (NumberOf question)) };
+
+    fn fmt<W: fmt::Write>(&self, f: &mut fmt::Formatter<W>) -> fmt::Result {
+        match self {
+            NumberQuestion::ProcessId => f.write_str("number process_id"),
+            NumberQuestion::Cpus => f.write_str("number cpus"),
+        }
+    }
 }

@@ -8,10 +8,14 @@ ghost use Rattle.just_host.specs.View.{pairs_view, question_view, recorded_view,
 use crate::command_question::CommandQuestion;
 use crate::directory_kind::DirectoryKind;
 use crate::number_question::NumberQuestion;
+use crate::printed::{write_command, write_text_question};
 use crate::text_question::TextQuestion;
 use just_syntax::out_of_memory::OutOfMemory;
+use just_syntax::unstyled::write_unstyled;
+use just_value::element::Element;
 use std::alloc::Global;
 use std::collections::BTreeMap;
+use std::fmt;
 
 /// What a [`Recorder`](crate::recorder::Recorder) keeps of a question: what it asked for, and not the scope that it showed
 /// nor what stays the same in a run.
@@ -78,8 +82,36 @@ impl Recorded {
     }
 }
 
+// What was asked for, as the question prints it.
+impl fmt::Display for Recorded {
+    ghost use Rattle.std.specs.Prelude.{Some};
+    ghost use Rattle.just_host.specs.Printed.{kept_printed};
+    ghost use Rattle.just_host.specs.View.{recorded_view};
+
+    ghost output = { λ recorded. Some (kept_printed (recorded_view recorded)) };
+
+    ghost styled_output = { λ recorded _. Some (kept_printed (recorded_view recorded)) };
+
+    fn fmt<W: fmt::Write>(&self, f: &mut fmt::Formatter<W>) -> fmt::Result {
+        match self {
+            Recorded::Command {
+                command,
+                arguments: Some(arguments),
+                env: _,
+            } => write_command(f, command, Some(arguments)),
+            Recorded::Command { command, .. } => write_command(f, command, None),
+            Recorded::Text { kind, text } => write_text_question(f, *kind, text),
+            Recorded::Exists(path) => {
+                let path = Element(path);
+                write_unstyled(f, format_args!("exists {path}"))
+            }
+            Recorded::Number(question) => write_unstyled(f, question),
+        }
+    }
+}
+
 // A question without what it holds.
-fn kind_of(question: TextQuestion) -> TextKind
+pub(crate) fn kind_of(question: TextQuestion) -> TextKind
     ensures { result ≡ kind_of (text_question_view question.entry) }
 {
     match question {
@@ -96,7 +128,7 @@ fn kind_of(question: TextQuestion) -> TextKind
 }
 
 // The variable, path or name of a question, and the empty text where it has none.
-fn text_of(question: TextQuestion<'_>) -> &str
+pub(crate) fn text_of(question: TextQuestion<'_>) -> &str
     ensures { result.now ≡ text_of (text_question_view question.entry) }
 {
     match question {

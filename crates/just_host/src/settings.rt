@@ -51,8 +51,8 @@ pub struct Settings {
 }
 
 impl Settings {
-    /// What a module sets that sets nothing: each flag is false, each value has no element, and all else is
-    /// absent. It takes no memory.
+    /// What a module sets that sets nothing: each flag is false, each value has no element, and all else is absent. It takes no
+    /// memory. Upstream's `Settings::default`.
     pub fn new(alloc: Global) -> Settings
         ensures { settings_view result ≡ unset }
     {
@@ -88,9 +88,13 @@ impl Settings {
         }
     }
 
-    /// The shell and its arguments. Where the program was called with one of them or both, these, the one that is
-    /// missing being `sh` or `-cu`; else those that the module sets; else `sh -cu`. What is set for Windows is
-    /// kept and not read.
+    /// The shell and its arguments. Where the program was called with one of them or both, these, the one that is missing being
+    /// `sh` or `-cu`; else those that the module sets; else `sh -cu`. What is set for Windows is kept and not read. The texts
+    /// are lent. Upstream's `Settings::shell`, off Windows.
+    ///
+    /// # Errors
+    ///
+    /// `OutOfMemory`, where memory was asked for and refused: nothing is made.
     pub fn shell<'a>(
         &'a self,
         alloc: Global,

@@ -1,6 +1,9 @@
 // Questions that a text answers.
 
 use crate::directory_kind::DirectoryKind;
+use crate::printed::write_text_question;
+use crate::recorded::{kind_of, text_of};
+use std::fmt;
 
 /// A question that a text answers.
 #[derive(Clone, Copy, Debug, PartialEq, Eq)]
@@ -26,4 +29,20 @@ pub enum TextQuestion<'question> {
     Os,
     /// The name of the family that the operating system is of.
     OsFamily,
+}
+
+// Its kind, and the variable, the directory, the path or the name, as `variable "a"`. Of `Which` the directory is not told.
+impl fmt::Display for TextQuestion<'_> {
+    ghost use Rattle.std.specs.Prelude.{Some};
+    ghost use Rattle.just_host.specs.Printed.{printed};
+    ghost use Rattle.just_host.specs.Question.{TextOf};
+    ghost use Rattle.just_host.specs.View.{text_question_view};
+
+    ghost output = { λ question. Some (printed (TextOf (text_question_view question))) };
+
+    ghost styled_output = { λ question _. Some (printed (TextOf (text_question_view question))) };
+
+    fn fmt<W: fmt::Write>(&self, f: &mut fmt::Formatter<W>) -> fmt::Result {
+        write_text_question(f, kind_of(*self), text_of(*self))
+    }
 }

@@ -1,24 +1,23 @@
 // Names, shapes, and what the built-in functions answer.
 
+mod answers;
 mod around;
 mod names;
 mod questions;
 mod rows;
 mod scripted;
-mod silent;
 
+use answers::{ANSWERS, Answers};
 use around::{Around, answer, asked_and_answered, name};
-use just_builtins::function::{get, is_left_out};
+use just_builtins::function::{functions, get, is_left_out};
 use just_builtins::path;
 use names::NAMES;
-use questions::{
-    COMMANDS, DIRECTORIES, DRY_COMMANDS, EXECUTABLES, FILES, FILES_WITH_LISTS, Question, SYSTEM,
-    VARIABLES,
-};
+use questions::{COMMANDS, DRY_COMMANDS, FILES, FILES_WITH_LISTS, NUMBERS, Question, VARIABLES};
 use rows::{
     CALLS, CALLS_WITHOUT_LISTS, IN_NO_FILE, OTHER_SURROUNDINGS, Row, SHAPES, SURROUNDINGS,
     WITHOUT_A_PARENT,
 };
+use scripted::Given;
 use std::alloc::Global;
 use std::process::Abort;
 use std::test::Fail;
@@ -29,6 +28,22 @@ fn each_name(rt: HostRuntime) {
         for name in *names {
             assert_eq!(rt; get(name), *function, "{name}");
             assert_eq!(rt; is_left_out(name), *left_out, "{name}");
+        }
+    }
+}
+
+#[test]
+fn all_names(rt: HostRuntime) {
+    assert_eq!(rt; functions().len(), 77);
+    for (function, _, names) in NAMES {
+        for name in *names {
+            let mut found = None;
+            for (other, stands_for) in functions() {
+                if other == name {
+                    found = Some(*stands_for);
+                }
+            }
+            assert_eq!(rt; found, *function, "{name}");
         }
     }
 }
@@ -90,11 +105,47 @@ fn compare_questions_of(
     compare_questions(rt, alloc, &Around::new(alloc, lists)?, rows)
 }
 
+// Compares what a function makes of each kind of answer with what is wanted.
+fn compare_answers(
+    rt: &impl Abort,
+    alloc: Global,
+    around: &Around,
+    row: &Answers,
+) -> Result<(), Fail> {
+    let (function, arguments, asked, [absent, not_text, fault]) = *row;
+    compare_questions(
+        rt,
+        alloc,
+        around,
+        &[
+            (function, arguments, Given::Text("/t"), asked, "/t"),
+            (function, arguments, Given::Absent, asked, absent),
+            (function, arguments, Given::NotText("x"), asked, not_text),
+            (function, arguments, Given::Fault("m"), asked, fault),
+            (
+                function,
+                arguments,
+                Given::OutOfMemory,
+                asked,
+                "OutOfMemory",
+            ),
+        ],
+    )
+}
+
 #[test]
-fn system(rt: HostRuntime) -> Result<(), Fail> {
+fn each_kind_of_answer(rt: HostRuntime) -> Result<(), Fail> {
     let alloc = rt.alloc();
-    compare_questions_of(&rt, alloc, true, SYSTEM)?;
-    compare_questions_of(&rt, alloc, true, DIRECTORIES)
+    let around = Around::new(alloc, true)?;
+    for row in ANSWERS {
+        compare_answers(&rt, alloc, &around, row)?;
+    }
+    Ok(())
+}
+
+#[test]
+fn numbers(rt: HostRuntime) -> Result<(), Fail> {
+    compare_questions_of(&rt, rt.alloc(), true, NUMBERS)
 }
 
 #[test]
@@ -102,12 +153,6 @@ fn files(rt: HostRuntime) -> Result<(), Fail> {
     let alloc = rt.alloc();
     compare_questions_of(&rt, alloc, false, FILES)?;
     compare_questions_of(&rt, alloc, true, FILES_WITH_LISTS)
-}
-
-#[test]
-fn executables(rt: HostRuntime) -> Result<(), Fail> {
-    let alloc = rt.alloc();
-    compare_questions_of(&rt, alloc, true, EXECUTABLES)
 }
 
 #[test]

@@ -1,14 +1,18 @@
 // Directories, faults, shells and hosts.
 
+mod echo_host;
 mod map_host;
 mod watched;
 
+use echo_host::EchoHost;
+use just_host::ask::ask_command;
 use just_host::config::Config;
 use just_host::directory_kind::DirectoryKind;
 use just_host::execution_context::ExecutionContext;
 use just_host::fault::fault_text;
 use just_host::host::Host;
 use just_host::justfile::Justfile;
+use just_host::no_host::NoHost;
 use just_host::number_question::NumberQuestion;
 use just_host::search::Search;
 use just_host::settings::Settings;
@@ -17,7 +21,6 @@ use just_host::text_question::TextQuestion;
 use just_syntax::interpreter::Interpreter;
 use just_syntax::number::Number;
 use just_syntax::out_of_memory::OutOfMemory;
-use just_syntax::table::Table;
 use just_value::error::CommandFault;
 use just_value::scope::Scope;
 use map_host::{MapHost, written};
@@ -44,35 +47,16 @@ fn faults(rt: HostRuntime) -> Result<(), Fail> {
     Ok(())
 }
 
-fn config(alloc: Global) -> Config {
-    Config {
-        dry_run: false,
-        invocation_directory: String::new(alloc),
-        jobs: None,
-        quiet: false,
-        shell: None,
-        shell_args: None,
-        shell_command: false,
-    }
-}
-
 // A module with nothing in it, in the directory `/module`.
 pub(crate) fn module<'src>(
     alloc: Global,
     submodule: bool,
     settings: Settings,
 ) -> Result<Justfile<'src>, OutOfMemory> {
-    Ok(Justfile {
-        assignments: Table::new(alloc),
-        evaluation_order: Vec::new(alloc),
-        functions: Table::new(alloc),
-        module_path: String::new(alloc),
-        settings,
-        source: String::from_str(alloc, "/module/justfile")?,
-        submodule,
-        unexports: Vec::new(alloc),
-        working_directory: String::from_str(alloc, "/module")?,
-    })
+    let mut module = Justfile::new(alloc, "/module/justfile", "/module")?;
+    module.settings = settings;
+    module.submodule = submodule;
+    Ok(module)
 }
 
 // What a context lends, but for its module and scope.
@@ -87,13 +71,10 @@ pub(crate) struct Around {
 impl Around {
     pub(crate) fn new(alloc: Global) -> Result<Around, OutOfMemory> {
         Ok(Around {
-            config: config(alloc),
+            config: Config::new(alloc, "/called/here")?,
             dotenv: BTreeMap::new(alloc),
             overrides: HashMap::new(alloc),
-            search: Search {
-                justfile: String::from_str(alloc, "/work/justfile")?,
-                working_directory: String::from_str(alloc, "/work")?,
-            },
+            search: Search::new(alloc, "/work/justfile", "/work")?,
         })
     }
 
@@ -187,7 +168,7 @@ fn shells(rt: HostRuntime) -> Result<(), Fail> {
         (Some("lol"), Some(nice), none, true, ("lol", "-nice")),
         (Some("lol"), None, nope, false, ("lol", "-cu")),
     ] {
-        let mut config = config(alloc);
+        let mut config = Config::new(alloc, "")?;
         config.shell = match shell {
             Some(text) => Some(String::from_str(alloc, text)?),
             None => None,
@@ -299,6 +280,79 @@ fn other_answers_from_a_map(rt: HostRuntime) -> Result<(), Fail> {
     }
     assert_eq!(rt; host.number(alloc, NumberQuestion::Cpus)?, 1);
     assert!(rt; host.was_asked);
+    Ok(())
+}
+
+// What a host answers to a command, its fault in its place.
+fn answer_to<H: Host>(
+    rt: &impl Abort,
+    alloc: Global,
+    host: &mut H,
+    command: &str,
+) -> Result<String, OutOfMemory> {
+    let around = Around::new(alloc)?;
+    let scope = Scope::root(alloc, &[])?;
+    answer_in(
+        rt,
+        alloc,
+        host,
+        &around,
+        &scope,
+        Settings::new(alloc),
+        (command, None),
+    )
+}
+
+// What a host answers to a command and its arguments under these settings, its fault in its place.
+pub(crate) fn answer_in<H: Host>(
+    rt: &impl Abort,
+    alloc: Global,
+    host: &mut H,
+    around: &Around,
+    scope: &Scope,
+    settings: Settings,
+    (command, arguments): (&str, Option<&[String]>),
+) -> Result<String, OutOfMemory> {
+    let module = module(alloc, false, settings)?;
+    let context = around.context(&module, scope);
+    let env = BTreeMap::new(alloc);
+    assert!(rt; !context.config.dry_run);
+    match ask_command(alloc, host, &context, &env, scope, command, arguments) {
+        Ok(text) => Ok(text),
+        Err(fault) => fault_text(alloc, &fault),
+    }
+}
+
+// A host that answers nothing, or commands alone, answers a command so, and nothing else.
+fn answers_commands_alone<H: Host>(
+    rt: &impl Abort,
+    alloc: Global,
+    host: &mut H,
+    answer: &str,
+) -> Result<(), OutOfMemory> {
+    assert_eq!(rt; answer_to(rt, alloc, host, "date")?.as_str(), answer);
+    for question in [
+        TextQuestion::Variable("HOME"),
+        TextQuestion::Read("/work/notes"),
+        TextQuestion::Executable,
+    ] {
+        assert!(rt;
+            matches!(host.text(alloc, question), TextAnswer::Absent),
+            "{question:?}"
+        );
+    }
+    assert!(rt; !host.exists(alloc, "/")?);
+    for question in [NumberQuestion::ProcessId, NumberQuestion::Cpus] {
+        assert_eq!(rt; host.number(alloc, question)?, 0, "{question:?}");
+    }
+    Ok(())
+}
+
+#[test]
+fn no_answer(rt: HostRuntime) -> Result<(), Fail> {
+    let alloc = rt.alloc();
+    answers_commands_alone(&rt, alloc, &mut NoHost, "commands are not run")?;
+    answers_commands_alone(&rt, alloc, &mut EchoHost, "date")?;
     Ok(())
 }
 

@@ -5,6 +5,10 @@
 #[cfg(test)]
 mod builtins;
 #[cfg(test)]
+mod contexts;
+#[cfg(test)]
 mod host;
+#[cfg(test)]
+mod questions;
 #[cfg(test)]
 mod sizes;

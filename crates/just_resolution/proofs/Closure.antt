@@ -4,14 +4,14 @@ use Rattle.std.specs.Option.{option_to_list}
 use Rattle.std.proofs.lemmas.List.{map-append}
 use Rattle.just_resolution.specs.Seen.{texts}
 use Rattle.std.specs.Str.{bytes_eq}
-use Rattle.std.proofs.lemmas.Bool.{cases_eq, or_cases, or_left, or_right}
+use Rattle.std.proofs.lemmas.Bool.{or_cases, or_left, or_right}
 use Rattle.std.proofs.lemmas.Slice.Eq.{bytes_eq-Decides}
 use Rattle.just_syntax.specs.Plain.{Text, Token, Function, Expr}
-use Rattle.just_resolution.specs.Admitted.{IsAdmitted, ReadsWithin}
-use Rattle.just_resolution.specs.Mentions.{called_names, calls_of, mentions, nothing}
+use Rattle.just_resolution.specs.Admitted.{FindsBeyond, FindsBody, FindsUnreadable, IsAdmitted, ReadsWithin}
+use Rattle.just_resolution.specs.Sites.{called_names, calls_of, sites_in}
 use Rattle.just_meaning.proofs.Reached.{reaches_on}
 use Rattle.just_meaning.specs.Reaches.{VariableOf, CallOf, IsAmong, Reaches, Here, Later, Stands, function_at}
-use Rattle.just_resolution.proofs.Standing.{IsIn, all_called, in_append}
+use Rattle.just_resolution.proofs.Standing.{IsIn, all_called, all_may_be_read, in_append, reads_all, unreadable_alike}
 
 -- a set that holds one name more
 abbrev pub Adds : (Text → Bool) → (Text → Bool) → Text → Type 0
@@ -30,22 +30,25 @@ pub record IsWalked (functions : List Function) (e : Expr) (here readable : ℕ 
   pub calls : (name : Text) (f : Function) → IsTrue (admitted name) → function_at functions name ≡ Some f → (further : Text) (n : ℕ) → Stands f.body (CallOf further n) → IsSettled admitted pending further
   pub reached : (name : Text) → IsIn pending name → Reaches functions e name
 
--- whether a number is a parameter's
-among_cases : (ps : List (Token × ℕ)) (n : ℕ) → IsAmong ps n ⊎ (IsAmong ps n → ⊥)
-among_cases [] n = inr (λ h. h)
-among_cases (p ∷ ps) n =
-    ⊎_elim (λ e. inl (inl e)) (λ e. ⊎_elim (λ k. inl (inr k)) (λ k. inr (λ h. ⊎_elim (λ j. e j) (λ j. k j) h)) (among_cases ps n)) (cases_eq p.1 n)
+-- no own number: what may be read is readable
+pub own_out : (own readable : Bool) → own ≡ false → IsTrue (own || readable) → IsTrue readable
+own_out own readable off h = subst (λ b. (b || readable) ≡ true) off h
 
--- the body of the function that was found decides
-pub body_decided : (o : Option Function) (f : Function) (own readable : ℕ → Bool) (A : Type 0) → o ≡ Some f → ((n : ℕ) → IsTrue (own n) ↔ IsAmong f.parameters n) → A ↔ ((n : ℕ) → Stands f.body (VariableOf (Some n)) → IsTrue (own n || readable n)) →
-    A ↔ ((g : Function) → o ≡ Some g → (n : ℕ) → Stands g.body (VariableOf (Some n)) → IsAmong g.parameters n ⊎ IsTrue (readable n))
-body_decided o f own readable A found owns body = (
-  (λ a g found_g n.
-      let same : f ≡ g = (let e = sym found ∙ found_g in cc) in
-      subst (λ (h : Function). Stands h.body (VariableOf (Some n)) → IsAmong h.parameters n ⊎ IsTrue (readable n)) same
-      (λ s. ⊎_elim (λ k. inl ((owns n).0 k)) (λ r. inr r) (or_cases (own n) (readable n) (body.0 a n s)))),
-  (λ h. body.1 (λ n s. ⊎_elim (λ k. or_left (own n) (readable n) ((owns n).1 k)) (λ r. or_right (own n) (readable n) r) (h f found n s))),
-)
+-- what is found in the body of the function that was found
+pub body_found : (o : Option Function) (f : Function) (own readable : ℕ → Bool) (r : Option Token) → o ≡ Some f → ((n : ℕ) → IsTrue (own n) ↔ IsAmong f.parameters n) → FindsUnreadable (λ n. IsTrue (own n || readable n)) (sites_in f.body) r →
+    FindsBody o (λ n. IsTrue (readable n)) r
+body_found o f own readable r found owns h =
+    subst (λ (p : Option Function). FindsBody p (λ n. IsTrue (readable n)) r) (sym found)
+    (unreadable_alike (λ n. IsTrue (own n || readable n)) (λ n. IsAmong f.parameters n ⊎ IsTrue (readable n))
+    (λ n. (
+      (λ k. ⊎_elim (λ mine. inl ((owns n).0 mine)) (λ other. inr other) (or_cases (own n) (readable n) k)),
+      (λ k. ⊎_elim (λ mine. or_left (own n) (readable n) ((owns n).1 mine)) (λ other. or_right (own n) (readable n) other) k),
+    )) (sites_in f.body) r h)
+
+-- nothing is found in the body of a function: it reads nothing but its parameters and what is readable
+pub body_reads : (o : Option Function) (readable : ℕ → Bool) (r : Option Token) → is_some r ≡ false → FindsBody o (λ n. IsTrue (readable n)) r → (f : Function) → o ≡ Some f → (n : ℕ) → Stands f.body (VariableOf (Some n)) → IsAmong f.parameters n ⊎ IsTrue (readable n)
+body_reads o readable r none h f found =
+    reads_all (λ n. IsAmong f.parameters n ⊎ IsTrue (readable n)) f.body r none (subst (λ (p : Option Function). FindsBody p (λ n. IsTrue (readable n)) r) found h)
 
 module _ (functions : List Function) where
   -- a closed set that holds what an expression calls holds what it reaches
@@ -59,7 +62,7 @@ module _ (functions : List Function) where
     AllReadable = ReadsWithin functions e here readable
 
     -- nothing is admitted yet but what was, and what the expression calls is pending
-    pub begins : (admitted : Text → Bool) (pending : List Text) → IsAdmitted functions readable admitted → pending ≡ called_names (mentions nothing e) → ((n : ℕ) → Stands e (VariableOf (Some n)) → IsTrue (here n)) → IsWalked functions e here readable admitted pending
+    pub begins : (admitted : Text → Bool) (pending : List Text) → IsAdmitted functions readable admitted → pending ≡ called_names (sites_in e) → ((n : ℕ) → Stands e (VariableOf (Some n)) → IsTrue (here n)) → IsWalked functions e here readable admitted pending
     begins admitted pending closed is own = record {
       start = λ name n s. inr (subst (λ names. IsIn names name) (sym is) ((all_called e name).1 (n, s)));
       own = own;
@@ -68,28 +71,32 @@ module _ (functions : List Function) where
       reached = λ name h. let call = (all_called e name).0 (subst (λ names. IsIn names name) is h) in Here call.0 call.1;
     }
 
-    -- a reached function reads nothing but what it may
-    refused_within : (admitted : Text → Bool) (front : List Text) (name : Text) → IsWalked functions e here readable admitted (front ++ name ∷ []) → AllReadable →
-        (f : Function) → function_at functions name ≡ Some f → (n : ℕ) → Stands f.body (VariableOf (Some n)) → IsAmong f.parameters n ⊎ IsTrue (readable n)
-    refused_within admitted front name w all f found n s =
-        ⊎_elim (λ own. inl own)
-        (λ beyond. inr (all.1 n (record { name = name; function = f; reached = w.reached name ((in_append front (name ∷ []) name).1 (inr (inl refl))); found = found; stands = s; beyond = beyond })))
-        (among_cases f.parameters n)
+    -- what is found in the expression itself
+    pub found_at_once : (own : ℕ → Bool) (r : Option Token) → is_some r ≡ true → ((n : ℕ) → own n ≡ false) → FindsUnreadable (λ n. IsTrue (own n || here n)) (sites_in e) r → FindsBeyond functions e here readable r
+    found_at_once own r some none h = by r some
+        (unreadable_alike (λ n. IsTrue (own n || here n)) (λ n. IsTrue (here n)) (λ n. ((λ k. own_out (own n) (here n) (none n) k), (λ k. or_right (own n) (here n) k))) (sites_in e) r h)
+      where
+        by : (q : Option Token) → is_some q ≡ true → FindsUnreadable (λ n. IsTrue (here n)) (sites_in e) q → FindsBeyond functions e here readable q
+        by None some_q k = absurd (let bad : false ≡ true = some_q in cc)
+        by (Some v) some_q k = inl k
 
-    -- the answer, where the expression itself reads something else
-    pub refuses_at_once : (own : ℕ → Bool) (answer : Bool) → answer ≡ false → (answer ≡ true) ↔ ((n : ℕ) → Stands e (VariableOf (Some n)) → IsTrue (own n || here n)) → (false ≡ true) ↔ AllReadable
-    refuses_at_once own answer off decides = (
-      (λ h. absurd (cc)),
-      (λ all. absurd (let h : answer ≡ true = decides.1 (λ n s. or_right (own n) (here n) (all.0 n s)) in cc)),
-    )
+    -- nothing is found in the expression itself
+    pub reads_at_once : (own : ℕ → Bool) (r : Option Token) → is_some r ≡ false → ((n : ℕ) → own n ≡ false) → FindsUnreadable (λ n. IsTrue (own n || here n)) (sites_in e) r → (n : ℕ) → Stands e (VariableOf (Some n)) → IsTrue (here n)
+    reads_at_once own r nothing none h n s = own_out (own n) (here n) (none n) (reads_all (λ k. IsTrue (own k || here k)) e r nothing h n s)
 
-    -- the answer, where the body of a reached function does
-    pub refuses_within : (admitted : Text → Bool) (front pending : List Text) (name : Text) (answer : Bool) → IsWalked functions e here readable admitted pending → pending ≡ front ++ name ∷ [] → answer ≡ false →
-        (answer ≡ true) ↔ ((f : Function) → function_at functions name ≡ Some f → (n : ℕ) → Stands f.body (VariableOf (Some n)) → IsAmong f.parameters n ⊎ IsTrue (readable n)) → (false ≡ true) ↔ AllReadable
-    refuses_within admitted front pending name answer w is off decides = (
-      (λ h. absurd (cc)),
-      (λ all. absurd (let h : answer ≡ true = decides.1 (refused_within admitted front name (subst (IsWalked functions e here readable admitted) is w) all) in cc)),
-    )
+    -- what is found in the body of a function that is reached
+    pub found_within : (admitted : Text → Bool) (front pending : List Text) (name : Text) (r : Option Token) → IsWalked functions e here readable admitted pending → pending ≡ front ++ name ∷ [] → is_some r ≡ true →
+        FindsBody (function_at functions name) (λ n. IsTrue (readable n)) r → FindsBeyond functions e here readable r
+    found_within admitted front pending name r w is some h = by r (function_at functions name) refl some h
+      where
+        reached : Reaches functions e name
+        reached = w.reached name (subst (λ names. IsIn names name) (sym is) ((in_append front (name ∷ []) name).1 (inr (inl refl))))
+
+        by : (q : Option Token) (o : Option Function) → function_at functions name ≡ o → is_some q ≡ true → FindsBody o (λ n. IsTrue (readable n)) q → FindsBeyond functions e here readable q
+        by None o found some_q k = absurd (let bad : false ≡ true = some_q in cc)
+        by (Some v) None found some_q k = absurd (let bad : Some v ≡ None = k in cc)
+        by (Some v) (Some f) found some_q k =
+            inr ((all_may_be_read (λ n. IsTrue (here n)) e).1 w.own, record { name = name; function = f; reached = reached; found = found; first = k })
 
     module _ (admitted next_admitted : Text → Bool) (front next : List Text) (name : Text) (w : IsWalked functions e here readable admitted (front ++ name ∷ [])) (adds : Adds admitted next_admitted name) (kept : (t : Text) → IsIn front t → IsIn next t) where
       settled_on : (t : Text) → IsSettled admitted (front ++ name ∷ []) t → IsSettled next_admitted next t
@@ -155,7 +162,7 @@ module _ (functions : List Function) where
 -- for each function that is not admitted, what it calls, and one more
 abbrev pub work : List Function → (Text → Bool) → ℕ
 work [] admitted = 0
-work (f ∷ fs) admitted = cond (admitted f.name.lexeme) 0 (suc (length (called_names (mentions nothing f.body)))) + work fs admitted
+work (f ∷ fs) admitted = cond (admitted f.name.lexeme) 0 (suc (length (called_names (sites_in f.body)))) + work fs admitted
 
 module _ (admitted next : Text → Bool) (kept : (t : Text) → IsTrue (admitted t) → IsTrue (next t)) where
   part_kept : (a b : Bool) (w : ℕ) → (IsTrue a → IsTrue b) → cond b 0 w ≤ cond a 0 w
@@ -167,7 +174,7 @@ module _ (admitted next : Text → Bool) (kept : (t : Text) → IsTrue (admitted
   pub work_kept : (fs : List Function) → work fs next ≤ work fs admitted
   work_kept [] = omega arith
   work_kept (f ∷ fs) =
-      let here = part_kept (admitted f.name.lexeme) (next f.name.lexeme) (suc (length (called_names (mentions nothing f.body)))) (kept f.name.lexeme) in
+      let here = part_kept (admitted f.name.lexeme) (next f.name.lexeme) (suc (length (called_names (sites_in f.body)))) (kept f.name.lexeme) in
       let rest = work_kept fs in
       omega (arith, here, rest)
 
@@ -178,21 +185,21 @@ module _ (admitted next : Text → Bool) (kept : (t : Text) → IsTrue (admitted
 
   -- one function more is admitted
   work_falls : (fs : List Function) (name : Text) (f : Function) → function_at fs name ≡ Some f → admitted name ≡ false → next name ≡ true →
-      work fs next + suc (length (called_names (mentions nothing f.body))) ≤ work fs admitted
+      work fs next + suc (length (called_names (sites_in f.body))) ≤ work fs admitted
   work_falls [] name f found off on = absurd (cc)
   work_falls (g ∷ gs) name f found off on = by (bytes_eq name g.name.lexeme) refl found (λ later. work_falls gs name f later off on)
     where
       by : (b : Bool) → bytes_eq name g.name.lexeme ≡ b → cond b (Some g) (function_at gs name) ≡ Some f →
-          (function_at gs name ≡ Some f → work gs next + suc (length (called_names (mentions nothing f.body))) ≤ work gs admitted) → work (g ∷ gs) next + suc (length (called_names (mentions nothing f.body))) ≤ work (g ∷ gs) admitted
+          (function_at gs name ≡ Some f → work gs next + suc (length (called_names (sites_in f.body))) ≤ work gs admitted) → work (g ∷ gs) next + suc (length (called_names (sites_in f.body))) ≤ work (g ∷ gs) admitted
       by true e is again =
           let key : name ≡ g.name.lexeme = (bytes_eq-Decides name g.name.lexeme).0 e in
           let same : g ≡ f = cc in
-          let here = part_falls (admitted g.name.lexeme) (next g.name.lexeme) (suc (length (called_names (mentions nothing g.body)))) (ap admitted (sym key) ∙ off) (ap next (sym key) ∙ on) in
+          let here = part_falls (admitted g.name.lexeme) (next g.name.lexeme) (suc (length (called_names (sites_in g.body)))) (ap admitted (sym key) ∙ off) (ap next (sym key) ∙ on) in
           let rest = work_kept gs in
-          let size : length (called_names (mentions nothing g.body)) ≡ length (called_names (mentions nothing f.body)) = ap (λ (h : Function). length (called_names (mentions nothing h.body))) same in
+          let size : length (called_names (sites_in g.body)) ≡ length (called_names (sites_in f.body)) = ap (λ (h : Function). length (called_names (sites_in h.body))) same in
           omega (arith, here, rest, size)
       by false e is again =
-          let here = part_kept (admitted g.name.lexeme) (next g.name.lexeme) (suc (length (called_names (mentions nothing g.body)))) (kept g.name.lexeme) in
+          let here = part_kept (admitted g.name.lexeme) (next g.name.lexeme) (suc (length (called_names (sites_in g.body)))) (kept g.name.lexeme) in
           let rest = again is in
           omega (arith, here, rest)
 
@@ -238,7 +245,3 @@ popped = last_popped (λ b. b.now)
 -- there is no name left
 pub emptied : (xs : List (Bor Text)) (r : Option (Bor Text)) → r ≡ None → (0 < length xs → IsSome r) → texts xs ≡ []
 emptied = none_popped (λ b. b.now)
-
--- no own number: what may be read is readable
-pub own_out : (own readable : Bool) → own ≡ false → IsTrue (own || readable) → IsTrue readable
-own_out own readable off h = subst (λ b. (b || readable) ≡ true) off h

@@ -1,4 +1,8 @@
 pub mod Closure
+mod Deciding
+mod Faults
+mod Finding
+mod Numbering
 mod Ordering
 mod Readers
 mod Resolving

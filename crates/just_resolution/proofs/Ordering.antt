@@ -1,20 +1,26 @@
 -- What an order takes, one name after another.
 use Rattle.std.proofs.Common.{◌≡◌, ◌↔◌, ◌⊎◌, inl, inr, ⊎_elim, ℕ, Bool, true, false, cond, List, [], ◌∷◌, ◌++◌, map, Option, Some, None, is_some, Bor, refl, ap, sym, ◌∙◌, subst, IsTrue, IfOk, Result, Ok, Err}
+use Rattle.std.specs.Prelude.{MatchOption, option_map}
 use Rattle.std.proofs.lemmas.Bool.{or_cases, or_left, or_right}
 use Rattle.just_syntax.specs.Keyed.{value_at}
-use Rattle.just_syntax.specs.Plain.{Text, Token, Assignment, Function}
+use Rattle.just_syntax.specs.Plain.{Text, Token, Assignment, Expr, Function}
 use Rattle.just_value.specs.Value.{Value}
 use Rattle.just_value.specs.Frames.{Frames, value_in}
 use Rattle.just_value.specs.View.{frames_view}
 use Rattle.just_value.specs.declared.scope.Scope.{Scope}
-use Rattle.just_resolution.specs.Admitted.{IsAdmitted, IsNumberOf, IsTakenBy, MayFollow, ReadsReadable}
+use Rattle.just_resolution.specs.Admitted.{FindsMisplaced, IsAdmitted, IsNumberOf, IsTakenBy, ReadsReadable}
+use Rattle.just_resolution.specs.Fault.{Fault, IsFaulty, IsMisplaced, IsSound, IsTakenOrBound, MayComeNext, NameOf, ReadsUntaken, name_places}
+use Rattle.just_resolution.specs.First.{Finds}
+use Rattle.just_resolution.specs.Sites.{sites_in}
+use Rattle.just_resolution.specs.Unreadable.{IsUnreadable, IsUnreadableBeyond}
 use Rattle.just_meaning.specs.Assignments.{Assignments, assignment_at}
-use Rattle.just_meaning.specs.Reaches.{Reads}
+use Rattle.just_meaning.specs.Reaches.{IsAmong, Reads}
 use Rattle.just_resolution.specs.Seen.{is_readable, is_taken}
 use Rattle.just_resolution.specs.declared.readable.Readable.{Readable}
-use Rattle.just_meaning.specs.Resolved.{AreAssignments, AreDistinct, AreInOrder, HasValue, IsOneOf, with_taken}
+use Rattle.just_meaning.specs.Resolved.{AreDistinct, HasValue, IsOneOf, with_taken}
 use Rattle.just_syntax.proofs.Tables.{found_is}
-use Rattle.just_resolution.proofs.Standing.{IsIn}
+use Rattle.just_resolution.proofs.Finding.{Leads, leads_off, leads_on}
+use Rattle.just_resolution.proofs.Standing.{IsIn, unreadable_alike}
 
 -- ---- numbers that are distinct
 
@@ -91,17 +97,13 @@ module _ (functions : List Function) (assignments : Assignments) where
   abbrev Changes : (ℕ → Bool) → (ℕ → Bool) → Token → Type 0
   Changes taken next t = (n : ℕ) → IsTrue (next n) ↔ (IsTrue (taken n) ⊎ IsNumberOf assignments t n)
 
-  -- there is no such assignment
-  pub names_none : (t : Token) (readable : ℕ → Bool) → assignment_at assignments t.lexeme ≡ None → (false ≡ true) ↔ MayFollow functions assignments readable t
-  names_none t readable none = ((λ h. absurd (cc)), (λ m. absurd (let e : None ≡ Some m.0.0 = sym none ∙ m.0.1 in cc)))
-
   module _ (t : Token) (a : Assignment) (found : assignment_at assignments t.lexeme ≡ Some a) where
     is_the_one : (b : Assignment) → assignment_at assignments t.lexeme ≡ Some b → a ≡ b
     is_the_one b found_b = let e = sym found ∙ found_b in cc
 
     -- it decides
-    may_follow_found : (readable : ℕ → Bool) → (assignments.referenced a.number ≡ true → ReadsReadable functions readable a) → MayFollow functions assignments readable t
-    may_follow_found readable reads = (
+    may_come_found : (readable : ℕ → Bool) → (assignments.referenced a.number ≡ true → ReadsReadable functions readable a) → MayComeNext functions assignments (λ n. IsTrue (readable n)) t
+    may_come_found readable reads = (
       (a, found),
       (λ b found_b referenced.
           let one = is_the_one b found_b in
@@ -109,11 +111,8 @@ module _ (functions : List Function) (assignments : Assignments) where
     )
 
     -- it is not referenced
-    pub passed_over : (readable : ℕ → Bool) → assignments.referenced a.number ≡ false → (true ≡ true) ↔ MayFollow functions assignments readable t
-    passed_over readable off = (
-      (λ h. may_follow_found readable (λ on. absurd (let e : false ≡ true = sym off ∙ on in cc))),
-      (λ m. refl),
-    )
+    pub passed_over : (readable : ℕ → Bool) → assignments.referenced a.number ≡ false → MayComeNext functions assignments (λ n. IsTrue (readable n)) t
+    passed_over readable off = may_come_found readable (λ on. absurd (let e : false ≡ true = sym off ∙ on in cc))
 
     pub passed_over_takes_none : (taken : ℕ → Bool) → assignments.referenced a.number ≡ false → Changes taken taken t
     passed_over_takes_none taken off n = (
@@ -123,15 +122,12 @@ module _ (functions : List Function) (assignments : Assignments) where
 
     -- it was taken before
     pub comes_again : (taken readable : ℕ → Bool) (admitted : Text → Bool) → AreDistinct (map (λ v. v.number) assignments.all) → IsTakenBy functions assignments taken readable admitted → IsTrue (taken a.number) →
-        (true ≡ true) ↔ MayFollow functions assignments readable t
-    comes_again taken readable admitted distinct by_now there = (
-      (λ h. may_follow_found readable
-          (λ on n r.
-          let was = by_now.origin a.number there in
-          let same = one_assignment assignments.all distinct was.1 a (found_in was.0 assignments.all was.1 was.2) (found_in t.lexeme assignments.all a found) was.3 in
-          was.4 n (subst (λ (b : Assignment). Reads functions b.value n) (sym same) r))),
-      (λ m. refl),
-    )
+        MayComeNext functions assignments (λ n. IsTrue (readable n)) t
+    comes_again taken readable admitted distinct by_now there = may_come_found readable
+        (λ on n r.
+        let was = by_now.origin a.number there in
+        let same = one_assignment assignments.all distinct was.1 a (found_in was.0 assignments.all was.1 was.2) (found_in t.lexeme assignments.all a found) was.3 in
+        was.4 n (subst (λ (b : Assignment). Reads functions b.value n) (sym same) r))
 
     pub comes_again_takes_none : (taken : ℕ → Bool) → IsTrue (taken a.number) → Changes taken taken t
     comes_again_takes_none taken there n = (
@@ -139,12 +135,11 @@ module _ (functions : List Function) (assignments : Assignments) where
       (λ h. ⊎_elim (λ k. k) (λ k. subst (λ m. taken m ≡ true) (ap (λ (b : Assignment). b.number) (is_the_one k.0 k.1) ∙ k.3) there) h),
     )
 
-    -- it is taken now
-    pub comes_now : (readable : ℕ → Bool) (A : Type 0) → assignments.referenced a.number ≡ true → A ↔ ReadsReadable functions readable a → A ↔ MayFollow functions assignments readable t
-    comes_now readable A on reads = (
-      (λ h. may_follow_found readable (λ referenced. reads.0 h)),
-      (λ m. reads.1 (m.1 a found on)),
-    )
+    -- it is taken now, or reads too early
+    pub comes_now : {A : Type 0} (seen : A → Fault) (readable : ℕ → Bool) (r : Option A) → assignments.referenced a.number ≡ true → MatchOption r (ReadsReadable functions readable a) (λ f. ReadsUntaken functions (λ n. IsTrue (readable n)) a (seen f)) →
+        FindsMisplaced functions assignments readable t (option_map seen r)
+    comes_now seen readable None on h = may_come_found readable (λ referenced. h)
+    comes_now seen readable (Some f) on h = inr (a, found, on, h)
 
     pub comes_now_takes_one : (taken next : ℕ → Bool) → assignments.referenced a.number ≡ true → ((n : ℕ) → IsTrue (next n) ↔ (IsTrue (taken n) ⊎ (a.number ≡ n))) → Changes taken next t
     comes_now_takes_one taken next on adds n = (
@@ -154,26 +149,45 @@ module _ (functions : List Function) (assignments : Assignments) where
 
   -- ---- the order, name by name
 
-  -- A list of what was taken, which holds the same numbers; and the whole order is good exactly if what is left of
-  -- it is.
+  -- A list of what was taken, which holds the same numbers; and what is found in what is left of the order is found in
+  -- the whole order.
   pub record IsWalkedTo (outer : Frames) (taken readable : ℕ → Bool) (admitted : Text → Bool) (left all : List Token) : Type 0 where
     pub by_now : IsTakenBy functions assignments taken readable admitted
     pub readable_if : (n : ℕ) → IsTrue (readable n) ↔ (IsTrue (taken n) ⊎ HasValue (value_in outer) n)
     pub numbers : List ℕ
     pub same : (n : ℕ) → IsOneOf numbers n ↔ IsTrue (taken n)
-    pub decides : (AreAssignments assignments left × AreInOrder functions assignments outer numbers left) ↔ (AreAssignments assignments all × AreInOrder functions assignments outer [] all)
+    pub leads : Leads (IsSound functions assignments outer) (IsFaulty functions assignments outer) (name_places assignments numbers left) (name_places assignments [] all)
 
   module _ (outer : Frames) where
-    abbrev LooksBack : List ℕ → Token → Type 0
-    LooksBack numbers t = (a : Assignment) → assignment_at assignments t.lexeme ≡ Some a → assignments.referenced a.number ≡ true → (n : ℕ) → Reads functions a.value n → IsOneOf numbers n ⊎ HasValue (value_in outer) n
-
-    -- what may follow is the test of the order
-    looks_back : (taken readable : ℕ → Bool) (numbers : List ℕ) (t : Token) → ((n : ℕ) → IsTrue (readable n) ↔ (IsTrue (taken n) ⊎ HasValue (value_in outer) n)) → ((n : ℕ) → IsOneOf numbers n ↔ IsTrue (taken n)) →
-        MayFollow functions assignments readable t ↔ (((a : Assignment) × (assignment_at assignments t.lexeme ≡ Some a)) × LooksBack numbers t)
-    looks_back taken readable numbers t readable_if same = (
-      (λ h. (h.0, λ a found referenced n r. ⊎_elim (λ k. inl ((same n).1 k)) (λ k. inr k) ((readable_if n).0 (h.1 a found referenced n r)))),
-      (λ h. (h.0, λ a found referenced n r. (readable_if n).1 (⊎_elim (λ k. inl ((same n).0 k)) (λ k. inr k) (h.1 a found referenced n r)))),
+    -- what is readable is what was taken or is bound outside
+    taken_or_bound : (taken readable : ℕ → Bool) (numbers : List ℕ) → ((n : ℕ) → IsTrue (readable n) ↔ (IsTrue (taken n) ⊎ HasValue (value_in outer) n)) → ((n : ℕ) → IsOneOf numbers n ↔ IsTrue (taken n)) →
+        (n : ℕ) → IsTrue (readable n) ↔ IsTakenOrBound outer numbers n
+    taken_or_bound taken readable numbers readable_if same n = (
+      (λ h. ⊎_elim (λ k. inl ((same n).1 k)) (λ k. inr k) ((readable_if n).0 h)),
+      (λ h. (readable_if n).1 (⊎_elim (λ k. inl ((same n).0 k)) (λ k. inr k) h)),
     )
+
+    -- where the same is readable, the same may come next, and the same may not
+    next_alike : (P Q : ℕ → Type 0) (t : Token) → ((n : ℕ) → P n ↔ Q n) → MayComeNext functions assignments P t → MayComeNext functions assignments Q t
+    next_alike P Q t same h = (h.0, λ a found referenced n r. (same n).0 (h.1 a found referenced n r))
+
+    beyond_alike : (P Q : ℕ → Type 0) (e : Expr) (v : Token) → ((n : ℕ) → P n ↔ Q n) → IsUnreadableBeyond functions P e v → IsUnreadableBeyond functions Q e v
+    beyond_alike P Q e v same b = record {
+      name = b.name;
+      function = b.function;
+      reached = b.reached;
+      found = b.found;
+      first = unreadable_alike (λ n. IsAmong b.function.parameters n ⊎ P n) (λ n. IsAmong b.function.parameters n ⊎ Q n)
+          (λ n. ((λ h. ⊎_elim (λ k. inl k) (λ k. inr ((same n).0 k)) h), (λ h. ⊎_elim (λ k. inl k) (λ k. inr ((same n).1 k)) h))) (sites_in b.function.body) (Some v) b.first;
+    }
+
+    reads_alike : (P Q : ℕ → Type 0) (e : Expr) (v : Token) → ((n : ℕ) → P n ↔ Q n) → IsUnreadable functions P P e v → IsUnreadable functions Q Q e v
+    reads_alike P Q e v same (inl first) = inl (unreadable_alike P Q same (sites_in e) (Some v) first)
+    reads_alike P Q e v same (inr later) = inr (unreadable_alike P Q same (sites_in e) None later.0, beyond_alike P Q e v same later.1)
+
+    misplaced_alike : (P Q : ℕ → Type 0) (t : Token) (f : Fault) → ((n : ℕ) → P n ↔ Q n) → IsMisplaced functions assignments P t f → IsMisplaced functions assignments Q t f
+    misplaced_alike P Q t f same (inl none) = inl none
+    misplaced_alike P Q t f same (inr r) = inr (r.0, r.1, r.2, (r.3.0, r.3.1, reads_alike P Q r.0.value r.3.0 same r.3.2))
 
     with_one : (o : Option Assignment) (numbers : List ℕ) (n : ℕ) → IsOneOf (with_taken assignments o numbers) n ↔ (IsOneOf numbers n ⊎ ((a : Assignment) × (o ≡ Some a) × (assignments.referenced a.number ≡ true) × (a.number ≡ n)))
     with_one None numbers n = ((λ h. inl h), (λ h. ⊎_elim (λ k. k) (λ k. absurd (let e : None ≡ Some k.0 = k.1 in cc)) h))
@@ -192,41 +206,36 @@ module _ (functions : List Function) (assignments : Assignments) where
     module _ (taken readable : ℕ → Bool) (admitted : Text → Bool) (t : Token) (left all : List Token) (w : IsWalkedTo outer taken readable admitted (t ∷ left) all) where
       -- one name more was taken
       pub walks_on : (next more : ℕ → Bool) (admits : Text → Bool) → IsTakenBy functions assignments next more admits → ((n : ℕ) → IsTrue (more n) ↔ (IsTrue (next n) ⊎ HasValue (value_in outer) n)) →
-          ((n : ℕ) → IsTrue (next n) ↔ (IsTrue (taken n) ⊎ IsNumberOf assignments t n)) → MayFollow functions assignments readable t → IsWalkedTo outer next more admits left all
-      walks_on next more admits by_then more_if number follows =
-          let back = (looks_back taken readable w.numbers t w.readable_if w.same).0 follows in
-          record {
-            by_now = by_then;
-            readable_if = more_if;
-            numbers = with_taken assignments (assignment_at assignments t.lexeme) w.numbers;
-            same = λ n. (
-              (λ h. (number n).1 (⊎_elim (λ k. inl ((w.same n).0 k)) (λ k. inr k) ((with_one (assignment_at assignments t.lexeme) w.numbers n).0 h))),
-              (λ h. (with_one (assignment_at assignments t.lexeme) w.numbers n).1 (⊎_elim (λ k. inl ((w.same n).1 k)) (λ k. inr k) ((number n).0 h))),
-            );
-            decides = (
-              (λ h. w.decides.0 ((back.0, h.0), (back.1, h.1))),
-              (λ h. let before = w.decides.1 h in (before.0.1, before.1.1)),
-            );
-          }
+          ((n : ℕ) → IsTrue (next n) ↔ (IsTrue (taken n) ⊎ IsNumberOf assignments t n)) → MayComeNext functions assignments (λ n. IsTrue (readable n)) t → IsWalkedTo outer next more admits left all
+      walks_on next more admits by_then more_if number follows = record {
+        by_now = by_then;
+        readable_if = more_if;
+        numbers = with_taken assignments (assignment_at assignments t.lexeme) w.numbers;
+        same = λ n. (
+          (λ h. (number n).1 (⊎_elim (λ k. inl ((w.same n).0 k)) (λ k. inr k) ((with_one (assignment_at assignments t.lexeme) w.numbers n).0 h))),
+          (λ h. (with_one (assignment_at assignments t.lexeme) w.numbers n).1 (⊎_elim (λ k. inl ((w.same n).1 k)) (λ k. inr k) ((number n).0 h))),
+        );
+        leads = leads_on (IsSound functions assignments outer) (IsFaulty functions assignments outer) (name_places assignments w.numbers (t ∷ left)) (name_places assignments (with_taken assignments (assignment_at assignments t.lexeme) w.numbers) left) (name_places assignments [] all) w.leads
+            (NameOf t w.numbers) refl (next_alike (λ n. IsTrue (readable n)) (IsTakenOrBound outer w.numbers) t (taken_or_bound taken readable w.numbers w.readable_if w.same) follows);
+      }
 
-      -- a name that may not follow spoils the order
-      pub walks_off : (AreAssignments assignments all × AreInOrder functions assignments outer [] all) → MayFollow functions assignments readable t
-      walks_off h = let before = w.decides.1 h in (looks_back taken readable w.numbers t w.readable_if w.same).1 (before.0.0, before.1.0)
+      -- a name that may not come next is what is found
+      pub walks_off : (f : Fault) → IsMisplaced functions assignments (λ n. IsTrue (readable n)) t f → Finds (IsSound functions assignments outer) (IsFaulty functions assignments outer) (name_places assignments [] all) (Some f)
+      walks_off f bad = leads_off (IsSound functions assignments outer) (IsFaulty functions assignments outer) (name_places assignments w.numbers (t ∷ left)) (name_places assignments (with_taken assignments (assignment_at assignments t.lexeme) w.numbers) left) (name_places assignments [] all) w.leads
+          (NameOf t w.numbers) f refl (misplaced_alike (λ n. IsTrue (readable n)) (IsTakenOrBound outer w.numbers) t f (taken_or_bound taken readable w.numbers w.readable_if w.same) bad)
 
-    -- the answer, where a name may not follow
-    pub spoils : (taken readable : ℕ → Bool) (admitted : Text → Bool) (t : Token) (left start all : List Token) (answer : Bool) → start ≡ t ∷ left → IsWalkedTo outer taken readable admitted start all → answer ≡ false →
-        (answer ≡ true) ↔ MayFollow functions assignments readable t → (false ≡ true) ↔ (AreAssignments assignments all × AreInOrder functions assignments outer [] all)
-    spoils taken readable admitted t left start all answer is w off follows = (
-      (λ h. absurd (cc)),
-      (λ whole. absurd (let e : answer ≡ true = follows.1 (walks_off taken readable admitted t left all (subst (λ l. IsWalkedTo outer taken readable admitted l all) is w) whole) in cc)),
-    )
+    -- what is found, where a name may not come next
+    pub spoils : (taken readable : ℕ → Bool) (admitted : Text → Bool) (t : Token) (left start all : List Token) (r : Option Fault) → start ≡ t ∷ left → IsWalkedTo outer taken readable admitted start all → is_some r ≡ true → FindsMisplaced functions assignments readable t r →
+        Finds (IsSound functions assignments outer) (IsFaulty functions assignments outer) (name_places assignments [] all) r
+    spoils taken readable admitted t left start all None is w some h = absurd (let e : false ≡ true = some in cc)
+    spoils taken readable admitted t left start all (Some f) is w some h = walks_off taken readable admitted t left all (subst (λ l. IsWalkedTo outer taken readable admitted l all) is w) f h
 
-    -- the answer, where all names were walked
-    pub decides_all : (taken readable : ℕ → Bool) (admitted : Text → Bool) (start all : List Token) → start ≡ [] → IsWalkedTo outer taken readable admitted start all →
-        (true ≡ true) ↔ (AreAssignments assignments all × AreInOrder functions assignments outer [] all)
-    decides_all taken readable admitted start all is w =
+    -- nothing is found, where all names were walked
+    pub walked_all : (taken readable : ℕ → Bool) (admitted : Text → Bool) (start all : List Token) → start ≡ [] → IsWalkedTo outer taken readable admitted start all →
+        Finds (IsSound functions assignments outer) (IsFaulty functions assignments outer) (name_places assignments [] all) None
+    walked_all taken readable admitted start all is w =
         let ended = subst (λ l. IsWalkedTo outer taken readable admitted l all) is w in
-        ((λ h. ended.decides.0 (tt, tt)), (λ whole. refl))
+        ended.leads None tt
 
     -- nothing is taken yet
     pub walks_from : (taken readable : ℕ → Bool) (admitted : Text → Bool) (all : List Token) → ((n : ℕ) → taken n ≡ false) → ((name : Text) → admitted name ≡ false) → ((n : ℕ) → IsTrue (readable n) ↔ (IsTrue (taken n) ⊎ HasValue (value_in outer) n)) →
@@ -242,10 +251,15 @@ module _ (functions : List Function) (assignments : Assignments) where
       readable_if = readable_if;
       numbers = [];
       same = λ n. ((λ h. absurd h), (λ h. absurd (let e : false ≡ true = sym (none n) ∙ h in cc)));
-      decides = ((λ h. h), (λ h. h));
+      leads = λ r h. h;
     }
 
 -- ---- results
+
+-- nothing is found: an assignment reads nothing but what is readable
+pub reads_if : {A P : Type 0} (Q : A → Type 0) (r : Option A) → MatchOption r P Q → is_some r ≡ false → P
+reads_if Q None h none = h
+reads_if Q (Some x) h none = absurd (let e : true ≡ false = none in cc)
 
 pub all_three : {X E : Type 0} (r : Result X E) (P Q R S : X → Type 0) → ((x : X) → P x → Q x → R x → S x) → IfOk r P → IfOk r Q → IfOk r R → IfOk r S
 all_three (Ok x) P Q R S f p q s = f x p q s

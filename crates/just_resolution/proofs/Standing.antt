@@ -1,14 +1,19 @@
--- What is mentioned is what stands in an expression.
-use Rattle.std.proofs.Common.{◌≡◌, ◌↔◌, ◌⊎◌, inl, inr, ⊎_elim, ℕ, Bool, true, false, List, [], ◌∷◌, ◌++◌, map, Option, Some, None, is_some, refl, ap, sym, ◌∙◌, subst, IsTrue}
+-- What stands in an expression stands at its sites.
+use Rattle.std.proofs.Common.{◌≡◌, ◌↔◌, ◌⊎◌, inl, inr, ⊎_elim, ℕ, Bool, true, false, List, [], ◌∷◌, ◌++◌, Option, Some, None, is_some, refl, ap, sym, ◌∙◌, subst, IsTrue, append_assoc}
 use Rattle.std.specs.List.{list_all}
 use Rattle.std.proofs.lemmas.Bool.{and_parts, and_from}
-use Rattle.just_syntax.specs.Plain.{Text, Function, Expr, And, Assert, AssertOnly, Backtick, Call, Comparison, Concatenation, Conditional, ConditionalOnly, FormatString, Group, Join, JoinOnly, ListOf, ListConcatenation, Not, Or, StringLiteral, Variable, Exprs, Nil, Cons, count, Pieces, NoPiece, Piece}
-use Rattle.just_resolution.specs.Admitted.{may_stand}
+use Rattle.std.proofs.lemmas.List.{append-nil}
+use Rattle.just_syntax.specs.Plain.{Text, Token, Function, Expr, And, Assert, AssertOnly, Backtick, Call, Comparison, Concatenation, Conditional, ConditionalOnly, FormatString, Group, Join, JoinOnly, ListOf, ListConcatenation, Not, Or, StringLiteral, Variable, Exprs, Nil, Cons, count, Pieces, NoPiece, Piece}
 use Rattle.just_meaning.specs.Callee.{accepts, callee}
-use Rattle.just_resolution.specs.Mentions.{Mentions, nothing, with_call, with_variable, mentions, mentions_of_row, mentions_of_pieces, called_names}
 use Rattle.just_meaning.proofs.Callees.{callable}
 use Rattle.just_meaning.specs.Reaches.{Mention, VariableOf, CallOf, Stands, StandsIn, StandsInPieces}
-use Rattle.just_meaning.specs.Resolved.{IsKnown, IsNumbered}
+use Rattle.just_meaning.specs.Resolved.{AllKnown, IsKnown, IsNumbered}
+use Rattle.just_resolution.specs.Admitted.{FindsUnreadable, is_numbered, may_stand}
+use Rattle.just_resolution.specs.Fault.{Fault, mention_fault}
+use Rattle.just_resolution.specs.First.{AllSound}
+use Rattle.just_resolution.specs.Sites.{Site, all_sites, called_names, name_called, sites, sites_in, sites_of_row, sites_of_pieces, with_call}
+use Rattle.just_resolution.specs.Unreadable.{AllMayBeRead, MayBeRead}
+use Rattle.just_resolution.proofs.Finding.{finds_alike, sound_append, sound_if}
 
 -- ---- what is in a list
 
@@ -25,24 +30,12 @@ in_append (y ∷ xs) ys x =
       (λ h. ⊎_elim (λ k. ⊎_elim (λ j. inl j) (λ j. inr (rest.1 (inl j))) k) (λ k. inr (rest.1 (inr k))) h),
     )
 
--- a test of each
-all_in : {X : Type 0} (test : X → Bool) (xs : List X) → IsTrue (list_all test xs) ↔ ((x : X) → IsIn xs x → IsTrue (test x))
-all_in test [] = ((λ h x k. absurd k), (λ h. refl))
-all_in test (y ∷ ys) =
-    let rest = all_in test ys in (
-      (λ h x k. let both = and_parts (test y) (list_all test ys) h in ⊎_elim (λ e. ap test (sym e) ∙ both.0) (λ j. rest.0 both.1 x j) k),
-      (λ h. and_from (test y) (list_all test ys) (h y (inl refl)) (rest.1 (λ x k. h x (inr k)))),
-    )
-
 -- ---- what is mentioned, and what stands there
 
-abbrev Mentioned : Mentions → Mention → Type 0
-Mentioned ms (VariableOf number) = IsIn ms.variables number
-Mentioned ms (CallOf name n) = IsIn ms.calls (name, n)
-
-nothing_mentioned : (x : Mention) → Mentioned nothing x → ⊥
-nothing_mentioned (VariableOf number) h = h
-nothing_mentioned (CallOf name n) h = h
+-- it is at one of these sites
+abbrev pub Mentioned : List Site → Mention → Type 0
+Mentioned [] x = ⊥
+Mentioned (s ∷ ss) x = (s.mention ≡ x) ⊎ Mentioned ss x
 
 -- nothing more
 same : {A E : Type 0} → (E → ⊥) → A ↔ (A ⊎ E)
@@ -55,125 +48,185 @@ two p q = (
   (λ s. ⊎_elim (λ c. p.1 (inl (q.1 (inl c)))) (λ t. ⊎_elim (λ l. p.1 (inl (q.1 (inr l)))) (λ r. p.1 (inr r)) t) s),
 )
 
--- one more at the end, in other words
-pushed : {X A : Type 0} (xs : List X) (y x : X) → ((y ≡ x) → A) → (A → (y ≡ x)) → IsIn (xs ++ y ∷ []) x ↔ (IsIn xs x ⊎ A)
-pushed xs y x on back =
-    let all = in_append xs (y ∷ []) x in (
-      (λ h. ⊎_elim (λ k. inl k) (λ k. ⊎_elim (λ e. inr (on e)) (λ j. absurd j) k) (all.0 h)),
-      (λ h. all.1 (⊎_elim (λ k. inl k) (λ a. inr (inl (back a))) h)),
-    )
-
-with_call_mentioned : (x : Mention) (ms : Mentions) (name : Text) (n : ℕ) → Mentioned (with_call ms name n) x ↔ (Mentioned ms x ⊎ (CallOf name n ≡ x))
-with_call_mentioned (VariableOf number) ms name n = same (λ e. let bad : CallOf name n ≡ VariableOf number = e in cc)
-with_call_mentioned (CallOf other k) ms name n = pushed ms.calls (name, n) (other, k) (λ e. ap (λ (c : Text × ℕ). CallOf c.0 c.1) e) (λ e. cc)
-
-with_variable_mentioned : (x : Mention) (ms : Mentions) (number : Option ℕ) → Mentioned (with_variable ms number) x ↔ (Mentioned ms x ⊎ (VariableOf number ≡ x))
-with_variable_mentioned (VariableOf other) ms number = pushed ms.variables number other (λ e. ap VariableOf e) (λ e. cc)
-with_variable_mentioned (CallOf name n) ms number = same (λ e. let bad : VariableOf number ≡ CallOf name n = e in cc)
-
 module _ (x : Mention) where
+  -- one site more at the end
+  one_more : (ss : List Site) (s : Site) → Mentioned (ss ++ s ∷ []) x ↔ (Mentioned ss x ⊎ (s.mention ≡ x))
+  one_more [] s = ((λ h. ⊎_elim (λ e. inr e) (λ k. absurd k) h), (λ h. ⊎_elim (λ k. absurd k) (λ e. inl e) h))
+  one_more (r ∷ ss) s =
+      let rest = one_more ss s in (
+        (λ h. ⊎_elim (λ e. inl (inl e)) (λ k. ⊎_elim (λ j. inl (inr j)) (λ j. inr j) (rest.0 k)) h),
+        (λ h. ⊎_elim (λ k. ⊎_elim (λ e. inl e) (λ j. inr (rest.1 (inl j))) k) (λ e. inr (rest.1 (inr e))) h),
+      )
+
   mutual
-    stands : (e : Expr) (ms : Mentions) → Mentioned (mentions ms e) x ↔ (Mentioned ms x ⊎ Stands e x)
-    stands (And l r) ms = two (stands r (mentions ms l)) (stands l ms)
-    stands (Assert e m t) ms = two (stands m (mentions ms e)) (stands e ms)
-    stands (AssertOnly e t) ms = stands e ms
-    stands (Backtick text t) ms = same (λ h. h)
-    stands (Call t es) ms = two (stands_row es (with_call ms t.lexeme (count es))) (with_call_mentioned x ms t.lexeme (count es))
-    stands (Comparison l o r t) ms = two (stands r (mentions ms l)) (stands l ms)
-    stands (Concatenation l t r) ms = two (stands r (mentions ms l)) (stands l ms)
-    stands (Conditional e a b) ms = two (two (stands b (mentions (mentions ms e) a)) (stands a (mentions ms e))) (stands e ms)
-    stands (ConditionalOnly e a) ms = two (stands a (mentions ms e)) (stands e ms)
-    stands (FormatString start pieces) ms = stands_pieces pieces ms
-    stands (Group e) ms = stands e ms
-    stands (Join l t r) ms = two (stands r (mentions ms l)) (stands l ms)
-    stands (JoinOnly t r) ms = stands r ms
-    stands (ListOf es t) ms = stands_row es ms
-    stands (ListConcatenation l t r) ms = two (stands r (mentions ms l)) (stands l ms)
-    stands (Not e) ms = stands e ms
-    stands (Or l r) ms = two (stands r (mentions ms l)) (stands l ms)
-    stands (StringLiteral literal) ms = same (λ h. h)
-    stands (Variable t number) ms = with_variable_mentioned x ms number
+    stands : (e : Expr) (ss : List Site) → Mentioned (sites ss e) x ↔ (Mentioned ss x ⊎ Stands e x)
+    stands (And l r) ss = two (stands r (sites ss l)) (stands l ss)
+    stands (Assert e m t) ss = two (stands m (sites ss e)) (stands e ss)
+    stands (AssertOnly e t) ss = stands e ss
+    stands (Backtick text t) ss = same (λ h. h)
+    stands (Call t es) ss = two (stands_row es (with_call ss t (count es))) (one_more ss (record { token = t; mention = CallOf t.lexeme (count es) }))
+    stands (Comparison l o r t) ss = two (stands r (sites ss l)) (stands l ss)
+    stands (Concatenation l t r) ss = two (stands r (sites ss l)) (stands l ss)
+    stands (Conditional e a b) ss = two (two (stands b (sites (sites ss e) a)) (stands a (sites ss e))) (stands e ss)
+    stands (ConditionalOnly e a) ss = two (stands a (sites ss e)) (stands e ss)
+    stands (FormatString start pieces) ss = stands_pieces pieces ss
+    stands (Group e) ss = stands e ss
+    stands (Join l t r) ss = two (stands r (sites ss l)) (stands l ss)
+    stands (JoinOnly t r) ss = stands r ss
+    stands (ListOf es t) ss = stands_row es ss
+    stands (ListConcatenation l t r) ss = two (stands r (sites ss l)) (stands l ss)
+    stands (Not e) ss = stands e ss
+    stands (Or l r) ss = two (stands r (sites ss l)) (stands l ss)
+    stands (StringLiteral literal) ss = same (λ h. h)
+    stands (Variable t number) ss = one_more ss (record { token = t; mention = VariableOf number })
 
-    stands_row : (es : Exprs) (ms : Mentions) → Mentioned (mentions_of_row ms es) x ↔ (Mentioned ms x ⊎ StandsIn es x)
-    stands_row Nil ms = same (λ h. h)
-    stands_row (Cons e es) ms = two (stands_row es (mentions ms e)) (stands e ms)
+    stands_row : (es : Exprs) (ss : List Site) → Mentioned (sites_of_row ss es) x ↔ (Mentioned ss x ⊎ StandsIn es x)
+    stands_row Nil ss = same (λ h. h)
+    stands_row (Cons e es) ss = two (stands_row es (sites ss e)) (stands e ss)
 
-    stands_pieces : (pieces : Pieces) (ms : Mentions) → Mentioned (mentions_of_pieces ms pieces) x ↔ (Mentioned ms x ⊎ StandsInPieces pieces x)
-    stands_pieces NoPiece ms = same (λ h. h)
-    stands_pieces (Piece e literal pieces) ms = two (stands_pieces pieces (mentions ms e)) (stands e ms)
+    stands_pieces : (pieces : Pieces) (ss : List Site) → Mentioned (sites_of_pieces ss pieces) x ↔ (Mentioned ss x ⊎ StandsInPieces pieces x)
+    stands_pieces NoPiece ss = same (λ h. h)
+    stands_pieces (Piece e literal pieces) ss = two (stands_pieces pieces (sites ss e)) (stands e ss)
 
--- what was gathered is what stands there
-pub mentioned : (e : Expr) (ms : Mentions) → ms ≡ mentions nothing e → (x : Mention) → Mentioned ms x ↔ Stands e x
-mentioned e ms is x =
-    let all = stands x e nothing in (
-      (λ h. ⊎_elim (λ k. absurd (nothing_mentioned x k)) (λ k. k) (all.0 (subst (λ m. Mentioned m x) is h))),
-      (λ s. subst (λ m. Mentioned m x) (sym is) (all.1 (inr s))),
-    )
+-- what is at the sites of an expression is what stands there
+pub mentioned : (e : Expr) (x : Mention) → Mentioned (sites_in e) x ↔ Stands e x
+mentioned e x = let all = stands x e [] in ((λ h. ⊎_elim (λ k. absurd k) (λ k. k) (all.0 h)), (λ s. all.1 (inr s)))
+
+-- ---- sites that are sound
+
+module _ (P : Mention → Type 0) where
+  all_sound : (ss : List Site) → AllSound (λ s. P s.mention) ss ↔ ((x : Mention) → Mentioned ss x → P x)
+  all_sound [] = ((λ h x k. absurd k), (λ h. tt))
+  all_sound (s ∷ ss) =
+      let rest = all_sound ss in (
+        (λ h x k. ⊎_elim (λ e. subst P e h.0) (λ j. rest.0 h.1 x j) k),
+        (λ h. (h s.mention (inl refl), rest.1 (λ x k. h x (inr k)))),
+      )
+
+  -- each site of an expression is sound if what stands there is
+  pub sound_stands : (e : Expr) → AllSound (λ s. P s.mention) (sites_in e) ↔ ((x : Mention) → Stands e x → P x)
+  sound_stands e =
+      let all = all_sound (sites_in e) in (
+        (λ h x s. all.0 h x ((mentioned e x).1 s)),
+        (λ h. all.1 (λ x m. h x ((mentioned e x).0 m))),
+      )
 
 -- ---- what is known
 
-numbered : (functions : List Function) (number : Option ℕ) → IsTrue (is_some number) ↔ IsKnown functions (VariableOf number)
-numbered functions None = ((λ h. absurd (let e : false ≡ true = h in cc)), (λ h. absurd h))
-numbered functions (Some n) = ((λ h. tt), (λ h. refl))
-
--- the numbers and the calls that were gathered decide
-pub known_decided : (functions : List Function) (e : Expr) (ms : Mentions) → ms ≡ mentions nothing e →
-    (IsTrue (list_all is_some ms.variables) × IsTrue (list_all (λ c. accepts (callee functions c.0) c.1) ms.calls)) ↔ ((x : Mention) → Stands e x → IsKnown functions x)
-known_decided functions e ms is =
-    let variables = all_in is_some ms.variables in
-    let calls = all_in (λ (c : Text × ℕ). accepts (callee functions c.0) c.1) ms.calls in (
-      (λ h x s. known (λ number m. (numbered functions number).0 (variables.0 h.0 number m)) (λ name n m. (callable (callee functions name) n).0 (calls.0 h.1 (name, n) m)) x ((mentioned e ms is x).1 s)),
-      (λ k. (
-        variables.1 (λ number m. (numbered functions number).1 (k (VariableOf number) ((mentioned e ms is (VariableOf number)).0 m))),
-        calls.1 (λ c m. (callable (callee functions c.0) c.1).1 (k (CallOf c.0 c.1) ((mentioned e ms is (CallOf c.0 c.1)).0 m))),
-      )),
+-- each site of some expressions is known
+pub known_all : (functions : List Function) (es : List Expr) → AllSound (λ s. IsKnown functions s.mention) (all_sites es) ↔ AllKnown functions es
+known_all functions [] = ((λ h. tt), (λ h. tt))
+known_all functions (e ∷ es) =
+    let rest = known_all functions es in
+    let here = sound_stands (IsKnown functions) e in
+    let both = sound_append {F = Fault} (λ s. IsKnown functions s.mention) (λ s f. mention_fault functions s.token s.mention ≡ Some f) (sites_in e) (all_sites es) in (
+      (λ h. let b = both.0 h in (here.0 b.0, rest.0 b.1)),
+      (λ h. both.1 (here.1 h.0, rest.1 h.1)),
     )
+
+-- what is wrong is not known
+pub fault_unknown : (functions : List Function) (t : Token) (x : Mention) (f : Fault) → mention_fault functions t x ≡ Some f → IsKnown functions x → ⊥
+fault_unknown functions t (VariableOf None) f h known = known
+fault_unknown functions t (VariableOf (Some n)) f h known = let e : None ≡ Some f = h in cc
+fault_unknown functions t (CallOf name n) f h known =
+    let on : accepts (callee functions name) n ≡ true = (callable (callee functions name) n).1 known in
+    let e : None ≡ Some f = rw on at h in
+    cc
+
+-- what is not wrong is known
+pub no_fault_known : (functions : List Function) (t : Token) (x : Mention) → mention_fault functions t x ≡ None → IsKnown functions x
+no_fault_known functions t (VariableOf None) h = absurd (cc)
+no_fault_known functions t (VariableOf (Some n)) h = tt
+no_fault_known functions t (CallOf name n) h = by (accepts (callee functions name) n) refl
   where
-    known : ((number : Option ℕ) → IsIn ms.variables number → IsKnown functions (VariableOf number)) → ((name : Text) (n : ℕ) → IsIn ms.calls (name, n) → IsKnown functions (CallOf name n)) → (x : Mention) → Mentioned ms x → IsKnown functions x
-    known variables calls (VariableOf number) m = variables number m
-    known variables calls (CallOf name n) m = calls name n m
+    by : (b : Bool) → accepts (callee functions name) n ≡ b → IsKnown functions (CallOf name n)
+    by true on = (callable (callee functions name) n).0 on
+    by false off = absurd (let e = rw off at h in cc)
 
 -- ---- what has a number
 
-some_unless_none : (number : Option ℕ) → (number ≡ None → ⊥) → IsTrue (is_some number)
-some_unless_none None not_none = absurd (not_none refl)
-some_unless_none (Some n) not_none = refl
-
--- the variables that were gathered decide
-pub numbered_decided : (e : Expr) (ms : Mentions) → ms ≡ mentions nothing e → IsTrue (list_all is_some ms.variables) ↔ IsNumbered e
-numbered_decided e ms is =
-    let variables = all_in is_some ms.variables in
-    let without = mentioned e ms is (VariableOf None) in (
-      (λ h s. let bad : false ≡ true = variables.0 h None (without.1 s) in cc),
-      (λ k. variables.1 (λ number m. some_unless_none number (λ none. k (without.0 (subst (IsIn ms.variables) none m))))),
+all_true : (test : Mention → Bool) (ss : List Site) → IsTrue (list_all (λ s. test s.mention) ss) ↔ AllSound (λ s. IsTrue (test s.mention)) ss
+all_true test [] = ((λ h. tt), (λ h. refl))
+all_true test (s ∷ ss) =
+    let rest = all_true test ss in (
+      (λ h. let both = and_parts (test s.mention) (list_all (λ r. test r.mention) ss) h in (both.0, rest.0 both.1)),
+      (λ h. and_from (test s.mention) (list_all (λ r. test r.mention) ss) h.0 (rest.1 h.1)),
     )
 
--- ---- what is read, and what is called
+numbered_unless : (e : Expr) (x : Mention) → (Stands e (VariableOf None) → ⊥) → Stands e x → IsTrue (is_numbered x)
+numbered_unless e (VariableOf None) without s = absurd (without s)
+numbered_unless e (VariableOf (Some n)) without s = refl
+numbered_unless e (CallOf name n) without s = refl
 
-may_stand_if : (test : ℕ → Bool) (number : Option ℕ) → ((n : ℕ) → number ≡ Some n → IsTrue (test n)) → IsTrue (may_stand test number)
-may_stand_if test None passes = refl
-may_stand_if test (Some n) passes = passes n refl
-
--- the variables that were gathered decide
-pub reads_decided : (test : ℕ → Bool) (e : Expr) (ms : Mentions) (answer : Bool) → ms ≡ mentions nothing e → answer ≡ list_all (may_stand test) ms.variables → IsTrue answer ↔ ((n : ℕ) → Stands e (VariableOf (Some n)) → IsTrue (test n))
-reads_decided test e ms answer is decides =
-    let all = all_in (may_stand test) ms.variables in (
-      (λ h n s. all.0 (sym decides ∙ h) (Some n) ((mentioned e ms is (VariableOf (Some n))).1 s)),
-      (λ k. decides ∙ all.1 (λ number m. may_stand_if test number (λ n some. k n ((mentioned e ms is (VariableOf (Some n))).0 (subst (IsIn ms.variables) some m))))),
+-- the sites decide
+pub numbered_decided : (e : Expr) → IsTrue (list_all (λ s. is_numbered s.mention) (sites_in e)) ↔ IsNumbered e
+numbered_decided e =
+    let tests = all_true is_numbered (sites_in e) in
+    let all = sound_stands (λ x. IsTrue (is_numbered x)) e in (
+      (λ h s. let bad : false ≡ true = all.0 (tests.0 h) (VariableOf None) s in cc),
+      (λ without. tests.1 (all.1 (λ x s. numbered_unless e x without s))),
     )
 
-named_called : (cs : List (Text × ℕ)) (name : Text) → IsIn (map (λ c. c.0) cs) name ↔ ((n : ℕ) × IsIn cs (name, n))
+-- ---- what may be read
+
+pub may_stand_decides : (test : ℕ → Bool) (x : Mention) → (may_stand test x ≡ true) ↔ MayBeRead (λ n. IsTrue (test n)) x
+may_stand_decides test (VariableOf None) = ((λ h. tt), (λ h. refl))
+may_stand_decides test (VariableOf (Some n)) = ((λ h. h), (λ h. h))
+may_stand_decides test (CallOf name k) = ((λ h. tt), (λ h. refl))
+
+may_be_read : (readable : ℕ → Type 0) (e : Expr) (x : Mention) → ((n : ℕ) → Stands e (VariableOf (Some n)) → readable n) → Stands e x → MayBeRead readable x
+may_be_read readable e (VariableOf None) all s = tt
+may_be_read readable e (VariableOf (Some n)) all s = all n s
+may_be_read readable e (CallOf name k) all s = tt
+
+pub all_may_be_read : (readable : ℕ → Type 0) (e : Expr) → AllMayBeRead readable e ↔ ((n : ℕ) → Stands e (VariableOf (Some n)) → readable n)
+all_may_be_read readable e =
+    let all = sound_stands (MayBeRead readable) e in (
+      (λ h n s. all.0 h (VariableOf (Some n)) s),
+      (λ h. all.1 (λ x s. may_be_read readable e x h s)),
+    )
+
+-- where none is found that may not be read, all may
+pub reads_all : (readable : ℕ → Type 0) (e : Expr) (r : Option Token) → is_some r ≡ false → FindsUnreadable readable (sites_in e) r → (n : ℕ) → Stands e (VariableOf (Some n)) → readable n
+reads_all readable e r none found =
+    (all_may_be_read readable e).0 (sound_if (λ s. MayBeRead readable s.mention) (λ s v. (s.token ≡ v) × (MayBeRead readable s.mention → ⊥)) (sites_in e) r none found)
+
+may_alike : (P Q : ℕ → Type 0) → ((n : ℕ) → P n → Q n) → (x : Mention) → MayBeRead P x → MayBeRead Q x
+may_alike P Q on (VariableOf None) h = tt
+may_alike P Q on (VariableOf (Some n)) h = on n h
+may_alike P Q on (CallOf name k) h = tt
+
+-- the same is readable
+pub unreadable_alike : (P Q : ℕ → Type 0) → ((n : ℕ) → P n ↔ Q n) → (ss : List Site) (r : Option Token) → FindsUnreadable P ss r → FindsUnreadable Q ss r
+unreadable_alike P Q same ss r h =
+    finds_alike (λ s. MayBeRead P s.mention) (λ s. MayBeRead Q s.mention) (λ s v. (s.token ≡ v) × (MayBeRead P s.mention → ⊥)) (λ s v. (s.token ≡ v) × (MayBeRead Q s.mention → ⊥))
+    (λ s k. may_alike P Q (λ n. (same n).0) s.mention k) (λ s v k. (k.0, λ j. k.1 (may_alike Q P (λ n. (same n).1) s.mention j))) ss r h
+
+-- ---- what is called
+
+one_called : (x : Mention) (name : Text) (rest : List Text) (R : ℕ → Type 0) → IsIn rest name ↔ ((n : ℕ) × R n) → IsIn (name_called x ++ rest) name ↔ ((n : ℕ) × ((x ≡ CallOf name n) ⊎ R n))
+one_called (CallOf t k) name rest R later = (
+  (λ h. ⊎_elim (λ e. (k, inl (ap (λ (u : Text). CallOf u k) e))) (λ j. let l = later.0 j in (l.0, inr l.1)) h),
+  (λ h. ⊎_elim (λ e. inl (cc)) (λ j. inr (later.1 (h.0, j))) h.1),
+)
+one_called (VariableOf number) name rest R later = (
+  (λ h. let l = later.0 h in (l.0, inr l.1)),
+  (λ h. ⊎_elim (λ e. absurd (let bad : VariableOf number ≡ CallOf name h.0 = e in cc)) (λ j. later.1 (h.0, j)) h.1),
+)
+
+named_called : (ss : List Site) (name : Text) → IsIn (called_names ss) name ↔ ((n : ℕ) × Mentioned ss (CallOf name n))
 named_called [] name = ((λ h. absurd h), (λ h. absurd h.1))
-named_called (c ∷ cs) name =
-    let rest = named_called cs name in (
-      (λ h. ⊎_elim (λ e. (c.1, inl (ap (λ (t : Text). (t, c.1)) e))) (λ k. let later = rest.0 k in (later.0, inr later.1)) h),
-      (λ h. ⊎_elim (λ e. inl (ap (λ (d : Text × ℕ). d.0) e)) (λ k. inr (rest.1 (h.0, k))) h.1),
-    )
+named_called (s ∷ ss) name = one_called s.mention name (called_names ss) (λ n. Mentioned ss (CallOf name n)) (named_called ss name)
+
+-- the names at one site more
+pub called_more : (ss : List Site) (s : Site) → called_names (ss ++ s ∷ []) ≡ called_names ss ++ name_called s.mention
+called_more [] s = append-nil (name_called s.mention)
+called_more (r ∷ ss) s = ap (λ names. name_called r.mention ++ names) (called_more ss s) ∙ sym (append_assoc (name_called r.mention) (called_names ss) (name_called s.mention))
 
 -- the names that are called
-pub all_called : (e : Expr) (name : Text) → IsIn (called_names (mentions nothing e)) name ↔ ((n : ℕ) × Stands e (CallOf name n))
+pub all_called : (e : Expr) (name : Text) → IsIn (called_names (sites_in e)) name ↔ ((n : ℕ) × Stands e (CallOf name n))
 all_called e name =
-    let names = named_called (mentions nothing e).calls name in (
-      (λ h. let call = names.0 h in (call.0, (mentioned e (mentions nothing e) refl (CallOf name call.0)).0 call.1)),
-      (λ s. names.1 (s.0, (mentioned e (mentions nothing e) refl (CallOf name s.0)).1 s.1)),
+    let names = named_called (sites_in e) name in (
+      (λ h. let call = names.0 h in (call.0, (mentioned e (CallOf name call.0)).0 call.1)),
+      (λ s. names.1 (s.0, (mentioned e (CallOf name s.0)).1 s.1)),
     )

@@ -1,15 +1,42 @@
 -- Functions that need not be looked through again, and what follows in an order.
-use Rattle.std.specs.Prelude.{◌≡◌, ◌⊎◌, ℕ, Bool, true, List, [], ◌∷◌, Option, Some, None, IsTrue}
+use Rattle.std.specs.Prelude.{◌≡◌, ◌⊎◌, ℕ, Bool, true, List, [], ◌∷◌, Option, Some, None, is_some, IsTrue, MatchOption}
 use Rattle.just_syntax.specs.Plain.{Text, Token, Assignment, Expr, Function, Parameter}
+use Rattle.just_value.specs.Frames.{Frames, value_in}
 use Rattle.just_meaning.specs.Assignments.{Assignments, assignment_at}
 use Rattle.just_meaning.specs.Here.{expressions_of}
-use Rattle.just_meaning.specs.Resolved.{AllKnown, IsKnown}
+use Rattle.just_meaning.specs.Resolved.{AllKnown, HasValue, IsKnown}
 use Rattle.just_meaning.specs.Reaches.{Mention, VariableOf, CallOf, IsAmong, Reads, ReadsBeyond, Stands, function_at}
+use Rattle.just_resolution.specs.Fault.{Fault, BoundParameter, IsMisplaced, MayComeNext, mention_fault}
+use Rattle.just_resolution.specs.First.{Finds}
+use Rattle.just_resolution.specs.Sites.{Site, sites_in}
+use Rattle.just_resolution.specs.Unreadable.{IsUnreadable, MayBeRead}
 
--- whether a variable's number passes a test, if it has one
-abbrev pub may_stand : (ℕ → Bool) → Option ℕ → Bool
-may_stand test None = true
-may_stand test (Some n) = test n
+-- whether a number passes a test, if there is one
+abbrev pub may_be_read : (ℕ → Bool) → Option ℕ → Bool
+may_be_read test None = true
+may_be_read test (Some n) = test n
+
+-- whether it is a call, or a variable whose number passes a test, if it has one
+abbrev pub may_stand : (ℕ → Bool) → Mention → Bool
+may_stand test (VariableOf number) = may_be_read test number
+may_stand test (CallOf name k) = true
+
+-- whether it is a call, or a variable with a number
+abbrev pub is_numbered : Mention → Bool
+is_numbered (VariableOf number) = is_some number
+is_numbered (CallOf name k) = true
+
+-- what is found among sites: nothing, or what is wrong with the first that is not known
+abbrev pub FindsUnknown : List Function → List Site → Option Fault → Type 0
+FindsUnknown functions ss found = Finds (λ s. IsKnown functions s.mention) (λ s f. mention_fault functions s.token s.mention ≡ Some f) ss found
+
+-- what is found among parameters: nothing, or the first that is bound outside
+abbrev pub FindsBound : Frames → List (Token × ℕ) → Option Fault → Type 0
+FindsBound outer ps found = Finds (λ p. HasValue (value_in outer) p.1 → ⊥) (λ p f. (BoundParameter p.0 ≡ f) × HasValue (value_in outer) p.1) ps found
+
+-- what is found among sites: nothing, or the first variable that may not be read
+abbrev pub FindsUnreadable : (ℕ → Type 0) → List Site → Option Token → Type 0
+FindsUnreadable readable ss found = Finds (λ s. MayBeRead readable s.mention) (λ s variable. (s.token ≡ variable) × (MayBeRead readable s.mention → ⊥)) ss found
 
 -- an admitted function reads nothing but its own parameters and what is readable, and calls admitted functions alone
 pub record IsAdmitted (functions : List Function) (readable : ℕ → Bool) (admitted : Text → Bool) : Type 0 where
@@ -19,6 +46,15 @@ pub record IsAdmitted (functions : List Function) (readable : ℕ → Bool) (adm
 -- By itself an expression reads nothing but what is readable here, and through functions nothing but what bodies may read.
 abbrev pub ReadsWithin : List Function → Expr → (ℕ → Bool) → (ℕ → Bool) → Type 0
 ReadsWithin functions e here readable = ((n : ℕ) → Stands e (VariableOf (Some n)) → IsTrue (here n)) × ((n : ℕ) → ReadsBeyond functions e n → IsTrue (readable n))
+
+-- nothing is found where an expression reads nothing but that, or else the first variable that may not be read
+abbrev pub FindsBeyond : List Function → Expr → (ℕ → Bool) → (ℕ → Bool) → Option Token → Type 0
+FindsBeyond functions e here readable found = MatchOption found (ReadsWithin functions e here readable) (λ variable. IsUnreadable functions (λ n. IsTrue (here n)) (λ n. IsTrue (readable n)) e variable)
+
+-- the same of the body of a function, if there is one: it may read its own parameters too
+abbrev pub FindsBody : Option Function → (ℕ → Type 0) → Option Token → Type 0
+FindsBody None readable found = found ≡ None
+FindsBody (Some f) readable found = FindsUnreadable (λ n. IsAmong f.parameters n ⊎ readable n) (sites_in f.body) found
 
 -- By themselves some expressions read nothing but these numbers, and through functions nothing but what bodies may read.
 abbrev pub AllReadBy : List Function → (ℕ → Type 0) → (ℕ → Bool) → List Expr → Type 0
@@ -56,8 +92,6 @@ pub record IsTakenBy (functions : List Function) (assignments : Assignments) (ta
 abbrev pub IsNumberOf : Assignments → Token → ℕ → Type 0
 IsNumberOf assignments t n = (a : Assignment) × (assignment_at assignments t.lexeme ≡ Some a) × (assignments.referenced a.number ≡ true) × (a.number ≡ n)
 
--- the name is an assignment's, which reads nothing but what is readable if it is referenced
-abbrev pub MayFollow : List Function → Assignments → (ℕ → Bool) → Token → Type 0
-MayFollow functions assignments readable t =
-    ((a : Assignment) × (assignment_at assignments t.lexeme ≡ Some a))
-    × ((a : Assignment) → assignment_at assignments t.lexeme ≡ Some a → assignments.referenced a.number ≡ true → ReadsReadable functions readable a)
+-- what is found at a name: nothing, where it may come next, or why it may not
+abbrev pub FindsMisplaced : List Function → Assignments → (ℕ → Bool) → Token → Option Fault → Type 0
+FindsMisplaced functions assignments readable t found = MatchOption found (MayComeNext functions assignments (λ n. IsTrue (readable n)) t) (λ f. IsMisplaced functions assignments (λ n. IsTrue (readable n)) t f)

@@ -1,3 +1,6 @@
+pub mod Sites
+pub mod First
+pub mod Unreadable
+pub mod Fault
 pub mod Admitted
-pub mod Mentions
 pub mod Seen

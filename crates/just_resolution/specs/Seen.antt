@@ -1,22 +1,45 @@
--- What mentions, sets and names are as plain data.
+-- What sites, faults, sets and names are as plain data.
 use Rattle.std.specs.Prelude.{◌≡◌, ℕ, Bool, ◌||◌, List, [], Option, Some, None, map, is_some}
 use Rattle.std.specs.Borrow.{Bor}
 use Rattle.std.specs.BTreeSet.{BTreeSet, contains_by}
 use Rattle.std.specs.Cmp.Lexicographic.{slice_cmp}
 use Rattle.std.specs.Ordering.{nat_cmp}
 use Rattle.just_syntax.specs.Plain.{Text, Token, Attribute, Expr}
-use Rattle.just_syntax.specs.View.{recipe_view, view}
+use Rattle.just_syntax.specs.View.{name_view, recipe_view, view}
 use Rattle.just_syntax.specs.declared.expression.Expression.{Expression}
+use Rattle.just_syntax.specs.declared.name.Name.{Name}
 use Rattle.just_syntax.specs.declared.recipe.Recipe.{Recipe}
 use Rattle.just_value.specs.Frames.{value_in}
 use Rattle.just_value.specs.View.{frames_view}
-use Rattle.just_resolution.specs.declared.mentions.Mentions as declared
+use Rattle.just_meaning.specs.Reaches as reaches
+use Rattle.just_resolution.specs.declared.fault.Fault as declared_fault
+use Rattle.just_resolution.specs.declared.fault.Fault.TheVariants as faults
 use Rattle.just_resolution.specs.declared.here.Reader.{Reader}
 use Rattle.just_resolution.specs.declared.readable.Readable.{Readable}
-use Rattle.just_resolution.specs.Mentions.{Mentions}
+use Rattle.just_resolution.specs.declared.site.Mention.{Mention}
+use Rattle.just_resolution.specs.declared.site.Mention.TheVariants.{Call, Variable}
+use Rattle.just_resolution.specs.declared.site.Site as declared_site
+use Rattle.just_resolution.specs.Fault.{Fault, ArgumentCountMismatch, BoundParameter, DuplicateNumber, UndefinedFunction, UndefinedVariable, UnknownAssignment, UntakenVariable}
+use Rattle.just_resolution.specs.Sites.{Site}
 
-abbrev pub mentions_view : declared.Mentions → Mentions
-mentions_view m = record { calls = map (λ c. (c.0.now, c.1)) m.calls.items; variables = m.variables.items }
+abbrev pub mention_view : Name → Mention → reaches.Mention
+mention_view name (Call n) = reaches.CallOf name.token.lexeme.now n
+mention_view name (Variable number) = reaches.VariableOf number
+
+abbrev pub site_view : declared_site.Site → Site
+site_view s = record { token = name_view s.name; mention = mention_view s.name s.mention }
+
+abbrev pub sites_view : List declared_site.Site → List Site
+sites_view ss = map site_view ss
+
+abbrev pub fault_view : declared_fault.Fault → Fault
+fault_view (faults.ArgumentCountMismatch function n) = ArgumentCountMismatch (name_view function) n
+fault_view (faults.BoundParameter parameter) = BoundParameter (name_view parameter)
+fault_view (faults.DuplicateNumber variable) = DuplicateNumber (name_view variable)
+fault_view (faults.UndefinedFunction function) = UndefinedFunction (name_view function)
+fault_view (faults.UndefinedVariable variable) = UndefinedVariable (name_view variable)
+fault_view (faults.UnknownAssignment assignment) = UnknownAssignment (name_view assignment)
+fault_view (faults.UntakenVariable assignment variable) = UntakenVariable (name_view assignment) (name_view variable)
 
 abbrev pub texts : List (Bor Text) → List Text
 texts names = map (λ name. name.now) names

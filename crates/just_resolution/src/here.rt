@@ -10,11 +10,11 @@ ghost use Rattle.just_meaning.specs.View.{functions_view};
 ghost use Rattle.just_resolution.specs.Admitted.{IsAdmitted, MayAllStand, MayFollowInTurn, MayStand};
 ghost use Rattle.just_resolution.specs.Seen.{IsSameReader, attributes_of, expressions_view, is_name_in, is_readable};
 
-use crate::admitted::reads_readable;
+use crate::admitted::first_unreadable;
 use crate::expressions::{expressions_of, recipe_expressions};
-use crate::known::is_expression_known;
+use crate::known::expression_fault;
 use crate::numbers::{
-    add_parameter_numbers, add_recipe_numbers, are_distinct, are_unbound, assignment_numbers,
+    add_parameter_numbers, add_recipe_numbers, assignment_numbers, number_fault, parameter_fault,
 };
 use crate::readable::Readable;
 use just_host::execution_context::ExecutionContext;
@@ -30,12 +30,12 @@ use std::alloc::Global;
 use std::collections::BTreeSet;
 
 // Whether the numbers of assignments and of all parameters are distinct, and neither scope binds one of a parameter.
-pub(crate) fn are_parameters_apart(
+pub(crate) fn are_parameters_apart<'src>(
     alloc: Global,
-    module: &Justfile,
+    module: &Justfile<'src>,
     scope: &Scope,
     base: &Scope,
-    parameters: &[Parameter],
+    parameters: &[Parameter<'src>],
 ) -> Result<bool, OutOfMemory>
     ensures { let assignments = map (λ a. a.number) (map assignment_view «module».now.assignments) in let functions = parameter_numbers (functions_view «module».now) in let own = map (λ p. p.number) (map recipe_parameter_view parameters.now) in
         IfOk result (λ answer. IsTrue answer ↔ (AreDistinct (assignments ++ functions ++ own) × ((n : ℕ) → IsOneOf (functions ++ own) n → HasValue (value_in (frames_view scope.now)) n ⊎ HasValue (value_in (frames_view base.now)) n → ⊥))) }
@@ -45,13 +45,13 @@ pub(crate) fn are_parameters_apart(
     add_parameter_numbers(&mut numbers, &module.functions)?;
     add_recipe_numbers(&mut numbers, parameters)?;
     let of_parameters = &numbers[first_parameter..];
-    if !are_unbound(scope, of_parameters) {
+    if parameter_fault(scope, of_parameters).is_some() {
         return Ok(false);
     }
-    if !are_unbound(base, of_parameters) {
+    if parameter_fault(base, of_parameters).is_some() {
         return Ok(false);
     }
-    are_distinct(alloc, &numbers)
+    Ok(number_fault(alloc, &numbers)?.is_none())
 }
 
 // Whether all that is evaluated is known, and bound before it is read.
@@ -106,17 +106,18 @@ impl<'src> Reader<'_, 'src, '_> {
         ensures exact { IfOk result (λ answer. IsTrue answer ↔ MayStand (map function_view self.old.functions.now) (is_readable self.old.here) (is_readable self.old.bodies) (view expression.now)) }
         ensures closed { IfOk result (λ answer. IsTrue answer → IsAdmitted (map function_view self.old.functions.now) (is_readable self.old.bodies) (is_name_in self.new.admitted)) }
     {
-        if !is_expression_known(alloc, self.functions, expression)? {
+        if expression_fault(alloc, self.functions, expression)?.is_some() {
             return Ok(false);
         }
-        reads_readable(
+        let unreadable = first_unreadable(
             alloc,
             self.functions,
             &self.here,
             &self.bodies,
             &mut self.admitted,
             expression,
-        )
+        )?;
+        Ok(unreadable.is_none())
     }
 
     // The same of each of these expressions: the answer does not depend on which is looked at first.

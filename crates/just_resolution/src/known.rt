@@ -1,18 +1,24 @@
-// Whether each variable has a number, and each called name stands for what takes as many arguments.
+// The first variable that has no number, or call that its name does not take.
 
-ghost use Rattle.std.specs.Prelude.{◌≡◌, ◌↔◌, IfOk, IsTrue, is_some, map};
+ghost use Rattle.std.specs.Prelude.{◌≡◌, ◌↔◌, IfOk, IsTrue, map, not};
 ghost use Rattle.std.specs.List.{list_all};
-ghost use Rattle.just_syntax.specs.View.{assignment_view, function_view, view};
+ghost use Rattle.std.specs.Option.{option_map};
+ghost use Rattle.just_syntax.specs.View.{assignment_view, function_view, name_view, view};
 ghost use Rattle.just_meaning.specs.Callee.{accepts, callee, undefined};
-ghost use Rattle.just_meaning.specs.Reaches.{Mention, Stands};
-ghost use Rattle.just_meaning.specs.Resolved.{AllKnown, AllNumbered, IsKnown, IsNumbered};
+ghost use Rattle.just_meaning.specs.Resolved.{AllNumbered, IsNumbered};
+ghost use Rattle.just_resolution.specs.Admitted.{FindsUnknown, is_numbered};
+ghost use Rattle.just_resolution.specs.Fault.{call_fault, is_unknown, mention_fault};
+ghost use Rattle.just_resolution.specs.Seen.{fault_view, site_view, sites_view};
+ghost use Rattle.just_resolution.specs.Sites.{all_sites, sites_in};
 
-use crate::mentions::mentions_in;
+use crate::fault::Fault;
+use crate::site::{Mention, Site};
+use crate::sites::sites_in;
 use just_builtins::function::{get, is_left_out};
 use just_syntax::assignment::Assignment;
 use just_syntax::expression::Expression;
 use just_syntax::function_definition::FunctionDefinition;
-use just_syntax::number::Number;
+use just_syntax::name::Name;
 use just_syntax::out_of_memory::OutOfMemory;
 use just_syntax::table::Table;
 use std::alloc::Global;
@@ -40,59 +46,143 @@ fn is_undefined_callable(name: &str, arguments: usize) -> bool
     }
 }
 
-// Whether each of these names stands for what may be called with so many arguments.
-fn are_callable(functions: &Table<FunctionDefinition>, calls: &[(&str, usize)]) -> bool
-    ensures { result ≡ list_all (λ c. accepts (callee (map function_view functions.now) c.0.now) c.1) calls.now }
+// Whether a name stands for a function: of the file, built in, or left out.
+fn is_function(functions: &Table<FunctionDefinition>, name: &str) -> bool
+    ensures { result ≡ not (is_unknown (callee (map function_view functions.now) name.now)) }
 {
-    calls
-        .iter()
-        .all(|call| is_callable(functions, call.0, call.1))
+    match functions.get(name) {
+        Some(_) => true,
+        None => is_undefined_function(name),
+    }
 }
 
-// Whether all that stands in an expression is known.
-pub(crate) fn is_expression_known(
-    alloc: Global,
-    functions: &Table<FunctionDefinition>,
-    expression: &Expression,
-) -> Result<bool, OutOfMemory>
-    ensures { IfOk result (λ answer. IsTrue answer ↔ ((x : Mention) → Stands (view expression.now) x → IsKnown (map function_view functions.now) x)) }
+// The same of a name that the file does not define.
+fn is_undefined_function(name: &str) -> bool
+    ensures { result ≡ not (is_unknown (undefined name.now)) }
 {
-    let mentions = mentions_in(alloc, expression)?;
-    if !are_numbered(&mentions.variables) {
-        return Ok(false);
+    get(name).is_some() || is_left_out(name)
+}
+
+// What is wrong with a call, if anything is.
+fn call_fault<'src>(
+    functions: &Table<FunctionDefinition<'src>>,
+    name: &Name<'src>,
+    arguments: usize,
+) -> Option<Fault<'src>>
+    ensures { let seen = name_view name.now in option_map fault_view result ≡ call_fault (callee (map function_view functions.now) seen.lexeme) seen arguments }
+{
+    let function = *name;
+    if is_callable(functions, name.lexeme(), arguments) {
+        None
+    } else if is_function(functions, name.lexeme()) {
+        Some(Fault::ArgumentCountMismatch {
+            function,
+            found: arguments,
+        })
+    } else {
+        Some(Fault::UndefinedFunction { function })
     }
-    Ok(are_callable(functions, &mentions.calls))
+}
+
+// What is wrong with a variable or a call, if anything is.
+fn site_fault<'src>(
+    functions: &Table<FunctionDefinition<'src>>,
+    site: &Site<'src>,
+) -> Option<Fault<'src>>
+    ensures { let seen = site_view site.now in option_map fault_view result ≡ mention_fault (map function_view functions.now) seen.token seen.mention }
+{
+    let variable = site.name;
+    match site.mention {
+        Mention::Call { arguments } => call_fault(functions, &site.name, arguments),
+        Mention::Variable { number: Some(_) } => None,
+        Mention::Variable { number: None } => Some(Fault::UndefinedVariable { variable }),
+    }
+}
+
+// What is wrong with the first of these sites where anything is.
+fn sites_fault<'src>(
+    functions: &Table<FunctionDefinition<'src>>,
+    sites: &[Site<'src>],
+) -> Option<Fault<'src>>
+    ensures { FindsUnknown (map function_view functions.now) (sites_view sites.now) (option_map fault_view result) }
+{
+    for site in sites {
+        let fault = site_fault(functions, site);
+        if fault.is_some() {
+            return fault;
+        }
+    }
+    None
+}
+
+// The same of what stands in an expression.
+pub(crate) fn expression_fault<'src>(
+    alloc: Global,
+    functions: &Table<FunctionDefinition<'src>>,
+    expression: &Expression<'src>,
+) -> Result<Option<Fault<'src>>, OutOfMemory>
+    ensures { IfOk result (λ fault. FindsUnknown (map function_view functions.now) (sites_in (view expression.now)) (option_map fault_view fault)) }
+{
+    let sites = sites_in(alloc, expression)?;
+    Ok(sites_fault(functions, &sites))
+}
+
+// The same of what stands in the values of assignments.
+pub(crate) fn values_fault<'src>(
+    alloc: Global,
+    functions: &Table<FunctionDefinition<'src>>,
+    assignments: &Table<Assignment<'src>>,
+) -> Result<Option<Fault<'src>>, OutOfMemory>
+    ensures { IfOk result (λ fault. FindsUnknown (map function_view functions.now) (all_sites (map (λ a. a.value) (map assignment_view assignments.now))) (option_map fault_view fault)) }
+{
+    for assignment in assignments {
+        let fault = expression_fault(alloc, functions, &assignment.value)?;
+        if fault.is_some() {
+            return Ok(fault);
+        }
+    }
+    Ok(None)
+}
+
+// The same of what stands in the bodies of functions.
+pub(crate) fn bodies_fault<'src>(
+    alloc: Global,
+    functions: &Table<FunctionDefinition<'src>>,
+) -> Result<Option<Fault<'src>>, OutOfMemory>
+    ensures { let all = map function_view functions.now in IfOk result (λ fault. FindsUnknown all (all_sites (map (λ f. f.body) all)) (option_map fault_view fault)) }
+{
+    for function in functions {
+        let fault = expression_fault(alloc, functions, &function.body)?;
+        if fault.is_some() {
+            return Ok(fault);
+        }
+    }
+    Ok(None)
 }
 
 // Whether each variable has a number.
-fn are_numbered(variables: &[Option<Number>]) -> bool
-    ensures { result ≡ list_all is_some variables.now }
+fn are_numbered(sites: &[Site]) -> bool
+    ensures { result ≡ list_all (λ s. is_numbered (site_view s).mention) sites.now }
 {
-    variables.iter().all(|number| number.is_some())
+    sites.iter().all(|site| is_numbered(site))
 }
 
-// Whether all that stands in the values of assignments is known.
-pub(crate) fn are_values_known(
-    alloc: Global,
-    functions: &Table<FunctionDefinition>,
-    assignments: &Table<Assignment>,
-) -> Result<bool, OutOfMemory>
-    ensures { IfOk result (λ answer. IsTrue answer ↔ AllKnown (map function_view functions.now) (map (λ a. a.value) (map assignment_view assignments.now))) }
+// Whether it is a call, or a variable with a number.
+fn is_numbered(site: &Site) -> bool
+    ensures { result ≡ is_numbered (site_view site.now).mention }
 {
-    for assignment in assignments {
-        if !is_expression_known(alloc, functions, &assignment.value)? {
-            return Ok(false);
-        }
+    match site.mention {
+        Mention::Call { arguments: _ } => true,
+        Mention::Variable { number } => number.is_some(),
     }
-    Ok(true)
 }
 
 // Whether each variable in an expression has a number.
 fn is_expression_numbered(alloc: Global, expression: &Expression) -> Result<bool, OutOfMemory>
     ensures { IfOk result (λ answer. IsTrue answer ↔ IsNumbered (view expression.now)) }
 {
-    let mentions = mentions_in(alloc, expression)?;
-    Ok(are_numbered(&mentions.variables))
+    let sites = sites_in(alloc, expression)?;
+    Ok(are_numbered(&sites))
 }
 
 // Whether each variable in the values of assignments has a number.
@@ -104,21 +194,6 @@ pub(crate) fn are_values_numbered(
 {
     for assignment in assignments {
         if !is_expression_numbered(alloc, &assignment.value)? {
-            return Ok(false);
-        }
-    }
-    Ok(true)
-}
-
-// Whether all that stands in the bodies of functions is known.
-pub(crate) fn are_bodies_known(
-    alloc: Global,
-    functions: &Table<FunctionDefinition>,
-) -> Result<bool, OutOfMemory>
-    ensures { IfOk result (λ answer. IsTrue answer ↔ AllKnown (map function_view functions.now) (map (λ f. f.body) (map function_view functions.now))) }
-{
-    for function in functions {
-        if !is_expression_known(alloc, functions, &function.body)? {
             return Ok(false);
         }
     }

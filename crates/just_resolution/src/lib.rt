@@ -1,14 +1,15 @@
 // The exact tests whether a module, its assignments before any run, or what is evaluated for a recipe are resolved:
-// whether each name means one thing, and all is evaluated before it is read. They lean on the definitions of
-// `just_meaning` and on what lies below them, and never on the laws of evaluation nor on the evaluator: what they decide
-// is settled by the definitions alone.
+// whether each name means one thing, and all is evaluated before it is read; and, of a module, why it is not. They lean
+// on the definitions of `just_meaning` and on what lies below them, and never on the laws of evaluation nor on the
+// evaluator: what they decide is settled by the definitions alone.
 #![tactic(auto)]
 
 mod admitted;
 mod expressions;
+pub mod fault;
+pub mod first_fault;
 mod here;
 mod known;
-pub mod mentions;
 pub mod numbers;
 mod order;
 mod readable;
@@ -16,3 +17,5 @@ pub mod references;
 pub mod resolved;
 pub mod resolved_const;
 pub mod resolved_here;
+pub mod site;
+pub mod sites;

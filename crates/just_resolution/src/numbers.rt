@@ -1,15 +1,20 @@
-// The numbers of assignments and parameters: whether they are distinct, and whether one is bound outside.
+// The numbers of assignments and parameters: the first that stands there twice, and the first that is bound outside.
 
-ghost use Rattle.std.specs.Prelude.{◌≡◌, ◌↔◌, ◌++◌, ℕ, IfOk, OnOk, IsTrue, is_none, map};
-ghost use Rattle.std.specs.List.{list_all};
-ghost use Rattle.just_syntax.specs.View.{assignment_view, function_view, parameter_view, recipe_parameter_view};
+ghost use Rattle.std.specs.Prelude.{◌≡◌, ◌↔◌, ◌++◌, ℕ, List, [], ◌∷◌, IfOk, OnOk, IsTrue, map};
+ghost use Rattle.std.specs.Option.{option_map};
+ghost use Rattle.just_syntax.specs.Plain.{Function};
+ghost use Rattle.just_syntax.specs.View.{assignment_view, function_view, name_view, parameter_view, recipe_parameter_view};
+ghost use Rattle.just_value.specs.Frames.{Frames};
 ghost use Rattle.just_value.specs.View.{frames_view};
-ghost use Rattle.just_value.specs.Frames.{value_in};
-ghost use Rattle.just_meaning.specs.Resolved.{AreDistinct, HasValue, IsOneOf, parameter_numbers};
+ghost use Rattle.just_meaning.specs.Assignments.{Assignments};
 ghost use Rattle.just_meaning.specs.Reaches.{IsAmong};
 ghost use Rattle.just_meaning.specs.View.{functions_view};
-ghost use Rattle.just_resolution.specs.Seen.{is_number_in};
+ghost use Rattle.just_resolution.specs.Admitted.{FindsBound};
+ghost use Rattle.just_resolution.specs.Fault.{IsFaulty, IsSound, number_places, numbered, parameter_places, parameters_of};
+ghost use Rattle.just_resolution.specs.First.{Finds};
+ghost use Rattle.just_resolution.specs.Seen.{fault_view, is_number_in};
 
+use crate::fault::Fault;
 use just_host::justfile::Justfile;
 use just_syntax::assignment::Assignment;
 use just_syntax::function_definition::FunctionDefinition;
@@ -22,99 +27,110 @@ use just_value::scope::Scope;
 use std::alloc::Global;
 use std::collections::BTreeSet;
 
-// Whether the numbers of all assignments and parameters are distinct, and `parent` binds no parameter's.
-pub(crate) fn are_numbers_apart(
+// The first of all assignments and parameters with the number of an earlier one, or else the first parameter that
+// `parent` binds.
+pub(crate) fn numbering_fault<'src>(
     alloc: Global,
-    module: &Justfile,
+    module: &Justfile<'src>,
     parent: &Scope,
-) -> Result<bool, OutOfMemory>
-    ensures { let functions = functions_view «module».now in let assignments = map assignment_view «module».now.assignments in
-        IfOk result (λ answer. IsTrue answer ↔ (AreDistinct (map (λ a. a.number) assignments ++ parameter_numbers functions) × ((n : ℕ) → IsOneOf (parameter_numbers functions) n → HasValue (value_in (frames_view parent.now)) n → ⊥))) }
+) -> Result<Option<Fault<'src>>, OutOfMemory>
+    ensures { let parameters = parameters_of (functions_view «module».now) in let outer = frames_view parent.now in
+        IfOk result (λ fault. (functions : List Function) (assignments : Assignments) → Finds (IsSound functions assignments outer) (IsFaulty functions assignments outer)
+        (number_places [] (numbered (map assignment_view «module».now.assignments) ++ parameters) ++ parameter_places parameters) (option_map fault_view fault)) }
 {
     let mut numbers = assignment_numbers(alloc, &module.assignments)?;
     let first_parameter = numbers.len();
     add_parameter_numbers(&mut numbers, &module.functions)?;
-    if !are_unbound(parent, &numbers[first_parameter..]) {
-        return Ok(false);
+    let duplicate = number_fault(alloc, &numbers)?;
+    if duplicate.is_some() {
+        return Ok(duplicate);
     }
-    are_distinct(alloc, &numbers)
+    Ok(parameter_fault(parent, &numbers[first_parameter..]))
 }
 
-// The numbers of assignments.
-pub(crate) fn assignment_numbers(
+// Assignments, each with its number.
+pub(crate) fn assignment_numbers<'src>(
     alloc: Global,
-    assignments: &Table<Assignment>,
-) -> Result<Vec<Number>, OutOfMemory>
-    ensures { IfOk result (λ numbers. numbers.items ≡ map (λ a. a.number) (map assignment_view assignments.now)) }
+    assignments: &Table<Assignment<'src>>,
+) -> Result<Vec<(Name<'src>, Number)>, OutOfMemory>
+    ensures { IfOk result (λ numbers. map parameter_view numbers.items ≡ numbered (map assignment_view assignments.now)) }
 {
     let mut numbers = Vec::new(alloc);
     for assignment in assignments {
-        numbers.push(assignment.number)?;
+        add_number(&mut numbers, &assignment.name, assignment.number)?;
     }
     Ok(numbers)
 }
 
-// Adds the numbers of the parameters of functions.
-pub(crate) fn add_parameter_numbers(
-    numbers: &mut Vec<Number>,
-    functions: &Table<FunctionDefinition>,
+// Adds the parameters of functions, each with its number.
+pub(crate) fn add_parameter_numbers<'src>(
+    numbers: &mut Vec<(Name<'src>, Number)>,
+    functions: &Table<FunctionDefinition<'src>>,
 ) -> Result<(), OutOfMemory>
-    ensures { OnOk result (numbers.new.items ≡ numbers.old.items ++ parameter_numbers (map function_view functions.now)) }
+    ensures { OnOk result (map parameter_view numbers.new.items ≡ map parameter_view numbers.old.items ++ parameters_of (map function_view functions.now)) }
 {
     for function in functions {
-        add_numbers(numbers, &function.parameters)?;
+        numbers.extend_from_slice(&function.parameters)?;
     }
     Ok(())
 }
 
-// Adds the numbers of parameters.
-fn add_numbers(numbers: &mut Vec<Number>, parameters: &[(Name, Number)]) -> Result<(), OutOfMemory>
-    ensures { OnOk result (numbers.new.items ≡ numbers.old.items ++ map (λ p. p.1) (map parameter_view parameters.now)) }
-{
-    for (_, number) in parameters {
-        numbers.push(*number)?;
-    }
-    Ok(())
-}
-
-// Adds the numbers of a recipe's parameters.
-pub(crate) fn add_recipe_numbers(
-    numbers: &mut Vec<Number>,
-    parameters: &[Parameter],
+// Adds a recipe's parameters, each with its number.
+pub(crate) fn add_recipe_numbers<'src>(
+    numbers: &mut Vec<(Name<'src>, Number)>,
+    parameters: &[Parameter<'src>],
 ) -> Result<(), OutOfMemory>
-    ensures { OnOk result (numbers.new.items ≡ numbers.old.items ++ map (λ p. p.number) (map recipe_parameter_view parameters.now)) }
+    ensures { OnOk result (map parameter_view numbers.new.items ≡ map parameter_view numbers.old.items ++ map (λ p. (p.name, p.number)) (map recipe_parameter_view parameters.now)) }
 {
     for parameter in parameters {
-        numbers.push(parameter.number)?;
+        add_number(numbers, &parameter.name, parameter.number)?;
     }
     Ok(())
 }
 
-// Whether no number stands there twice.
-pub(crate) fn are_distinct(alloc: Global, numbers: &[Number]) -> Result<bool, OutOfMemory>
-    ensures { IfOk result (λ answer. IsTrue answer ↔ AreDistinct numbers.now) }
+// Adds a name with its number.
+fn add_number<'src>(
+    numbers: &mut Vec<(Name<'src>, Number)>,
+    name: &Name<'src>,
+    number: Number,
+) -> Result<(), OutOfMemory>
+    ensures { OnOk result (numbers.new.items ≡ numbers.old.items ++ (name.now, number) ∷ []) }
+{
+    match numbers.push((*name, number)) {
+        Ok(()) => Ok(()),
+        Err(_) => Err(OutOfMemory),
+    }
+}
+
+// The first name with the number of an earlier one.
+pub(crate) fn number_fault<'src>(
+    alloc: Global,
+    numbers: &[(Name<'src>, Number)],
+) -> Result<Option<Fault<'src>>, OutOfMemory>
+    ensures { IfOk result (λ fault. (functions : List Function) (assignments : Assignments) (outer : Frames) → Finds (IsSound functions assignments outer) (IsFaulty functions assignments outer) (number_places [] (map parameter_view numbers.now)) (option_map fault_view fault)) }
 {
     let mut seen = BTreeSet::new(alloc);
-    for number in numbers {
+    for (name, number) in numbers {
         if !seen.insert(*number)? {
-            return Ok(false);
+            return Ok(Some(Fault::DuplicateNumber { variable: *name }));
         }
     }
-    Ok(true)
+    Ok(None)
 }
 
-// Whether a scope binds none of these numbers.
-pub(crate) fn are_unbound(scope: &Scope, numbers: &[Number]) -> bool
-    ensures { result ≡ list_all (λ n. is_none (value_in (frames_view scope.now) n)) numbers.now }
+// The first of these parameters that a scope binds.
+pub(crate) fn parameter_fault<'src>(
+    scope: &Scope,
+    parameters: &[(Name<'src>, Number)],
+) -> Option<Fault<'src>>
+    ensures { FindsBound (frames_view scope.now) (map parameter_view parameters.now) (option_map fault_view result) }
 {
-    numbers.iter().all(|number| is_unbound(scope, *number))
-}
-
-// Whether a scope does not bind a number.
-fn is_unbound(scope: &Scope, number: Number) -> bool
-    ensures { result ≡ is_none (value_in (frames_view scope.now) number) }
-{
-    scope.value(number).is_none()
+    for (name, number) in parameters {
+        if scope.value(*number).is_some() {
+            return Some(Fault::BoundParameter { parameter: *name });
+        }
+    }
+    None
 }
 
 /// The numbers of a function's parameters.

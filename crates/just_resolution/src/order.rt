@@ -1,14 +1,19 @@
-// Whether all is taken before it is read.
+// The first name of an evaluation order that may not come next.
 
-ghost use Rattle.std.specs.Prelude.{◌≡◌, ◌↔◌, ◌⊎◌, ℕ, [], IfOk, IsTrue, map};
+ghost use Rattle.std.specs.Prelude.{◌≡◌, ◌↔◌, ◌⊎◌, ℕ, [], IfOk, IsNone, IsTrue, MatchOption, Some, map};
+ghost use Rattle.std.specs.Option.{option_map};
+ghost use Rattle.just_syntax.specs.Plain.{Token};
 ghost use Rattle.just_syntax.specs.View.{assignment_view, function_view, name_view};
 ghost use Rattle.just_value.specs.View.{frames_view};
-ghost use Rattle.just_resolution.specs.Admitted.{IsAdmitted, IsNumberOf, IsTakenBy, MayFollow, ReadsReadable};
-ghost use Rattle.just_meaning.specs.Resolved.{AreAssignments, AreDistinct, AreInOrder};
-ghost use Rattle.just_resolution.specs.Seen.{is_name_in, is_readable, is_taken};
+ghost use Rattle.just_meaning.specs.Resolved.{AreDistinct};
 ghost use Rattle.just_meaning.specs.View.{ordered_view};
+ghost use Rattle.just_resolution.specs.Admitted.{FindsMisplaced, IsAdmitted, IsNumberOf, IsTakenBy, ReadsReadable};
+ghost use Rattle.just_resolution.specs.Fault.{IsFaulty, IsSound, ReadsUntaken, name_places};
+ghost use Rattle.just_resolution.specs.First.{Finds};
+ghost use Rattle.just_resolution.specs.Seen.{fault_view, is_name_in, is_readable, is_taken};
 
-use crate::admitted::reads_readable;
+use crate::admitted::first_unreadable;
+use crate::fault::Fault;
 use crate::readable::Readable;
 use crate::references::is_referenced;
 use just_syntax::assignment::Assignment;
@@ -21,91 +26,98 @@ use just_value::scope::Scope;
 use std::alloc::Global;
 use std::collections::{BTreeSet, HashSet};
 
-// Whether the order names assignments alone, and what each reads is taken earlier or bound outside.
-pub(crate) fn is_in_order<'src>(
+// What is wrong with the first name that is no assignment's, or that of an assignment which reads what is neither taken
+// earlier nor bound outside.
+pub(crate) fn order_fault<'src>(
     alloc: Global,
     functions: &Table<FunctionDefinition<'src>>,
     assignments: &Table<Assignment<'src>>,
     evaluation_order: &[Name<'src>],
     outer: &Scope<'src, '_>,
     variable_references: Option<&HashSet<Number>>,
-) -> Result<bool, OutOfMemory>
+) -> Result<Option<Fault<'src>>, OutOfMemory>
     requires distinct { AreDistinct (map (λ a. a.number) (map assignment_view assignments.now)) }
-    ensures { let ordered = ordered_view assignments.now evaluation_order.now variable_references.entry in
-        IfOk result (λ answer. IsTrue answer ↔ (AreAssignments ordered ordered.order × AreInOrder (map function_view functions.now) ordered (frames_view outer.now) [] ordered.order)) }
+    ensures { let all = map function_view functions.now in let ordered = ordered_view assignments.now evaluation_order.now variable_references.entry in
+        IfOk result (λ fault. Finds (IsSound all ordered (frames_view outer.now)) (IsFaulty all ordered (frames_view outer.now)) (name_places ordered [] ordered.order) (option_map fault_view fault)) }
 {
     let mut readable = Readable::new(alloc, outer);
     let mut admitted = BTreeSet::new(alloc);
     for name in evaluation_order {
-        if !takes_next(
+        let fault = take_next(
             alloc,
             functions,
             assignments,
             variable_references,
             &mut readable,
             &mut admitted,
-            *name,
-        )? {
-            return Ok(false);
+            name,
+        )?;
+        if fault.is_some() {
+            return Ok(fault);
         }
     }
-    Ok(true)
+    Ok(None)
 }
 
-// Takes the assignment with a name, unless it is not referenced, and answers whether it may come next. One that
+// Takes the assignment with a name, unless it is not referenced, and answers why it may not come next, if so. One that
 // was taken before may come again. What it takes does not depend on the rest of the order, so its clauses have none.
-fn takes_next<'src>(
+fn take_next<'src>(
     alloc: Global,
     functions: &Table<FunctionDefinition<'src>>,
     assignments: &Table<Assignment<'src>>,
     variable_references: Option<&HashSet<Number>>,
     readable: &mut Readable,
     admitted: &mut BTreeSet<&'src str>,
-    name: Name<'src>,
-) -> Result<bool, OutOfMemory>
+    name: &Name<'src>,
+) -> Result<Option<Fault<'src>>, OutOfMemory>
     requires distinct { AreDistinct (map (λ a. a.number) (map assignment_view assignments.now)) }
     requires taken { let all = ordered_view assignments.now [] variable_references in
         IsTakenBy (map function_view functions.now) all (is_taken readable.old) (is_readable readable.old) (is_name_in admitted.old) }
     ensures outer { readable.new.outer ≡ readable.old.outer }
     ensures exact { let all = ordered_view assignments.now [] variable_references.entry in
-        IfOk result (λ answer. IsTrue answer ↔ MayFollow (map function_view functions.now) all (is_readable readable.old) (name_view name.entry)) }
+        IfOk result (λ fault. FindsMisplaced (map function_view functions.now) all (is_readable readable.old) (name_view name.now) (option_map fault_view fault)) }
     ensures number { let all = ordered_view assignments.now [] variable_references.entry in
-        IfOk result (λ answer. IsTrue answer → (n : ℕ) → IsTrue (is_taken readable.new n) ↔ (IsTrue (is_taken readable.old n) ⊎ IsNumberOf all (name_view name.entry) n)) }
+        IfOk result (λ fault. IsNone fault → (n : ℕ) → IsTrue (is_taken readable.new n) ↔ (IsTrue (is_taken readable.old n) ⊎ IsNumberOf all (name_view name.now) n)) }
     ensures taken { let all = ordered_view assignments.now [] variable_references.entry in
-        IfOk result (λ answer. IsTrue answer → IsTakenBy (map function_view functions.now) all (is_taken readable.new) (is_readable readable.new) (is_name_in admitted.new)) }
+        IfOk result (λ fault. IsNone fault → IsTakenBy (map function_view functions.now) all (is_taken readable.new) (is_readable readable.new) (is_name_in admitted.new)) }
 {
     match assignments.get(name.lexeme()) {
         Some(assignment) => {
             if !is_referenced(variable_references, assignment.number) {
-                return Ok(true);
+                return Ok(None);
             }
             if readable.has_taken(assignment.number) {
-                return Ok(true);
+                return Ok(None);
             }
-            takes(alloc, functions, readable, admitted, assignment)
+            take(alloc, functions, readable, admitted, assignment)
         }
-        None => Ok(false),
+        None => Ok(Some(Fault::UnknownAssignment { assignment: *name })),
     }
 }
 
-// Takes an assignment, and answers whether it reads nothing but what is readable.
-fn takes<'src>(
+// Takes an assignment, unless it reads what is not readable, and answers the first such variable.
+fn take<'src>(
     alloc: Global,
     functions: &Table<FunctionDefinition<'src>>,
     readable: &mut Readable,
     admitted: &mut BTreeSet<&'src str>,
     assignment: &Assignment<'src>,
-) -> Result<bool, OutOfMemory>
+) -> Result<Option<Fault<'src>>, OutOfMemory>
     requires closed { IsAdmitted (map function_view functions.now) (is_readable readable.old) (is_name_in admitted.old) }
     ensures outer { readable.new.outer ≡ readable.old.outer }
-    ensures exact { IfOk result (λ answer. IsTrue answer ↔ ReadsReadable (map function_view functions.now) (is_readable readable.old) (assignment_view assignment.now)) }
-    ensures taken { IfOk result (λ answer. IsTrue answer → (n : ℕ) → IsTrue (is_taken readable.new n) ↔ (IsTrue (is_taken readable.old n) ⊎ (assignment.now.number ≡ n))) }
-    ensures closed { IfOk result (λ answer. IsTrue answer → IsAdmitted (map function_view functions.now) (is_readable readable.old) (is_name_in admitted.new)) }
+    ensures exact { let seen = assignment_view assignment.now in
+        IfOk result (λ fault. MatchOption fault (ReadsReadable (map function_view functions.now) (is_readable readable.old) seen) (λ found. ReadsUntaken (map function_view functions.now) (λ n. IsTrue (is_readable readable.old n)) seen (fault_view found))) }
+    ensures taken { IfOk result (λ fault. IsNone fault → (n : ℕ) → IsTrue (is_taken readable.new n) ↔ (IsTrue (is_taken readable.old n) ⊎ (assignment.now.number ≡ n))) }
+    ensures closed { IfOk result (λ fault. IsNone fault → IsAdmitted (map function_view functions.now) (is_readable readable.old) (is_name_in admitted.new)) }
 {
     let value = &assignment.value;
-    if !reads_readable(alloc, functions, readable, readable, admitted, value)? {
-        return Ok(false);
+    let unreadable = first_unreadable(alloc, functions, readable, readable, admitted, value)?;
+    if let Some(variable) = unreadable {
+        return Ok(Some(Fault::UntakenVariable {
+            assignment: assignment.name,
+            variable,
+        }));
     }
     readable.take(assignment.number)?;
-    Ok(true)
+    Ok(None)
 }

@@ -5,9 +5,7 @@ ghost use Rattle.just_value.specs.View.{frames_view};
 ghost use Rattle.just_meaning.specs.Resolved.{IsResolved};
 ghost use Rattle.just_meaning.specs.View.{assignments_view, functions_view};
 
-use crate::known::{are_bodies_known, are_values_known};
-use crate::numbers::are_numbers_apart;
-use crate::order::is_in_order;
+use crate::first_fault::first_fault;
 use just_host::justfile::Justfile;
 use just_syntax::number::Number;
 use just_syntax::out_of_memory::OutOfMemory;
@@ -28,12 +26,14 @@ use std::collections::HashSet;
 ///   earlier or bound in `parent`. Taken are the assignments of the order that are referenced: each, where
 ///   `variable_references` is `None`.
 ///
-/// Functions may call each other for ever. Each assignment and each body is looked through a bounded number of
-/// times, not once for each assignment that reaches it.
+/// Where it is not, [`first_fault`] tells why. Functions may call each other for ever. Each assignment and each body is
+/// looked through a bounded number of times, not once for each assignment that reaches it.
+///
+/// [`first_fault`]: crate::first_fault::first_fault
 ///
 /// # Errors
 ///
-/// `OutOfMemory` where memory was asked for and refused.
+/// `OutOfMemory`, where memory was asked for and refused: nothing is decided, and the module stays as it was.
 pub fn resolved<'src, 'run>(
     alloc: Global,
     module: &Justfile<'src>,
@@ -42,21 +42,5 @@ pub fn resolved<'src, 'run>(
 ) -> Result<bool, OutOfMemory>
     ensures exact { IfOk result (λ answer. IsTrue answer ↔ IsResolved (functions_view «module».now) (assignments_view «module».now variable_references.entry) (frames_view parent.now)) }
 {
-    if !are_numbers_apart(alloc, module, parent)? {
-        return Ok(false);
-    }
-    if !are_values_known(alloc, &module.functions, &module.assignments)? {
-        return Ok(false);
-    }
-    if !are_bodies_known(alloc, &module.functions)? {
-        return Ok(false);
-    }
-    is_in_order(
-        alloc,
-        &module.functions,
-        &module.assignments,
-        &module.evaluation_order,
-        parent,
-        variable_references,
-    )
+    Ok(first_fault(alloc, module, parent, variable_references)?.is_none())
 }

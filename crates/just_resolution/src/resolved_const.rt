@@ -6,8 +6,8 @@ ghost use Rattle.just_meaning.specs.Resolved.{IsResolvedConst};
 ghost use Rattle.just_meaning.specs.View.{ordered_view};
 
 use crate::known::are_values_numbered;
-use crate::numbers::{are_distinct, assignment_numbers};
-use crate::order::is_in_order;
+use crate::numbers::{assignment_numbers, number_fault};
+use crate::order::order_fault;
 use just_syntax::assignment::Assignment;
 use just_syntax::name::Name;
 use just_syntax::number::Number;
@@ -36,7 +36,7 @@ use std::collections::HashSet;
 ///
 /// # Errors
 ///
-/// `OutOfMemory` where memory was asked for and refused.
+/// `OutOfMemory`, where memory was asked for and refused: nothing is decided, and the assignments stay as they were.
 pub fn resolved_const<'src, 'run>(
     alloc: Global,
     assignments: &Table<Assignment<'src>>,
@@ -47,19 +47,20 @@ pub fn resolved_const<'src, 'run>(
     ensures exact { IfOk result (λ answer. IsTrue answer ↔ IsResolvedConst (ordered_view assignments.now evaluation_order.now (Some variable_references.entry)) (frames_view scope.now)) }
 {
     let numbers = assignment_numbers(alloc, assignments)?;
-    if !are_distinct(alloc, &numbers)? {
+    if number_fault(alloc, &numbers)?.is_some() {
         return Ok(false);
     }
     if !are_values_numbered(alloc, assignments)? {
         return Ok(false);
     }
     let functions = Table::new(alloc);
-    is_in_order(
+    let misplaced = order_fault(
         alloc,
         &functions,
         assignments,
         evaluation_order,
         scope,
         Some(variable_references),
-    )
+    )?;
+    Ok(misplaced.is_none())
 }

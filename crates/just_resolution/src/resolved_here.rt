@@ -7,7 +7,7 @@ ghost use Rattle.just_meaning.specs.View.{IsResolvedWith};
 ghost use Rattle.just_resolution.specs.Seen.{attributes_of, expressions_view};
 
 use crate::here::{are_parameters_apart, are_readable_here};
-use crate::known::are_bodies_known;
+use crate::known::bodies_fault;
 use just_host::execution_context::ExecutionContext;
 use just_syntax::expression::Expression;
 use just_syntax::out_of_memory::OutOfMemory;
@@ -32,7 +32,7 @@ use std::alloc::Global;
 ///
 /// # Errors
 ///
-/// `OutOfMemory` where memory was asked for and refused.
+/// `OutOfMemory`, where memory was asked for and refused: nothing is decided, and `expressions` is used up all the same.
 pub fn resolved_here<'src, 'run>(
     alloc: Global,
     context: &ExecutionContext<'src, 'run>,
@@ -47,7 +47,7 @@ pub fn resolved_here<'src, 'run>(
     if !are_parameters_apart(alloc, module, scope, context.scope, parameters)? {
         return Ok(false);
     }
-    if !are_bodies_known(alloc, &module.functions)? {
+    if bodies_fault(alloc, &module.functions)?.is_some() {
         return Ok(false);
     }
     are_readable_here(alloc, context, scope, recipe, parameters, expressions)

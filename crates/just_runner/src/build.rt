@@ -16,46 +16,38 @@ use just_syntax::number::Number;
 use just_syntax::out_of_memory::OutOfMemory;
 use just_syntax::parameter::Parameter;
 use just_syntax::parameter_kind::ParameterKind;
+use just_syntax::place::Place;
 use just_syntax::recipe::Recipe;
-use just_syntax::string_literal::StringLiteral;
 use just_syntax::token::Token;
 use std::alloc::Global;
 
 /// The recipe with its attribute.
 pub(crate) fn recipe<'src>(alloc: Global) -> Result<Recipe<'src>, OutOfMemory> {
-    let stamp = literal(alloc, "STAMP", "'STAMP'")?;
-    let date = Expression::Backtick {
-        contents: String::from_str(alloc, "date")?,
-        token: token("`date`"),
-    };
-    let mut attributes = AttributeSet::new(alloc);
-    attributes.push(Attribute::Env(stamp, date), name("env"))?;
-    Ok(Recipe {
-        attributes,
-        name: name("build"),
-    })
+    let stamp = Expression::literal(alloc, "STAMP", "'STAMP'")?;
+    let date = Expression::backtick(alloc, "date", token("`date`"))?;
+    let mut recipe = Recipe::new(alloc, name("build"));
+    recipe
+        .attributes
+        .push(Attribute::Env(stamp, date), name("env"))?;
+    Ok(recipe)
 }
 
 /// Its parameters. Their numbers are what a resolver gave them.
 pub(crate) fn parameters<'src>(alloc: Global) -> Result<Vec<Parameter<'src>>, OutOfMemory> {
-    let beside = Expression::Join {
-        lhs: Some(Box::new(alloc, variable("target", 0))?),
-        operator: token("/"),
-        rhs: Box::new(alloc, literal(alloc, "out", "'out'")?)?,
-    };
+    let out = Expression::literal(alloc, "out", "'out'")?;
+    let beside = Expression::join(alloc, Some(variable("target", 0)), token("/"), out)?;
+    let mut output = Parameter::new(name("output"), Number::new(1), ParameterKind::Singular);
+    output.default = Some(beside);
     let mut parameters = Vec::new(alloc);
-    parameters.push(parameter("target", 0, ParameterKind::Singular, None))?;
-    parameters.push(parameter("output", 1, ParameterKind::Singular, Some(beside)))?;
-    parameters.push(parameter("flags", 2, ParameterKind::Star, None))?;
+    parameters.push(Parameter::new(name("target"), Number::new(0), ParameterKind::Singular))?;
+    parameters.push(output)?;
+    parameters.push(Parameter::new(name("flags"), Number::new(2), ParameterKind::Star))?;
     Ok(parameters)
 }
 
 /// Its lines, each with whether it goes on the line before.
 pub(crate) fn lines<'src>(alloc: Global) -> Result<Vec<(Line<'src>, bool)>, OutOfMemory> {
-    let recipe_name = Expression::Call {
-        arguments: Vec::new(alloc),
-        name: name("recipe_name"),
-    };
+    let recipe_name = Expression::call(name("recipe_name"), Vec::new(alloc));
     let mut first = Vec::new(alloc);
     first.push(text("cc "))?;
     first.push(interpolation(variable("flags", 2)))?;
@@ -76,25 +68,6 @@ pub(crate) fn lines<'src>(alloc: Global) -> Result<Vec<(Line<'src>, bool)>, OutO
     Ok(lines)
 }
 
-// A parameter whose value is its argument, or its default where that is empty.
-fn parameter<'src>(
-    lexeme: &'src str,
-    number: u64,
-    kind: ParameterKind,
-    default: Option<Expression<'src>>,
-) -> Parameter<'src> {
-    Parameter {
-        default,
-        export: false,
-        flag: false,
-        kind,
-        multiple: false,
-        name: name(lexeme),
-        number: Number::new(number),
-        value: None,
-    }
-}
-
 fn text<'src>(lexeme: &'src str) -> Fragment<'src> {
     Fragment::Text {
         token: token(lexeme),
@@ -106,40 +79,14 @@ fn interpolation<'src>(expression: Expression<'src>) -> Fragment<'src> {
 }
 
 fn variable<'src>(lexeme: &'src str, number: u64) -> Expression<'src> {
-    Expression::Variable {
-        name: name(lexeme),
-        number: Some(Number::new(number)),
-    }
-}
-
-// A literal of this text, as it is written between apostrophes.
-fn literal<'src>(
-    alloc: Global,
-    cooked: &str,
-    lexeme: &'src str,
-) -> Result<Expression<'src>, OutOfMemory> {
-    Ok(Expression::StringLiteral {
-        string_literal: StringLiteral {
-            cooked: String::from_str(alloc, cooked)?,
-            lexeme,
-            indented: false,
-        },
-    })
+    Expression::variable(name(lexeme), Number::new(number))
 }
 
 fn name<'src>(lexeme: &'src str) -> Name<'src> {
-    Name {
-        token: token(lexeme),
-    }
+    Name::new(lexeme, Some(Place::start_of("justfile")))
 }
 
 // A token; a parser would know its place.
 fn token<'src>(lexeme: &'src str) -> Token<'src> {
-    Token {
-        column: 0,
-        line: 0,
-        offset: 0,
-        lexeme,
-        path: "justfile",
-    }
+    Token::new(lexeme, Some(Place::start_of("justfile")))
 }

@@ -6,10 +6,8 @@ use just_host::config::Config;
 use just_host::execution_context::ExecutionContext;
 use just_host::justfile::Justfile;
 use just_host::search::Search;
-use just_host::settings::Settings;
 use just_syntax::number::Number;
 use just_syntax::out_of_memory::OutOfMemory;
-use just_syntax::table::Table;
 use just_value::scope::Scope;
 use std::alloc::Global;
 use std::collections::{BTreeMap, HashMap};
@@ -27,21 +25,10 @@ impl Invocation {
     /// One in `/work`, with no override and no dotenv file.
     pub(crate) fn new(alloc: Global) -> Result<Invocation, OutOfMemory> {
         Ok(Invocation {
-            config: Config {
-                dry_run: false,
-                invocation_directory: String::from_str(alloc, "/work")?,
-                jobs: None,
-                quiet: false,
-                shell: None,
-                shell_args: None,
-                shell_command: false,
-            },
+            config: Config::new(alloc, "/work")?,
             dotenv: BTreeMap::new(alloc),
             overrides: HashMap::new(alloc),
-            search: Search {
-                justfile: String::from_str(alloc, "/work/justfile")?,
-                working_directory: String::from_str(alloc, "/work")?,
-            },
+            search: Search::new(alloc, "/work/justfile", "/work")?,
         })
     }
 
@@ -53,29 +40,18 @@ impl Invocation {
     ) -> ExecutionContext<'src, 'run>
         ensures limit { result.recursion_limit ≡ 100 }
     {
-        ExecutionContext {
-            config: &self.config,
-            dotenv: &self.dotenv,
+        ExecutionContext::new(
+            &self.config,
+            &self.dotenv,
             module,
-            overrides: &self.overrides,
-            recursion_limit: 100,
+            &self.overrides,
             scope,
-            search: &self.search,
-        }
+            &self.search,
+        )
     }
 }
 
 /// A module that has nothing but the recipe.
 pub(crate) fn module<'src>(alloc: Global) -> Result<Justfile<'src>, OutOfMemory> {
-    Ok(Justfile {
-        assignments: Table::new(alloc),
-        evaluation_order: Vec::new(alloc),
-        functions: Table::new(alloc),
-        module_path: String::new(alloc),
-        settings: Settings::new(alloc),
-        source: String::from_str(alloc, "/work/justfile")?,
-        submodule: false,
-        unexports: Vec::new(alloc),
-        working_directory: String::from_str(alloc, "/work")?,
-    })
+    Justfile::new(alloc, "/work/justfile", "/work")
 }

@@ -161,17 +161,7 @@ fn inside(alloc: Global, value: &Value) -> Result<(), CheckFault> {
 // Adds why the recipe is not run.
 fn explain_refusal(text: &mut String, error: &Error) -> Result<(), OutOfMemory> {
     match error {
-        Error::Check { parameter, message } => {
-            writeln!(text, "  refused: parameter `{parameter}`: {message}")?
-        }
-        Error::EmptyListArgument { parameter, recipe } => {
-            writeln!(
-                text,
-                "  refused: recipe `{recipe}` wants an argument for `{parameter}`"
-            )?
-        }
-        Error::OutOfMemory => return Err(OutOfMemory),
-        _ => writeln!(text, "  refused")?,
+        Error::OutOfMemory => Err(OutOfMemory),
+        _ => Ok(writeln!(text, "  error: {error}")?),
     }
-    Ok(())
 }

@@ -1,4 +1,5 @@
 pub mod Plain
+pub mod Place
 pub mod ListOperator
 pub mod ParameterKind
 pub mod StringContext
@@ -6,4 +7,6 @@ pub mod Enclosure
 pub mod Keyed
 pub mod Printed
 pub mod Unindented
+pub mod OutOfMemory
+pub mod Variables
 pub mod View

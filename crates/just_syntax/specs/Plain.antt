@@ -7,6 +7,13 @@ use Rattle.just_syntax.specs.declared.parameter_kind.ParameterKind.{ParameterKin
 abbrev pub Text : Type 0
 Text = List ℕ
 
+-- where a piece of a file begins, in numbers from 0, and the path of the file
+pub record Place : Type 0 where
+  pub column : ℕ
+  pub line : ℕ
+  pub offset : ℕ
+  pub path : Text
+
 pub record Token : Type 0 where
   pub column : ℕ
   pub line : ℕ

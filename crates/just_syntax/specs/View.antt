@@ -1,6 +1,7 @@
 -- What declared syntax is as plain syntax.
 use Rattle.std.specs.Prelude.{ℕ, List, [], ◌∷◌, map, Option, Some, None, string_bytes, option_map}
 use Rattle.std.specs.declared.string.String.{String}
+use Rattle.just_syntax.specs.declared.place.Place.{Place}
 use Rattle.just_syntax.specs.declared.token.Token.{Token}
 use Rattle.just_syntax.specs.declared.name.Name.{Name}
 use Rattle.just_syntax.specs.declared.number.Number.{Number}
@@ -23,9 +24,14 @@ use Rattle.just_syntax.specs.declared.setting.Setting as declared_setting
 use Rattle.just_syntax.specs.declared.setting.Setting.TheVariants as settings
 use Rattle.just_syntax.specs.declared.string_context.StringContext as declared_context
 use Rattle.just_syntax.specs.declared.string_context.StringContext.TheVariants as contexts
+use Rattle.just_syntax.specs.declared.variable_error.VariableError.{VariableError}
+use Rattle.just_syntax.specs.declared.variable_error.VariableError.TheVariants as variables
 use Rattle.just_syntax.specs.Plain as plain
 use Rattle.just_syntax.specs.StringContext.{StringContext, EnvKey, Function, Setting}
 use Rattle.just_syntax.specs.Plain.{Expr, Exprs, Pieces}
+
+abbrev pub place_view : Place → plain.Place
+place_view p = record { column = p.column; line = p.line; offset = p.offset; path = p.path.now }
 
 abbrev pub token_view : Token → plain.Token
 token_view t = record { column = t.column; line = t.line; offset = t.offset; lexeme = t.lexeme.now; path = t.path.now }
@@ -174,3 +180,12 @@ string_context_view (contexts.Setting name) = Setting (name_view name)
 -- the value in the backticks
 abbrev pub enclosed : {T : Type 0} → Enclosure T → T
 enclosed e = e.value
+
+-- a name and a text, as `name=text`
+abbrev pub override_view : {A B : Type 0} → String A × String B → plain.Text × plain.Text
+override_view pair = (string_bytes pair.0, string_bytes pair.1)
+
+-- the name that no variable has; none for want of memory
+abbrev pub unknown_name : VariableError → Option plain.Text
+unknown_name (variables.Unknown name) = Some name.now
+unknown_name variables.OutOfMemory = None

@@ -1,5 +1,8 @@
 // Assignments.
 
+ghost use Rattle.std.specs.Prelude.{◌≡◌, false};
+ghost use Rattle.just_syntax.specs.View.{assignment_view, name_view, view};
+
 use crate::expression::Expression;
 use crate::keyed::Keyed;
 use crate::name::Name;
@@ -14,6 +17,22 @@ pub struct Assignment<'src> {
     pub number: Number,
     pub private: bool,
     pub value: Expression<'src>,
+}
+
+impl<'src> Assignment<'src> {
+    /// A variable that is neither evaluated early, nor exported, nor private.
+    pub fn new(name: Name<'src>, number: Number, value: Expression<'src>) -> Assignment<'src>
+        ensures { assignment_view result ≡ record { eager = false; export = false; name = name_view name.entry; number = number; private = false; value = view value.entry } }
+    {
+        Assignment {
+            eager: false,
+            export: false,
+            name,
+            number,
+            private: false,
+            value,
+        }
+    }
 }
 
 impl Keyed for Assignment<'_> {

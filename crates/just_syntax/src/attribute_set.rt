@@ -17,7 +17,7 @@ pub struct AttributeSet<'src> {
 }
 
 impl<'src> AttributeSet<'src> {
-    /// No attribute. It takes no memory.
+    /// No attribute. It takes no memory. Upstream's `AttributeSet::new`.
     pub fn new(alloc: Global) -> AttributeSet<'src>
         ensures { attributes_view result ≡ [] }
     {
@@ -26,8 +26,11 @@ impl<'src> AttributeSet<'src> {
         }
     }
 
-    /// Puts an attribute behind the others, with the name that it was written under. For want of memory the set stays
-    /// as it was, and the attribute is dropped.
+    /// Puts an attribute behind the others, with the name that it was written under.
+    ///
+    /// # Errors
+    ///
+    /// `OutOfMemory`, where memory was asked for and refused: the set stays as it was, and the attribute is dropped.
     pub fn push(&mut self, attribute: Attribute<'src>, name: Name<'src>) -> Result<(), OutOfMemory>
         ensures ok { OnOk result (attributes_view self.new ≡ attributes_view self.old ++ (attribute_view attribute.entry, name_view name.entry) ∷ []) }
         ensures err { OnErr result (attributes_view self.new ≡ attributes_view self.old) }

@@ -13,7 +13,7 @@ pub struct Enclosure<T> {
 }
 
 impl<T> Enclosure<T> {
-    /// The value, shown in backticks.
+    /// The value, shown in backticks. It takes no memory. Upstream's `Enclosure::tick`.
     pub fn tick(value: T) -> Enclosure<T>
         ensures { enclosed result ≡ value }
     {

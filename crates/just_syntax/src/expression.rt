@@ -1,5 +1,7 @@
 // Expressions.
 
+mod constructors;
+
 use crate::conditional_operator::ConditionalOperator;
 use crate::name::Name;
 use crate::number::Number;

@@ -1,5 +1,8 @@
 // Functions that a file defines.
 
+ghost use Rattle.std.specs.Prelude.{◌≡◌, map};
+ghost use Rattle.just_syntax.specs.View.{function_view, name_view, parameter_view, view};
+
 use crate::expression::Expression;
 use crate::keyed::Keyed;
 use crate::name::Name;
@@ -11,6 +14,23 @@ pub struct FunctionDefinition<'src> {
     pub body: Expression<'src>,
     pub name: Name<'src>,
     pub parameters: Vec<(Name<'src>, Number)>,
+}
+
+impl<'src> FunctionDefinition<'src> {
+    /// The function of this name, with parameters, each with its number, in their order.
+    pub fn new(
+        name: Name<'src>,
+        parameters: Vec<(Name<'src>, Number)>,
+        body: Expression<'src>,
+    ) -> FunctionDefinition<'src>
+        ensures { function_view result ≡ record { body = view body.entry; name = name_view name.entry; parameters = map parameter_view parameters.entry.items } }
+    {
+        FunctionDefinition {
+            body,
+            name,
+            parameters,
+        }
+    }
 }
 
 impl Keyed for FunctionDefinition<'_> {

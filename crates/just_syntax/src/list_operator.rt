@@ -15,7 +15,7 @@ pub enum ListOperator {
 }
 
 impl ListOperator {
-    /// What stands between two elements that are put together: nothing, or a slash.
+    /// What stands between two elements that are put together: nothing, or a slash. Upstream's `ListOperator::separator`.
     pub fn separator(self) -> &'static str
         ensures { result.now ≡ separator self }
     {

@@ -1,7 +1,11 @@
 // Names.
 
 ghost use Rattle.std.specs.Prelude.{◌≡◌};
+ghost use Rattle.std.specs.Option.{option_map};
+ghost use Rattle.just_syntax.specs.Place.{placed};
+ghost use Rattle.just_syntax.specs.View.{name_view, place_view};
 
+use crate::place::Place;
 use crate::token::Token;
 use std::fmt;
 
@@ -12,6 +16,15 @@ pub struct Name<'src> {
 }
 
 impl<'src> Name<'src> {
+    /// A name at a place, or without one at the start of a file whose path is empty.
+    pub fn new(lexeme: &'src str, place: Option<Place<'src>>) -> Name<'src>
+        ensures { name_view result ≡ placed (option_map place_view place.entry) lexeme.now }
+    {
+        Name {
+            token: Token::new(lexeme, place),
+        }
+    }
+
     /// The text of the name.
     pub fn lexeme(&self) -> &'src str
         ensures { result ≡ self.now.token.lexeme }

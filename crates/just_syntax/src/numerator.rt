@@ -8,7 +8,7 @@ use crate::number::Number;
 pub struct Numerator;
 
 impl Numerator {
-    /// The number of the constant at place `i`, counted from 0: that place.
+    /// The number of the constant at place `i`, counted from 0: that place. Upstream's `Numerator::constant`.
     pub fn constant(i: usize) -> Number
         ensures { result ≡ i }
     {

@@ -1,5 +1,8 @@
 // Parameters of recipes.
 
+ghost use Rattle.std.specs.Prelude.{◌≡◌, false, None};
+ghost use Rattle.just_syntax.specs.View.{name_view, recipe_parameter_view};
+
 use crate::expression::Expression;
 use crate::name::Name;
 use crate::number::Number;
@@ -20,4 +23,22 @@ pub struct Parameter<'src> {
     pub number: Number,
     /// What stands for each element of an argument that is not empty.
     pub value: Option<Expression<'src>>,
+}
+
+impl<'src> Parameter<'src> {
+    /// A parameter that is neither exported nor an option, with no default and no value of its own.
+    pub fn new(name: Name<'src>, number: Number, kind: ParameterKind) -> Parameter<'src>
+        ensures { recipe_parameter_view result ≡ record { default = None; export = false; flag = false; kind = kind; multiple = false; name = name_view name.entry; number = number; value = None } }
+    {
+        Parameter {
+            default: None,
+            export: false,
+            flag: false,
+            kind,
+            multiple: false,
+            name,
+            number,
+            value: None,
+        }
+    }
 }

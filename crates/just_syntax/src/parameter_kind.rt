@@ -15,7 +15,7 @@ pub enum ParameterKind {
 }
 
 impl ParameterKind {
-    /// Whether it takes more than one argument.
+    /// Whether it takes more than one argument. Upstream's `ParameterKind::is_variadic`.
     pub fn is_variadic(self) -> bool
         ensures { result ≡ is_variadic self }
     {

@@ -1,10 +1,11 @@
 // Recipes, as far as evaluation looks at them.
 
-ghost use Rattle.std.specs.Prelude.{◌≡◌};
-ghost use Rattle.just_syntax.specs.View.{recipe_view};
+ghost use Rattle.std.specs.Prelude.{◌≡◌, []};
+ghost use Rattle.just_syntax.specs.View.{name_view, recipe_view};
 
 use crate::attribute_set::AttributeSet;
 use crate::name::Name;
+use std::alloc::Global;
 
 /// A recipe, as far as evaluation looks at it.
 #[derive(Drop)]
@@ -14,7 +15,17 @@ pub struct Recipe<'src> {
 }
 
 impl<'src> Recipe<'src> {
-    /// The text of its name.
+    /// A recipe of this name, with no attribute. It takes no memory.
+    pub fn new(alloc: Global, name: Name<'src>) -> Recipe<'src>
+        ensures { recipe_view result ≡ record { attributes = []; name = name_view name.entry } }
+    {
+        Recipe {
+            attributes: AttributeSet::new(alloc),
+            name,
+        }
+    }
+
+    /// The text of its name. Upstream's `Recipe::name`.
     pub fn name(&self) -> &'src str
         ensures { result.now ≡ (recipe_view self.now).name.lexeme }
     {

@@ -21,7 +21,7 @@ pub enum StringContext<'src> {
 }
 
 impl<'src> StringContext<'src> {
-    /// The token of the name.
+    /// The token of the name. Upstream's `StringContext::token`.
     pub fn token(self) -> Token<'src>
         ensures { token_view result ≡ token (string_context_view self.entry) }
     {

@@ -1,5 +1,10 @@
 // String literals.
 
+ghost use Rattle.std.specs.Prelude.{◌≡◌, false, IfOk};
+ghost use Rattle.just_syntax.specs.View.{literal_view};
+
+use crate::out_of_memory::OutOfMemory;
+use std::alloc::Global;
 use std::fmt;
 
 /// A string literal: its text, how it was written, and whether its text was unindented.
@@ -8,6 +13,28 @@ pub struct StringLiteral<'src> {
     pub cooked: String,
     pub lexeme: &'src str,
     pub indented: bool,
+}
+
+impl<'src> StringLiteral<'src> {
+    /// A literal of this text, which was written as `lexeme`, quotes included, and was not unindented. Nothing looks whether
+    /// the two go together.
+    ///
+    /// # Errors
+    ///
+    /// `OutOfMemory`, where the text cannot be copied: nothing is made.
+    pub fn new(
+        alloc: Global,
+        text: &str,
+        lexeme: &'src str,
+    ) -> Result<StringLiteral<'src>, OutOfMemory>
+        ensures { IfOk result (λ l. literal_view l ≡ record { cooked = text.now; lexeme = lexeme.now; indented = false }) }
+    {
+        Ok(StringLiteral {
+            cooked: String::from_str(alloc, text)?,
+            lexeme,
+            indented: false,
+        })
+    }
 }
 
 impl fmt::Display for StringLiteral<'_> {

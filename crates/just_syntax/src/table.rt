@@ -57,15 +57,19 @@ impl<V: Keyed> Table<V> {
         self.values.len() == 0
     }
 
-    /// The value of a key.
+    /// The value of a key, if there is one.
     pub fn get(&self, key: &str) -> Option<&V>
         ensures { option_map (λ v. v.now) result ≡ value_at V.key_text key.now self.now }
     {
         self.values.get(key)
     }
 
-    /// Puts a value in its place, instead of the one that has its key. For want of memory the table stays as
-    /// it was, and the value is dropped.
+    /// Puts a value in its place, instead of the one that has its key. It takes memory for a copy of the key, also where that
+    /// has a value.
+    ///
+    /// # Errors
+    ///
+    /// `OutOfMemory`, where memory was asked for and refused: the table stays as it was, and the value is dropped.
     pub fn insert(&mut self, value: V) -> Result<(), OutOfMemory>
     where
         V: Drop,

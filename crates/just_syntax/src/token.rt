@@ -1,6 +1,11 @@
 // Tokens: pieces of a source file.
 
 ghost use Rattle.std.specs.Prelude.{◌≡◌};
+ghost use Rattle.std.specs.Option.{option_map};
+ghost use Rattle.just_syntax.specs.Place.{placed};
+ghost use Rattle.just_syntax.specs.View.{place_view, token_view};
+
+use crate::place::Place;
 
 /// A piece of a source file: its place, in numbers from 0, its text, and the path of the file.
 #[derive(Clone, Copy, Debug, PartialEq, Eq)]
@@ -13,7 +18,21 @@ pub struct Token<'src> {
 }
 
 impl<'src> Token<'src> {
-    /// The text of the token.
+    /// A text at a place, or without one at the start of a file whose path is empty.
+    pub fn new(lexeme: &'src str, place: Option<Place<'src>>) -> Token<'src>
+        ensures { token_view result ≡ placed (option_map place_view place.entry) lexeme.now }
+    {
+        let place = place.unwrap_or(Place::start_of(""));
+        Token {
+            column: place.column,
+            line: place.line,
+            offset: place.offset,
+            lexeme,
+            path: place.path,
+        }
+    }
+
+    /// The text of the token. Upstream's `Token::lexeme`.
     pub fn lexeme(&self) -> &'src str
         ensures { result ≡ self.now.lexeme }
     {

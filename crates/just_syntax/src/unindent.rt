@@ -6,8 +6,12 @@ ghost use Rattle.just_syntax.specs.Unindented as spec;
 use crate::out_of_memory::OutOfMemory;
 use std::alloc::Global;
 
-/// The text without the spaces and tabs that all its lines begin with, those lines aside that hold only spaces,
-/// tabs and returns: such a line becomes empty if it is the first or the last, else a newline alone.
+/// The text without the spaces and tabs that all its lines begin with, those lines aside that hold only spaces, tabs and
+/// returns: such a line becomes empty if it is the first or the last, else a newline alone. Upstream's `unindent`.
+///
+/// # Errors
+///
+/// `OutOfMemory`, where memory was asked for and refused: nothing is made.
 pub fn unindent(alloc: Global, text: &str) -> Result<String, OutOfMemory>
     ensures { IfOk result (λ t. string_bytes t ≡ spec.unindented text.now) }
 {

@@ -23,8 +23,12 @@ impl<W: fmt::Write> fmt::Write for Unstyled<'_, W> {
     }
 }
 
-/// Writes a value as `{}` does, whatever options the formatter has. `write!` does so too, but it promises it only for
-/// a formatter without options.
+/// Writes a value as `{}` does, whatever options the formatter has. `write!` does so too, but it promises it only for a
+/// formatter without options.
+///
+/// # Errors
+///
+/// `fmt::Error`, where the value or the writer fails.
 pub fn write_unstyled<W: fmt::Write, D: Display + Drop>(
     f: &mut fmt::Formatter<W>,
     value: D,

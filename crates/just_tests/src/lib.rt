@@ -5,7 +5,15 @@
 #[cfg(test)]
 mod const_errors;
 #[cfg(test)]
+mod constructors;
+#[cfg(test)]
+mod errors;
+#[cfg(test)]
+mod faults;
+#[cfg(test)]
 mod frames;
+#[cfg(test)]
+mod modules;
 #[cfg(test)]
 mod parts;
 #[cfg(test)]
@@ -20,5 +28,7 @@ mod syntax;
 mod text;
 #[cfg(test)]
 mod value;
+#[cfg(test)]
+mod variables;
 #[cfg(test)]
 mod words;

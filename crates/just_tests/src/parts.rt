@@ -2,24 +2,25 @@
 
 use just_syntax::name::Name;
 use just_syntax::out_of_memory::OutOfMemory;
+use just_syntax::place::Place;
 use just_syntax::token::Token;
 use just_value::value::Value;
 use std::alloc::Global;
 
+// Where each token and each name stands.
+const PLACE: Place = Place {
+    column: 2,
+    line: 1,
+    offset: 7,
+    path: "justfile",
+};
+
 pub(crate) fn token(lexeme: &str) -> Token<'_> {
-    Token {
-        column: 2,
-        line: 1,
-        offset: 7,
-        lexeme,
-        path: "justfile",
-    }
+    Token::new(lexeme, Some(PLACE))
 }
 
 pub(crate) fn name(lexeme: &str) -> Name<'_> {
-    Name {
-        token: token(lexeme),
-    }
+    Name::new(lexeme, Some(PLACE))
 }
 
 pub(crate) fn value(alloc: Global, elements: &[&str]) -> Result<Value, OutOfMemory> {

@@ -5,7 +5,11 @@ ghost use Rattle.std.specs.Prelude.{◌≡◌, ◌++◌, IfOk, map, string_bytes
 use just_syntax::out_of_memory::OutOfMemory;
 use std::alloc::Global;
 
-/// Each text with the suffix behind it, in their order.
+/// Each text with the suffix behind it, in their order. Upstream's `append`, of the texts that it goes over.
+///
+/// # Errors
+///
+/// `OutOfMemory`, where memory was asked for and refused: nothing is made.
 pub fn append(alloc: Global, suffix: &str, texts: &[String]) -> Result<Vec<String>, OutOfMemory>
     ensures { IfOk result (λ v. map string_bytes v.items ≡ map (λ text. text ++ suffix.now) (map string_bytes texts.now)) }
 {
@@ -16,7 +20,11 @@ pub fn append(alloc: Global, suffix: &str, texts: &[String]) -> Result<Vec<Strin
     Ok(all)
 }
 
-/// Each text with the prefix before it, in their order.
+/// Each text with the prefix before it, in their order. Upstream's `prepend`, of the texts that it goes over.
+///
+/// # Errors
+///
+/// `OutOfMemory`, where memory was asked for and refused: nothing is made.
 pub fn prepend(alloc: Global, prefix: &str, texts: &[String]) -> Result<Vec<String>, OutOfMemory>
     ensures { IfOk result (λ v. map string_bytes v.items ≡ map (λ text. prefix.now ++ text) (map string_bytes texts.now)) }
 {

@@ -6,7 +6,12 @@ ghost use Rattle.just_text.specs.Case as spec;
 use just_syntax::out_of_memory::OutOfMemory;
 use std::alloc::Global;
 
-/// The text with its first character upper and each later one lower. None if it holds a byte past ASCII.
+/// The text with its first character upper and each later one lower. None if it holds a byte past ASCII. Upstream's
+/// `capitalize`, which knows all letters.
+///
+/// # Errors
+///
+/// `OutOfMemory`, where memory was asked for and refused: nothing is made.
 pub fn capitalize(alloc: Global, text: &str) -> Result<Option<String>, OutOfMemory>
     ensures { IfOk result (λ answer. option_map string_bytes answer ≡ spec.capitalize text.now) }
 {
@@ -22,7 +27,11 @@ pub fn capitalize(alloc: Global, text: &str) -> Result<Option<String>, OutOfMemo
     Ok(Some(capitalized))
 }
 
-/// The text with all letters lower. None if it holds a byte past ASCII.
+/// The text with all letters lower. None if it holds a byte past ASCII. Upstream's `lowercase`, which knows all letters.
+///
+/// # Errors
+///
+/// `OutOfMemory`, where memory was asked for and refused: nothing is made.
 pub fn lowercase(alloc: Global, text: &str) -> Result<Option<String>, OutOfMemory>
     ensures { IfOk result (λ answer. option_map string_bytes answer ≡ spec.lowercase text.now) }
 {
@@ -32,7 +41,11 @@ pub fn lowercase(alloc: Global, text: &str) -> Result<Option<String>, OutOfMemor
     Ok(Some(text.to_ascii_lowercase(alloc)?))
 }
 
-/// The text with all letters upper. None if it holds a byte past ASCII.
+/// The text with all letters upper. None if it holds a byte past ASCII. Upstream's `uppercase`, which knows all letters.
+///
+/// # Errors
+///
+/// `OutOfMemory`, where memory was asked for and refused: nothing is made.
 pub fn uppercase(alloc: Global, text: &str) -> Result<Option<String>, OutOfMemory>
     ensures { IfOk result (λ answer. option_map string_bytes answer ≡ spec.uppercase text.now) }
 {

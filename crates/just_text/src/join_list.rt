@@ -6,7 +6,11 @@ ghost use Rattle.std.specs.List.{join_by};
 use just_syntax::out_of_memory::OutOfMemory;
 use std::alloc::Global;
 
-/// The texts in one, in their order, with the separator between each two.
+/// The texts in one, in their order, with the separator between each two. Upstream's `join_list`.
+///
+/// # Errors
+///
+/// `OutOfMemory`, where memory was asked for and refused: nothing is made.
 pub fn join_list(alloc: Global, texts: &[String], separator: &str) -> Result<String, OutOfMemory>
     ensures { IfOk result (λ text. string_bytes text ≡ join_by (λ t. t) separator.now (map string_bytes texts.now)) }
 {

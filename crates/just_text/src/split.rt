@@ -6,7 +6,11 @@ ghost use Rattle.just_text.specs.Split as spec;
 use just_syntax::out_of_memory::OutOfMemory;
 use std::alloc::Global;
 
-/// What stands between White_Space and is not empty, in its order.
+/// What stands between White_Space and is not empty, in its order. Upstream's `split` without a separator.
+///
+/// # Errors
+///
+/// `OutOfMemory`, where memory was asked for and refused: nothing is made.
 pub fn split_whitespace(alloc: Global, text: &str) -> Result<Vec<String>, OutOfMemory>
     ensures { IfOk result (λ v. map string_bytes v.items ≡ spec.words text.now) }
 {
@@ -17,8 +21,12 @@ pub fn split_whitespace(alloc: Global, text: &str) -> Result<Vec<String>, OutOfM
     Ok(words)
 }
 
-/// The pieces between the leftmost places of the separator that do not overlap, in their order: one more than
-/// there are places. An empty separator gives the characters, each as a text.
+/// The pieces between the leftmost places of the separator that do not overlap, in their order: one more than there are places.
+/// An empty separator gives the characters, each as a text. Upstream's `split` with a separator.
+///
+/// # Errors
+///
+/// `OutOfMemory`, where memory was asked for and refused: nothing is made.
 pub fn split(alloc: Global, text: &str, separator: &str) -> Result<Vec<String>, OutOfMemory>
     ensures { IfOk result (λ v. map string_bytes v.items ≡ spec.split text.now separator.now) }
 {

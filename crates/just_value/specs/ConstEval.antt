@@ -1,6 +1,7 @@
 -- What constant evaluation is refused with: which refusals it has, what each says, and where it stands.
 use Rattle.std.specs.Prelude.{◌==◌, ◌||◌, ◌++◌, [], length, codes, if◌then◌else◌}
 use Rattle.just_syntax.specs.Plain.{Text, Token}
+use Rattle.just_syntax.specs.declared.list_operator.ListOperator.{ListOperator}
 use Rattle.just_syntax.specs.ListOperator.{operator_text}
 use Rattle.just_syntax.specs.StringContext as context
 use Rattle.just_syntax.specs.StringContext.{StringContext, context_text}
@@ -47,6 +48,10 @@ lists_text l o r =
     if length l == 0 || length r == 0 then codes " cannot be applied to empty lists"
     else codes " cannot be applied to lists of different lengths: " ++ (shown l ++ (codes " " ++ (o ++ (codes " " ++ shown r))))
 
+-- an operator, and what it cannot be applied to
+abbrev pub operation_text : Value → ListOperator → Value → Text
+operation_text l o r = (codes "operator `" ++ (operator_text o ++ codes "`")) ++ lists_text l (operator_text o) r
+
 -- what a refusal of constant evaluation says; the others say nothing here
 abbrev pub const_eval_text : Refusal → Text
 const_eval_text (Assert message name) = codes "assert failed: " ++ message
@@ -55,7 +60,7 @@ const_eval_text (EmptyInterpreter setting) = codes "`" ++ (setting.lexeme ++ cod
 const_eval_text (Internal message t) = codes "internal error: " ++ message
 const_eval_text (LeftOutRegex t) = codes "regular expression operators are left out"
 const_eval_text (ListInStringContext wanted v) = list_text wanted v
-const_eval_text (ListOperation l o r t) = (codes "operator `" ++ (operator_text o ++ codes "`")) ++ lists_text l (operator_text o) r
+const_eval_text (ListOperation l o r t) = operation_text l o r
 const_eval_text _ = []
 
 -- no place in a file

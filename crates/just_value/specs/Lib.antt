@@ -8,6 +8,7 @@ pub mod ConstEval
 pub mod Outcome
 pub mod Applied
 pub mod Rising
+pub mod Said
 pub mod Places
 pub mod Numbering
 pub mod Positional

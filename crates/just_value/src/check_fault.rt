@@ -1,5 +1,10 @@
 // Why a value check took no value.
 
+use just_syntax::out_of_memory::OutOfMemory;
+use just_syntax::unstyled::write_unstyled;
+use std::error::Error;
+use std::fmt;
+
 /// Why a value check did not take a value.
 #[derive(Debug, Drop)]
 pub enum CheckFault {
@@ -8,3 +13,23 @@ pub enum CheckFault {
     /// There was no memory for it.
     OutOfMemory,
 }
+
+/// Writes the message, or `out of memory`.
+impl fmt::Display for CheckFault {
+    ghost use Rattle.std.specs.Prelude.{Some};
+    ghost use Rattle.just_value.specs.Said.{check_text};
+    ghost use Rattle.just_value.specs.View.{check_refusal};
+
+    ghost output = { λ fault. Some (check_text (check_refusal fault)) };
+
+    ghost styled_output = { λ fault _. Some (check_text (check_refusal fault)) };
+
+    fn fmt<W: fmt::Write>(&self, f: &mut fmt::Formatter<W>) -> fmt::Result {
+        match self {
+            CheckFault::Refused(message) => f.write_str(message),
+            CheckFault::OutOfMemory => write_unstyled(f, OutOfMemory),
+        }
+    }
+}
+
+impl Error for CheckFault {}

@@ -8,6 +8,7 @@ ghost use Rattle.just_value.specs.View.{const_refusal};
 use just_syntax::name::Name;
 use just_syntax::token::Token;
 use just_syntax::unstyled::write_unstyled;
+use std::error::Error;
 use std::fmt;
 
 /// What constant evaluation does not allow.
@@ -22,7 +23,7 @@ pub enum ConstError<'src> {
 }
 
 impl<'src> ConstError<'src> {
-    /// The token where it stands.
+    /// The token where it stands. Upstream's `ConstError::context`.
     pub fn context(self) -> Token<'src>
         ensures { token_view result ≡ const_token (const_refusal self.entry) }
     {
@@ -53,3 +54,5 @@ impl fmt::Display for ConstError<'_> {
         }
     }
 }
+
+impl Error for ConstError<'_> {}

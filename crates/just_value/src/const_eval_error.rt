@@ -1,20 +1,22 @@
 // What constant evaluation is refused with.
 
 ghost use Rattle.std.specs.Prelude.{◌≡◌, Some};
-ghost use Rattle.std.specs.Fmt.{WritesStyledOnOk};
-ghost use Rattle.just_syntax.specs.ListOperator.{operator_text};
-ghost use Rattle.just_syntax.specs.View.{string_context_view, token_view};
-ghost use Rattle.just_value.specs.ConstEval.{const_eval_token, list_text, lists_text};
+ghost use Rattle.just_syntax.specs.View.{token_view};
+ghost use Rattle.just_value.specs.ConstEval.{const_eval_token};
 ghost use Rattle.just_value.specs.View.{compile_refusal, compile_token, const_eval_refusal};
 
 use crate::compile_error::CompileError;
 use crate::const_error::ConstError;
+use crate::said::{
+    write_assertion, write_internal, write_left_out_regex, write_list, write_operation,
+};
 use crate::value::Value;
 use just_syntax::list_operator::ListOperator;
 use just_syntax::name::Name;
 use just_syntax::string_context::StringContext;
 use just_syntax::token::Token;
 use just_syntax::unstyled::write_unstyled;
+use std::error::Error;
 use std::fmt;
 
 /// Why constant evaluation gave no value.
@@ -55,7 +57,7 @@ pub enum ConstEvalError<'src> {
 }
 
 impl<'src> ConstEvalError<'src> {
-    /// The token where it stands.
+    /// The token where it stands. Upstream's `ConstEvalError::context`.
     pub fn context(&self) -> Token<'src>
         ensures { token_view result ≡ const_eval_token (const_eval_refusal self.now) }
     {
@@ -70,7 +72,7 @@ impl<'src> ConstEvalError<'src> {
         }
     }
 
-    /// The same refusal, with the token where it stands.
+    /// The same refusal, with the token where it stands. It takes no memory. Upstream's `ConstEvalError::into_compile_error`.
     pub fn into_compile_error(self) -> CompileError<'src>
         ensures refusal { compile_refusal result ≡ Some (const_eval_refusal self.entry) }
         ensures token { compile_token result ≡ Some (const_eval_token (const_eval_refusal self.entry)) }
@@ -94,9 +96,7 @@ impl fmt::Display for ConstEvalError<'_> {
     #[tactic(auto, using(just_syntax::proofs::Styled::styled_steps))]
     fn fmt<W: fmt::Write>(&self, f: &mut fmt::Formatter<W>) -> fmt::Result {
         match self {
-            ConstEvalError::Assert { message, name: _ } => {
-                write_unstyled(f, format_args!("assert failed: {message}"))
-            }
+            ConstEvalError::Assert { message, name: _ } => write_assertion(f, message),
             ConstEvalError::Const(error) => write_unstyled(f, error),
             ConstEvalError::EmptyInterpreter { setting } => write_unstyled(
                 f,
@@ -104,12 +104,8 @@ impl fmt::Display for ConstEvalError<'_> {
                     "`{setting}` setting requires at least one element but evaluated to empty list"
                 ),
             ),
-            ConstEvalError::Internal { message, token: _ } => {
-                write_unstyled(f, format_args!("internal error: {message}"))
-            }
-            ConstEvalError::LeftOutRegex { token: _ } => {
-                f.write_str("regular expression operators are left out")
-            }
+            ConstEvalError::Internal { message, token: _ } => write_internal(f, message),
+            ConstEvalError::LeftOutRegex { token: _ } => write_left_out_regex(f),
             ConstEvalError::ListInStringContext { context, value } => {
                 write_list(f, context, value)
             }
@@ -118,51 +114,9 @@ impl fmt::Display for ConstEvalError<'_> {
                 operator,
                 rhs,
                 token: _,
-            } => {
-                write_unstyled(f, format_args!("operator `{operator}`"))?;
-                write_lists(f, lhs, operator, rhs)
-            }
+            } => write_operation(f, lhs, operator, rhs),
         }
     }
 }
 
-// A value where one text is wanted.
-#[tactic(auto, using(just_syntax::proofs::Styled::styled_steps))]
-fn write_list<W: fmt::Write>(
-    f: &mut fmt::Formatter<W>,
-    context: &StringContext,
-    value: &Value,
-) -> fmt::Result
-    ensures { WritesStyledOnOk W.write_str_gives f.old result (list_text (string_context_view context.now) value.now) f.new }
-{
-    write_unstyled(f, format_args!("list value {value} {context}"))?;
-    match context {
-        StringContext::EnvKey(_) => Ok(()),
-        StringContext::Function(_) => f.write_str(
-            "\nthe behavior of lists with many built-in functions is undecided\n\
-            see https://github.com/casey/just#lists",
-        ),
-        StringContext::Setting(_) => Ok(()),
-    }
-}
-
-// What an operator cannot be applied to.
-fn write_lists<W: fmt::Write>(
-    f: &mut fmt::Formatter<W>,
-    lhs: &Value,
-    operator: &ListOperator,
-    rhs: &Value,
-) -> fmt::Result
-    ensures { WritesStyledOnOk W.write_str_gives f.old result (lists_text lhs.now (operator_text operator.now) rhs.now) f.new }
-{
-    if lhs.is_empty() || rhs.is_empty() {
-        f.write_str(" cannot be applied to empty lists")
-    } else {
-        write_unstyled(
-            f,
-            format_args!(
-                " cannot be applied to lists of different lengths: {lhs} {operator} {rhs}"
-            ),
-        )
-    }
-}
+impl Error for ConstEvalError<'_> {}

@@ -2,9 +2,13 @@
 
 ghost use Rattle.std.specs.Prelude.{◌≡◌};
 ghost use Rattle.std.specs.Option.{ForSome, option_map};
+ghost use Rattle.just_syntax.specs.View.{token_view};
 ghost use Rattle.just_value.specs.ConstEval.{IsConstEval, const_eval_token};
+ghost use Rattle.just_value.specs.Said.{error_token};
 ghost use Rattle.just_value.specs.View.{compile_refusal, compile_token, refusal};
 ghost use Rattle.just_value.specs.declared.error.Error.TheVariants.{OutOfMemory as Wanted};
+
+mod display;
 
 use crate::compile_error::CompileError;
 use crate::const_error::ConstError;
@@ -92,7 +96,27 @@ pub enum Error<'src> {
 }
 
 impl<'src> Error<'src> {
-    /// The same refusal as one of constant evaluation, where it is one, or want of memory.
+    /// The token where it stands. Want of memory stands nowhere, nor does the refusal of an argument, which is handed in.
+    pub fn token(&self) -> Option<Token<'src>>
+        ensures { option_map token_view result ≡ error_token (refusal self.now) }
+    {
+        match self {
+            Error::Const(error) => Some(error.context()),
+            Error::ListInStringContext { context, .. } => Some(context.token()),
+            Error::Assert { name, .. }
+            | Error::FunctionCall { function: name, .. }
+            | Error::LeftOut { function: name }
+            | Error::RecursionLimit { last: name } => Some(name.token),
+            Error::Backtick { token, .. }
+            | Error::Internal { token, .. }
+            | Error::LeftOutRegex { token }
+            | Error::ListOperation { token, .. } => Some(*token),
+            Error::Check { .. } | Error::EmptyListArgument { .. } | Error::OutOfMemory => None,
+        }
+    }
+
+    /// The same refusal as one of constant evaluation, where it is one, or want of memory. It is for no other refusal, and
+    /// takes no memory. Upstream's `Error::unwrap_const`, and `ConstEvalError::into_compile_error` behind it.
     pub fn unwrap_const(self) -> CompileError<'src>
         requires constant { ForSome (refusal self) IsConstEval }
         ensures refusal { compile_refusal result ≡ refusal self.entry }
@@ -128,6 +152,10 @@ impl<'src> Error<'src> {
         error.into_compile_error()
     }
 }
+
+impl std::error::Error for CommandFault {}
+
+impl std::error::Error for Error<'_> {}
 
 impl From<AllocError> for Error<'_> {
     ghost from_gives = { λ _ e. e ≡ Wanted };

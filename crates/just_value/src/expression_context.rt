@@ -27,7 +27,7 @@ impl<'src> ExpressionContext<'src> {
     ghost use Rattle.just_value.specs.Places.{IsPlace};
     ghost use Rattle.just_value.specs.View.{looked_up};
 
-    /// No name. It takes no memory.
+    /// No name. It takes no memory. Upstream's `ExpressionContext::new`.
     pub fn new(alloc: Global) -> ExpressionContext<'src>
         ensures { (name : List ℕ) → looked_up result name ≡ None }
     {
@@ -36,7 +36,12 @@ impl<'src> ExpressionContext<'src> {
         }
     }
 
-    /// The names of pairs, each with its number. Of equal names the last pair counts.
+    /// The names of pairs, each with its number. Of equal names the last pair counts. Upstream's `ExpressionContext::from` of
+    /// such pairs.
+    ///
+    /// # Errors
+    ///
+    /// `OutOfMemory`, where memory was asked for and refused: nothing is made.
     pub fn from_pairs(
         alloc: Global,
         pairs: &[(Name<'src>, Number)],
@@ -46,7 +51,12 @@ impl<'src> ExpressionContext<'src> {
         ExpressionContext::from_first(ExpressionContext::pairs_backwards(alloc, pairs)?)
     }
 
-    /// The names of parameters, each with its number. Of equal names the last parameter counts.
+    /// The names of parameters, each with its number. Of equal names the last parameter counts. Upstream's
+    /// `ExpressionContext::from` of parameters.
+    ///
+    /// # Errors
+    ///
+    /// `OutOfMemory`, where memory was asked for and refused: nothing is made.
     pub fn from_parameters(
         alloc: Global,
         parameters: &[Parameter<'src>],
@@ -56,7 +66,7 @@ impl<'src> ExpressionContext<'src> {
         ExpressionContext::from_first(ExpressionContext::parameters_backwards(alloc, parameters)?)
     }
 
-    /// The number of a name.
+    /// The number of a name, if it is one of these. Upstream's `ExpressionContext::lookup`.
     pub fn lookup(&self, name: &str) -> Option<Number>
         ensures { result ≡ looked_up self.now name.now }
     {

@@ -51,7 +51,7 @@ impl<'src> Frame<'src> {
         }
     }
 
-    /// The binding of a number.
+    /// The binding of a number, if it is bound here.
     pub fn binding(&self, number: Number) -> Option<&Binding<'src>>
         ensures { option_map (λ b. bound_view b.now) result ≡ bound_at number (frame_view self.now) }
     {

@@ -15,5 +15,6 @@ pub mod frame;
 pub mod laws;
 pub mod list;
 pub mod positional;
+mod said;
 pub mod scope;
 pub mod value;

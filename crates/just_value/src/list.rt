@@ -31,7 +31,11 @@ impl<T> List<T> {
 }
 
 impl<T: Drop> List<T> {
-    /// The items that an iterator gives until it ends, with `or` before the last.
+    /// The items that an iterator gives until it ends, with `or` before the last. Upstream's `List::or`, with items of its own.
+    ///
+    /// # Errors
+    ///
+    /// `OutOfMemory`, where memory was asked for and refused: the items that were taken are dropped.
     pub fn or<I: IntoIterator<Item = T>>(alloc: Global, items: I) -> Result<List<T>, OutOfMemory>
         requires { Ends I.into_iter_gives I.IntoIter.can_next I.IntoIter.remaining items }
         ensures conjunction { IfOk result (λ list. conjunction_of list ≡ codes "or") }
@@ -40,7 +44,12 @@ impl<T: Drop> List<T> {
         Ok(List::of("or", gathered(alloc, items)?))
     }
 
-    /// The items that an iterator gives until it ends, with `and` before the last.
+    /// The items that an iterator gives until it ends, with `and` before the last. Upstream's `List::and`, with items of its
+    /// own.
+    ///
+    /// # Errors
+    ///
+    /// `OutOfMemory`, where memory was asked for and refused: the items that were taken are dropped.
     pub fn and<I: IntoIterator<Item = T>>(alloc: Global, items: I) -> Result<List<T>, OutOfMemory>
         requires { Ends I.into_iter_gives I.IntoIter.can_next I.IntoIter.remaining items }
         ensures conjunction { IfOk result (λ list. conjunction_of list ≡ codes "and") }
@@ -49,7 +58,12 @@ impl<T: Drop> List<T> {
         Ok(List::of("and", gathered(alloc, items)?))
     }
 
-    /// The items that an iterator gives until it ends, each in backticks, with `or` before the last.
+    /// The items that an iterator gives until it ends, each in backticks, with `or` before the last. Upstream's
+    /// `List::or_ticked`, with items of its own.
+    ///
+    /// # Errors
+    ///
+    /// `OutOfMemory`, where memory was asked for and refused: the items that were taken are dropped.
     pub fn or_ticked<I: IntoIterator<Item = T>>(
         alloc: Global,
         items: I,
@@ -61,7 +75,12 @@ impl<T: Drop> List<T> {
         Ok(List::of("or", ticked(alloc, items)?))
     }
 
-    /// The items that an iterator gives until it ends, each in backticks, with `and` before the last.
+    /// The items that an iterator gives until it ends, each in backticks, with `and` before the last. Upstream's
+    /// `List::and_ticked`, with items of its own.
+    ///
+    /// # Errors
+    ///
+    /// `OutOfMemory`, where memory was asked for and refused: the items that were taken are dropped.
     pub fn and_ticked<I: IntoIterator<Item = T>>(
         alloc: Global,
         items: I,

@@ -22,7 +22,11 @@ pub struct Positional {
 }
 
 impl Positional {
-    /// What the words mean that an iterator gives until it ends.
+    /// What the words mean that an iterator gives until it ends. Upstream's `Positional::from_values`.
+    ///
+    /// # Errors
+    ///
+    /// `OutOfMemory`, where memory was asked for and refused: nothing is made.
     pub fn from_values<'values, I: IntoIterator<Item = &'values str>>(
         alloc: Global,
         values: I,

@@ -27,8 +27,12 @@ pub struct Scope<'src, 'run> {
 }
 
 impl<'src, 'run> Scope<'src, 'run> {
-    /// One frame that binds these constants, keys and values, to their places counted from 0. Each is of the
-    /// prelude, and its name's path is `PRELUDE`.
+    /// One frame that binds these constants, keys and values, to their places counted from 0. Each is of the prelude, and its
+    /// name's path is `PRELUDE`. Upstream's `Scope::root`, which has constants of its own.
+    ///
+    /// # Errors
+    ///
+    /// `OutOfMemory`, where memory was asked for and refused: nothing is made.
     pub fn root(
         alloc: Global,
         constants: &[(&'src str, &'src str)],
@@ -46,7 +50,12 @@ impl<'src, 'run> Scope<'src, 'run> {
         })
     }
 
-    /// A new frame with no binding, and the frames of this scope outside it.
+    /// A new frame with no binding, and the frames of this scope outside it. It takes memory for one reference a frame outside.
+    /// Upstream's `Scope::child`.
+    ///
+    /// # Errors
+    ///
+    /// `OutOfMemory`, where memory was asked for and refused: nothing is made, and this scope stays as it was.
     pub fn child<'inner>(&'inner self, alloc: Global) -> Result<Scope<'src, 'inner>, OutOfMemory>
         ensures { IfOk result (λ scope. frames_view scope ≡ [] ∷ frames_view self.now) }
     {
@@ -59,8 +68,12 @@ impl<'src, 'run> Scope<'src, 'run> {
         })
     }
 
-    /// Binds a number in the own frame, in place of what it was bound to there. For want of memory the scope
-    /// stays as it was, and the binding is dropped.
+    /// Binds a number in the own frame, in place of what it was bound to there. It takes memory only for a number that is not
+    /// bound there. Upstream's `Scope::bind`.
+    ///
+    /// # Errors
+    ///
+    /// `OutOfMemory`, where memory was asked for and refused: the scope stays as it was, and the binding is dropped.
     pub fn bind(&mut self, binding: Binding<'src>) -> Result<(), OutOfMemory>
         ensures ok { OnOk result (frames_view self.new ≡ bound_in_front (frames_view self.old) (bound_view binding.entry)) }
         ensures err { OnErr result (frames_view self.new ≡ frames_view self.old) }
@@ -68,7 +81,7 @@ impl<'src, 'run> Scope<'src, 'run> {
         self.frame.bind(binding)
     }
 
-    /// The binding of a number in the innermost frame that has one.
+    /// The binding of a number in the innermost frame that has one, if any has. Upstream's `Scope::binding`.
     pub fn binding(&self, number: Number) -> Option<&Binding<'src>>
         ensures { option_map (λ b. bound_view b.now) result ≡ innermost number (frames_view self.now) }
     {
@@ -79,7 +92,7 @@ impl<'src, 'run> Scope<'src, 'run> {
         binding_in(&self.outer, number)
     }
 
-    /// The value of a number in the innermost frame that binds it.
+    /// The value of a number in the innermost frame that binds it, if any does. Upstream's `Scope::value`.
     pub fn value(&self, number: Number) -> Option<&Value>
         ensures { option_map (λ v. v.now) result ≡ value_in (frames_view self.now) number }
     {
@@ -89,7 +102,7 @@ impl<'src, 'run> Scope<'src, 'run> {
         }
     }
 
-    /// The bindings of the own frame, by rising number.
+    /// The bindings of the own frame, by rising number. Upstream's `Scope::bindings`.
     pub fn bindings(&self) -> Bindings<'_, 'src>
         ensures once { map bound_view (bindings_left result) ≡ values_of (own_frame (frames_view self.now)) }
         ensures rising { IsRising (map bound_view (bindings_left result)) }
@@ -104,8 +117,8 @@ impl<'src, 'run> Scope<'src, 'run> {
         &self.frame
     }
 
-    /// The frames outside the own one, innermost first, if there are any. A scope from `root` has none, and one
-    /// from `child` has some.
+    /// The frames outside the own one, innermost first, if there are any. A scope from `root` has none, and one from `child`
+    /// has some. Upstream's `Scope::parent`, which gives a scope.
     pub fn parent(&self) -> Option<&Vec<&'run Frame<'src>>>
         ensures { option_map (λ outer. map (λ f. frame_view f.now) outer.now.items) result ≡ outer_frames (frames_view self.now) }
     {

@@ -39,7 +39,7 @@ impl Model for Value {
 }
 
 impl Value {
-    /// No element. It takes no memory.
+    /// No element. It takes no memory. Upstream's `Value::new`.
     pub fn new(alloc: Global) -> Value
         ensures { result ≡ [] }
     {
@@ -48,7 +48,8 @@ impl Value {
         }
     }
 
-    /// The one element `true` where the condition holds, else no element.
+    /// The one element `true` where the condition holds, else no element, which takes no memory. `OutOfMemory` where memory is
+    /// refused: nothing is made. Upstream's `From<bool>`.
     pub fn from_bool(alloc: Global, condition: bool) -> Result<Value, OutOfMemory>
         ensures { IfOk result (λ v. v ≡ from_condition condition) }
     {
@@ -59,14 +60,15 @@ impl Value {
         }
     }
 
-    /// These elements, which are moved. It takes no memory, and the value keeps the allocator of `elements`.
+    /// These elements, moved. It takes no memory, and keeps the allocator of `elements`. Upstream's `From<Vec<String>>`.
     pub fn from_elements(elements: Vec<String>) -> Value
         ensures { result ≡ map string_bytes elements.items }
     {
         Value { elements }
     }
 
-    /// The texts that an iterator gives until it ends, in their order. The texts are moved.
+    /// The texts that an iterator gives until it ends, in their order. The texts are moved. `OutOfMemory` where memory is
+    /// refused: those taken are dropped. Upstream's `FromIterator<String>`.
     pub fn from_iterator<I: IntoIterator<Item = String>>(
         alloc: Global,
         elements: I,
@@ -78,7 +80,7 @@ impl Value {
         Ok(Value::from_elements(elements))
     }
 
-    /// The one element `text`.
+    /// The one element `text`, which is moved. `OutOfMemory` where memory is refused: it is dropped. Upstream's `From<String>`.
     pub fn from_string(alloc: Global, text: String) -> Result<Value, OutOfMemory>
         ensures { IfOk result (λ v. v ≡ string_bytes text ∷ []) }
     {
@@ -87,7 +89,7 @@ impl Value {
         Ok(Value::from_elements(elements))
     }
 
-    /// The one element `text`.
+    /// The one element `text`, copied. `OutOfMemory` where memory is refused: nothing is made. Upstream's `From<&str>`.
     pub fn from_text(alloc: Global, text: &str) -> Result<Value, OutOfMemory>
         ensures { IfOk result (λ v. v ≡ text.now ∷ []) }
     {
@@ -95,7 +97,7 @@ impl Value {
         Value::from_string(alloc, text)
     }
 
-    /// The same elements once more.
+    /// The same elements once more. `OutOfMemory` where memory is refused: nothing is made. Upstream's `Value::clone`.
     pub fn try_clone(&self, alloc: Global) -> Result<Value, OutOfMemory>
         ensures { IfOk result (λ v. v ≡ self.now) }
     {
@@ -103,14 +105,14 @@ impl Value {
         Ok(Value::from_elements(elements))
     }
 
-    /// The texts, in their order.
+    /// The texts, in their order. Upstream's `Value::elements`.
     pub fn elements(&self) -> &[String]
         ensures { map string_bytes result.now ≡ self.now }
     {
         self.elements.as_slice()
     }
 
-    /// The texts, in their order. They are moved.
+    /// The texts, in their order. They are moved. Upstream's `Value::into_elements`.
     pub fn into_elements(self) -> Vec<String>
         ensures { map string_bytes result.items ≡ self }
     {
@@ -118,7 +120,7 @@ impl Value {
         texts
     }
 
-    /// Goes over the texts, in their order.
+    /// Goes over the texts, in their order. Upstream's `Value::iter`.
     pub fn iter(&self) -> slice::Iter<'_, String>
         ensures rest { map string_bytes (iter_rest result) ≡ self.now }
         ensures runs { IterYieldsInOrder (String Global) }
@@ -126,28 +128,29 @@ impl Value {
         self.elements.iter()
     }
 
-    /// How many elements there are.
+    /// How many elements there are. Upstream's `Value::len`.
     pub fn len(&self) -> usize
         ensures { result ≡ length self.now }
     {
         self.elements.len()
     }
 
-    /// Whether there is no element.
+    /// Whether there is no element. Upstream's `Value::is_empty`.
     pub fn is_empty(&self) -> bool
         ensures { result ≡ (length self.now == 0) }
     {
         self.elements.is_empty()
     }
 
-    /// Whether there is an element.
+    /// Whether there is an element. Upstream's `Value::is_truthy`.
     pub fn is_truthy(&self) -> bool
         ensures { result ≡ is_truthy self.now }
     {
         !self.elements.is_empty()
     }
 
-    /// Puts a text behind the elements. For want of memory the value stays as it was.
+    /// Puts a copy of a text behind the elements, by the allocator that the value was made with. `OutOfMemory` where memory is
+    /// refused: the value stays as it was. Upstream's `Value::push`.
     pub fn push(&mut self, element: &str) -> Result<(), OutOfMemory>
         ensures ok { OnOk result (self.new ≡ self.old ++ element.now ∷ []) }
         ensures err { OnErr result (self.new ≡ self.old) }
@@ -158,7 +161,8 @@ impl Value {
         Ok(())
     }
 
-    /// The elements in one text, with one space between them.
+    /// The elements in one text, with one space between. `OutOfMemory` where memory is refused: nothing is made. Upstream's
+    /// `Value::join`.
     pub fn join(&self, alloc: Global) -> Result<String, OutOfMemory>
         ensures { IfOk result (λ text. string_bytes text ≡ joined self.now) }
     {
@@ -166,12 +170,13 @@ impl Value {
         Ok(text)
     }
 
-    /// The elements of both, put together one by one with the operator's separator between. One element goes
-    /// with each of the other list's, from either side; lists of equal length go in pairs.
+    /// The elements of both, put together one by one with the operator's separator between. One element goes with each of the
+    /// other list's, from either side; lists of equal length go in pairs. Upstream's `Value::apply`.
     ///
     /// # Errors
     ///
-    /// `ListOperation` with both lists where the lengths differ and one of them is 0 or neither is 1.
+    /// `ListOperation` with both lists where the lengths differ and one of them is 0 or neither is 1. `OutOfMemory`, where
+    /// memory was asked for and refused, also for the lists of `ListOperation`: nothing is made.
     pub fn apply<'src>(
         &self,
         alloc: Global,

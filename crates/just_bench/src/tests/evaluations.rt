@@ -9,11 +9,8 @@ use just_case_lines::line::parse_lines;
 use just_case_lines::token::{name, token};
 use just_eval::evaluator::Evaluator;
 use just_eval::resolved;
-use just_host::command_question::CommandQuestion;
-use just_host::host::Host;
-use just_host::number_question::NumberQuestion;
-use just_host::text_answer::TextAnswer;
-use just_host::text_question::TextQuestion;
+use just_host::no_host::NoHost;
+use just_host::recorder::Recorder;
 use just_syntax::assignment::Assignment;
 use just_syntax::attribute_set::AttributeSet;
 use just_syntax::expression::Expression;
@@ -31,42 +28,6 @@ use std::alloc::Global;
 use std::collections::{BTreeMap, HashMap};
 use std::process::Abort;
 use std::test::Fail;
-
-// Counts the questions, and answers each with the empty text.
-#[derive(Drop)]
-struct CountingHost {
-    asked: u64,
-}
-
-impl Host for CountingHost {
-    ghost use Rattle.std.specs.Prelude.{⊤};
-
-    ghost step = { λ _ _ _ _. ⊤ };
-
-    fn command(
-        &mut self,
-        alloc: Global,
-        _question: &CommandQuestion,
-    ) -> Result<String, CommandFault> {
-        self.asked = self.asked.saturating_add(1);
-        Ok(String::new(alloc))
-    }
-
-    fn text(&mut self, _alloc: Global, _question: TextQuestion) -> TextAnswer {
-        self.asked = self.asked.saturating_add(1);
-        TextAnswer::Absent
-    }
-
-    fn exists(&mut self, _alloc: Global, _path: &str) -> Result<bool, OutOfMemory> {
-        self.asked = self.asked.saturating_add(1);
-        Ok(false)
-    }
-
-    fn number(&mut self, _alloc: Global, _question: NumberQuestion) -> Result<u64, OutOfMemory> {
-        self.asked = self.asked.saturating_add(1);
-        Ok(0)
-    }
-}
 
 // A scope that binds the first name of a case, `o`, to a value.
 pub(crate) fn outer<'src, 'run>(
@@ -187,7 +148,7 @@ fn keeps_the_outer_value<'src>(
     let config = case_config(alloc, false)?;
     let search = case_search(alloc)?;
     let dotenv = BTreeMap::new(alloc);
-    let mut host = CountingHost { asked: 0 };
+    let mut host = Recorder::new(alloc, NoHost);
     let outcome = Evaluator::evaluate_assignments(
         alloc,
         &mut host,
@@ -200,7 +161,7 @@ fn keeps_the_outer_value<'src>(
         100,
         None,
     );
-    assert_eq!(rt; host.asked, 0);
+    assert!(rt; host.questions().is_empty());
     let Ok(scope) = outcome else {
         return Err("a refusal")?;
     };
@@ -306,7 +267,7 @@ fn prints<'src>(
     let search = case_search(alloc)?;
     let dotenv = BTreeMap::new(alloc);
     let overrides = HashMap::new(alloc);
-    let mut host = CountingHost { asked: 0 };
+    let mut host = Recorder::new(alloc, NoHost);
     let mut text = String::new(alloc);
     if !resolved(alloc, &module, parent, None)? {
         text.push_str("unresolved\n")?;
@@ -314,7 +275,7 @@ fn prints<'src>(
     let outcome = Evaluator::evaluate_assignments(
         alloc, &mut host, &config, &dotenv, &module, &overrides, parent, &search, 100, None,
     );
-    assert_eq!(rt; host.asked, 0);
+    assert!(rt; host.questions().is_empty());
     match outcome {
         Ok(scope) => print_bindings(&mut text, &scope)?,
         Err(error) => print_refusal(alloc, &mut text, &error)?,

@@ -4,7 +4,6 @@ use crate::context::case_config;
 use crate::print::print_questions;
 use just_host::command_question::CommandQuestion;
 use just_host::config::Config;
-use just_host::directory_kind::DirectoryKind;
 use just_host::host::Host;
 use just_host::number_question::NumberQuestion;
 use just_host::recorder::Recorder;
@@ -169,39 +168,6 @@ fn all_kinds_told<H: Host>(alloc: Global, host: &mut H) -> Result<String, Fail> 
     let exists = host.exists(alloc, "p");
     let number = host.number(alloc, NumberQuestion::Cpus);
     Ok(format!(in alloc; "{first:?} {second:?} {text:?} {exists:?} {number:?}")?)
-}
-
-#[test]
-fn prints_each_kind_of_question(rt: HostRuntime) -> Result<(), Fail> {
-    let alloc = rt.alloc();
-    let mut host = Recorder::new(alloc, script(alloc)?);
-    for question in [
-        TextQuestion::Variable("K\t"),
-        TextQuestion::Directory(DirectoryKind::ConfigLocal),
-        TextQuestion::Directory(DirectoryKind::Home),
-        TextQuestion::Canonicalize("c"),
-        TextQuestion::Read("r"),
-        TextQuestion::Which {
-            name: "n",
-            working_directory: "/work",
-        },
-        TextQuestion::Executable,
-        TextQuestion::Arch,
-        TextQuestion::Os,
-        TextQuestion::OsFamily,
-    ] {
-        host.text(alloc, question);
-    }
-    host.exists(alloc, "p")?;
-    host.number(alloc, NumberQuestion::ProcessId)?;
-    host.number(alloc, NumberQuestion::Cpus)?;
-    let mut text = String::new(alloc);
-    print_questions(&mut text, host.questions())?;
-    assert_eq!(rt;
-        text.as_str(),
-        "? variable \"K\\t\"\n? directory local config\n? directory home\n? canonicalize \"c\"\n? read \"r\"\n? which \"n\"\n? executable\n? arch\n? os\n? os_family\n? exists \"p\"\n? number process_id\n? number cpus\n"
-    );
-    Ok(())
 }
 
 #[test]

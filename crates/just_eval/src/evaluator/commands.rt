@@ -17,12 +17,14 @@ use std::alloc::Global;
 use std::collections::BTreeMap;
 
 impl<'src, 'run> Evaluator<'src, 'run> {
-    /// Asks the host to run a command in a context, with this environment, the variables of a scope, and the arguments
-    /// behind the command, where it takes some. It is not for a dry run.
+    /// Asks the host to run a command in a context, with this environment, the variables of a scope, and the arguments behind
+    /// the command, where it takes some. It is not for a dry run. Upstream's `Evaluator::run_command`, which starts the
+    /// process.
     ///
     /// # Errors
     ///
-    /// The host's fault, or want of memory; where memory is refused before the host is asked, it is not asked.
+    /// The host's fault, or `OutOfMemory` where the host says so, or where memory was asked for and refused before the host is
+    /// asked: then it is not asked, and stays as it was.
     pub fn run_command<H: Host>(
         alloc: Global,
         host: &mut H,

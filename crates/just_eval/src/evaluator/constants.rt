@@ -14,10 +14,10 @@ ghost use Rattle.just_meaning.specs.View.{constants_of};
 ghost use Rattle.just_eval.specs.View.{IsConst, OpensOrEnds, standing_of};
 
 use super::Evaluator;
-use crate::no_host::NoHost;
 use just_forms::text::one_text;
 use just_forms::{internal, variable};
 use just_host::host::Host;
+use just_host::no_host::NoHost;
 use just_syntax::assignment::Assignment;
 use just_syntax::expression::Expression;
 use just_syntax::name::Name;
@@ -32,18 +32,19 @@ use std::alloc::Global;
 use std::collections::{BTreeMap, HashMap, HashSet};
 
 impl<'src, 'run> Evaluator<'src, 'run> {
-    /// Evaluates assignments before any run, in their evaluation order, those that are referenced, and gives an evaluator
-    /// whose scope is a child of `scope` with the values that are settled. It asks nothing.
+    /// Evaluates assignments before any run, in their evaluation order, those that are referenced, and gives an evaluator whose
+    /// scope is a child of `scope` with the values that are settled. It asks nothing. Upstream's
+    /// `Evaluator::evaluate_const_assignments`.
     ///
-    /// A number that `scope` binds, or that is bound or open already, is passed over. Else an override settles it, and
-    /// without one its expression does, unless evaluation reaches a call, a command or an open variable: then the number
-    /// is open, and the stage goes on. So what an untaken branch holds does not matter.
+    /// A number that `scope` binds, or that is bound or open already, is passed over. Else an override settles it, and without
+    /// one its expression does, unless evaluation reaches a call, a command or an open variable: then the number is open, and
+    /// the stage goes on. So what an untaken branch holds does not matter.
     ///
     /// # Errors
     ///
     /// Any other refusal ends the stage, as `ConstEval`: a failed assertion, lists that do not go together, a regular
-    /// expression operator; where the stage is not resolved also `Internal`. `OutOfMemory` comes where memory was asked
-    /// for and refused, or where forms nest deeper than the stack has room for.
+    /// expression operator; where the stage is not resolved also `Internal`. `OutOfMemory` comes where memory was asked for and
+    /// refused, or where forms nest deeper than the stack has room for. Then nothing is made.
     pub fn evaluate_const_assignments(
         alloc: Global,
         assignments: &Table<Assignment<'src>>,
@@ -120,12 +121,15 @@ impl<'src, 'run> Evaluator<'src, 'run> {
         }
     }
 
-    /// The value of an expression before any run. It asks nothing.
+    /// The value of an expression before any run, on an evaluator from `evaluate_const_assignments`. It asks nothing.
+    /// Upstream's `Evaluator::evaluate_value_const`.
     ///
     /// # Errors
     ///
-    /// The first refusal, as `ConstEval`: `Const` at the first call, command or open variable. `OutOfMemory` where memory
-    /// was asked for and refused, or where forms nest deeper than the stack has room for.
+    /// The first refusal, as `ConstEval`: `Const` at the first call, command or open variable; a failed assertion, lists that
+    /// do not go together, a regular expression operator; where a variable has no number or no value also `Internal`.
+    /// `OutOfMemory` where memory was asked for and refused, or where forms nest deeper than the stack has room for. The
+    /// evaluator stays as it was.
     pub fn evaluate_value_const(
         &self,
         alloc: Global,
@@ -140,11 +144,13 @@ impl<'src, 'run> Evaluator<'src, 'run> {
         }
     }
 
-    /// The text of an expression before any run, where one text is wanted. It asks nothing.
+    /// The text of an expression before any run, where one text is wanted. It asks nothing. Upstream's
+    /// `Evaluator::evaluate_string_const`.
     ///
     /// # Errors
     ///
-    /// As `evaluate_value_const`; `ListInStringContext` for a value that has not exactly one element.
+    /// As `evaluate_value_const`, want of memory too; `ListInStringContext` for a value that has not exactly one element. The
+    /// evaluator stays as it was.
     pub fn evaluate_string_const(
         &self,
         alloc: Global,
@@ -168,8 +174,8 @@ impl<'src, 'run> Evaluator<'src, 'run> {
         &self.scope
     }
 
-    /// Whether an assignment's number is open: its expression reaches a call, a command or an open variable, so that
-    /// only a run tells its value.
+    /// Whether an assignment's number is open: its expression reaches a call, a command or an open variable, so that only a run
+    /// tells its value. It takes no memory.
     pub fn is_open(&self, number: Number) -> bool
         ensures { result ≡ (standing_of self.now).is_open number }
     {

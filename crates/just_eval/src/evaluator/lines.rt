@@ -23,11 +23,12 @@ use just_value::error::Error;
 use std::alloc::Global;
 
 impl<'src, 'run> Evaluator<'src, 'run> {
-    /// The text of an expression where one text is wanted.
+    /// The text of an expression where one text is wanted. Upstream's `Evaluator::evaluate_string`.
     ///
     /// # Errors
     ///
-    /// As `evaluate_value`; `ListInStringContext` for a value that has not exactly one element.
+    /// As `evaluate_value`, want of memory too; `ListInStringContext` for a value that has not exactly one element. A refusal
+    /// leaves the evaluator as it was, and what the host was asked before it stays asked.
     pub fn evaluate_string<H: Host>(
         &self,
         alloc: Global,
@@ -69,12 +70,14 @@ impl<'src, 'run> Evaluator<'src, 'run> {
         one_text(value, context)
     }
 
-    /// The text of a line: its fragments in their order. In text `{{{{` stands for `{{`; an interpolation is its value
-    /// joined by spaces. Where the line is `continued`, text that it begins with has lost its leading white space.
+    /// The text of a line: its fragments in their order. In text `{{{{` stands for `{{`; an interpolation is its value joined
+    /// by spaces. Where the line is `continued`, text that it begins with has lost its leading white space. Upstream's
+    /// `Evaluator::evaluate_line`.
     ///
     /// # Errors
     ///
-    /// As `evaluate_value`, of the interpolations in their order.
+    /// As `evaluate_value`, of the interpolations in their order; `OutOfMemory` also where there is no memory for the text. A
+    /// refusal leaves the evaluator as it was, and what the host was asked before it stays asked.
     pub fn evaluate_line<H: Host>(
         &self,
         alloc: Global,

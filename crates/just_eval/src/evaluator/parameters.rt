@@ -35,8 +35,12 @@ use std::alloc::Global;
 use std::collections::{BTreeMap, HashSet};
 
 impl<'src, 'run> Evaluator<'src, 'run> {
-    /// Evaluates for a recipe, in a child of `scope`, what commands are run with `env` beside it. A called body's scope is
-    /// put on that of `context`.
+    /// An evaluator for a recipe, or for none, in a new child of `scope`; commands are run with the variables of `env` beside
+    /// it. A called body's scope is put on that of `context`, whose recursion limit is at least 1. Upstream's `Evaluator::new`.
+    ///
+    /// # Errors
+    ///
+    /// `OutOfMemory`, where memory was asked for and refused: nothing is made, and `env` is dropped.
     pub fn new(
         alloc: Global,
         context: &ExecutionContext<'src, 'run>,
@@ -79,20 +83,22 @@ impl<'src, 'run> Evaluator<'src, 'run> {
         })
     }
 
-    /// Evaluates the attributes and the parameters of a recipe, and gives a child of `scope` in which the parameters are
-    /// bound, the positional words, and the environment that `[env]` attributes give.
+    /// Evaluates the attributes and the parameters of a recipe, and gives a child of `scope` in which the parameters are bound,
+    /// the positional words, and the environment that `[env]` attributes give. Upstream's `Evaluator::evaluate_parameters`,
+    /// whose own checks `check` stands for.
     ///
     /// The attributes come first, each seeing the environment so far; then the number of arguments; then the parameters in
-    /// their order, of which a default sees the earlier ones. An empty argument stands for the default, or for no element
-    /// where the parameter may have none. In place of another argument `value` stands, once for each of its elements, unless
-    /// the recipe runs as a dependency. `check` is asked of each parameter's value. A parameter that may have many elements
-    /// gives each as a word, another its join. Without lists the bound value has one element.
+    /// their order, of which a default sees the earlier ones. An empty argument stands for the default, or for no element where
+    /// the parameter may have none. In place of another argument `value` stands, once for each of its elements, unless the
+    /// recipe runs as a dependency. `check` is asked of each parameter's value. A parameter that may have many elements gives
+    /// each as a word, another its join. Without lists the bound value has one element.
     ///
     /// # Errors
     ///
     /// The first refusal: as `evaluate_value`; `ListInStringContext` for the key of an attribute that has not one element;
-    /// `Internal` where the arguments are not as many as the parameters; `EmptyListArgument` for an empty argument with
-    /// nothing in its place; `Check` where the check refuses a value. `OutOfMemory` also where the check says so.
+    /// `Internal` where the arguments are not as many as the parameters; `EmptyListArgument` for an empty argument with nothing
+    /// in its place; `Check` where the check refuses a value. `OutOfMemory` also where the check says so. A refusal gives none
+    /// of the three: what was bound is dropped, and what the host was asked before it stays asked.
     pub fn evaluate_parameters<H: Host, C>(
         alloc: Global,
         host: &mut H,

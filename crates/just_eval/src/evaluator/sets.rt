@@ -26,14 +26,14 @@ use just_value::value::Value;
 use std::alloc::Global;
 
 impl<'src, 'run> Evaluator<'src, 'run> {
-    /// The settings that a module sets, one after another by the bytes of their names. It asks nothing. What is not set
-    /// is as in `Settings::new`.
+    /// The settings that a module sets, one after another by the bytes of their names. It asks nothing. What is not set is as
+    /// in `Settings::new`. The sets are used up. Upstream's `Evaluator::evaluate_sets`.
     ///
     /// # Errors
     ///
-    /// The first refusal, as `ConstEval`: `Const` at the first call, command or open variable; `ListInStringContext` where
-    /// one text is wanted; `EmptyInterpreter` where a command and its arguments have no element. `OutOfMemory` where
-    /// memory was asked for and refused, or where forms nest deeper than the stack has room for.
+    /// The first refusal, as `evaluate_value_const`; `ListInStringContext` where one text is wanted; `EmptyInterpreter` where a
+    /// command and its arguments have no element. `OutOfMemory` where memory was asked for and refused, or where forms nest
+    /// deeper than the stack has room for. Then nothing is made, and the evaluator stays as it was.
     pub fn evaluate_sets(
         &self,
         alloc: Global,
@@ -92,13 +92,14 @@ impl<'src, 'run> Evaluator<'src, 'run> {
         Ok(())
     }
 
-    /// A command and its first arguments before any run: the elements of all its expressions in their order, the first
-    /// of which is the command. It asks nothing.
+    /// A command and its first arguments before any run: the elements of all its expressions in their order, the first of which
+    /// is the command. It asks nothing. Upstream's `Evaluator::evaluate_interpreter`.
     ///
     /// # Errors
     ///
-    /// The first refusal, as `ConstEval`: `EmptyInterpreter` where there is no element at all. `OutOfMemory` where memory
-    /// was asked for and refused, or where forms nest deeper than the stack has room for.
+    /// The first refusal, as `evaluate_value_const`; `EmptyInterpreter` where there is no element at all. `OutOfMemory` where
+    /// memory was asked for and refused, or where forms nest deeper than the stack has room for. Then nothing is made, and the
+    /// evaluator stays as it was.
     pub fn evaluate_interpreter(
         &self,
         alloc: Global,

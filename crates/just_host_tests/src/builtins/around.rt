@@ -4,7 +4,6 @@ ghost use Rattle.std.specs.Prelude.{◌≡◌, true};
 ghost use Rattle.just_builtins.specs.Argument.{HasTexts};
 
 use crate::builtins::scripted::{Given, Scripted};
-use crate::builtins::silent::Silent;
 use just_builtins::call_fault::CallFault;
 use just_builtins::function::{Function, get};
 use just_host::config::Config;
@@ -12,6 +11,8 @@ use just_host::execution_context::ExecutionContext;
 use just_host::function::Context;
 use just_host::host::Host;
 use just_host::justfile::Justfile;
+use just_host::no_host::NoHost;
+use just_host::recorder::Recorder;
 use just_host::search::Search;
 use just_host::settings::Settings;
 use just_syntax::name::Name;
@@ -166,9 +167,9 @@ pub fn answer<'src>(
     name: Name<'src>,
     arguments: &[&str],
 ) -> Result<String, OutOfMemory> {
-    let mut host = Silent { was_asked: false };
+    let mut host = Recorder::new(alloc, NoHost);
     let text = answer_of(alloc, &mut host, around, name, arguments)?;
-    if host.was_asked {
+    if !host.questions().is_empty() {
         return Ok(String::from_str(alloc, "asked")?);
     }
     Ok(text)

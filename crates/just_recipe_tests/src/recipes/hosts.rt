@@ -3,6 +3,7 @@
 use crate::recipes::failing::Failing;
 use just_host::command_question::CommandQuestion;
 use just_host::host::Host;
+use just_host::no_host::NoHost;
 use just_host::number_question::NumberQuestion;
 use just_host::text_answer::TextAnswer;
 use just_host::text_question::TextQuestion;
@@ -34,16 +35,16 @@ impl Host for BracketHost {
         }
     }
 
-    fn text(&mut self, _alloc: Global, _question: TextQuestion) -> TextAnswer {
-        TextAnswer::Absent
+    fn text(&mut self, alloc: Global, question: TextQuestion) -> TextAnswer {
+        NoHost.text(alloc, question)
     }
 
-    fn exists(&mut self, _alloc: Global, _path: &str) -> Result<bool, OutOfMemory> {
-        Ok(false)
+    fn exists(&mut self, alloc: Global, path: &str) -> Result<bool, OutOfMemory> {
+        NoHost.exists(alloc, path)
     }
 
-    fn number(&mut self, _alloc: Global, _question: NumberQuestion) -> Result<u64, OutOfMemory> {
-        Ok(0)
+    fn number(&mut self, alloc: Global, question: NumberQuestion) -> Result<u64, OutOfMemory> {
+        NoHost.number(alloc, question)
     }
 }
 

@@ -1,11 +1,15 @@
-// Tables of a thousand keys, and texts of hundreds of lines.
+// Tables of a thousand keys, a thousand names of variables, and texts of hundreds of lines.
 
 use crate::parts::name;
 use crate::sizes::{Long, long, numbered};
 use crate::syntax::Named;
+use just_syntax::assignment::Assignment;
+use just_syntax::expression::Expression;
 use just_syntax::keyed::Keyed;
+use just_syntax::number::Number;
 use just_syntax::table::Table;
 use just_syntax::unindent::unindent;
+use just_syntax::variables::{overrides_of, references_of};
 use std::process::Abort;
 use std::test::Fail;
 
@@ -48,6 +52,32 @@ fn hundreds_of_lines_unindented(rt: HostRuntime) -> Result<(), Fail> {
     for (text, wanted) in rows {
         let unindented = unindent(alloc, &long(alloc, text)?)?;
         assert_eq!(rt; unindented.as_str(), long(alloc, wanted)?.as_str());
+    }
+    Ok(())
+}
+
+#[test]
+fn a_thousand_names_of_variables(rt: HostRuntime) -> Result<(), Fail> {
+    let alloc = rt.alloc();
+    let lexemes = numbered(alloc, 2000)?;
+    let mut assignments = Table::new(alloc);
+    let mut names = Vec::new(alloc);
+    let mut pairs = Vec::new(alloc);
+    for (place, lexeme) in lexemes.iter().enumerate() {
+        let value = Expression::literal(alloc, "", "''")?;
+        assignments.insert(Assignment::new(name(lexeme), Number::new(place as u64), value))?;
+        names.push(lexeme.as_str())?;
+        pairs.push((lexeme.clone()?, lexeme.clone()?))?;
+    }
+    let overrides = overrides_of(alloc, &assignments, &pairs)?;
+    let references = references_of(alloc, &assignments, &names)?;
+    assert_eq!(rt; overrides.len(), 1000);
+    assert_eq!(rt; references.len(), 1000);
+    for (place, lexeme) in lexemes.iter().enumerate() {
+        let number = Number::new(place as u64);
+        let text = overrides.get(&number).map(|text| text.as_str());
+        assert_eq!(rt; text, Some(lexeme.as_str()));
+        assert!(rt; references.contains(&number), "{lexeme}");
     }
     Ok(())
 }

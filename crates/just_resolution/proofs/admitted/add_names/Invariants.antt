@@ -1,7 +1,8 @@
-use Rattle.std.proofs.Common.{◌≡◌, ◌++◌, map, take}
-use Rattle.just_resolution.specs.Seen.{texts}
+use Rattle.std.proofs.Common.{◌≡◌, ◌++◌, take}
+use Rattle.just_resolution.specs.Seen.{sites_view, texts}
+use Rattle.just_resolution.specs.Sites.{called_names}
 use Rattle.just_resolution.proofs.admitted.add_names.Given as goal
 
 -- the names so far were added
-abbrev pub invariant-loop-name : goal.invariant-loop-name
-invariant-loop-name l = texts l.names.items ≡ texts l.fn.names.items ++ map (λ c. c.0.now) (take l.name-index l.calls)
+abbrev pub invariant-loop-site : goal.invariant-loop-site
+invariant-loop-site l = texts l.names.items ≡ texts l.fn.names.items ++ called_names (sites_view (take l.site-index l.sites))

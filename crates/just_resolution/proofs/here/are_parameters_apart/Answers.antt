@@ -1,49 +1,77 @@
-use Rattle.std.proofs.Common.{◌≡◌, ◌∙◌, ◌++◌, ◌-◌, ℕ, List, length, map, take, drop, ap, append_assoc, rules}
-use Rattle.std.proofs.lemmas.Result.{IfOk-weaker}
-use Rattle.just_syntax.specs.View.{assignment_view, recipe_parameter_view}
+use Rattle.std.proofs.Common.{◌≡◌, ◌∙◌, ◌↔◌, ⊎_elim, inl, inr, ◌++◌, ◌-◌, ℕ, List, [], length, map, take, drop, ap, append_assoc, false, is_some, option_map, rules, subst, sym, Option}
+use Rattle.std.proofs.lemmas.List.{length-map}
+use Rattle.just_syntax.specs.Plain.{Function, Parameter, Token}
+use Rattle.just_syntax.specs.View.{assignment_view, parameter_view, recipe_parameter_view}
+use Rattle.just_syntax.specs.declared.name.Name.{Name}
+use Rattle.just_value.specs.Frames.{Frames, value_in}
 use Rattle.just_value.specs.View.{frames_view}
-use Rattle.just_meaning.specs.Resolved.{AreDistinct, parameter_numbers}
+use Rattle.just_meaning.specs.Assignments.{Assignments}
+use Rattle.just_meaning.specs.Resolved.{AreDistinct, HasValue, IsOneOf, parameter_numbers}
 use Rattle.just_meaning.specs.View.{functions_view}
-use Rattle.just_resolution.proofs.Sets.{behind_slice, bound_in_first, bound_in_second, unbound_in_both}
+use Rattle.just_resolution.specs.Admitted.{FindsBound}
+use Rattle.just_resolution.specs.Fault.{parameters_of}
+use Rattle.just_resolution.specs.Seen.{fault_view}
+use Rattle.just_resolution.specs.declared.fault.Fault as declared
+use Rattle.just_resolution.proofs.Deciding.{bound_decided, distinct_decided, none_answers, refused}
+use Rattle.just_resolution.proofs.Faults.{numbers_with, parameters_with, recipe_pairs}
+use Rattle.just_resolution.proofs.Sets.{behind}
 use Rattle.just_resolution.proofs.here.are_parameters_apart.Goals.{After-deref}
 use Rattle.just_resolution.proofs.here.are_parameters_apart.Goals as goal
 
--- the numbers of the functions' parameters, and of the recipe's
-abbrev functions : After-deref → List ℕ
-functions c = parameter_numbers (functions_view c.args.«module».now)
+-- the functions, and the recipe's parameters
+abbrev functions : After-deref → List Function
+functions c = functions_view c.args.«module».now
 
-abbrev own : After-deref → List ℕ
-own c = map (λ p. p.number) (map recipe_parameter_view c.args.parameters.now)
+abbrev own : After-deref → List Parameter
+own c = map recipe_parameter_view c.args.parameters.now
 
-abbrev assigned : After-deref → List ℕ
-assigned c = map (λ a. a.number) (map assignment_view c.args.«module».now.assignments)
+-- the numbers of their parameters
+abbrev numbers : After-deref → List ℕ
+numbers c = parameter_numbers (functions c) ++ map (λ p. p.number) (own c)
 
-abbrev slice : After-deref → List ℕ
+abbrev slice : After-deref → List (Name × ℕ)
 slice c = take (length c.deref.result.now - c.len-first_parameter.result) (drop c.len-first_parameter.result c.deref.result.now)
 
 -- what was put behind the numbers of assignments
-of_parameters : (c : After-deref) → slice c ≡ functions c ++ own c
+of_parameters : (c : After-deref) → map parameter_view (slice c) ≡ parameters_of (functions c) ++ recipe_pairs (own c)
 of_parameters c =
     let size : c.len-first_parameter.result ≡ length c.in_ok-numbers.numbers.items = search rules in
-    behind_slice c.in_ok-numbers.numbers.items (functions c ++ own c) c.deref.result.now c.len-first_parameter.result
-    (c.deref.ensures.value ∙ c.in_ok-add_recipe_numbers.ensures ∙ ap (λ (ns : List ℕ). ns ++ own c) c.in_ok-add_parameter_numbers.ensures ∙ append_assoc c.in_ok-numbers.numbers.items (functions c) (own c)) size
+    let first = map parameter_view c.in_ok-numbers.numbers.items in
+    behind parameter_view c.deref.result.now first (parameters_of (functions c) ++ recipe_pairs (own c)) c.len-first_parameter.result
+    (ap (map parameter_view) c.deref.ensures.value ∙ c.in_ok-add_recipe_numbers.ensures ∙ ap (λ (ps : List (Token × ℕ)). ps ++ recipe_pairs (own c)) c.in_ok-add_parameter_numbers.ensures
+    ∙ append_assoc first (parameters_of (functions c)) (recipe_pairs (own c)))
+    (size ∙ sym (length-map c.in_ok-numbers.numbers.items parameter_view))
 
-pub returns-then-not-are_unbound : goal.returns-then-not-are_unbound
-returns-then-not-are_unbound c =
-    let at = (goal.at.returns-then-not-are_unbound c).After-deref in
-    bound_in_first (frames_view c.args.scope.now) (frames_view c.args.base.now) (functions at ++ own at) (slice at) (AreDistinct (assigned at ++ functions at ++ own at)) (of_parameters at) c.if-not-are_unbound.ensures
+-- what is found among them decides whether one is bound
+unbound : (c : After-deref) (outer : Frames) (o : Option declared.Fault) → FindsBound outer (map parameter_view (slice c)) (option_map fault_view o) → (is_some o ≡ false) ↔ ((n : ℕ) → IsOneOf (numbers c) n → HasValue (value_in outer) n → ⊥)
+unbound c outer o found =
+    subst (λ ns. (is_some o ≡ false) ↔ ((n : ℕ) → IsOneOf ns n → HasValue (value_in outer) n → ⊥)) (ap (map (λ (p : Token × ℕ). p.1)) (of_parameters c) ∙ parameters_with (functions c) (own c))
+    (bound_decided fault_view o outer (map parameter_view (slice c)) found)
 
-pub returns-then-not-are_unbound-2 : goal.returns-then-not-are_unbound-2
-returns-then-not-are_unbound-2 c =
-    let at = (goal.at.returns-then-not-are_unbound-2 c).After-deref in
-    bound_in_second (frames_view c.args.scope.now) (frames_view c.args.base.now) (functions at ++ own at) (slice at) (AreDistinct (assigned at ++ functions at ++ own at)) (of_parameters at) c.if-not-are_unbound-2.ensures
+pub returns-then-is_some : goal.returns-then-is_some
+returns-then-is_some c =
+    let at = (goal.at.returns-then-is_some c).After-deref in
+    refused (is_some c.parameter_fault.result) c.if-is_some.ensures (unbound at (frames_view c.args.scope.now) c.parameter_fault.result c.parameter_fault.ensures) (λ p n one b. p.1 n one (inl b))
+
+pub returns-then-is_some-2 : goal.returns-then-is_some-2
+returns-then-is_some-2 c =
+    let at = (goal.at.returns-then-is_some-2 c).After-deref in
+    refused (is_some c.parameter_fault-2.result) c.if-is_some-2.ensures (unbound at (frames_view c.args.base.now) c.parameter_fault-2.result c.parameter_fault-2.ensures) (λ p n one b. p.1 n one (inr b))
 
 pub returns : goal.returns
 returns c =
     let at = (goal.at.returns c).After-deref in
-    let whole : c.deref-2.result.now ≡ assigned at ++ functions at ++ own at =
-    c.deref-2.ensures.value ∙ c.in_ok-add_recipe_numbers.ensures ∙ ap (λ (ns : List ℕ). ns ++ own at) (c.in_ok-add_parameter_numbers.ensures ∙ ap (λ (ns : List ℕ). ns ++ functions at) c.in_ok-numbers.ensures) in
-    IfOk-weaker c.are_distinct.result _ _
-    (λ answer decides. unbound_in_both (frames_view c.args.scope.now) (frames_view c.args.base.now) (functions at ++ own at) (slice at) c.deref-2.result.now (assigned at ++ functions at ++ own at) answer
-    (of_parameters at) c.if-not-are_unbound.ensures c.if-not-are_unbound-2.ensures whole decides)
-    c.are_distinct.ensures
+    let assignments = map assignment_view c.args.«module».now.assignments in
+    let first = (unbound at (frames_view c.args.scope.now) c.parameter_fault.result c.parameter_fault.ensures).0 (sym c.if-is_some.ensures) in
+    let second = (unbound at (frames_view c.args.base.now) c.parameter_fault-2.result c.parameter_fault-2.ensures).0 (sym c.if-is_some-2.ensures) in
+    let whole : map (λ (p : Token × ℕ). p.1) (map parameter_view c.deref-2.result.now) ≡ map (λ a. a.number) assignments ++ parameter_numbers (functions at) ++ map (λ p. p.number) (own at) =
+    ap (λ (ns : List (Name × ℕ)). map (λ (p : Token × ℕ). p.1) (map parameter_view ns)) c.deref-2.ensures.value
+    ∙ ap (map (λ (p : Token × ℕ). p.1))
+    (c.in_ok-add_recipe_numbers.ensures ∙ ap (λ (ps : List (Token × ℕ)). ps ++ recipe_pairs (own at)) (c.in_ok-add_parameter_numbers.ensures ∙ ap (λ (ps : List (Token × ℕ)). ps ++ parameters_of (functions at)) c.in_ok-numbers.ensures))
+    ∙ numbers_with assignments (functions at) (own at) in
+    let all : Assignments = record { all = assignments; order = []; referenced = λ n. false } in
+    let decided = distinct_decided fault_view c.in_ok-number_fault.field-0 (functions at) all (frames_view c.args.base.now) (map parameter_view c.deref-2.result.now) (c.in_ok-number_fault.ensures (functions at) all (frames_view c.args.base.now)) in
+    let distinct = none_answers (is_some c.in_ok-number_fault.field-0) c.is_none.result c.is_none.ensures (subst (λ ns. (is_some c.in_ok-number_fault.field-0 ≡ false) ↔ AreDistinct ns) whole decided) in (
+      (λ h. (distinct.0 h, λ n one b. ⊎_elim (λ x. first n one x) (λ x. second n one x) b)),
+      (λ p. distinct.1 p.0),
+    )

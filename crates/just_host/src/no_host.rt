@@ -1,0 +1,60 @@
+// A host that answers nothing.
+
+ghost use Rattle.just_host.specs.NoHost.{not_run};
+ghost use Rattle.just_host.specs.Question.{Failed, UnlessNoMemory};
+ghost use Rattle.just_value.specs.View.{fault_view};
+
+use crate::command_question::CommandQuestion;
+use crate::host::Host;
+use crate::number_question::NumberQuestion;
+use crate::text_answer::TextAnswer;
+use crate::text_question::TextQuestion;
+use just_syntax::out_of_memory::OutOfMemory;
+use just_value::error::CommandFault;
+use std::alloc::Global;
+
+/// What the fault says by which [`NoHost`] answers a command.
+pub const NOT_RUN: &str = "commands are not run";
+
+/// A host that answers nothing: a command gets the fault [`NOT_RUN`], a text is `Absent`, nothing stands at any path, and each
+/// number is 0. It takes memory for the fault alone, and where there is none the command's answer is want of memory.
+///
+/// A host that answers one kind of question passes the others on to it.
+#[derive(Clone, Copy, Debug, PartialEq, Eq)]
+pub struct NoHost;
+
+impl Host for NoHost {
+    ghost use Rattle.just_host.specs.NoHost.{AnswersNothing};
+
+    ghost step = { λ _ question answer _. AnswersNothing question.blind answer };
+
+    fn command(
+        &mut self,
+        alloc: Global,
+        _question: &CommandQuestion,
+    ) -> Result<String, CommandFault> {
+        Err(not_run(alloc))
+    }
+
+    fn text(&mut self, _alloc: Global, _question: TextQuestion) -> TextAnswer {
+        TextAnswer::Absent
+    }
+
+    fn exists(&mut self, _alloc: Global, _path: &str) -> Result<bool, OutOfMemory> {
+        Ok(false)
+    }
+
+    fn number(&mut self, _alloc: Global, _question: NumberQuestion) -> Result<u64, OutOfMemory> {
+        Ok(0)
+    }
+}
+
+// That commands are not run, or want of memory to say so.
+fn not_run(alloc: Global) -> CommandFault
+    ensures { UnlessNoMemory (Failed (fault_view result)) not_run }
+{
+    match String::from_str(alloc, NOT_RUN) {
+        Ok(text) => CommandFault::Fault(text),
+        Err(_) => CommandFault::OutOfMemory,
+    }
+}

@@ -1,0 +1,70 @@
+// What questions print.
+
+ghost use Rattle.std.specs.Prelude.{map, string_bytes};
+ghost use Rattle.std.specs.Fmt.{WritesStyledOnOk};
+ghost use Rattle.std.specs.Option.{option_map};
+ghost use Rattle.just_host.specs.Printed.{command_printed, spaced, spaced_given, text_printed};
+
+use crate::recorded::TextKind;
+use just_syntax::unstyled::write_unstyled;
+use just_value::element::Element;
+use std::fmt;
+
+// A command and its arguments, where it takes some.
+#[tactic(auto, using(just_syntax::proofs::Styled::styled_steps))]
+pub(crate) fn write_command<W: fmt::Write>(
+    f: &mut fmt::Formatter<W>,
+    command: &str,
+    arguments: Option<&[String]>,
+) -> fmt::Result
+    ensures { WritesStyledOnOk W.write_str_gives f.old result (command_printed command.now (option_map (λ words. map string_bytes words.now) arguments.entry)) f.new }
+{
+    let command = Element(command);
+    write_unstyled(f, format_args!("command {command}"))?;
+    write_given(f, arguments)
+}
+
+// Texts in quotes that may be given, each behind a space.
+fn write_given<W: fmt::Write>(f: &mut fmt::Formatter<W>, texts: Option<&[String]>) -> fmt::Result
+    ensures { WritesStyledOnOk W.write_str_gives f.old result (spaced_given (option_map (λ words. map string_bytes words.now) texts.entry)) f.new }
+{
+    match texts {
+        Some(texts) => write_spaced(f, texts),
+        None => Ok(()),
+    }
+}
+
+// Texts in quotes, each behind a space.
+fn write_spaced<W: fmt::Write>(f: &mut fmt::Formatter<W>, texts: &[String]) -> fmt::Result
+    ensures { WritesStyledOnOk W.write_str_gives f.old result (spaced (map string_bytes texts.now)) f.new }
+{
+    for text in texts {
+        let text = Element(text);
+        write_unstyled(f, format_args!(" {text}"))?;
+    }
+    Ok(())
+}
+
+// A question for a text, by its kind and what it is about.
+pub(crate) fn write_text_question<W: fmt::Write>(
+    f: &mut fmt::Formatter<W>,
+    kind: TextKind,
+    about: &str,
+) -> fmt::Result
+    ensures { WritesStyledOnOk W.write_str_gives f.old result (text_printed kind about.now) f.new }
+{
+    let about = Element(about);
+    match kind {
+        TextKind::Variable => write_unstyled(f, format_args!("variable {about}")),
+        TextKind::Directory(directory) => {
+            write_unstyled(f, format_args!("directory {directory}"))
+        }
+        TextKind::Canonicalize => write_unstyled(f, format_args!("canonicalize {about}")),
+        TextKind::Read => write_unstyled(f, format_args!("read {about}")),
+        TextKind::Which => write_unstyled(f, format_args!("which {about}")),
+        TextKind::Executable => f.write_str("executable"),
+        TextKind::Arch => f.write_str("arch"),
+        TextKind::Os => f.write_str("os"),
+        TextKind::OsFamily => f.write_str("os_family"),
+    }
+}

@@ -1,0 +1,12 @@
+use Rattle.std.proofs.Common.{◌+◌, map, length}
+use Rattle.just_syntax.specs.View.{function_view, view}
+use Rattle.just_resolution.specs.Seen.{is_name_in, is_readable, texts}
+use Rattle.just_resolution.proofs.Closure.{IsWalked, work}
+use Rattle.just_resolution.proofs.admitted.first_unreadable.Given as goal
+
+abbrev pub invariant-loop-name : goal.invariant-loop-name
+invariant-loop-name l = IsWalked (map function_view l.functions) (view l.expression) (is_readable l.here) (is_readable l.readable) (is_name_in l.admitted) (texts l.pending.items)
+
+-- what is not admitted calls so much yet, and so much is pending
+abbrev pub decreases-loop-name : goal.decreases-loop-name
+decreases-loop-name l = work (map function_view l.functions) (is_name_in l.admitted) + length (texts l.pending.items)

@@ -1,0 +1,11 @@
+use Rattle.std.proofs.Common.{map}
+use Rattle.just_syntax.specs.View.{function_view}
+use Rattle.just_resolution.specs.Sites.{all_sites}
+use Rattle.just_resolution.proofs.Faults.{LeadsUnknown}
+use Rattle.just_resolution.proofs.known.bodies_fault.Given as goal
+
+-- what is found in the bodies that are left is found in all
+abbrev pub invariant-loop-function : goal.invariant-loop-function
+invariant-loop-function l =
+    let functions = map function_view l.functions in
+    LeadsUnknown functions (all_sites (map (λ f. f.body) (map function_view l.function-iterator))) (all_sites (map (λ f. f.body) functions))

@@ -1,0 +1,17 @@
+-- The first of some items that is not as it should be.
+use Rattle.std.specs.Prelude.{◌⊎◌, List, [], ◌∷◌, Option, Some, None}
+
+-- each of them is sound
+abbrev pub AllSound : {X : Type 0} → (X → Type 0) → List X → Type 0
+AllSound sound [] = Unit {0}
+AllSound sound (x ∷ xs) = sound x × AllSound sound xs
+
+-- one of them is faulty, and those before it are sound
+abbrev pub IsFirstFaulty : {X : Type 0} → (X → Type 0) → (X → Type 0) → List X → Type 0
+IsFirstFaulty sound faulty [] = ⊥
+IsFirstFaulty sound faulty (x ∷ xs) = faulty x ⊎ (sound x × IsFirstFaulty sound faulty xs)
+
+-- what is found among them: nothing, where each is sound, or else what is wrong with the first that is not
+abbrev pub Finds : {X F : Type 0} → (X → Type 0) → (X → F → Type 0) → List X → Option F → Type 0
+Finds sound faulty xs None = AllSound sound xs
+Finds sound faulty xs (Some f) = IsFirstFaulty sound (λ x. faulty x f) xs

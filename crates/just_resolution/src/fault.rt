@@ -1,0 +1,111 @@
+// Why a module is not resolved.
+
+ghost use Rattle.std.specs.Prelude.{◌≡◌};
+ghost use Rattle.just_syntax.specs.View.{token_view};
+ghost use Rattle.just_resolution.specs.Fault.{fault_token};
+ghost use Rattle.just_resolution.specs.Seen.{fault_view};
+
+use just_syntax::name::Name;
+use just_syntax::token::Token;
+use just_syntax::unstyled::write_unstyled;
+use std::fmt;
+
+/// Why a module is not resolved, and the name where that shows.
+#[derive(Clone, Copy, Debug, PartialEq)]
+pub enum Fault<'src> {
+    /// A call has another number of arguments than its name takes: so many.
+    ArgumentCountMismatch {
+        function: Name<'src>,
+        found: usize,
+    },
+    /// A function's parameter has a number that is bound outside.
+    BoundParameter {
+        parameter: Name<'src>,
+    },
+    /// An assignment or a parameter has the number of an earlier one.
+    DuplicateNumber {
+        variable: Name<'src>,
+    },
+    /// A name is called that no function has.
+    UndefinedFunction {
+        function: Name<'src>,
+    },
+    /// A variable has no number.
+    UndefinedVariable {
+        variable: Name<'src>,
+    },
+    /// A name of the evaluation order is no assignment's.
+    UnknownAssignment {
+        assignment: Name<'src>,
+    },
+    /// An assignment reads a variable, by itself or in a body that it reaches, which is neither taken before it nor
+    /// bound outside.
+    UntakenVariable {
+        assignment: Name<'src>,
+        variable: Name<'src>,
+    },
+}
+
+impl<'src> Fault<'src> {
+    /// The token where it stands: that of the name that is called, declared, ordered or read.
+    pub fn token(&self) -> Token<'src>
+        ensures { token_view result ≡ fault_token (fault_view self.now) }
+    {
+        match self {
+            Fault::ArgumentCountMismatch { function, found: _ }
+            | Fault::UndefinedFunction { function } => function.token,
+            Fault::BoundParameter { parameter } => parameter.token,
+            Fault::DuplicateNumber { variable }
+            | Fault::UndefinedVariable { variable }
+            | Fault::UntakenVariable {
+                assignment: _,
+                variable,
+            } => variable.token,
+            Fault::UnknownAssignment { assignment } => assignment.token,
+        }
+    }
+}
+
+impl fmt::Display for Fault<'_> {
+    ghost use Rattle.std.specs.Prelude.{Some};
+    ghost use Rattle.just_resolution.specs.Fault.{fault_text};
+    ghost use Rattle.just_resolution.specs.Seen.{fault_view};
+
+    ghost output = { λ fault. Some (fault_text (fault_view fault)) };
+
+    ghost styled_output = { λ fault _. Some (fault_text (fault_view fault)) };
+
+    fn fmt<W: fmt::Write>(&self, f: &mut fmt::Formatter<W>) -> fmt::Result {
+        match self {
+            Fault::ArgumentCountMismatch { function, found: _ } => write_unstyled(
+                f,
+                format_args!("function `{function}` called with a wrong number of arguments"),
+            ),
+            Fault::BoundParameter { parameter } => write_unstyled(
+                f,
+                format_args!("parameter `{parameter}` has a number that is bound outside"),
+            ),
+            Fault::DuplicateNumber { variable } => write_unstyled(
+                f,
+                format_args!("variable `{variable}` has the number of another variable"),
+            ),
+            Fault::UndefinedFunction { function } => {
+                write_unstyled(f, format_args!("unknown function `{function}`"))
+            }
+            Fault::UndefinedVariable { variable } => write_unstyled(
+                f,
+                format_args!("attempted to evaluate unresolved variable `{variable}`"),
+            ),
+            Fault::UnknownAssignment { assignment } => {
+                write_unstyled(f, format_args!("unknown assignment `{assignment}`"))
+            }
+            Fault::UntakenVariable {
+                assignment: _,
+                variable,
+            } => write_unstyled(
+                f,
+                format_args!("attempted to evaluate unevaluated variable `{variable}`"),
+            ),
+        }
+    }
+}

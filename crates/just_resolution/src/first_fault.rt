@@ -1,0 +1,69 @@
+// Why a module is not resolved.
+
+ghost use Rattle.std.specs.Prelude.{◌↔◌, IfOk, IfSome, IsNone};
+ghost use Rattle.just_value.specs.View.{frames_view};
+ghost use Rattle.just_meaning.specs.Resolved.{IsResolved};
+ghost use Rattle.just_meaning.specs.View.{assignments_view, functions_view};
+ghost use Rattle.just_resolution.specs.Fault.{IsFirstFault};
+ghost use Rattle.just_resolution.specs.Seen.{fault_view};
+
+use crate::fault::Fault;
+use crate::known::{bodies_fault, values_fault};
+use crate::numbers::numbering_fault;
+use crate::order::order_fault;
+use just_host::justfile::Justfile;
+use just_syntax::number::Number;
+use just_syntax::out_of_memory::OutOfMemory;
+use just_value::scope::Scope;
+use std::alloc::Global;
+use std::collections::HashSet;
+
+/// The first reason why a module is not [`resolved`]; none, if it is.
+///
+/// What is looked at, in this order:
+///
+/// - the numbers of all assignments, in the order of their names, and of all parameters of functions, in the order of the
+///   functions' names: one that stood before is a [`Fault::DuplicateNumber`];
+/// - the same parameters: one that `parent` binds is a [`Fault::BoundParameter`];
+/// - each variable and each call in the values of assignments and then in the bodies of functions, in the order of their
+///   names and of their text: [`Fault::UndefinedVariable`], [`Fault::UndefinedFunction`],
+///   [`Fault::ArgumentCountMismatch`];
+/// - each name of the evaluation order: [`Fault::UnknownAssignment`], or [`Fault::UntakenVariable`], whose variable is the
+///   first such in the assignment's text; if there is none, the first in a body that it reaches. Which of several bodies
+///   that is, is not said.
+///
+/// [`resolved`]: crate::resolved::resolved
+///
+/// # Errors
+///
+/// `OutOfMemory` where memory was asked for and refused.
+pub fn first_fault<'src, 'run>(
+    alloc: Global,
+    module: &Justfile<'src>,
+    parent: &Scope<'src, 'run>,
+    variable_references: Option<&HashSet<Number>>,
+) -> Result<Option<Fault<'src>>, OutOfMemory>
+    ensures exact { IfOk result (λ fault. IsNone fault ↔ IsResolved (functions_view «module».now) (assignments_view «module».now variable_references.entry) (frames_view parent.now)) }
+    ensures first { IfOk result (λ fault. IfSome fault (λ found. IsFirstFault (functions_view «module».now) (assignments_view «module».now variable_references.entry) (frames_view parent.now) (fault_view found))) }
+{
+    let numbering = numbering_fault(alloc, module, parent)?;
+    if numbering.is_some() {
+        return Ok(numbering);
+    }
+    let value = values_fault(alloc, &module.functions, &module.assignments)?;
+    if value.is_some() {
+        return Ok(value);
+    }
+    let body = bodies_fault(alloc, &module.functions)?;
+    if body.is_some() {
+        return Ok(body);
+    }
+    order_fault(
+        alloc,
+        &module.functions,
+        &module.assignments,
+        &module.evaluation_order,
+        parent,
+        variable_references,
+    )
+}

@@ -1,0 +1,238 @@
+// Where variables and calls stand in an expression, in order.
+
+ghost use Rattle.std.specs.Prelude.{◌≡◌, ◌++◌, [], ◌∷◌, IfOk, OnOk};
+ghost use Rattle.std.specs.Option.{option_map};
+ghost use Rattle.just_syntax.specs.View.{name_view, piece_views, view, views};
+ghost use Rattle.just_resolution.specs.Seen.{mention_view, sites_view};
+ghost use Rattle.just_resolution.specs.Sites.{sites, sites_in, sites_of_call, sites_of_some, sites_of_pieces, sites_of_row, with_call, with_variable};
+
+use crate::site::{Mention, Site};
+use just_syntax::expression::Expression;
+use just_syntax::name::Name;
+use just_syntax::number::Number;
+use just_syntax::out_of_memory::OutOfMemory;
+use just_syntax::string_literal::StringLiteral;
+use std::alloc::Global;
+
+/// Where variables and calls stand in an expression, in the order of its text: the name of a call comes before its
+/// arguments. They are gathered in one walk, so that what is asked of them needs no recursion.
+///
+/// # Errors
+///
+/// `OutOfMemory` where memory was asked for and refused.
+pub fn sites_in<'src>(
+    alloc: Global,
+    expression: &Expression<'src>,
+) -> Result<Vec<Site<'src>>, OutOfMemory>
+    ensures { IfOk result (λ all. sites_view all.items ≡ sites_in (view expression.now)) }
+{
+    let mut all = Vec::new(alloc);
+    add(&mut all, expression)?;
+    Ok(all)
+}
+
+// Adds what stands in an expression. The arms that go further down are functions of their own, so that the frame
+// of this one stays small: expressions may nest as deep as the stack has room.
+#[cycle(add)]
+fn add<'src>(all: &mut Vec<Site<'src>>, expression: &Expression<'src>) -> Result<(), OutOfMemory>
+    ensures { OnOk result (sites_view all.new.items ≡ sites (sites_view all.old.items) (view expression.now)) }
+{
+    match expression {
+        Expression::And { lhs, rhs } => add_both(all, lhs, rhs),
+        Expression::Assert {
+            condition,
+            message,
+            name: _,
+        } => add_assert(all, condition, message.as_deref()),
+        Expression::Backtick {
+            contents: _,
+            token: _,
+        } => Ok(()),
+        Expression::Call { arguments, name } => add_call(all, name, arguments),
+        Expression::Comparison {
+            lhs,
+            operator: _,
+            rhs,
+            token: _,
+        } => add_both(all, lhs, rhs),
+        Expression::Concatenation {
+            lhs,
+            operator: _,
+            rhs,
+        } => add_both(all, lhs, rhs),
+        Expression::Conditional {
+            condition,
+            consequence,
+            otherwise,
+        } => add_conditional(all, condition, consequence, otherwise.as_deref()),
+        Expression::FormatString {
+            start: _,
+            expressions,
+        } => add_pieces(all, expressions),
+        Expression::Group { contents } => add(all, contents),
+        Expression::Join {
+            lhs,
+            operator: _,
+            rhs,
+        } => add_join(all, lhs.as_deref(), rhs),
+        Expression::List { elements, token: _ } => add_row(all, elements),
+        Expression::ListConcatenation {
+            lhs,
+            operator: _,
+            rhs,
+        } => add_both(all, lhs, rhs),
+        Expression::Not { operand } => add(all, operand),
+        Expression::Or { lhs, rhs } => add_both(all, lhs, rhs),
+        Expression::StringLiteral { string_literal: _ } => Ok(()),
+        Expression::Variable { name, number } => add_variable(all, name, *number),
+    }
+}
+
+// Adds what stands in two expressions.
+#[cycle(add)]
+fn add_both<'src>(
+    all: &mut Vec<Site<'src>>,
+    lhs: &Expression<'src>,
+    rhs: &Expression<'src>,
+) -> Result<(), OutOfMemory>
+    ensures { OnOk result (sites_view all.new.items ≡ sites (sites (sites_view all.old.items) (view lhs.now)) (view rhs.now)) }
+{
+    add(all, lhs)?;
+    add(all, rhs)
+}
+
+// Adds what stands in an expression, if there is one.
+#[cycle(add)]
+fn add_some<'src>(
+    all: &mut Vec<Site<'src>>,
+    expression: Option<&Expression<'src>>,
+) -> Result<(), OutOfMemory>
+    ensures { OnOk result (sites_view all.new.items ≡ sites_of_some (sites_view all.old.items) (option_map (λ e. view e.now) expression.entry)) }
+{
+    match expression {
+        Some(expression) => add(all, expression),
+        None => Ok(()),
+    }
+}
+
+// Adds what stands in an assertion.
+#[cycle(add)]
+fn add_assert<'src>(
+    all: &mut Vec<Site<'src>>,
+    condition: &Expression<'src>,
+    message: Option<&Expression<'src>>,
+) -> Result<(), OutOfMemory>
+    ensures { OnOk result (sites_view all.new.items ≡ sites_of_some (sites (sites_view all.old.items) (view condition.now)) (option_map (λ e. view e.now) message.entry)) }
+{
+    add(all, condition)?;
+    add_some(all, message)
+}
+
+// Adds what stands in a conditional.
+#[cycle(add)]
+fn add_conditional<'src>(
+    all: &mut Vec<Site<'src>>,
+    condition: &Expression<'src>,
+    consequence: &Expression<'src>,
+    otherwise: Option<&Expression<'src>>,
+) -> Result<(), OutOfMemory>
+    ensures { OnOk result (sites_view all.new.items ≡ sites_of_some (sites (sites (sites_view all.old.items) (view condition.now)) (view consequence.now)) (option_map (λ e. view e.now) otherwise.entry)) }
+{
+    add_both(all, condition, consequence)?;
+    add_some(all, otherwise)
+}
+
+// Adds what stands in a join, whose left side may be left out.
+#[cycle(add)]
+fn add_join<'src>(
+    all: &mut Vec<Site<'src>>,
+    lhs: Option<&Expression<'src>>,
+    rhs: &Expression<'src>,
+) -> Result<(), OutOfMemory>
+    ensures { OnOk result (sites_view all.new.items ≡ sites (sites_of_some (sites_view all.old.items) (option_map (λ e. view e.now) lhs.entry)) (view rhs.now)) }
+{
+    add_some(all, lhs)?;
+    add(all, rhs)
+}
+
+// Adds a call, and what stands in its arguments.
+#[cycle(add)]
+fn add_call<'src>(
+    all: &mut Vec<Site<'src>>,
+    name: &Name<'src>,
+    arguments: &[Expression<'src>],
+) -> Result<(), OutOfMemory>
+    ensures { OnOk result (sites_view all.new.items ≡ sites_of_call (sites_view all.old.items) (name_view name.now) (views arguments.now)) }
+{
+    add_one_call(all, name, arguments.len())?;
+    add_row(all, arguments)
+}
+
+// Adds what stands in some expressions.
+#[cycle(add)]
+fn add_row<'src>(
+    all: &mut Vec<Site<'src>>,
+    expressions: &[Expression<'src>],
+) -> Result<(), OutOfMemory>
+    ensures { OnOk result (sites_view all.new.items ≡ sites_of_row (sites_view all.old.items) (views expressions.now)) }
+{
+    for expression in expressions {
+        add(all, expression)?;
+    }
+    Ok(())
+}
+
+// Adds what stands in interpolations.
+#[cycle(add)]
+fn add_pieces<'src>(
+    all: &mut Vec<Site<'src>>,
+    expressions: &[(Expression<'src>, StringLiteral<'src>)],
+) -> Result<(), OutOfMemory>
+    ensures { OnOk result (sites_view all.new.items ≡ sites_of_pieces (sites_view all.old.items) (piece_views expressions.now)) }
+{
+    for (expression, _) in expressions {
+        add(all, expression)?;
+    }
+    Ok(())
+}
+
+// Adds a call, and nothing of its arguments. What adds a site is no part of the recursion, and is kept out of its frames.
+#[inline(never)]
+fn add_one_call<'src>(
+    all: &mut Vec<Site<'src>>,
+    name: &Name<'src>,
+    arguments: usize,
+) -> Result<(), OutOfMemory>
+    ensures { OnOk result (sites_view all.new.items ≡ with_call (sites_view all.old.items) (name_view name.now) arguments) }
+{
+    add_site(all, name, Mention::Call { arguments })
+}
+
+// Adds a variable.
+#[inline(never)]
+fn add_variable<'src>(
+    all: &mut Vec<Site<'src>>,
+    name: &Name<'src>,
+    number: Option<Number>,
+) -> Result<(), OutOfMemory>
+    ensures { OnOk result (sites_view all.new.items ≡ with_variable (sites_view all.old.items) (name_view name.now) number) }
+{
+    add_site(all, name, Mention::Variable { number })
+}
+
+// Adds a site.
+fn add_site<'src>(
+    all: &mut Vec<Site<'src>>,
+    name: &Name<'src>,
+    mention: Mention,
+) -> Result<(), OutOfMemory>
+    ensures { OnOk result (sites_view all.new.items ≡ sites_view all.old.items ++ (record { token = name_view name.now; mention = mention_view name.now mention }) ∷ []) }
+{
+    match all.push(Site {
+        name: *name,
+        mention,
+    }) {
+        Ok(()) => Ok(()),
+        Err(_) => Err(OutOfMemory),
+    }
+}

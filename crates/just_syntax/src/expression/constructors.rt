@@ -1,0 +1,284 @@
+// Expressions made of their parts.
+
+ghost use Rattle.std.specs.Prelude.{◌≡◌, Some, IfOk, false};
+ghost use Rattle.std.specs.Option.{option_map};
+ghost use Rattle.just_syntax.specs.Plain as plain;
+ghost use Rattle.just_syntax.specs.View.{assertion, conditional, join, literal_view, name_view, piece_views, token_view, view, views};
+
+use crate::conditional_operator::ConditionalOperator;
+use crate::expression::Expression;
+use crate::name::Name;
+use crate::number::Number;
+use crate::out_of_memory::OutOfMemory;
+use crate::string_literal::StringLiteral;
+use crate::token::Token;
+use std::alloc::Global;
+
+/// One constructor a form. Those that answer a `Result` put the parts into boxes.
+impl<'src> Expression<'src> {
+    /// `lhs && rhs`
+    ///
+    /// # Errors
+    ///
+    /// `OutOfMemory`, where memory was asked for and refused: both sides are dropped.
+    pub fn and(
+        alloc: Global,
+        lhs: Expression<'src>,
+        rhs: Expression<'src>,
+    ) -> Result<Expression<'src>, OutOfMemory>
+        ensures { IfOk result (λ e. view e ≡ plain.And (view lhs.entry) (view rhs.entry)) }
+    {
+        Ok(Expression::And {
+            lhs: Box::new(alloc, lhs)?,
+            rhs: Box::new(alloc, rhs)?,
+        })
+    }
+
+    /// `assert(condition)`, or `assert(condition, message)`. The name is that which the assertion is called by, and a refusal
+    /// stands there.
+    ///
+    /// # Errors
+    ///
+    /// `OutOfMemory`, where memory was asked for and refused: the parts are dropped.
+    pub fn assert(
+        alloc: Global,
+        name: Name<'src>,
+        condition: Expression<'src>,
+        message: Option<Expression<'src>>,
+    ) -> Result<Expression<'src>, OutOfMemory>
+        ensures { IfOk result (λ e. view e ≡ assertion (view condition.entry) (option_map view message.entry) (name_view name.entry)) }
+    {
+        Ok(Expression::Assert {
+            condition: Box::new(alloc, condition)?,
+            message: boxed(alloc, message)?,
+            name,
+        })
+    }
+
+    /// A command in backticks: its text, and the token with its backticks.
+    ///
+    /// # Errors
+    ///
+    /// `OutOfMemory`, where the text cannot be copied: nothing is made.
+    pub fn backtick(
+        alloc: Global,
+        contents: &str,
+        token: Token<'src>,
+    ) -> Result<Expression<'src>, OutOfMemory>
+        ensures { IfOk result (λ e. view e ≡ plain.Backtick contents.now (token_view token.entry)) }
+    {
+        Ok(Expression::Backtick {
+            contents: String::from_str(alloc, contents)?,
+            token,
+        })
+    }
+
+    /// `name(arguments)`. It takes no memory.
+    pub fn call(name: Name<'src>, arguments: Vec<Expression<'src>>) -> Expression<'src>
+        ensures { view result ≡ plain.Call (name_view name.entry) (views arguments.entry.items) }
+    {
+        Expression::Call { arguments, name }
+    }
+
+    /// `lhs == rhs`, `lhs != rhs`, `lhs =~ rhs` or `lhs !~ rhs`. The token is that of the operator.
+    ///
+    /// # Errors
+    ///
+    /// `OutOfMemory`, where memory was asked for and refused: both sides are dropped.
+    pub fn comparison(
+        alloc: Global,
+        lhs: Expression<'src>,
+        operator: ConditionalOperator,
+        rhs: Expression<'src>,
+        token: Token<'src>,
+    ) -> Result<Expression<'src>, OutOfMemory>
+        ensures { IfOk result (λ e. view e ≡ plain.Comparison (view lhs.entry) operator (view rhs.entry) (token_view token.entry)) }
+    {
+        Ok(Expression::Comparison {
+            lhs: Box::new(alloc, lhs)?,
+            operator,
+            rhs: Box::new(alloc, rhs)?,
+            token,
+        })
+    }
+
+    /// `lhs + rhs`
+    ///
+    /// # Errors
+    ///
+    /// `OutOfMemory`, where memory was asked for and refused: both sides are dropped.
+    pub fn concatenation(
+        alloc: Global,
+        lhs: Expression<'src>,
+        operator: Token<'src>,
+        rhs: Expression<'src>,
+    ) -> Result<Expression<'src>, OutOfMemory>
+        ensures { IfOk result (λ e. view e ≡ plain.Concatenation (view lhs.entry) (token_view operator.entry) (view rhs.entry)) }
+    {
+        Ok(Expression::Concatenation {
+            lhs: Box::new(alloc, lhs)?,
+            operator,
+            rhs: Box::new(alloc, rhs)?,
+        })
+    }
+
+    /// `if condition { consequence } else { otherwise }`, or without the last part.
+    ///
+    /// # Errors
+    ///
+    /// `OutOfMemory`, where memory was asked for and refused: the parts are dropped.
+    pub fn conditional(
+        alloc: Global,
+        condition: Expression<'src>,
+        consequence: Expression<'src>,
+        otherwise: Option<Expression<'src>>,
+    ) -> Result<Expression<'src>, OutOfMemory>
+        ensures { IfOk result (λ e. view e ≡ conditional (view condition.entry) (view consequence.entry) (option_map view otherwise.entry)) }
+    {
+        Ok(Expression::Conditional {
+            condition: Box::new(alloc, condition)?,
+            consequence: Box::new(alloc, consequence)?,
+            otherwise: boxed(alloc, otherwise)?,
+        })
+    }
+
+    /// A format string: its start, and then interpolations, each with the text behind it. It takes no memory.
+    pub fn format_string(
+        start: StringLiteral<'src>,
+        expressions: Vec<(Expression<'src>, StringLiteral<'src>)>,
+    ) -> Expression<'src>
+        ensures { view result ≡ plain.FormatString (literal_view start.entry) (piece_views expressions.entry.items) }
+    {
+        Expression::FormatString { start, expressions }
+    }
+
+    /// `(contents)`
+    ///
+    /// # Errors
+    ///
+    /// `OutOfMemory`, where memory was asked for and refused: the contents are dropped.
+    pub fn group(alloc: Global, contents: Expression<'src>) -> Result<Expression<'src>, OutOfMemory>
+        ensures { IfOk result (λ e. view e ≡ plain.Group (view contents.entry)) }
+    {
+        Ok(Expression::Group {
+            contents: Box::new(alloc, contents)?,
+        })
+    }
+
+    /// `lhs / rhs`, or `/ rhs`.
+    ///
+    /// # Errors
+    ///
+    /// `OutOfMemory`, where memory was asked for and refused: both sides are dropped.
+    pub fn join(
+        alloc: Global,
+        lhs: Option<Expression<'src>>,
+        operator: Token<'src>,
+        rhs: Expression<'src>,
+    ) -> Result<Expression<'src>, OutOfMemory>
+        ensures { IfOk result (λ e. view e ≡ join (option_map view lhs.entry) (token_view operator.entry) (view rhs.entry)) }
+    {
+        Ok(Expression::Join {
+            lhs: boxed(alloc, lhs)?,
+            operator,
+            rhs: Box::new(alloc, rhs)?,
+        })
+    }
+
+    /// `[elements]`. The token is the bracket. It takes no memory.
+    pub fn list(elements: Vec<Expression<'src>>, token: Token<'src>) -> Expression<'src>
+        ensures { view result ≡ plain.ListOf (views elements.entry.items) (token_view token.entry) }
+    {
+        Expression::List { elements, token }
+    }
+
+    /// `lhs ++ rhs`
+    ///
+    /// # Errors
+    ///
+    /// `OutOfMemory`, where memory was asked for and refused: both sides are dropped.
+    pub fn list_concatenation(
+        alloc: Global,
+        lhs: Expression<'src>,
+        operator: Token<'src>,
+        rhs: Expression<'src>,
+    ) -> Result<Expression<'src>, OutOfMemory>
+        ensures { IfOk result (λ e. view e ≡ plain.ListConcatenation (view lhs.entry) (token_view operator.entry) (view rhs.entry)) }
+    {
+        Ok(Expression::ListConcatenation {
+            lhs: Box::new(alloc, lhs)?,
+            operator,
+            rhs: Box::new(alloc, rhs)?,
+        })
+    }
+
+    /// The literal that [`StringLiteral::new`] makes of a text and of how it was written.
+    ///
+    /// # Errors
+    ///
+    /// `OutOfMemory`, where the text cannot be copied: nothing is made.
+    pub fn literal(
+        alloc: Global,
+        text: &str,
+        lexeme: &'src str,
+    ) -> Result<Expression<'src>, OutOfMemory>
+        ensures { IfOk result (λ e. view e ≡ plain.StringLiteral (record { cooked = text.now; lexeme = lexeme.now; indented = false })) }
+    {
+        let string_literal = StringLiteral::new(alloc, text, lexeme)?;
+        Ok(Expression::StringLiteral { string_literal })
+    }
+
+    /// `!operand`
+    ///
+    /// # Errors
+    ///
+    /// `OutOfMemory`, where memory was asked for and refused: the operand is dropped.
+    pub fn not(alloc: Global, operand: Expression<'src>) -> Result<Expression<'src>, OutOfMemory>
+        ensures { IfOk result (λ e. view e ≡ plain.Not (view operand.entry)) }
+    {
+        Ok(Expression::Not {
+            operand: Box::new(alloc, operand)?,
+        })
+    }
+
+    /// `lhs || rhs`
+    ///
+    /// # Errors
+    ///
+    /// `OutOfMemory`, where memory was asked for and refused: both sides are dropped.
+    pub fn or(
+        alloc: Global,
+        lhs: Expression<'src>,
+        rhs: Expression<'src>,
+    ) -> Result<Expression<'src>, OutOfMemory>
+        ensures { IfOk result (λ e. view e ≡ plain.Or (view lhs.entry) (view rhs.entry)) }
+    {
+        Ok(Expression::Or {
+            lhs: Box::new(alloc, lhs)?,
+            rhs: Box::new(alloc, rhs)?,
+        })
+    }
+
+    /// The variable with this number.
+    pub fn variable(name: Name<'src>, number: Number) -> Expression<'src>
+        ensures { view result ≡ plain.Variable (name_view name.entry) (Some number) }
+    {
+        Expression::Variable {
+            name,
+            number: Some(number),
+        }
+    }
+}
+
+// A part that may be left out, in its box.
+fn boxed<'src>(
+    alloc: Global,
+    part: Option<Expression<'src>>,
+) -> Result<Option<Box<Expression<'src>>>, OutOfMemory>
+    ensures { IfOk result (λ boxed. option_map (λ b. view b.value) boxed ≡ option_map view part.entry) }
+{
+    match part {
+        Some(part) => Ok(Some(Box::new(alloc, part)?)),
+        None => Ok(None),
+    }
+}

@@ -1,0 +1,173 @@
+// Modules that tests are made of.
+
+use crate::parts::{name, token};
+use just_host::justfile::Justfile;
+use just_host::settings::Settings;
+use just_syntax::assignment::Assignment;
+use just_syntax::attribute_set::AttributeSet;
+use just_syntax::expression::Expression;
+use just_syntax::function_definition::FunctionDefinition;
+use just_syntax::name::Name;
+use just_syntax::number::Number;
+use just_syntax::out_of_memory::OutOfMemory;
+use just_syntax::table::Table;
+use just_syntax::token::Token;
+use just_value::binding::Binding;
+use just_value::scope::Scope;
+use just_value::value::Value;
+use std::alloc::Global;
+use std::collections::HashSet;
+
+// What stands in an expression.
+#[derive(Clone, Copy)]
+pub(crate) enum Part<'a> {
+    // A variable with a number.
+    Read(u64),
+    // A variable without one.
+    Unnumbered,
+    // A call, its arguments variables with these numbers.
+    Call(&'a str, &'a [u64]),
+}
+
+// A function of the file: its name, the numbers of its parameters, and what stands in its body.
+pub(crate) type Function<'a> = (&'a str, &'a [u64], &'a [Part<'a>]);
+
+// An assignment: its name, its number, and what stands in its value.
+pub(crate) type Variable<'a> = (&'a str, u64, &'a [Part<'a>]);
+
+// A name at an offset in its file.
+pub(crate) fn name_at(lexeme: &str, offset: usize) -> Name<'_> {
+    Name {
+        token: Token {
+            offset,
+            ..token(lexeme)
+        },
+    }
+}
+
+fn variable<'a>(number: Option<u64>, offset: usize) -> Expression<'a> {
+    Expression::Variable {
+        name: name_at("v", offset),
+        number: number.map(Number::new),
+    }
+}
+
+fn made<'a>(alloc: Global, part: Part<'a>, offset: usize) -> Result<Expression<'a>, OutOfMemory> {
+    match part {
+        Part::Read(number) => Ok(variable(Some(number), offset)),
+        Part::Unnumbered => Ok(variable(None, offset)),
+        Part::Call(callee, numbers) => {
+            let mut arguments = Vec::new(alloc);
+            for number in numbers {
+                arguments.push(variable(Some(*number), offset))?;
+            }
+            Ok(Expression::Call {
+                arguments,
+                name: name_at(callee, offset),
+            })
+        }
+    }
+}
+
+// A list of these parts, each at its place among them.
+fn expression<'a>(alloc: Global, parts: &[Part<'a>]) -> Result<Expression<'a>, OutOfMemory> {
+    let mut elements = Vec::new(alloc);
+    for (offset, part) in parts.iter().enumerate() {
+        elements.push(made(alloc, *part, offset)?)?;
+    }
+    Ok(Expression::List {
+        elements,
+        token: name("[").token,
+    })
+}
+
+pub(crate) fn functions<'a>(
+    alloc: Global,
+    all: &[Function<'a>],
+) -> Result<Table<FunctionDefinition<'a>>, OutOfMemory> {
+    let mut table = Table::new(alloc);
+    for (lexeme, numbers, body) in all {
+        let mut parameters = Vec::new(alloc);
+        for number in *numbers {
+            parameters.extend_from_slice(&[(name("p"), Number::new(*number))])?;
+        }
+        let body = expression(alloc, body)?;
+        table.insert(FunctionDefinition {
+            body,
+            name: name(lexeme),
+            parameters,
+        })?;
+    }
+    Ok(table)
+}
+
+pub(crate) fn assignments<'a>(
+    alloc: Global,
+    all: &[Variable<'a>],
+) -> Result<Table<Assignment<'a>>, OutOfMemory> {
+    let mut table = Table::new(alloc);
+    for (lexeme, number, value) in all {
+        let value = expression(alloc, value)?;
+        table.insert(Assignment {
+            eager: false,
+            export: false,
+            name: name(lexeme),
+            number: Number::new(*number),
+            private: false,
+            value,
+        })?;
+    }
+    Ok(table)
+}
+
+pub(crate) fn names<'a>(alloc: Global, lexemes: &[&'a str]) -> Result<Vec<Name<'a>>, OutOfMemory> {
+    let mut all = Vec::new(alloc);
+    for lexeme in lexemes {
+        all.push(name(lexeme))?;
+    }
+    Ok(all)
+}
+
+pub(crate) fn module<'a>(
+    alloc: Global,
+    functions: Table<FunctionDefinition<'a>>,
+    assignments: Table<Assignment<'a>>,
+    order: &[&'a str],
+) -> Result<Justfile<'a>, OutOfMemory> {
+    Ok(Justfile {
+        assignments,
+        evaluation_order: names(alloc, order)?,
+        functions,
+        module_path: String::new(alloc),
+        settings: Settings::new(alloc),
+        source: String::new(alloc),
+        submodule: false,
+        unexports: Vec::new(alloc),
+        working_directory: String::new(alloc),
+    })
+}
+
+pub(crate) fn bind(alloc: Global, scope: &mut Scope, number: u64) -> Result<(), OutOfMemory> {
+    scope.bind(Binding {
+        attributes: AttributeSet::new(alloc),
+        eager: false,
+        export: false,
+        file_depth: 0,
+        name: name("outer"),
+        number: Number::new(number),
+        prelude: false,
+        private: false,
+        value: Value::new(alloc),
+    })
+}
+
+// The tests' modules stand below a scope that binds this number.
+pub(crate) const OUTER: u64 = 100;
+
+pub(crate) fn references(alloc: Global, numbers: &[u64]) -> Result<HashSet<Number>, OutOfMemory> {
+    let mut referenced = HashSet::new(alloc);
+    for number in numbers {
+        referenced.insert(Number::new(*number))?;
+    }
+    Ok(referenced)
+}

@@ -1,0 +1,99 @@
+// Two runs of mode := 'debug', greeting := 'Hello, ' + `whoami`, letter := if mode == 'debug' { greeting } else { `mail` }.
+#![tactic(auto)]
+
+use anyhow::Result;
+use just_eval::prelude::*;
+use std::alloc::Global;
+
+#[derive(Drop)]
+struct Greeter;
+
+impl Host for Greeter {
+    ghost step = { λ _ _ _ _. Unit {0} };
+
+    fn command(&mut self, alloc: Global, asked: &CommandQuestion) -> Result<String, CommandFault> {
+        if asked.command == "whoami" {
+            return String::from_str(alloc, "Ada").map_err(|_| CommandFault::OutOfMemory);
+        }
+        NoHost.command(alloc, asked)
+    }
+
+    fn text(&mut self, alloc: Global, asked: TextQuestion) -> TextAnswer {
+        NoHost.text(alloc, asked)
+    }
+
+    fn exists(&mut self, alloc: Global, path: &str) -> Result<bool, OutOfMemory> {
+        NoHost.exists(alloc, path)
+    }
+
+    fn number(&mut self, alloc: Global, asked: NumberQuestion) -> Result<u64, OutOfMemory> {
+        NoHost.number(alloc, asked)
+    }
+}
+
+fn letter<'src>(alloc: Global) -> Result<Expression<'src>, OutOfMemory> {
+    let mode = Expression::variable(Name::new("mode", None), Number::new(0));
+    let debug = Expression::literal(alloc, "debug", "'debug'")?;
+    let equals = ConditionalOperator::Equality;
+    let is_debug = Expression::comparison(alloc, mode, equals, debug, Token::new("==", None))?;
+    let greeting = Expression::variable(Name::new("greeting", None), Number::new(1));
+    let mut place = Place::start_of("justfile");
+    (place.line, place.column, place.offset) = (2, 49, 98);
+    let mail = Expression::backtick(alloc, "mail", Token::new("`mail`", Some(place)))?;
+    Expression::conditional(alloc, is_debug, greeting, Some(mail))
+}
+
+fn module<'src>(alloc: Global) -> Result<Justfile<'src>, OutOfMemory> {
+    let mut module = Justfile::new(alloc, "/work/justfile", "/work")?;
+    for name in ["mode", "greeting", "letter"] {
+        module.evaluation_order.push(Name::new(name, None))?;
+    }
+    let debug = Expression::literal(alloc, "debug", "'debug'")?;
+    let mode = Assignment::new(Name::new("mode", None), Number::new(0), debug);
+    module.assignments.insert(mode)?;
+    let hello = Expression::literal(alloc, "Hello, ", "'Hello, '")?;
+    let whoami = Expression::backtick(alloc, "whoami", Token::new("`whoami`", None))?;
+    let sum = Expression::concatenation(alloc, hello, Token::new("+", None), whoami)?;
+    let greeting = Assignment::new(Name::new("greeting", None), Number::new(1), sum);
+    module.assignments.insert(greeting)?;
+    let letter = Assignment::new(Name::new("letter", None), Number::new(2), letter(alloc)?);
+    module.assignments.insert(letter)?;
+    Ok(module)
+}
+
+fn run(rt: &impl Print, alloc: Global, outer: &Scope, given: &[(String, String)]) -> Result<()> {
+    let module = module(alloc)?;
+    let overrides = overrides_of(alloc, &module.assignments, given)?;
+    let config = Config::new(alloc, "/work")?;
+    let dotenv = std::collections::BTreeMap::new(alloc);
+    let search = Search::new(alloc, "/work/justfile", "/work")?;
+    match Evaluator::evaluate_assignments(
+        alloc,
+        &mut Greeter,
+        &config,
+        &dotenv,
+        &module,
+        &overrides,
+        outer,
+        &search,
+        RECURSION_LIMIT,
+        None,
+    ) {
+        Ok(scope) => for binding in scope.bindings() {
+            println!(rt; "{} = {}", binding.name, binding.value)?;
+        },
+        Err(error) => match error.token() {
+            Some(at) => println!(rt; "{}:{}:{}: {error}", at.path, at.line, at.column)?,
+            None => println!(rt; "{error}")?,
+        },
+    }
+    Ok(())
+}
+
+fn main(rt: HostRuntime) -> Result<()> {
+    let outer = Scope::root(rt.alloc(), &[])?;
+    let release = String::from_str(rt.alloc(), "release")?;
+    let given = [(String::from_str(rt.alloc(), "mode")?, release)];
+    run(&rt, rt.alloc(), &outer, &[])?;
+    run(&rt, rt.alloc(), &outer, &given)
+}
