@@ -36,9 +36,7 @@ pub fn ask_command<'src, 'run, H: Host>(
     ensures asked { let question = command_question (fixed_view context.now) (pairs_view env.now) (frames_view scope.now) command.now (option_map (λ words. map string_bytes words.now) arguments.entry) in
         AsksOnce H.step host.old question (replied result) host.new }
 {
-    let Ok(working_directory) = context.working_directory(alloc) else {
-        return Err(CommandFault::OutOfMemory);
-    };
+    let working_directory = context.working_directory(alloc)?;
     let question = CommandQuestion {
         command,
         arguments,

@@ -69,13 +69,8 @@ impl<H: Host> Host for Recorder<H> {
         alloc: Global,
         question: &CommandQuestion,
     ) -> Result<String, CommandFault> {
-        let Ok(recorded) = Recorded::of_command(alloc, question) else {
-            return Err(CommandFault::OutOfMemory);
-        };
-        match self.keep(recorded) {
-            Ok(()) => self.host.command(alloc, question),
-            Err(_) => Err(CommandFault::OutOfMemory),
-        }
+        self.keep(Recorded::of_command(alloc, question)?)?;
+        self.host.command(alloc, question)
     }
 
     fn text(&mut self, alloc: Global, question: TextQuestion) -> TextAnswer {

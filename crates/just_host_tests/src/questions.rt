@@ -157,10 +157,7 @@ impl Host for Shell {
         alloc: Global,
         question: &CommandQuestion,
     ) -> Result<String, CommandFault> {
-        match words_of(alloc, question, self.takes_shell_name) {
-            Ok(text) => Ok(text),
-            Err(OutOfMemory) => Err(CommandFault::OutOfMemory),
-        }
+        Ok(words_of(alloc, question, self.takes_shell_name)?)
     }
 
     fn text(&mut self, alloc: Global, question: TextQuestion) -> TextAnswer {

@@ -74,10 +74,7 @@ impl Host for ScriptedHost {
         }
         match self.replies.next() {
             Some(reply) => reply,
-            None => match String::from_str(alloc, "no reply") {
-                Ok(text) => Err(CommandFault::Fault(text)),
-                Err(_) => Err(CommandFault::OutOfMemory),
-            },
+            None => Err(CommandFault::Fault(String::from_str(alloc, "no reply")?)),
         }
     }
 
@@ -115,8 +112,5 @@ fn text_for<'a>(always: &'a [(String, String)], command: &str) -> Option<&'a str
 fn copied(alloc: Global, text: &str) -> Result<String, CommandFault>
     ensures { UnlessNoMemory (replied result) (Replied text.now) }
 {
-    match String::from_str(alloc, text) {
-        Ok(text) => Ok(text),
-        Err(_) => Err(CommandFault::OutOfMemory),
-    }
+    Ok(String::from_str(alloc, text)?)
 }

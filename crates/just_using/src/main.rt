@@ -13,7 +13,7 @@ impl Host for Greeter {
 
     fn command(&mut self, alloc: Global, asked: &CommandQuestion) -> Result<String, CommandFault> {
         if asked.command == "whoami" {
-            return String::from_str(alloc, "Ada").map_err(|_| CommandFault::OutOfMemory);
+            return Ok(String::from_str(alloc, "Ada")?);
         }
         NoHost.command(alloc, asked)
     }

@@ -8,6 +8,7 @@ ghost use Rattle.just_value.specs.Said.{error_token};
 ghost use Rattle.just_value.specs.View.{compile_refusal, compile_token, refusal};
 ghost use Rattle.just_value.specs.declared.error.Error.TheVariants.{OutOfMemory as Wanted};
 
+mod command_fault;
 mod display;
 
 use crate::compile_error::CompileError;

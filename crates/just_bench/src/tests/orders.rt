@@ -36,10 +36,7 @@ impl Host for FrameHost {
         question: &CommandQuestion,
     ) -> Result<String, CommandFault> {
         let count = question.scope.bindings().count();
-        match format!(in alloc; "{count}") {
-            Ok(text) => Ok(text),
-            Err(_) => Err(CommandFault::OutOfMemory),
-        }
+        Ok(format!(in alloc; "{count}")?)
     }
 
     fn text(&mut self, alloc: Global, question: TextQuestion) -> TextAnswer {

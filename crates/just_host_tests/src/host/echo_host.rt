@@ -47,8 +47,5 @@ impl Host for EchoHost {
 fn echo(alloc: Global, command: &str) -> Result<String, CommandFault>
     ensures { UnlessNoMemory (replied result) (Replied command.now) }
 {
-    match String::from_str(alloc, command) {
-        Ok(text) => Ok(text),
-        Err(_) => Err(CommandFault::OutOfMemory),
-    }
+    Ok(String::from_str(alloc, command)?)
 }

@@ -40,13 +40,9 @@ impl Host for MapHost {
         alloc: Global,
         question: &CommandQuestion,
     ) -> Result<String, CommandFault> {
-        match copy_at(alloc, &self.commands, question.command) {
-            Ok(Some(text)) => Ok(text),
-            Ok(None) => match String::from_str(alloc, "unknown command") {
-                Ok(text) => Err(CommandFault::Fault(text)),
-                Err(_) => Err(CommandFault::OutOfMemory),
-            },
-            Err(_) => Err(CommandFault::OutOfMemory),
+        match copy_at(alloc, &self.commands, question.command)? {
+            Some(text) => Ok(text),
+            None => Err(CommandFault::Fault(String::from_str(alloc, "unknown command")?)),
         }
     }
 

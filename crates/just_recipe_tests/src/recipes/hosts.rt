@@ -29,10 +29,7 @@ impl Host for BracketHost {
         question: &CommandQuestion,
     ) -> Result<String, CommandFault> {
         let command = question.command;
-        match format!(in alloc; "<{command}>") {
-            Ok(text) => Ok(text),
-            Err(_) => Err(CommandFault::OutOfMemory),
-        }
+        Ok(format!(in alloc; "<{command}>")?)
     }
 
     fn text(&mut self, alloc: Global, question: TextQuestion) -> TextAnswer {
@@ -82,10 +79,8 @@ impl Host for TellingHost {
         alloc: Global,
         question: &CommandQuestion,
     ) -> Result<String, CommandFault> {
-        match tell_command(&mut self.told, question) {
-            Ok(()) => self.host.command(alloc, question),
-            Err(OutOfMemory) => Err(CommandFault::OutOfMemory),
-        }
+        tell_command(&mut self.told, question)?;
+        self.host.command(alloc, question)
     }
 
     fn text(&mut self, alloc: Global, question: TextQuestion) -> TextAnswer {
