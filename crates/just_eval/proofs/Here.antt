@@ -30,7 +30,7 @@ use Rattle.just_laws.proofs.Final.{AllFinal, final_dynamic, final_eval}
 use Rattle.just_laws.proofs.Here.{AllSuch, Same, line_const, line_final, line_never, readable_apart, same_line, same_string, string_const, string_final, string_never}
 use Rattle.just_laws.proofs.Internal.{IsNeverInternal, expression_never}
 use Rattle.just_laws.proofs.Lexical.{dynamic_is_lexical}
-use Rattle.just_eval.specs.View.{Assigned, IsAtStart, IsConst, IsInRun, IsResolvedIn, Resolves, below_of, calls_left_in, dynamic_meanings, exports, exports_in, lexical_meaning, meaning, rules_of, situation_of, standing_of}
+use Rattle.just_eval.specs.View.{Assigned, IsAtStart, IsConst, IsInRun, IsResolvedIn, Resolves, below_of, calls_left_in, dynamic_meanings, exports_all, exports_all_in, lexical_meaning, meaning, rules_of, situation_of, standing_of}
 use Rattle.just_eval.specs.declared.evaluator.Evaluator.{Evaluator}
 
 -- What is made of the meanings of these expressions is made of no more: it is the same of equal meanings, and has no
@@ -139,14 +139,14 @@ situation_start e start =
 
 -- what evaluating an assignment means, by the context and the situation
 abbrev AssignedIn : {S : Type 0} → (S → Question → Answer → S → Type 0) → S → (ℕ → Bool) → Option Text → Expr → Assignment → Frames → Outcome Frames → S → Option ExecutionContext → Situation → Type 0
-AssignedIn step old is_open override x a frames o new context s = Assigned (rules_in context is_open) step old (or_override override (dynamic_meanings context s x)) (exports_in context) a frames o new
+AssignedIn step old is_open override x a frames o new context s = Assigned (rules_in context is_open) step old (or_override override (dynamic_meanings context s x)) (exports_all_in context) a frames o new
 
 module _ {S : Type 0} {step : S → Question → Answer → S → Type 0} {old new : S} (e : Evaluator) (start : IsAtStart e) (override : Option Text) (x : Expr) {a : Assignment} {frames : Frames} {o : Outcome Frames} where
-  started : Assigned (rules_of e) step old (or_override override (meaning e x)) (exports e) a frames o new → AssignedIn step old (standing_of e).is_open override x a frames o new e.context (situation_at e.lists (frames_view e.scope))
+  started : Assigned (rules_of e) step old (or_override override (meaning e x)) (exports_all e) a frames o new → AssignedIn step old (standing_of e).is_open override x a frames o new e.context (situation_at e.lists (frames_view e.scope))
   started h = subst (AssignedIn step old (standing_of e).is_open override x a frames o new e.context) (situation_start e start) h
 
   -- in a run
-  pub ran_here : (c : ExecutionContext) → e.context ≡ Some c → e.lists ≡ c.module.now.settings.lists → Assigned (rules_of e) step old (or_override override (meaning e x)) (exports e) a frames o new
+  pub ran_here : (c : ExecutionContext) → e.context ≡ Some c → e.lists ≡ c.module.now.settings.lists → Assigned (rules_of e) step old (or_override override (meaning e x)) (exports_all e) a frames o new
       → Assigned freely step old (or_override override (dynamic_meanings (Some c) (situation_at c.module.now.settings.lists (frames_view e.scope)) x)) c.module.now.settings.export a frames o new
   ran_here c is lists h =
       subst (λ l. AssignedIn step old (standing_of e).is_open override x a frames o new (Some c) (situation_at l (frames_view e.scope))) lists
@@ -154,7 +154,7 @@ module _ {S : Type 0} {step : S → Question → Answer → S → Type 0} {old n
 
 -- before any run
 pub staged_here : {S : Type 0} {step : S → Question → Answer → S → Type 0} {old new : S} (e : Evaluator) (before : IsConst e) (override : Option Text) (x : Expr) {a : Assignment} {frames : Frames} {o : Outcome Frames}
-    → Assigned (rules_of e) step old (or_override override (meaning e x)) (exports e) a frames o new → Assigned (constantly (standing_of e).is_open) step old (or_override override (const_meaning (standing_of e) x)) false a frames o new
+    → Assigned (rules_of e) step old (or_override override (meaning e x)) (exports_all e) a frames o new → Assigned (constantly (standing_of e).is_open) step old (or_override override (const_meaning (standing_of e) x)) false a frames o new
 staged_here {step = step} {old = old} {new = new} e before override x {a = a} {frames = frames} {o = o} h =
     subst (λ context. AssignedIn step old (standing_of e).is_open override x a frames o new context (situation_at e.lists (frames_view e.scope))) before.context (started e before.start override x h)
 

@@ -131,12 +131,12 @@ abbrev pub Resolves : Evaluator → List Expr → Type 0
 Resolves e es = IsResolvedIn e.context (situation_of e) es
 
 -- whether a module exports all
-abbrev pub exports_in : Option ExecutionContext → Bool
-exports_in (Some c) = c.module.now.settings.export
-exports_in None = false
+abbrev pub exports_all_in : Option ExecutionContext → Bool
+exports_all_in (Some c) = c.module.now.settings.export
+exports_all_in None = false
 
-abbrev pub exports : Evaluator → Bool
-exports e = exports_in e.context
+abbrev pub exports_all : Evaluator → Bool
+exports_all e = exports_all_in e.context
 
 -- An assignment whose value is this tree is evaluated: nothing is done where its number is bound. Else its value is
 -- bound, or there is none.

@@ -14,7 +14,7 @@ ghost use Rattle.just_meaning.specs.Resolved.{IsResolved};
 ghost use Rattle.just_meaning.specs.Stage.{const_value};
 ghost use Rattle.just_meaning.specs.View.{module_view, override_of, run_of};
 ghost use Rattle.just_expression.specs.View.{program, program_of, rules, situation};
-ghost use Rattle.just_eval.specs.View.{Assigned, HasRoom, HasRoomIn, IsAtStart, IsConst, IsInRun, IsSame, Resolves, calls_left_of, exports, lexical_meaning, meaning, rules_of, situation_of, standing_of};
+ghost use Rattle.just_eval.specs.View.{Assigned, HasRoom, HasRoomIn, IsAtStart, IsConst, IsInRun, IsSame, Resolves, calls_left_of, exports_all, lexical_meaning, meaning, rules_of, situation_of, standing_of};
 
 mod commands;
 mod constants;
@@ -248,7 +248,7 @@ impl<'src, 'run> Evaluator<'src, 'run> {
         ensures same { IsSame self.old self.new × IsAtStart self.new }
         ensures kept { OnErr result (frames_view self.new.scope ≡ frames_view self.old.scope) }
         ensures assigned { let a = assignment_view assignment.now in
-            Assigned (rules_of self.old) H.step host.old (or_override (override_of overrides.now a.number) (meaning self.old a.value)) (exports self.old) a (frames_view self.old.scope) (ended (λ _. frames_view self.new.scope) result) host.new }
+            Assigned (rules_of self.old) H.step host.old (or_override (override_of overrides.now a.number) (meaning self.old a.value)) (exports_all self.old) a (frames_view self.old.scope) (ended (λ _. frames_view self.new.scope) result) host.new }
     {
         if self.is_bound(assignment.number) {
             return Ok(());
@@ -335,12 +335,12 @@ impl<'src, 'run> Evaluator<'src, 'run> {
 
     // What is bound for an assignment. Before any run no setting exports all.
     fn bound(&self, alloc: Global, assignment: &Assignment<'src>, value: Value) -> Binding<'src>
-        ensures { bound_view result ≡ bound_of (exports self.now) (assignment_view assignment.now) value }
+        ensures { bound_view result ≡ bound_of (exports_all self.now) (assignment_view assignment.now) value }
     {
         Binding {
             attributes: AttributeSet::new(alloc),
             eager: assignment.eager,
-            export: assignment.export || self.exports(),
+            export: assignment.export || self.exports_all(),
             file_depth: 0,
             name: assignment.name,
             number: assignment.number,
@@ -351,8 +351,8 @@ impl<'src, 'run> Evaluator<'src, 'run> {
     }
 
     // Whether a setting exports all.
-    fn exports(&self) -> bool
-        ensures { result ≡ exports self.now }
+    fn exports_all(&self) -> bool
+        ensures { result ≡ exports_all self.now }
     {
         match &self.context {
             Some(context) => context.module.settings.export,

@@ -29,12 +29,12 @@ fn is_callable(functions: &Table<FunctionDefinition>, name: &str, arguments: usi
 {
     match functions.get(name) {
         Some(function) => function.parameters.len() == arguments,
-        None => is_undefined_callable(name, arguments),
+        None => is_callable_outside(name, arguments),
     }
 }
 
 // The same of a name that the file does not define: a built-in function's, or that of one that is left out.
-fn is_undefined_callable(name: &str, arguments: usize) -> bool
+fn is_callable_outside(name: &str, arguments: usize) -> bool
     ensures { result ≡ accepts (undefined name.now) arguments }
 {
     match get(name) {
@@ -52,12 +52,12 @@ fn is_function(functions: &Table<FunctionDefinition>, name: &str) -> bool
 {
     match functions.get(name) {
         Some(_) => true,
-        None => is_undefined_function(name),
+        None => is_function_outside(name),
     }
 }
 
 // The same of a name that the file does not define.
-fn is_undefined_function(name: &str) -> bool
+fn is_function_outside(name: &str) -> bool
     ensures { result ≡ not (is_unknown (undefined name.now)) }
 {
     get(name).is_some() || is_left_out(name)

@@ -16,4 +16,4 @@ returns-in-Some c =
 pub returns-in-None : goal.returns-in-None
 returns-in-None c =
     let found = function_found c.args.name.now c.args.functions.now c.get.result c.get.ensures in
-    c.is_undefined_callable.ensures ∙ ap (λ (o : Option Function). accepts (defined_or o (undefined c.args.name.now)) c.args.arguments) (sym (found ∙ ap (option_map (λ (v : Bor FunctionDefinition). function_view v.now)) c.in-None.is))
+    c.is_callable_outside.ensures ∙ ap (λ (o : Option Function). accepts (defined_or o (undefined c.args.name.now)) c.args.arguments) (sym (found ∙ ap (option_map (λ (v : Bor FunctionDefinition). function_view v.now)) c.in-None.is))
