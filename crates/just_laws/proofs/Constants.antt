@@ -1,24 +1,21 @@
 -- By the const rules nothing is asked, and few refusals come.
-use Rattle.std.proofs.Common.{◌≡◌, inl, inr, ℕ, suc, Bool, true, false, List, [], ◌∷◌, ◌++◌, if◌then◌else◌, Option, Some, None, refl, sym, subst}
-use Rattle.just_syntax.specs.Plain.{Text, Token, Expr, And, Assert, AssertOnly, Backtick, Call, Comparison, Concatenation, Conditional, ConditionalOnly, FormatString, Group, Join, JoinOnly, ListOf, ListConcatenation, Not, Or, StringLiteral, Variable, Exprs, Nil, Cons, Pieces, NoPiece, Piece}
-use Rattle.just_syntax.specs.Printed.{printed}
+use Rattle.std.proofs.Common.{◌≡◌, ℕ, Bool, true, false, List, if◌then◌else◌, Option, Some, None, refl, sym, subst}
+use Rattle.just_syntax.specs.Plain.{Text, Token, Expr}
 use Rattle.just_syntax.specs.declared.list_operator.ListOperator.{ListOperator}
-use Rattle.just_syntax.specs.declared.list_operator.ListOperator.TheVariants as operators
-use Rattle.just_syntax.specs.ListOperator.{separator}
 use Rattle.just_value.specs.ConstEval.{IsConstEval}
 use Rattle.just_value.specs.ConstRefusal as constants
-use Rattle.just_value.specs.Value.{Value, Names, is_truthy, joined}
-use Rattle.just_value.specs.Applied.{applied, value_or_lists}
+use Rattle.just_value.specs.Value.{Value, Names}
 use Rattle.just_value.specs.Refusal as refusal
 use Rattle.just_value.specs.Refusal.{Refusal, Const, Internal}
 use Rattle.just_value.specs.Outcome.{Outcome, Gave, Refused, Stopped, UnlessStopped}
 use Rattle.just_host.specs.Question.{Question, Answer}
-use Rattle.just_host.specs.Interaction.{Note, Event, Read, Entered, Command, Tree, done, ask, note, check, bind, gives, Path, Ends, Stops, Asks, Notes, Checks, Shuts, Chain, Runs}
+use Rattle.just_host.specs.Interaction.{Note, Event, Read, Entered, Command, Tree, done, ask, note, check, bind, Path, Ends, Stops, Asks, Notes, Checks, Shuts, Chain, Runs}
 use Rattle.just_meaning.specs.Constant.{constant, constantly, unless_refused}
 use Rattle.just_meaning.specs.Internal.{IfRefused}
-use Rattle.just_meaning.specs.Reaches.{Mention, VariableOf, CallOf, Stands, StandsIn, StandsInPieces}
-use Rattle.just_meaning.specs.Meaning.{Program, Situation, Deeper, as_it_is, assertion, combination, eval, eval_row, eval_pieces, is_regex, named, variable}
+use Rattle.just_meaning.specs.Reaches.{Mention, VariableOf, CallOf, Stands}
+use Rattle.just_meaning.specs.Meaning.{Program, Situation, Deeper, eval, named, variable}
 use Rattle.just_meaning.specs.Module.{or_override}
+use Rattle.just_laws.proofs.Forms.{holds_eval}
 
 -- By the const rules the tree reaches no question and no check, and what it is refused with is such.
 abbrev pub AllConst : {A : Type 0} → (Refusal → Type 0) → (ℕ → Bool) → Tree A → Type 0
@@ -49,64 +46,12 @@ module _ (P : Refusal → Type 0) (is_open : ℕ → Bool) where
   const_bind (check p v next) go h k = absurd h
   const_bind (note x rest) go h k = λ e. const_bind rest go (h e) k
 
-  const_two : {A B D : Type 0} (t : Tree A) (u : Tree B) (go : A → B → Tree D) → AllConst P is_open t → AllConst P is_open u → ((v : A) (w : B) → AllConst P is_open (go v w)) → AllConst P is_open (bind t (λ v. bind u (go v)))
-  const_two t u go h k l = const_bind t _ h (λ v. const_bind u (go v) k (l v))
-
-  const_if : {A : Type 0} (b : Bool) (x y : Tree A) → AllConst P is_open x → AllConst P is_open y → AllConst P is_open (if b then x else y)
-  const_if true x y h k = h
-  const_if false x y h k = k
-
   module _ (allows : Allows P) where
-    const_lists : (o : Option Value) (xs : Value) (k : ListOperator) (ys : Value) (t : Token) → AllConst P is_open (done (value_or_lists o xs k ys t))
-    const_lists (Some v) xs k ys t = tt
-    const_lists None xs k ys t = allows.lists xs k ys t
-
-    const_both : (o : ListOperator) (l r : Tree Value) (t : Token) → AllConst P is_open l → AllConst P is_open r → AllConst P is_open (combination o l t r)
-    const_both o l r t h k = const_two l r _ h k (λ v w. const_lists (applied (separator o) v w) v o w t)
-
-    const_assertion : (lists : Bool) (t : Token) (e : Tree Value) (m : Tree Text) → AllConst P is_open e → AllConst P is_open m → AllConst P is_open (assertion lists t e m)
-    const_assertion lists t e m h k = const_bind e _ h (λ v. const_if (is_truthy v) _ _ tt (const_bind m _ k (λ text. allows.assertion text t)))
-
     module _ (c : Program) (d : Deeper) (s : Situation) where
-      abbrev Has : (Mention → Type 0) → Type 0
-      Has stands = (x : Mention) → stands x → Fine P is_open s.names x
-
-      mutual
-        -- a call and a command are refused before anything of them is looked at
-        pub const_eval : (e : Expr) → Has (Stands e) → AllConst P is_open (eval c d s e)
-        const_eval (And l r) has = const_bind (eval c d s l) _ (const_eval l (λ x y. has x (inl y))) (λ v. const_if (is_truthy v) _ _ (const_eval r (λ x y. has x (inr y))) tt)
-        const_eval (Assert e m t) has =
-            const_assertion s.lists t (eval c d s e) (bind (eval c d s m) (λ w. gives (joined w))) (const_eval e (λ x y. has x (inl y)))
-            (const_bind (eval c d s m) _ (const_eval m (λ x y. has x (inr y))) (λ w. tt))
-        const_eval (AssertOnly e t) has = const_assertion s.lists t (eval c d s e) (gives ((96 ∷ printed e) ++ 96 ∷ [])) (const_eval e has) tt
-        const_eval (Backtick text t) has = λ e. absurd (cc)
-        const_eval (Call t es) has = λ e. absurd (cc)
-        const_eval (Comparison l o r t) has =
-            const_if (is_regex o) _ _ (allows.regex t) (const_two (eval c d s l) (eval c d s r) _ (const_eval l (λ x y. has x (inl y))) (const_eval r (λ x y. has x (inr y))) (λ v w. tt))
-        const_eval (Concatenation l t r) has = const_both operators.Concatenate (eval c d s l) (eval c d s r) t (const_eval l (λ x y. has x (inl y))) (const_eval r (λ x y. has x (inr y)))
-        const_eval (Conditional e a b) has =
-            const_bind (eval c d s e) _ (const_eval e (λ x y. has x (inl y))) (λ v. const_if (is_truthy v) _ _ (const_eval a (λ x y. has x (inr (inl y)))) (const_eval b (λ x y. has x (inr (inr y)))))
-        const_eval (ConditionalOnly e a) has = const_bind (eval c d s e) _ (const_eval e (λ x y. has x (inl y))) (λ v. const_if (is_truthy v) _ _ (const_eval a (λ x y. has x (inr y))) tt)
-        const_eval (FormatString start pieces) has = const_bind (eval_pieces c d s pieces) _ (const_pieces pieces has) (λ text. tt)
-        const_eval (Group e) has = const_eval e has
-        const_eval (Join l t r) has = const_both operators.Join (eval c d s l) (eval c d s r) t (const_eval l (λ x y. has x (inl y))) (const_eval r (λ x y. has x (inr y)))
-        const_eval (JoinOnly t r) has = const_both operators.Join (gives ([] ∷ [])) (eval c d s r) t tt (const_eval r has)
-        const_eval (ListOf es t) has = const_bind (eval_row c d s 0 es as_it_is) _ (const_row 0 es has) (λ vs. tt)
-        const_eval (ListConcatenation l t r) has = const_two (eval c d s l) (eval c d s r) _ (const_eval l (λ x y. has x (inl y))) (const_eval r (λ x y. has x (inr y))) (λ v w. tt)
-        const_eval (Not e) has = const_bind (eval c d s e) _ (const_eval e has) (λ v. tt)
-        const_eval (Or l r) has = const_bind (eval c d s l) _ (const_eval l (λ x y. has x (inl y))) (λ v. const_if (is_truthy v) _ _ tt (const_eval r (λ x y. has x (inr y))))
-        const_eval (StringLiteral literal) has = tt
-        const_eval (Variable t number) has = has (VariableOf number) refl t
-
-        const_row : (i : ℕ) (es : Exprs) → Has (StandsIn es) → AllConst P is_open (eval_row c d s i es as_it_is)
-        const_row i Nil has = tt
-        const_row i (Cons e es) has =
-            const_bind (bind (eval c d s e) (as_it_is i)) _ (const_bind (eval c d s e) (as_it_is i) (const_eval e (λ x y. has x (inl y))) (λ v. tt))
-            (λ v. const_bind (eval_row c d s (suc i) es as_it_is) _ (const_row (suc i) es (λ x y. has x (inr y))) (λ vs. tt))
-
-        const_pieces : (pieces : Pieces) → Has (StandsInPieces pieces) → AllConst P is_open (eval_pieces c d s pieces)
-        const_pieces NoPiece has = tt
-        const_pieces (Piece e literal pieces) has = const_bind (eval c d s e) _ (const_eval e (λ x y. has x (inl y))) (λ v. const_bind (eval_pieces c d s pieces) _ (const_pieces pieces (λ x y. has x (inr y))) (λ text. tt))
+      -- a call and a command are refused before anything of them is looked at
+      pub const_eval : (e : Expr) → ((x : Mention) → Stands e x → Fine P is_open s.names x) → AllConst P is_open (eval c d s e)
+      const_eval = holds_eval (λ A t. AllConst P is_open t) (λ A a. tt) (λ A B t go h k. const_bind t go h k) (record { assertion = allows.assertion; operation = allows.lists; regex = allows.regex })
+          c d s (Fine P is_open s.names) (λ text t. λ e. absurd (cc)) (λ t es fine row. λ e. absurd (cc)) (λ number fine t. fine t)
 
   pub const_override : (o : Option Text) (t : Tree Value) → AllConst P is_open t → AllConst P is_open (or_override o t)
   const_override (Some text) t h = tt

@@ -1,4 +1,5 @@
 pub mod Ends
+pub mod Forms
 pub mod Refused
 pub mod Bound
 pub mod Overlays
