@@ -96,8 +96,7 @@ fn print_run<'src, 'run, H: Host>(
         let refusal = run.extend(alloc, host, *name, &mut scope)?;
         if let Some(number) = number_at(&taken, at, name) {
             let lines = question_lines(alloc, asked_behind(host, before))?;
-            write!(text, "block {name}\n{lines}")?;
-            questions.insert(number, lines)?;
+            print_block(text, name, number, lines, &mut questions)?;
             at = at.saturating_add(1);
         }
         if let Some(error) = refusal {
@@ -106,6 +105,19 @@ fn print_run<'src, 'run, H: Host>(
         }
     }
     Ok(Some(Blocks { questions, scope }))
+}
+
+// Adds a variable's name and the lines of its questions, and keeps these.
+fn print_block(
+    text: &mut String,
+    name: &Name,
+    number: Number,
+    lines: String,
+    questions: &mut HashMap<Number, String>,
+) -> Result<(), OutOfMemory> {
+    write!(text, "block {name}\n{lines}")?;
+    questions.insert(number, lines)?;
+    Ok(())
 }
 
 // The number of the variable at this place, if it has this name.

@@ -46,6 +46,27 @@ impl<'src> ModuleRun<'src> {
         mem::replace(&mut self.module.evaluation_order, order)
     }
 
+    /// Evaluates the module in its order, in a scope whose bindings it sees.
+    pub(crate) fn evaluate<'run, H: Host>(
+        &'run self,
+        alloc: Global,
+        host: &mut H,
+        parent: &'run Scope<'src, 'run>,
+    ) -> Result<Scope<'src, 'run>, Error<'src>> {
+        Evaluator::evaluate_assignments(
+            alloc,
+            host,
+            &self.config,
+            &self.dotenv,
+            &self.module,
+            &self.overrides,
+            parent,
+            &self.search,
+            self.recursion_limit.max(1),
+            self.references.as_ref(),
+        )
+    }
+
     /// Evaluates the assignment of this name, as the next of a run whose bindings so far are a scope's, and binds its value
     /// there. It gives the refusal, if it is refused: then the scope stays as it was.
     pub(crate) fn extend<H: Host>(
@@ -73,19 +94,7 @@ impl<'src> ModuleRun<'src> {
         host: &mut H,
         scope: &Scope<'src, '_>,
     ) -> Result<Result<Option<Binding<'src>>, Error<'src>>, OutOfMemory> {
-        let outcome = Evaluator::evaluate_assignments(
-            alloc,
-            host,
-            &self.config,
-            &self.dotenv,
-            &self.module,
-            &self.overrides,
-            scope,
-            &self.search,
-            self.recursion_limit.max(1),
-            self.references.as_ref(),
-        );
-        match outcome {
+        match self.evaluate(alloc, host, scope) {
             Ok(bound) => match bound.bindings().next() {
                 Some(binding) => Ok(Ok(Some(copied(alloc, binding)?))),
                 None => Ok(Ok(None)),

@@ -6,6 +6,7 @@ ghost use Rattle.just_bench.specs.declared.stream.TheConstants.{LIMIT};
 use crate::around::{Around, Bare, Failing};
 use crate::blocks::evaluate_blocks;
 use crate::context::{case_config, case_module, case_search};
+use crate::module_run::ModuleRun;
 use crate::print::{
     print_bindings, print_const_refusal, print_questions, print_refusal, print_settled,
 };
@@ -15,7 +16,8 @@ use just_case_lines::case::{Case, CaseError, build};
 use just_case_lines::evaluation::Evaluation;
 use just_case_lines::line::parse_lines;
 use just_eval::evaluator::Evaluator;
-use just_eval::{resolved, resolved_const};
+use just_eval::resolved_const;
+use just_host::host::Host;
 use just_host::recorder::Recorder;
 use just_script::fail_at::How;
 use just_syntax::assignment::Assignment;
@@ -138,26 +140,35 @@ fn evaluate_run<'src, A: Around>(
     ensures { IfOk result (λ status. status ≤ 2) }
 {
     let order = case.evaluation_order;
-    let module = case_module(alloc, case.assignments, order, case.functions, case.lists)?;
-    let config = case_config(alloc, case.dry_run)?;
-    let search = case_search(alloc)?;
+    let run = ModuleRun {
+        config: case_config(alloc, case.dry_run)?,
+        dotenv: case.dotenv,
+        module: case_module(alloc, case.assignments, order, case.functions, case.lists)?,
+        overrides: case.overrides,
+        recursion_limit: case.recursion_limit,
+        references: case.references,
+        search: case_search(alloc)?,
+    };
     let script = case_script(alloc, case.always, case.replies);
     let mut host = Recorder::new(alloc, around.around(script));
-    if !resolved(alloc, &module, parent, case.references.as_ref())? {
+    print_evaluation(alloc, text, &run, &mut host, parent)
+}
+
+// Runs a module with a host that was asked nothing. Adds the questions that it was asked, and the bindings or the refusal,
+// and gives the exit status.
+fn print_evaluation<'src, H: Host>(
+    alloc: Global,
+    text: &mut String,
+    run: &ModuleRun<'src>,
+    host: &mut Recorder<H>,
+    parent: &Scope<'src, '_>,
+) -> Result<u8, OutOfMemory>
+    ensures { IfOk result (λ status. status ≤ 2) }
+{
+    if !run.is_resolved(alloc, parent)? {
         text.push_str("unresolved\n")?;
     }
-    let outcome = Evaluator::evaluate_assignments(
-        alloc,
-        &mut host,
-        &config,
-        &case.dotenv,
-        &module,
-        &case.overrides,
-        parent,
-        &search,
-        case.recursion_limit.max(1),
-        case.references.as_ref(),
-    );
+    let outcome = run.evaluate(alloc, host, parent);
     print_questions(text, host.questions())?;
     print_outcome(alloc, text, &outcome)
 }

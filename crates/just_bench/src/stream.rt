@@ -58,7 +58,8 @@ pub fn read_case<R: Read>(alloc: Global, reader: &mut R) -> Result<Vec<u8>, Stre
     ensures too_long { result ≡ Err StreamError.TooLong → IfSome (R.remaining reader.old) (λ rest. LIMIT < length rest) }
 {
     let mut bytes = Vec::new(alloc);
-    let mut buffer = [0u8; 4096];
+    // Most cases are shorter.
+    let mut buffer = [0u8; 2048];
     while bytes.len() <= LIMIT {
         let count = reader.read(&mut buffer)?;
         if count == 0 {
