@@ -7,17 +7,18 @@ mod questions;
 mod rows;
 mod scripted;
 
-use answers::{ANSWERS, Answers};
+use crate::texts::{is_either, same, same_if_any};
+use answers::{ANSWERS, Answers, KINDS, wanted_of};
 use around::{Around, answer, asked_and_answered, name};
-use just_builtins::function::{functions, get, is_left_out};
+use just_builtins::function::{Function, functions, get, is_left_out};
 use just_builtins::path;
+use just_syntax::out_of_memory::OutOfMemory;
 use names::NAMES;
 use questions::{COMMANDS, DRY_COMMANDS, FILES, FILES_WITH_LISTS, NUMBERS, Question, VARIABLES};
 use rows::{
     CALLS, CALLS_WITHOUT_LISTS, IN_NO_FILE, OTHER_SURROUNDINGS, Row, SHAPES, SURROUNDINGS,
     WITHOUT_A_PARENT,
 };
-use scripted::Given;
 use std::alloc::Global;
 use std::process::Abort;
 use std::test::Fail;
@@ -26,8 +27,8 @@ use std::test::Fail;
 fn each_name(rt: HostRuntime) {
     for (function, left_out, names) in NAMES {
         for name in *names {
-            assert_eq!(rt; get(name), *function, "{name}");
-            assert_eq!(rt; is_left_out(name), *left_out, "{name}");
+            stands_for(&rt, name, get(name), *function);
+            is_either(&rt, name, is_left_out(name), *left_out);
         }
     }
 }
@@ -37,36 +38,69 @@ fn all_names(rt: HostRuntime) {
     assert_eq!(rt; functions().len(), 77);
     for (function, _, names) in NAMES {
         for name in *names {
-            let mut found = None;
-            for (other, stands_for) in functions() {
-                if other == name {
-                    found = Some(*stands_for);
-                }
-            }
-            assert_eq!(rt; found, *function, "{name}");
+            stands_for(&rt, name, listed(name), *function);
         }
     }
+}
+
+fn stands_for(rt: &impl Abort, name: &str, given: Option<Function>, wanted: Option<Function>) {
+    assert_eq!(rt; given, wanted, "{name}");
+}
+
+// What a name stands for in the list of all.
+fn listed(name: &str) -> Option<Function> {
+    let mut found = None;
+    for (other, function) in functions() {
+        if *other == name {
+            found = Some(*function);
+        }
+    }
+    found
 }
 
 #[test]
 fn shapes(rt: HostRuntime) {
     for (function, fewest, most, texts) in SHAPES {
-        let expected = function.expected_arguments();
-        assert_eq!(rt; *expected.start(), *fewest, "{function:?}");
-        assert_eq!(rt; *expected.end(), *most, "{function:?}");
+        takes(&rt, *function, *fewest, *most);
         for i in 0..texts.len() {
-            assert_eq!(rt; function.is_text(i), texts[i], "{function:?} {i}");
+            wants_text(&rt, *function, i, texts[i]);
         }
     }
 }
 
+// Whether a function wants a text at a place.
+fn wants_text(rt: &impl Abort, function: Function, i: usize, wanted: bool) {
+    assert_eq!(rt; function.is_text(i), wanted, "{function:?} {i}");
+}
+
+// A function takes so few and so many arguments.
+fn takes(rt: &impl Abort, function: Function, fewest: usize, most: usize) {
+    let expected = function.expected_arguments();
+    assert_eq!(rt; *expected.start(), fewest, "{function:?}");
+    assert_eq!(rt; *expected.end(), most, "{function:?}");
+}
+
 // Compares what functions answer with what is wanted.
 fn compare(rt: &impl Abort, alloc: Global, around: &Around, rows: &[Row]) -> Result<(), Fail> {
-    for (function, arguments, wanted) in rows {
-        let given = answer(alloc, around, name(function), arguments)?;
-        assert_eq!(rt; given.as_str(), *wanted, "{function}");
+    for row in rows {
+        compare_row(rt, alloc, around, row)?;
     }
     Ok(())
+}
+
+fn compare_row(
+    rt: &impl Abort,
+    alloc: Global,
+    around: &Around,
+    row: &Row,
+) -> Result<(), OutOfMemory> {
+    let (function, arguments, _) = *row;
+    is_answered(rt, row, &answer(alloc, around, name(function), arguments)?);
+    Ok(())
+}
+
+fn is_answered(rt: &impl Abort, (function, _, wanted): &Row, answer: &str) {
+    assert_eq!(rt; answer, *wanted, "{function}");
 }
 
 // The same of calls in a module with lists, or without.
@@ -81,18 +115,28 @@ fn compare_questions(
     around: &Around,
     rows: &[Question],
 ) -> Result<(), Fail> {
-    for (function, arguments, given, asked, wanted) in rows {
-        let (questions, answer) = asked_and_answered(
-            alloc,
-            *given,
-            around,
-            name(function),
-            arguments,
-        )?;
-        assert_eq!(rt; questions.as_str(), *asked, "{function} {given:?}");
-        assert_eq!(rt; answer.as_str(), *wanted, "{function} {given:?}");
+    for row in rows {
+        compare_question(rt, alloc, around, row)?;
     }
     Ok(())
+}
+
+fn compare_question(
+    rt: &impl Abort,
+    alloc: Global,
+    around: &Around,
+    row: &Question,
+) -> Result<(), OutOfMemory> {
+    let (function, arguments, given, _, _) = *row;
+    let (asked, answer) = asked_and_answered(alloc, given, around, name(function), arguments)?;
+    is_as_wanted(rt, row, &asked, &answer);
+    Ok(())
+}
+
+fn is_as_wanted(rt: &impl Abort, row: &Question, asked: &str, answer: &str) {
+    let (function, _, given, wanted_questions, wanted_answer) = *row;
+    assert_eq!(rt; asked, wanted_questions, "{function} {given:?}");
+    assert_eq!(rt; answer, wanted_answer, "{function} {given:?}");
 }
 
 // The same of calls in a module with lists, or without.
@@ -111,26 +155,14 @@ fn compare_answers(
     alloc: Global,
     around: &Around,
     row: &Answers,
-) -> Result<(), Fail> {
-    let (function, arguments, asked, [absent, not_text, fault]) = *row;
-    compare_questions(
-        rt,
-        alloc,
-        around,
-        &[
-            (function, arguments, Given::Text("/t"), asked, "/t"),
-            (function, arguments, Given::Absent, asked, absent),
-            (function, arguments, Given::NotText("x"), asked, not_text),
-            (function, arguments, Given::Fault("m"), asked, fault),
-            (
-                function,
-                arguments,
-                Given::OutOfMemory,
-                asked,
-                "OutOfMemory",
-            ),
-        ],
-    )
+) -> Result<(), OutOfMemory> {
+    let (function, arguments, asked, _) = *row;
+    for given in KINDS {
+        let wanted = wanted_of(row, *given);
+        let question = (function, arguments, *given, asked, wanted);
+        compare_question(rt, alloc, around, &question)?;
+    }
+    Ok(())
 }
 
 #[test]
@@ -198,11 +230,10 @@ fn surroundings_without_a_parent(rt: HostRuntime) -> Result<(), Fail> {
 
 #[test]
 fn paths_passed_on(rt: HostRuntime) -> Result<(), Fail> {
-    let alloc = rt.alloc();
-    assert_eq!(rt; path::join(alloc, "a", "b")?.as_str(), "a/b");
-    assert_eq!(rt; path::parent("a/b"), Some("a"));
-    assert_eq!(rt; path::file_name("a/b.c"), Some("b.c"));
-    assert_eq!(rt; path::file_stem("a/b.c"), Some("b"));
-    assert_eq!(rt; path::extension("a/b.c"), Some("c"));
+    same(&rt, &path::join(rt.alloc(), "a", "b")?, "a/b");
+    same_if_any(&rt, path::parent("a/b"), Some("a"));
+    same_if_any(&rt, path::file_name("a/b.c"), Some("b.c"));
+    same_if_any(&rt, path::file_stem("a/b.c"), Some("b"));
+    same_if_any(&rt, path::extension("a/b.c"), Some("c"));
     Ok(())
 }

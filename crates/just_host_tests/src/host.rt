@@ -1,9 +1,11 @@
-// Directories, faults, shells and hosts.
+// Directories, faults and hosts.
 
 mod echo_host;
 mod map_host;
+mod shells;
 mod watched;
 
+use crate::texts::same;
 use echo_host::EchoHost;
 use just_host::ask::ask_command;
 use just_host::config::Config;
@@ -18,7 +20,6 @@ use just_host::search::Search;
 use just_host::settings::Settings;
 use just_host::text_answer::TextAnswer;
 use just_host::text_question::TextQuestion;
-use just_syntax::interpreter::Interpreter;
 use just_syntax::number::Number;
 use just_syntax::out_of_memory::OutOfMemory;
 use just_value::error::CommandFault;
@@ -30,20 +31,32 @@ use std::process::Abort;
 use std::test::Fail;
 use watched::Watched;
 
+// Statuses, and the texts that they are told by.
+const STATUSES: &[(i32, &str)] = &[
+    (3, "process exited with status code 3"),
+    (-1, "process exited with status code -1"),
+];
+
 #[test]
 fn faults(rt: HostRuntime) -> Result<(), Fail> {
     let alloc = rt.alloc();
-    for (fault, text) in [
-        (CommandFault::Code(3), "process exited with status code 3"),
-        (CommandFault::Code(-1), "process exited with status code -1"),
-        (
-            CommandFault::Fault(String::from_str(alloc, "not found")?),
-            "not found",
-        ),
-        (CommandFault::OutOfMemory, ""),
-    ] {
-        assert_eq!(rt; fault_text(alloc, &fault)?.as_str(), text);
+    for (status, text) in STATUSES {
+        is_told(&rt, alloc, &CommandFault::Code(*status), text)?;
     }
+    let fault = CommandFault::Fault(String::from_str(alloc, "not found")?);
+    is_told(&rt, alloc, &fault, "not found")?;
+    is_told(&rt, alloc, &CommandFault::OutOfMemory, "")?;
+    Ok(())
+}
+
+// A fault is told by this text.
+fn is_told(
+    rt: &impl Abort,
+    alloc: Global,
+    fault: &CommandFault,
+    text: &str,
+) -> Result<(), OutOfMemory> {
+    same(rt, &fault_text(alloc, fault)?, text);
     Ok(())
 }
 
@@ -95,112 +108,60 @@ impl Around {
     }
 }
 
+// Whether a module is a submodule, the directory that it sets, and the one that its commands run in.
+const DIRECTORIES: &[(bool, Option<&str>, &str)] = &[
+    (false, None, "/work"),
+    (true, None, "/module"),
+    (false, Some("sub"), "/work/sub"),
+    (true, Some("sub"), "/module/sub"),
+    (false, Some("/rooted"), "/rooted"),
+    (true, Some("/rooted"), "/rooted"),
+];
+
 #[test]
 fn working_directories(rt: HostRuntime) -> Result<(), Fail> {
     let alloc = rt.alloc();
     let around = Around::new(alloc)?;
     let scope = Scope::root(alloc, &[])?;
-    for (submodule, setting, directory) in [
-        (false, None, "/work"),
-        (true, None, "/module"),
-        (false, Some("sub"), "/work/sub"),
-        (true, Some("sub"), "/module/sub"),
-        (false, Some("/rooted"), "/rooted"),
-        (true, Some("/rooted"), "/rooted"),
-    ] {
-        works_in(&rt, alloc, &around, &scope, submodule, setting, directory)?;
+    for (submodule, setting, directory) in DIRECTORIES {
+        let module = module(alloc, *submodule, set_to_work_in(alloc, *setting)?)?;
+        works_in(&rt, alloc, &around.context(&module, &scope), directory)?;
     }
     Ok(())
 }
 
-// Commands of such a module run in this directory.
-fn works_in(
-    rt: &impl Abort,
-    alloc: Global,
-    around: &Around,
-    scope: &Scope,
-    submodule: bool,
-    setting: Option<&str>,
-    directory: &str,
-) -> Result<(), OutOfMemory> {
+// Settings of which at most the working directory is set.
+fn set_to_work_in(alloc: Global, directory: Option<&str>) -> Result<Settings, OutOfMemory> {
     let mut settings = Settings::new(alloc);
-    if let Some(text) = setting {
+    if let Some(text) = directory {
         settings.working_directory = Some(String::from_str(alloc, text)?);
     }
-    let module = module(alloc, submodule, settings)?;
-    let text = around.context(&module, scope).working_directory(alloc)?;
-    assert_eq!(rt; text.as_str(), directory);
+    Ok(settings)
+}
+
+// Commands run in this directory.
+pub(crate) fn works_in(
+    rt: &impl Abort,
+    alloc: Global,
+    context: &ExecutionContext,
+    directory: &str,
+) -> Result<(), OutOfMemory> {
+    same(rt, &context.working_directory(alloc)?, directory);
     Ok(())
 }
 
-// Commands as the shell takes them.
-fn words(alloc: Global, words: &[&str]) -> Result<Vec<String>, OutOfMemory> {
+pub(crate) fn owned(alloc: Global, texts: &[&str]) -> Result<Vec<String>, OutOfMemory> {
     let mut all = Vec::new(alloc);
-    for word in words {
-        all.push(String::from_str(alloc, word)?)?;
+    for text in texts {
+        all.push(String::from_str(alloc, text)?)?;
     }
     Ok(all)
 }
 
-fn interpreter(alloc: Global, line: &[&str]) -> Result<Option<Interpreter<String>>, OutOfMemory> {
-    let [command, arguments @ ..] = line else {
-        return Ok(None);
-    };
-    Ok(Some(Interpreter {
-        arguments: words(alloc, arguments)?,
-        command: String::from_str(alloc, command)?,
-    }))
-}
-
-#[test]
-fn shells(rt: HostRuntime) -> Result<(), Fail> {
-    let alloc = rt.alloc();
-    let nice: &[&str] = &["-nice"];
-    let none: &[&str] = &[];
-    let nope: &[&str] = &["asdf.exe", "-nope"];
-    for (shell, shell_args, set, powershell, expected) in [
-        (None, Some(nice), none, false, ("sh", "-nice")),
-        (Some("lol"), None, none, false, ("lol", "-cu")),
-        (None, None, nope, false, ("asdf.exe", "-nope")),
-        (None, None, none, false, ("sh", "-cu")),
-        (None, None, none, true, ("sh", "-cu")),
-        (Some("lol"), Some(nice), none, false, ("lol", "-nice")),
-        (Some("lol"), Some(nice), none, true, ("lol", "-nice")),
-        (Some("lol"), None, nope, false, ("lol", "-cu")),
-    ] {
-        let mut config = Config::new(alloc, "")?;
-        config.shell = match shell {
-            Some(text) => Some(String::from_str(alloc, text)?),
-            None => None,
-        };
-        config.shell_args = match shell_args {
-            Some(texts) => Some(words(alloc, texts)?),
-            None => None,
-        };
-        let mut settings = Settings::new(alloc);
-        settings.shell = interpreter(alloc, set)?;
-        settings.windows_powershell = powershell;
-        chooses(&rt, alloc, &settings, &config, expected)?;
-    }
-    Ok(())
-}
-
-// Of these settings and this configuration the shell is this one, with this one argument.
-fn chooses(
-    rt: &impl Abort,
+pub(crate) fn map(
     alloc: Global,
-    settings: &Settings,
-    config: &Config,
-    expected: (&str, &str),
-) -> Result<(), OutOfMemory> {
-    let (command, arguments) = settings.shell(alloc, config)?;
-    assert_eq!(rt; command, expected.0);
-    assert_eq!(rt; arguments.len(), 1);
-    assert_eq!(rt; arguments[0], expected.1);
-    Ok(())
-}
-
-fn map(alloc: Global, pairs: &[(&str, &str)]) -> Result<BTreeMap<String, String>, OutOfMemory> {
+    pairs: &[(&str, &str)],
+) -> Result<BTreeMap<String, String>, OutOfMemory> {
     let mut map = BTreeMap::new(alloc);
     for (key, text) in pairs {
         map.insert(
@@ -211,13 +172,29 @@ fn map(alloc: Global, pairs: &[(&str, &str)]) -> Result<BTreeMap<String, String>
     Ok(map)
 }
 
+const STOCKED_COMMANDS: &[(&str, &str)] = &[("date", "today"), ("true", "")];
+
+const STOCKED_VARIABLES: &[(&str, &str)] = &[("HOME", "/home/me")];
+
+const STOCKED_FILES: &[(&str, &str)] = &[("/work/notes", "buy milk")];
+
 fn stocked(alloc: Global) -> Result<MapHost, OutOfMemory> {
+    let commands = map(alloc, STOCKED_COMMANDS)?;
+    let variables = map(alloc, STOCKED_VARIABLES)?;
+    let files = map(alloc, STOCKED_FILES)?;
     Ok(MapHost {
-        commands: map(alloc, &[("date", "today"), ("true", "")])?,
-        variables: map(alloc, &[("HOME", "/home/me")])?,
-        files: map(alloc, &[("/work/notes", "buy milk")])?,
+        commands,
+        variables,
+        files,
     })
 }
+
+// Commands, and what they write or the fault that they have with the stocked host.
+const COMMANDS: &[(&str, Result<&str, &str>)] = &[
+    ("date", Ok("today")),
+    ("true", Ok("")),
+    ("who", Err("unknown command")),
+];
 
 #[test]
 fn commands_from_a_map(rt: HostRuntime) -> Result<(), Fail> {
@@ -226,12 +203,8 @@ fn commands_from_a_map(rt: HostRuntime) -> Result<(), Fail> {
     let module = module(alloc, false, Settings::new(alloc))?;
     let scope = Scope::root(alloc, &[])?;
     let context = around.context(&module, &scope);
-    for (command, text, fault) in [
-        ("date", "today", ""),
-        ("true", "", ""),
-        ("who", "", "unknown command"),
-    ] {
-        writes(&rt, alloc, &context, command, text, fault)?;
+    for (command, wanted) in COMMANDS {
+        writes(&rt, alloc, &context, command, *wanted)?;
     }
     Ok(())
 }
@@ -242,19 +215,30 @@ fn writes(
     alloc: Global,
     context: &ExecutionContext,
     command: &str,
-    text: &str,
-    fault: &str,
+    wanted: Result<&str, &str>,
 ) -> Result<(), OutOfMemory> {
     assert!(rt; !context.config.dry_run);
-    match written(alloc, &mut stocked(alloc)?, context, command) {
-        Ok(given) => assert_eq!(rt; (given.as_str(), ""), (text, fault), "{command}"),
-        Err(CommandFault::Fault(given)) => {
-            assert_eq!(rt; ("", given.as_str()), (text, fault), "{command}");
-        }
-        Err(_) => return Err(OutOfMemory),
-    }
+    let given = written(alloc, &mut stocked(alloc)?, context, command);
+    assert_eq!(rt; lent(&given)?, wanted, "{command}");
     Ok(())
 }
+
+// What a command wrote, or its fault.
+fn lent(given: &Result<String, CommandFault>) -> Result<Result<&str, &str>, OutOfMemory> {
+    match given {
+        Ok(text) => Ok(Ok(text)),
+        Err(CommandFault::Fault(text)) => Ok(Err(text)),
+        Err(_) => Err(OutOfMemory),
+    }
+}
+
+// Questions, and the texts that the stocked host has for them.
+const TEXTS: &[(TextQuestion, Option<&str>)] = &[
+    (TextQuestion::Variable("HOME"), Some("/home/me")),
+    (TextQuestion::Variable("PATH"), None),
+    (TextQuestion::Read("/work/notes"), Some("buy milk")),
+    (TextQuestion::Directory(DirectoryKind::Home), None),
+];
 
 #[test]
 fn other_answers_from_a_map(rt: HostRuntime) -> Result<(), Fail> {
@@ -263,23 +247,71 @@ fn other_answers_from_a_map(rt: HostRuntime) -> Result<(), Fail> {
         host: stocked(alloc)?,
         was_asked: false,
     };
-    for (question, expected) in [
-        (TextQuestion::Variable("HOME"), Some("/home/me")),
-        (TextQuestion::Variable("PATH"), None),
-        (TextQuestion::Read("/work/notes"), Some("buy milk")),
-        (TextQuestion::Directory(DirectoryKind::Home), None),
-    ] {
-        match host.text(alloc, question) {
-            TextAnswer::Text(text) => assert_eq!(rt; Some(text.as_str()), expected),
-            TextAnswer::Absent => assert_eq!(rt; None, expected),
-            other => panic!(rt; "{other:?}"),
-        }
-    }
-    for (path, there) in [("/work/notes", true), ("/work", false)] {
-        assert_eq!(rt; host.exists(alloc, path)?, there, "{path}");
-    }
-    assert_eq!(rt; host.number(alloc, NumberQuestion::Cpus)?, 1);
+    answers_from_maps(&rt, alloc, &mut host)?;
     assert!(rt; host.was_asked);
+    Ok(())
+}
+
+// Paths, and whether the stocked host has a file there.
+const PATHS: &[(&str, bool)] = &[("/work/notes", true), ("/work", false)];
+
+// A host that is stocked answers all but commands so.
+fn answers_from_maps<H: Host>(
+    rt: &impl Abort,
+    alloc: Global,
+    host: &mut H,
+) -> Result<(), OutOfMemory> {
+    for (question, text) in TEXTS {
+        answers(rt, alloc, host, *question, *text);
+    }
+    for (path, there) in PATHS {
+        finds(rt, alloc, host, path, *there)?;
+    }
+    counts(rt, alloc, host, NumberQuestion::Cpus, 1)
+}
+
+// A host answers a question with this text, or that there is none.
+fn answers<H: Host>(
+    rt: &impl Abort,
+    alloc: Global,
+    host: &mut H,
+    question: TextQuestion,
+    wanted: Option<&str>,
+) {
+    let answer = host.text(alloc, question);
+    is_answer(rt, &answer, wanted);
+}
+
+fn is_answer(rt: &impl Abort, answer: &TextAnswer, wanted: Option<&str>) {
+    let given = match answer {
+        TextAnswer::Text(text) => Some(text.as_str()),
+        TextAnswer::Absent => None,
+        other => panic!(rt; "{other:?}"),
+    };
+    assert_eq!(rt; given, wanted);
+}
+
+// A host answers whether there is a file at a path.
+fn finds<H: Host>(
+    rt: &impl Abort,
+    alloc: Global,
+    host: &mut H,
+    path: &str,
+    there: bool,
+) -> Result<(), OutOfMemory> {
+    assert_eq!(rt; host.exists(alloc, path)?, there, "{path}");
+    Ok(())
+}
+
+// A host answers a question with this number.
+fn counts<H: Host>(
+    rt: &impl Abort,
+    alloc: Global,
+    host: &mut H,
+    question: NumberQuestion,
+    number: u64,
+) -> Result<(), OutOfMemory> {
+    assert_eq!(rt; host.number(alloc, question)?, number, "{question:?}");
     Ok(())
 }
 
@@ -323,6 +355,12 @@ pub(crate) fn answer_in<H: Host>(
     }
 }
 
+const TEXTS_OF_NO_HOST: &[TextQuestion] = &[
+    TextQuestion::Variable("HOME"),
+    TextQuestion::Read("/work/notes"),
+    TextQuestion::Executable,
+];
+
 // A host that answers nothing, or commands alone, answers a command so, and nothing else.
 fn answers_commands_alone<H: Host>(
     rt: &impl Abort,
@@ -330,22 +368,13 @@ fn answers_commands_alone<H: Host>(
     host: &mut H,
     answer: &str,
 ) -> Result<(), OutOfMemory> {
-    assert_eq!(rt; answer_to(rt, alloc, host, "date")?.as_str(), answer);
-    for question in [
-        TextQuestion::Variable("HOME"),
-        TextQuestion::Read("/work/notes"),
-        TextQuestion::Executable,
-    ] {
-        assert!(rt;
-            matches!(host.text(alloc, question), TextAnswer::Absent),
-            "{question:?}"
-        );
+    same(rt, &answer_to(rt, alloc, host, "date")?, answer);
+    for question in TEXTS_OF_NO_HOST {
+        answers(rt, alloc, host, *question, None);
     }
-    assert!(rt; !host.exists(alloc, "/")?);
-    for question in [NumberQuestion::ProcessId, NumberQuestion::Cpus] {
-        assert_eq!(rt; host.number(alloc, question)?, 0, "{question:?}");
-    }
-    Ok(())
+    finds(rt, alloc, host, "/", false)?;
+    counts(rt, alloc, host, NumberQuestion::ProcessId, 0)?;
+    counts(rt, alloc, host, NumberQuestion::Cpus, 0)
 }
 
 #[test]
@@ -363,15 +392,5 @@ fn submodules(rt: HostRuntime) -> Result<(), Fail> {
         let module = module(alloc, submodule, Settings::new(alloc))?;
         assert_eq!(rt; module.is_submodule(), submodule);
     }
-    Ok(())
-}
-
-#[test]
-fn settings_are_compared(rt: HostRuntime) -> Result<(), Fail> {
-    let alloc = rt.alloc();
-    let mut settings = Settings::new(alloc);
-    assert!(rt; settings == Settings::new(alloc));
-    settings.shell = interpreter(alloc, &["sh", "-cu"])?;
-    assert!(rt; settings != Settings::new(alloc));
     Ok(())
 }

@@ -7,8 +7,12 @@ mod builtins;
 #[cfg(test)]
 mod contexts;
 #[cfg(test)]
+mod exports;
+#[cfg(test)]
 mod host;
 #[cfg(test)]
 mod questions;
 #[cfg(test)]
 mod sizes;
+#[cfg(test)]
+mod texts;

@@ -1,9 +1,9 @@
-// How questions print, the words that a command is run with, and what a scope exports.
+// How questions print, and the words that a command is run with.
 
-use crate::host::{Around, answer_in};
+use crate::host::{Around, answer_in, owned};
+use crate::texts::same;
 use just_host::command_question::CommandQuestion;
 use just_host::directory_kind::DirectoryKind;
-use just_host::exports::{EnvironmentChange, exports};
 use just_host::host::Host;
 use just_host::no_host::NoHost;
 use just_host::number_question::NumberQuestion;
@@ -11,16 +11,10 @@ use just_host::recorder::Recorder;
 use just_host::settings::Settings;
 use just_host::text_answer::TextAnswer;
 use just_host::text_question::TextQuestion;
-use just_syntax::attribute_set::AttributeSet;
 use just_syntax::interpreter::Interpreter;
-use just_syntax::name::Name;
-use just_syntax::number::Number;
 use just_syntax::out_of_memory::OutOfMemory;
-use just_syntax::token::Token;
-use just_value::binding::Binding;
 use just_value::error::CommandFault;
 use just_value::scope::Scope;
-use just_value::value::Value;
 use std::alloc::Global;
 use std::process::Abort;
 use std::test::Fail;
@@ -56,74 +50,81 @@ const NUMBERS: &[(NumberQuestion, &str)] = &[
     (NumberQuestion::Cpus, "number cpus"),
 ];
 
-// The arguments of the command `c d`, whether the shell takes a name for itself, what the command prints, and its words,
-// with `|` between them.
-const COMMANDS: &[(Option<&[&str]>, bool, &str, &str)] = &[
-    (None, false, "command \"c d\"", "sh|-cu|c d"),
-    (None, true, "command \"c d\"", "sh|-cu|c d"),
-    (Some(&[]), false, "command \"c d\"", "sh|-cu|c d"),
-    (Some(&[]), true, "command \"c d\"", "sh|-cu|c d|c d"),
-    (
-        Some(&["a b", "\n"]),
-        false,
-        "command \"c d\" \"a b\" \"\\n\"",
-        "sh|-cu|c d|a b|\n",
-    ),
-    (
-        Some(&["a b", ""]),
-        true,
-        "command \"c d\" \"a b\" \"\"",
-        "sh|-cu|c d|c d|a b|",
-    ),
-];
+// The command `c d` with these arguments, whether the shell takes a name for itself, what the command prints, and its
+// words, with `|` between them.
+struct Command {
+    arguments: Option<&'static [&'static str]>,
+    takes_shell_name: bool,
+    printed: &'static str,
+    words: &'static str,
+}
 
-// A name, its value, and whether it is exported.
-type Bound = (&'static str, &'static [&'static str], bool);
-
-// What three frames bind, the outermost first, and the changes that they make where `u` and `v` are not exported.
-const EXPORTS: &[([&[Bound]; 3], &str)] = &[
-    ([&[], &[], &[]], "-u -v "),
-    (
-        [
-            &[],
-            &[],
-            &[
-                ("b", &["x", "y"], true),
-                ("a", &[], true),
-                ("c", &["z"], false),
-                ("v", &["é"], true),
-            ],
-        ],
-        "-u -v b=x y;a=;v=é;",
-    ),
-    (
-        [
-            &[("a", &["1"], true), ("u", &["2"], true)],
-            &[("b", &["3"], false), ("a", &["4"], true)],
-            &[("a", &["5"], true)],
-        ],
-        "a=1;u=2;a=4;-u -v a=5;",
-    ),
+const COMMANDS: &[Command] = &[
+    Command {
+        arguments: None,
+        takes_shell_name: false,
+        printed: "command \"c d\"",
+        words: "sh|-cu|c d",
+    },
+    Command {
+        arguments: None,
+        takes_shell_name: true,
+        printed: "command \"c d\"",
+        words: "sh|-cu|c d",
+    },
+    Command {
+        arguments: Some(&[]),
+        takes_shell_name: false,
+        printed: "command \"c d\"",
+        words: "sh|-cu|c d",
+    },
+    Command {
+        arguments: Some(&[]),
+        takes_shell_name: true,
+        printed: "command \"c d\"",
+        words: "sh|-cu|c d|c d",
+    },
+    Command {
+        arguments: Some(&["a b", "\n"]),
+        takes_shell_name: false,
+        printed: "command \"c d\" \"a b\" \"\\n\"",
+        words: "sh|-cu|c d|a b|\n",
+    },
+    Command {
+        arguments: Some(&["a b", ""]),
+        takes_shell_name: true,
+        printed: "command \"c d\" \"a b\" \"\"",
+        words: "sh|-cu|c d|c d|a b|",
+    },
 ];
 
 #[test]
 fn questions_print(rt: HostRuntime) -> Result<(), Fail> {
     let alloc = rt.alloc();
     let mut host = Recorder::new(alloc, NoHost);
+    all_print(&rt, alloc, &mut host)?;
+    same(&rt, &DirectoryKind::Data.to_string(alloc)?, "data");
+    Ok(())
+}
+
+// Each question prints so, both by itself and as it is kept.
+fn all_print<H: Host>(
+    rt: &impl Abort,
+    alloc: Global,
+    host: &mut Recorder<H>,
+) -> Result<(), OutOfMemory> {
     for (question, printed) in TEXTS {
-        assert_eq!(rt; question.to_string(alloc)?.as_str(), *printed);
+        same(rt, &question.to_string(alloc)?, printed);
         host.text(alloc, *question);
-        prints_last(&rt, alloc, &host, printed)?;
+        prints_last(rt, alloc, host, printed)?;
     }
     for (question, printed) in NUMBERS {
-        assert_eq!(rt; question.to_string(alloc)?.as_str(), *printed);
+        same(rt, &question.to_string(alloc)?, printed);
         host.number(alloc, *question)?;
-        prints_last(&rt, alloc, &host, printed)?;
+        prints_last(rt, alloc, host, printed)?;
     }
     host.exists(alloc, "/a b")?;
-    prints_last(&rt, alloc, &host, "exists \"/a b\"")?;
-    assert_eq!(rt; DirectoryKind::Data.to_string(alloc)?.as_str(), "data");
-    Ok(())
+    prints_last(rt, alloc, host, "exists \"/a b\"")
 }
 
 // The last question that was kept prints this.
@@ -136,7 +137,7 @@ fn prints_last<H: Host>(
     let Some(last) = host.questions().last() else {
         panic!(rt; "{printed}");
     };
-    assert_eq!(rt; last.to_string(alloc)?.as_str(), printed);
+    same(rt, &last.to_string(alloc)?, printed);
     Ok(())
 }
 
@@ -188,19 +189,36 @@ fn commands(rt: HostRuntime) -> Result<(), Fail> {
     let alloc = rt.alloc();
     let around = Around::new(alloc)?;
     let scope = Scope::root(alloc, &[])?;
-    for (arguments, takes_shell_name, printed, words) in COMMANDS {
-        let mut host = Recorder::new(
-            alloc,
-            Shell {
-                takes_shell_name: *takes_shell_name,
-            },
-        );
-        let settings = Settings::new(alloc);
-        let text = text_of(&rt, alloc, &mut host, &around, &scope, settings, *arguments)?;
-        assert_eq!(rt; text.as_str(), *words);
-        prints_last(&rt, alloc, &host, printed)?;
+    for command in COMMANDS {
+        runs(&rt, alloc, &around, &scope, command)?;
     }
     Ok(())
+}
+
+// The command `c d` prints so, and is run with these words.
+fn runs(
+    rt: &impl Abort,
+    alloc: Global,
+    around: &Around,
+    scope: &Scope,
+    command: &Command,
+) -> Result<(), OutOfMemory> {
+    let shell = Shell {
+        takes_shell_name: command.takes_shell_name,
+    };
+    let mut host = Recorder::new(alloc, shell);
+    let settings = Settings::new(alloc);
+    let words = text_of(
+        rt,
+        alloc,
+        &mut host,
+        around,
+        scope,
+        settings,
+        command.arguments,
+    )?;
+    same(rt, &words, command.words);
+    prints_last(rt, alloc, &host, command.printed)
 }
 
 // What a host answers to the command `c d`, with these arguments.
@@ -235,82 +253,19 @@ fn command_of_another_shell(rt: HostRuntime) -> Result<(), Fail> {
     let alloc = rt.alloc();
     let around = Around::new(alloc)?;
     let scope = Scope::root(alloc, &[])?;
-    let mut settings = Settings::new(alloc);
-    settings.shell = Some(Interpreter {
-        arguments: owned(alloc, &["-e", "-c"])?,
-        command: String::from_str(alloc, "bash")?,
-    });
+    let settings = set_to_bash(alloc)?;
     let mut host = Shell {
         takes_shell_name: true,
     };
     let text = text_of(&rt, alloc, &mut host, &around, &scope, settings, None)?;
-    assert_eq!(rt; text.as_str(), "bash|-e|-c|c d");
+    same(&rt, &text, "bash|-e|-c|c d");
     Ok(())
 }
 
-fn owned(alloc: Global, texts: &[&str]) -> Result<Vec<String>, OutOfMemory> {
-    let mut all = Vec::new(alloc);
-    for text in texts {
-        all.push(String::from_str(alloc, text)?)?;
-    }
-    Ok(all)
-}
-
-#[test]
-fn exported_variables(rt: HostRuntime) -> Result<(), Fail> {
-    let alloc = rt.alloc();
-    let unexports = owned(alloc, &["u", "v"])?;
-    for ([outermost, outer, own], printed) in EXPORTS {
-        let mut first = Scope::root(alloc, &[])?;
-        bind_all(alloc, &mut first, outermost)?;
-        let mut second = first.child(alloc)?;
-        bind_all(alloc, &mut second, outer)?;
-        let mut third = second.child(alloc)?;
-        bind_all(alloc, &mut third, own)?;
-        let changes = exports(alloc, &third, &unexports)?;
-        assert_eq!(rt; written(alloc, &changes)?.as_str(), *printed);
-    }
-    Ok(())
-}
-
-// Binds these to 0, 1 and so on.
-fn bind_all<'src>(
-    alloc: Global,
-    scope: &mut Scope<'src, '_>,
-    bindings: &[(&'src str, &[&str], bool)],
-) -> Result<(), OutOfMemory> {
-    for (number, (lexeme, texts, export)) in bindings.iter().enumerate() {
-        scope.bind(Binding {
-            attributes: AttributeSet::new(alloc),
-            eager: false,
-            export: *export,
-            file_depth: 0,
-            name: Name {
-                token: Token {
-                    column: 0,
-                    line: 0,
-                    offset: 0,
-                    lexeme,
-                    path: "justfile",
-                },
-            },
-            number: Number::new(number as u64),
-            prelude: false,
-            private: false,
-            value: Value::from_elements(owned(alloc, texts)?),
-        })?;
-    }
-    Ok(())
-}
-
-// Changes, written: `-a ` where a variable is taken away, `a=text;` where it is set.
-fn written(alloc: Global, changes: &[EnvironmentChange]) -> Result<String, OutOfMemory> {
-    let mut all = String::new(alloc);
-    for change in changes {
-        match change {
-            EnvironmentChange::Set { name, text } => write!(all, "{name}={text};")?,
-            EnvironmentChange::Remove(name) => write!(all, "-{name} ")?,
-        }
-    }
-    Ok(all)
+fn set_to_bash(alloc: Global) -> Result<Settings, OutOfMemory> {
+    let arguments = owned(alloc, &["-e", "-c"])?;
+    let command = String::from_str(alloc, "bash")?;
+    let mut settings = Settings::new(alloc);
+    settings.shell = Some(Interpreter { arguments, command });
+    Ok(settings)
 }

@@ -1,7 +1,9 @@
 // Calls at large sizes that no case reaches. Where memory is there each must succeed: no clause forbids one that gives up.
 
-use crate::host::{Around, module};
+use crate::host::{Around, module, works_in};
+use crate::texts::same;
 use just_host::config::Config;
+use just_host::justfile::Justfile;
 use just_host::settings::Settings;
 use just_syntax::interpreter::Interpreter;
 use just_syntax::out_of_memory::OutOfMemory;
@@ -33,30 +35,48 @@ fn texts(alloc: Global, text: &str, times: usize) -> Result<Vec<String>, OutOfMe
     Ok(all)
 }
 
+// The working directory of the search, and the module's own.
+const BASE: Long = ("/", "ab/", 500, "");
+
+const BELOW: Long = ("", "ab/", 500, "ab");
+
+const BELOW_BASE: Long = ("/", "ab/", 1000, "ab");
+
+// Whether a module is a submodule, the directory that it sets, and the one that its commands run in.
+const DIRECTORIES: &[(bool, Option<Long>, Long)] = &[
+    (false, None, BASE),
+    (true, None, BASE),
+    (false, Some(BELOW), BELOW_BASE),
+    (true, Some(BELOW), BELOW_BASE),
+];
+
 #[test]
 fn long_working_directories(rt: HostRuntime) -> Result<(), Fail> {
     let alloc = rt.alloc();
     let scope = Scope::root(alloc, &[])?;
     let mut around = Around::new(alloc)?;
-    around.search.working_directory = long(alloc, ("/", "ab/", 500, ""))?;
-    let base = ("/", "ab/", 500, "");
-    let below = Some(("", "ab/", 500, "ab"));
-    for (submodule, setting, wanted) in [
-        (false, None, base),
-        (true, None, base),
-        (false, below, ("/", "ab/", 1000, "ab")),
-        (true, below, ("/", "ab/", 1000, "ab")),
-    ] {
-        let mut settings = Settings::new(alloc);
-        if let Some(of) = setting {
-            settings.working_directory = Some(long(alloc, of)?);
-        }
-        let mut module = module(alloc, submodule, settings)?;
-        module.working_directory = long(alloc, base)?;
-        let text = around.context(&module, &scope).working_directory(alloc)?;
-        assert_eq!(rt; text.as_str(), long(alloc, wanted)?.as_str());
+    around.search.working_directory = long(alloc, BASE)?;
+    for (submodule, setting, directory) in DIRECTORIES {
+        let module = module_below(alloc, *submodule, *setting)?;
+        let directory = long(alloc, *directory)?;
+        works_in(&rt, alloc, &around.context(&module, &scope), &directory)?;
     }
     Ok(())
+}
+
+// A module with nothing in it but a working directory.
+fn module_below<'src>(
+    alloc: Global,
+    submodule: bool,
+    setting: Option<Long>,
+) -> Result<Justfile<'src>, OutOfMemory> {
+    let mut settings = Settings::new(alloc);
+    if let Some(of) = setting {
+        settings.working_directory = Some(long(alloc, of)?);
+    }
+    let mut module = module(alloc, submodule, settings)?;
+    module.working_directory = long(alloc, BASE)?;
+    Ok(module)
 }
 
 // What sets a thousand elements and texts of some thousand bytes.
@@ -71,35 +91,46 @@ fn large_settings(alloc: Global) -> Result<Settings, OutOfMemory> {
     Ok(settings)
 }
 
-// Of these settings and this configuration the shell is this one, with a thousand times this argument.
+// The shell of these settings where the program is called so is this one, with a thousand times this argument.
 fn chooses(
     rt: &impl Abort,
     alloc: Global,
     settings: &Settings,
     config: &Config,
-    expected: (Long, &str),
+    (shell, argument): (Long, &str),
 ) -> Result<(), OutOfMemory> {
     let (command, arguments) = settings.shell(alloc, config)?;
-    assert_eq!(rt; command, long(alloc, expected.0)?.as_str());
-    assert_eq!(rt; arguments.len(), 1000);
-    for argument in &arguments {
-        assert_eq!(rt; *argument, expected.1);
-    }
+    same(rt, command, &long(alloc, shell)?);
+    are_a_thousand(rt, &arguments, argument);
     Ok(())
+}
+
+fn are_a_thousand(rt: &impl Abort, arguments: &[&str], wanted: &str) {
+    assert_eq!(rt; arguments.len(), 1000);
+    for argument in arguments {
+        same(rt, argument, wanted);
+    }
 }
 
 #[test]
 fn shells_with_a_thousand_arguments(rt: HostRuntime) -> Result<(), Fail> {
     let alloc = rt.alloc();
+    let settings = large_settings(alloc)?;
+    let mut config = Config::new(alloc, "/called/here")?;
+    let expected = (("", "sh", 1000, ""), "-c");
+    chooses(&rt, alloc, &settings, &config, expected)?;
+    config.shell = Some(long(alloc, ("", "zsh", 1000, ""))?);
+    config.shell_args = Some(texts(alloc, "-x", 1000)?);
+    let expected = (("", "zsh", 1000, ""), "-x");
+    chooses(&rt, alloc, &settings, &config, expected)?;
+    Ok(())
+}
+
+#[test]
+fn large_settings_are_compared(rt: HostRuntime) -> Result<(), Fail> {
+    let alloc = rt.alloc();
     let mut settings = large_settings(alloc)?;
     assert!(rt; settings == large_settings(alloc)?);
-    let mut around = Around::new(alloc)?;
-    let expected = (("", "sh", 1000, ""), "-c");
-    chooses(&rt, alloc, &settings, &around.config, expected)?;
-    around.config.shell = Some(long(alloc, ("", "zsh", 1000, ""))?);
-    around.config.shell_args = Some(texts(alloc, "-x", 1000)?);
-    let expected = (("", "zsh", 1000, ""), "-x");
-    chooses(&rt, alloc, &settings, &around.config, expected)?;
     settings.dotenv_command.push("")?;
     assert!(rt; settings != large_settings(alloc)?);
     Ok(())

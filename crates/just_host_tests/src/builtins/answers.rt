@@ -1,5 +1,7 @@
 // What functions that ask for a text make of each kind of answer.
 
+use crate::builtins::scripted::Given;
+
 /// A function's name, its arguments, what it asks, and what becomes of `Absent`, `NotText("x")` and `Fault("m")`, written as in
 /// [`Row`]. Each answers `Text("/t")` by that text, and want of memory by the same.
 ///
@@ -10,6 +12,27 @@ pub type Answers = (
     &'static str,
     [&'static str; 3],
 );
+
+/// What a host may answer where it is asked for a text.
+pub const KINDS: &[Given] = &[
+    Given::Text("/t"),
+    Given::Absent,
+    Given::NotText("x"),
+    Given::Fault("m"),
+    Given::OutOfMemory,
+];
+
+/// What becomes of an answer.
+pub fn wanted_of(row: &Answers, given: Given) -> &'static str {
+    let (_, _, _, [absent, not_text, fault]) = *row;
+    match given {
+        Given::Text(text) => text,
+        Given::Absent => absent,
+        Given::NotText(_) => not_text,
+        Given::Fault(_) => fault,
+        _ => "OutOfMemory",
+    }
+}
 
 /// The rows of the functions that ask for a text, in the order of docs/BUILTINS.md.
 pub const ANSWERS: &[Answers] = &[

@@ -14,11 +14,9 @@ use just_host::justfile::Justfile;
 use just_host::no_host::NoHost;
 use just_host::recorder::Recorder;
 use just_host::search::Search;
-use just_host::settings::Settings;
 use just_syntax::name::Name;
 use just_syntax::number::Number;
 use just_syntax::out_of_memory::OutOfMemory;
-use just_syntax::table::Table;
 use just_syntax::token::Token;
 use just_value::scope::Scope;
 use just_value::value::Value;
@@ -64,14 +62,28 @@ pub fn name(lexeme: &str) -> Name<'_> {
 impl<'src> Around<'src> {
     /// Outside a recipe, with the justfile `/work/justfile` and the module's source `/work/sub/mod.just`.
     pub fn new(alloc: Global, lists: bool) -> Result<Around<'src>, OutOfMemory> {
+        let config = Config::new(alloc, "/called/here")?;
+        let search = Search::new(alloc, "/work/justfile", "/work")?;
+        let module = module(alloc, lists, "sub", "/work/sub/mod.just")?;
+        Around::of(alloc, config, search, module)
+    }
+
+    // Outside a recipe.
+    fn of(
+        alloc: Global,
+        config: Config,
+        search: Search,
+        module: Justfile<'src>,
+    ) -> Result<Around<'src>, OutOfMemory> {
+        let scope = Scope::root(alloc, &[])?;
         Ok(Around {
-            config: config(alloc, None)?,
+            config,
             dotenv: BTreeMap::new(alloc),
             env: BTreeMap::new(alloc),
-            module: module(alloc, lists, "sub", "/work/sub/mod.just")?,
+            module,
             overrides: HashMap::new(alloc),
-            scope: Scope::root(alloc, &[])?,
-            search: search(alloc, "/work/justfile")?,
+            scope,
+            search,
             is_dependency: false,
             recipe: None,
             caller: CALLER,
@@ -90,44 +102,16 @@ impl<'src> Around<'src> {
         source: &str,
         caller: &'src str,
     ) -> Result<Around<'src>, OutOfMemory> {
-        Ok(Around {
-            config: config(alloc, Some(12))?,
-            dotenv: BTreeMap::new(alloc),
-            env: BTreeMap::new(alloc),
-            module: module(alloc, true, "", source)?,
-            overrides: HashMap::new(alloc),
-            scope: Scope::root(alloc, &[])?,
-            search: search(alloc, justfile)?,
-            is_dependency: true,
-            recipe: Some(name("build")),
-            caller,
-        })
+        let mut config = Config::new(alloc, "/called/here")?;
+        config.jobs = Some(12);
+        let search = Search::new(alloc, justfile, "/work")?;
+        let module = module(alloc, true, "", source)?;
+        let mut around = Around::of(alloc, config, search, module)?;
+        around.is_dependency = true;
+        around.recipe = Some(name("build"));
+        around.caller = caller;
+        Ok(around)
     }
-}
-
-fn config(alloc: Global, jobs: Option<u64>) -> Result<Config, OutOfMemory> {
-    Ok(Config {
-        dry_run: false,
-        invocation_directory: String::from_str(alloc, "/called/here")?,
-        jobs,
-        quiet: false,
-        shell: None,
-        shell_args: None,
-        shell_command: false,
-    })
-}
-
-fn search(alloc: Global, justfile: &str) -> Result<Search, OutOfMemory> {
-    Ok(Search {
-        justfile: String::from_str(alloc, justfile)?,
-        working_directory: String::from_str(alloc, "/work")?,
-    })
-}
-
-fn settings(alloc: Global, lists: bool) -> Settings {
-    let mut settings = Settings::new(alloc);
-    settings.lists = lists;
-    settings
 }
 
 fn module<'src>(
@@ -136,17 +120,11 @@ fn module<'src>(
     path: &str,
     source: &str,
 ) -> Result<Justfile<'src>, OutOfMemory> {
-    Ok(Justfile {
-        assignments: Table::new(alloc),
-        evaluation_order: Vec::new(alloc),
-        functions: Table::new(alloc),
-        module_path: String::from_str(alloc, path)?,
-        settings: settings(alloc, lists),
-        source: String::from_str(alloc, source)?,
-        submodule: true,
-        unexports: Vec::new(alloc),
-        working_directory: String::from_str(alloc, "/work/sub")?,
-    })
+    let mut module = Justfile::new(alloc, source, "/work/sub")?;
+    module.module_path = String::from_str(alloc, path)?;
+    module.settings.lists = lists;
+    module.submodule = true;
+    Ok(module)
 }
 
 // A list that is written with `|` between its elements, or as `[]`.
@@ -200,16 +178,27 @@ fn answer_of<'src, H: Host>(
     name: Name<'src>,
     arguments: &[&str],
 ) -> Result<String, OutOfMemory> {
+    let values = values(alloc, arguments)?;
+    match called(alloc, host, around, name, &values) {
+        Some(answer) => written(alloc, &answer),
+        None => Ok(String::from_str(alloc, "not called")?),
+    }
+}
+
+fn values(alloc: Global, arguments: &[&str]) -> Result<Vec<Value>, OutOfMemory> {
     let mut values = Vec::new(alloc);
     for argument in arguments {
         values.push(value(alloc, argument)?)?;
     }
-    match called(alloc, host, around, name, &values) {
-        Some(Ok(value)) if value.is_empty() => Ok(String::from_str(alloc, "[]")?),
-        Some(Ok(value)) => Ok(value.elements().join(alloc, "|")?),
-        Some(Err(CallFault::Message(message))) => Ok(format!(in alloc; "! {message}")?),
-        Some(Err(fault)) => Ok(format!(in alloc; "{fault:?}")?),
-        None => Ok(String::from_str(alloc, "not called")?),
+    Ok(values)
+}
+
+fn written(alloc: Global, answer: &Result<Value, CallFault>) -> Result<String, OutOfMemory> {
+    match answer {
+        Ok(value) if value.is_empty() => Ok(String::from_str(alloc, "[]")?),
+        Ok(value) => Ok(value.elements().join(alloc, "|")?),
+        Err(CallFault::Message(message)) => Ok(format!(in alloc; "! {message}")?),
+        Err(fault) => Ok(format!(in alloc; "{fault:?}")?),
     }
 }
 
