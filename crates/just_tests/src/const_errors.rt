@@ -33,126 +33,142 @@ fn expect(
     Ok(())
 }
 
-#[test]
-fn const_errors_say(rt: HostRuntime) -> Result<(), Fail> {
-    let alloc = rt.alloc();
-    for (error, text, at) in [
-        (
-            ConstError::Backtick(token("`pwd`")),
-            "cannot call backticks in const context",
-            "`pwd`",
-        ),
-        (
-            ConstError::FunctionCall(name("uuid")),
-            "cannot call functions in const context",
-            "uuid",
-        ),
-        (
-            ConstError::Variable(name("x")),
-            "cannot access non-const variable `x` in const context",
-            "x",
-        ),
-    ] {
-        assert_eq!(rt; format!(in alloc; "{error}")?.as_str(), text);
-        expect(&rt, alloc, ConstEvalError::Const(error), text, token(at))?;
-    }
-    Ok(())
+fn expect_const(
+    rt: &impl Abort,
+    alloc: Global,
+    error: ConstError,
+    text: &str,
+    at: &str,
+) -> Result<(), Fail> {
+    assert_eq!(rt; format!(in alloc; "{error}")?.as_str(), text);
+    expect(rt, alloc, ConstEvalError::Const(error), text, token(at))
 }
 
 #[test]
-fn refusals_say(rt: HostRuntime) -> Result<(), Fail> {
+fn const_errors_say(rt: HostRuntime) -> Result<(), Fail> {
+    let alloc = rt.alloc();
+    let command = ConstError::Backtick(token("`pwd`"));
+    let text = "cannot call backticks in const context";
+    expect_const(&rt, alloc, command, text, "`pwd`")?;
+    let call = ConstError::FunctionCall(name("uuid"));
+    let text = "cannot call functions in const context";
+    expect_const(&rt, alloc, call, text, "uuid")?;
+    let variable = ConstError::Variable(name("x"));
+    let text = "cannot access non-const variable `x` in const context";
+    expect_const(&rt, alloc, variable, text, "x")
+}
+
+#[test]
+fn refusals_that_hold_a_message(rt: HostRuntime) -> Result<(), Fail> {
     let alloc = rt.alloc();
     let assert = ConstEvalError::Assert {
         message: String::from_str(alloc, "no bar")?,
         name: name("assert"),
     };
     expect(&rt, alloc, assert, "assert failed: no bar", token("assert"))?;
-    let interpreter = ConstEvalError::EmptyInterpreter {
-        setting: name("shell"),
-    };
-    let text = "`shell` setting requires at least one element but evaluated to empty list";
-    expect(&rt, alloc, interpreter, text, token("shell"))?;
     let internal = ConstEvalError::Internal {
         message: String::from_str(alloc, "no such assignment")?,
         token: token("foo"),
     };
     let text = "internal error: no such assignment";
-    expect(&rt, alloc, internal, text, token("foo"))?;
+    expect(&rt, alloc, internal, text, token("foo"))
+}
+
+#[test]
+fn refusals_say(rt: HostRuntime) -> Result<(), Fail> {
+    let alloc = rt.alloc();
+    let interpreter = ConstEvalError::EmptyInterpreter {
+        setting: name("shell"),
+    };
+    let text = "`shell` setting requires at least one element but evaluated to empty list";
+    expect(&rt, alloc, interpreter, text, token("shell"))?;
     let regex = ConstEvalError::LeftOutRegex { token: token("=~") };
     let text = "regular expression operators are left out";
     expect(&rt, alloc, regex, text, token("=~"))
 }
 
+fn expect_list(
+    rt: &impl Abort,
+    alloc: Global,
+    elements: &[&str],
+    context: StringContext,
+    text: &str,
+    at: &str,
+) -> Result<(), Fail> {
+    let value = value(alloc, elements)?;
+    let error = ConstEvalError::ListInStringContext { context, value };
+    expect(rt, alloc, error, text, token(at))
+}
+
 #[test]
 fn lists_where_one_text_is_wanted(rt: HostRuntime) -> Result<(), Fail> {
     let alloc = rt.alloc();
-    let none: [&str; 0] = [];
-    for (elements, context, text, at) in [
-        (
-            ["a", "b"].as_slice(),
-            StringContext::Setting(name("tempdir")),
-            "list value [\"a\", \"b\"] in setting `tempdir`",
-            "tempdir",
-        ),
-        (
-            none.as_slice(),
-            StringContext::EnvKey(name("env")),
-            "list value [] in key of `env` attribute",
-            "env",
-        ),
-        (
-            none.as_slice(),
-            StringContext::Function(name("quote")),
-            "list value [] in argument to function `quote`\n\
-            the behavior of lists with many built-in functions is undecided\n\
-            see https://github.com/casey/just#lists",
-            "quote",
-        ),
-    ] {
-        let value = value(alloc, elements)?;
-        let error = ConstEvalError::ListInStringContext { context, value };
-        expect(&rt, alloc, error, text, token(at))?;
-    }
-    Ok(())
+    let setting = StringContext::Setting(name("tempdir"));
+    let text = "list value [\"a\", \"b\"] in setting `tempdir`";
+    expect_list(&rt, alloc, &["a", "b"], setting, text, "tempdir")?;
+    let key = StringContext::EnvKey(name("env"));
+    let text = "list value [] in key of `env` attribute";
+    expect_list(&rt, alloc, &[], key, text, "env")?;
+    let function = StringContext::Function(name("quote"));
+    let text = "list value [] in argument to function `quote`\n\
+        the behavior of lists with many built-in functions is undecided\n\
+        see https://github.com/casey/just#lists";
+    expect_list(&rt, alloc, &[], function, text, "quote")
+}
+
+// Two lists with an operator between them, and what its refusal says.
+const ILL_MATCHED: &[(&[&str], ListOperator, &[&str], &str)] = &[
+    (
+        &[],
+        ListOperator::Concatenate,
+        &["a", "b"],
+        "operator `+` cannot be applied to empty lists",
+    ),
+    (
+        &["a"],
+        ListOperator::Join,
+        &[],
+        "operator `/` cannot be applied to empty lists",
+    ),
+    (
+        &["a", "b"],
+        ListOperator::Join,
+        &["c", "d", "e"],
+        "operator `/` cannot be applied to lists of different lengths: [\"a\", \"b\"] / [\"c\", \"d\", \"e\"]",
+    ),
+];
+
+fn refusal_of<'src>(
+    alloc: Global,
+    lhs: &[&str],
+    operator: ListOperator,
+    rhs: &[&str],
+) -> Result<ConstEvalError<'src>, OutOfMemory> {
+    Ok(ConstEvalError::ListOperation {
+        lhs: value(alloc, lhs)?,
+        operator,
+        rhs: value(alloc, rhs)?,
+        token: token("/"),
+    })
 }
 
 #[test]
 fn lists_that_do_not_go_together(rt: HostRuntime) -> Result<(), Fail> {
     let alloc = rt.alloc();
-    let none: [&str; 0] = [];
-    for (lhs, operator, rhs, text) in [
-        (
-            none.as_slice(),
-            ListOperator::Concatenate,
-            ["a", "b"].as_slice(),
-            "operator `+` cannot be applied to empty lists",
-        ),
-        (
-            ["a"].as_slice(),
-            ListOperator::Join,
-            none.as_slice(),
-            "operator `/` cannot be applied to empty lists",
-        ),
-        (
-            ["a", "b"].as_slice(),
-            ListOperator::Join,
-            ["c", "d", "e"].as_slice(),
-            "operator `/` cannot be applied to lists of different lengths: [\"a\", \"b\"] / [\"c\", \"d\", \"e\"]",
-        ),
-    ] {
-        let error = ConstEvalError::ListOperation {
-            lhs: value(alloc, lhs)?,
-            operator,
-            rhs: value(alloc, rhs)?,
-            token: token("/"),
-        };
+    for (lhs, operator, rhs, text) in ILL_MATCHED {
+        let error = refusal_of(alloc, lhs, *operator, rhs)?;
         expect(&rt, alloc, error, text, token("/"))?;
     }
     Ok(())
 }
 
+// Whether compilation ends so.
+fn ends(rt: &impl Abort, given: CompileError, wanted: CompileError) {
+    assert_eq!(rt; given, wanted);
+}
+
 #[test]
-fn refusals_before_a_run(rt: HostRuntime) -> Result<(), Fail> {
+fn assertion_that_fails_before_a_run(rt: HostRuntime) -> Result<(), Fail> {
     let alloc = rt.alloc();
     let assert = Error::Assert {
         message: String::from_str(alloc, "no bar")?,
@@ -162,16 +178,18 @@ fn refusals_before_a_run(rt: HostRuntime) -> Result<(), Fail> {
         message: String::from_str(alloc, "no bar")?,
         name: name("assert"),
     };
-    assert_eq!(rt; assert.unwrap_const(), same.into_compile_error());
+    ends(&rt, assert.unwrap_const(), same.into_compile_error());
+    Ok(())
+}
+
+#[test]
+fn refusals_before_a_run(rt: HostRuntime) {
     let variable = ConstError::Variable(name("x"));
     let same = ConstEvalError::Const(variable).into_compile_error();
-    assert_eq!(rt; Error::Const(variable).unwrap_const(), same);
-    assert_eq!(rt;
-        Error::OutOfMemory.unwrap_const(),
-        CompileError::OutOfMemory
-    );
+    ends(&rt, Error::Const(variable).unwrap_const(), same);
+    let wanted = CompileError::OutOfMemory;
+    ends(&rt, Error::OutOfMemory.unwrap_const(), wanted);
     assert_eq!(rt; CompileError::from(OutOfMemory), CompileError::OutOfMemory);
-    Ok(())
 }
 
 #[test]

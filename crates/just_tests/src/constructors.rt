@@ -22,11 +22,22 @@ fn variable(lexeme: &str) -> Expression<'_> {
     Expression::variable(name(lexeme), Number::new(0))
 }
 
-// Whether expressions are written so.
-fn expect(rt: &impl Abort, alloc: Global, rows: Vec<(Expression, &str)>) -> Result<(), Fail> {
-    for (expression, text) in rows {
-        assert_eq!(rt; format!(in alloc; "{expression}")?.as_str(), text);
-    }
+fn a<'src>() -> Expression<'src> {
+    variable("a")
+}
+
+fn b<'src>() -> Expression<'src> {
+    variable("b")
+}
+
+// Whether an expression is written so.
+fn expect(
+    rt: &impl Abort,
+    alloc: Global,
+    expression: Expression,
+    text: &str,
+) -> Result<(), OutOfMemory> {
+    assert_eq!(rt; format!(in alloc; "{expression}")?.as_str(), text);
     Ok(())
 }
 
@@ -58,35 +69,41 @@ fn tokens_at_places(rt: HostRuntime) {
 #[test]
 fn operators(rt: HostRuntime) -> Result<(), Fail> {
     let alloc = rt.alloc();
-    let (a, b) = (|| variable("a"), || variable("b"));
-    let mut rows = Vec::new(alloc);
-    rows.push((Expression::and(alloc, a(), b())?, "a && b"))?;
-    rows.push((Expression::or(alloc, a(), b())?, "a || b"))?;
-    rows.push((Expression::not(alloc, a())?, "!a"))?;
-    rows.push((Expression::group(alloc, a())?, "(a)"))?;
-    let sum = Expression::concatenation(alloc, a(), token("+"), b())?;
-    rows.push((sum, "a + b"))?;
-    let both = Expression::list_concatenation(alloc, a(), token("++"), b())?;
-    rows.push((both, "a ++ b"))?;
-    let beside = Expression::join(alloc, Some(a()), token("/"), b())?;
-    rows.push((beside, "a / b"))?;
-    let rooted = Expression::join(alloc, None, token("/"), b())?;
-    rows.push((rooted, "/ b"))?;
-    expect(&rt, alloc, rows)
+    expect(&rt, alloc, Expression::and(alloc, a(), b())?, "a && b")?;
+    expect(&rt, alloc, Expression::or(alloc, a(), b())?, "a || b")?;
+    expect(&rt, alloc, Expression::not(alloc, a())?, "!a")?;
+    expect(&rt, alloc, Expression::group(alloc, a())?, "(a)")?;
+    Ok(())
 }
+
+#[test]
+fn operators_at_tokens(rt: HostRuntime) -> Result<(), Fail> {
+    let alloc = rt.alloc();
+    let sum = Expression::concatenation(alloc, a(), token("+"), b())?;
+    expect(&rt, alloc, sum, "a + b")?;
+    let both = Expression::list_concatenation(alloc, a(), token("++"), b())?;
+    expect(&rt, alloc, both, "a ++ b")?;
+    let beside = Expression::join(alloc, Some(a()), token("/"), b())?;
+    expect(&rt, alloc, beside, "a / b")?;
+    let rooted = Expression::join(alloc, None, token("/"), b())?;
+    expect(&rt, alloc, rooted, "/ b")?;
+    Ok(())
+}
+
+// Operators, the tokens of these, and how a comparison is written.
+const COMPARISONS: &[(ConditionalOperator, &str, &str)] = &[
+    (ConditionalOperator::Equality, "==", "a == b"),
+    (ConditionalOperator::Inequality, "!=", "a != b"),
+    (ConditionalOperator::RegexMatch, "=~", "a =~ b"),
+    (ConditionalOperator::RegexMismatch, "!~", "a !~ b"),
+];
 
 #[test]
 fn comparisons(rt: HostRuntime) -> Result<(), Fail> {
     let alloc = rt.alloc();
-    for (operator, lexeme, text) in [
-        (ConditionalOperator::Equality, "==", "a == b"),
-        (ConditionalOperator::Inequality, "!=", "a != b"),
-        (ConditionalOperator::RegexMatch, "=~", "a =~ b"),
-        (ConditionalOperator::RegexMismatch, "!~", "a !~ b"),
-    ] {
-        let (a, b) = (variable("a"), variable("b"));
-        let compared = Expression::comparison(alloc, a, operator, b, token(lexeme))?;
-        assert_eq!(rt; format!(in alloc; "{compared}")?.as_str(), text);
+    for (operator, lexeme, text) in COMPARISONS {
+        let compared = Expression::comparison(alloc, a(), *operator, b(), token(lexeme))?;
+        expect(&rt, alloc, compared, text)?;
     }
     Ok(())
 }
@@ -94,42 +111,41 @@ fn comparisons(rt: HostRuntime) -> Result<(), Fail> {
 #[test]
 fn parts_that_may_be_left_out(rt: HostRuntime) -> Result<(), Fail> {
     let alloc = rt.alloc();
-    let (a, b) = (|| variable("a"), || variable("b"));
-    let mut rows = Vec::new(alloc);
     let both = Expression::conditional(alloc, a(), b(), Some(variable("c")))?;
-    rows.push((both, "if a { b } else { c }"))?;
+    expect(&rt, alloc, both, "if a { b } else { c }")?;
     let one = Expression::conditional(alloc, a(), b(), None)?;
-    rows.push((one, "if a { b }"))?;
+    expect(&rt, alloc, one, "if a { b }")?;
     let told = Expression::assert(alloc, name("assert"), a(), Some(b()))?;
-    rows.push((told, "assert(a, b)"))?;
+    expect(&rt, alloc, told, "assert(a, b)")?;
     let bare = Expression::assert(alloc, name("assert"), a(), None)?;
-    rows.push((bare, "assert(a)"))?;
-    expect(&rt, alloc, rows)
+    expect(&rt, alloc, bare, "assert(a)")?;
+    Ok(())
 }
 
 #[test]
 fn rows_of_expressions(rt: HostRuntime) -> Result<(), Fail> {
     let alloc = rt.alloc();
-    let mut rows = Vec::new(alloc);
     let call = Expression::call(name("f"), pair(alloc)?);
-    rows.push((call, "f(a, 'x')"))?;
+    expect(&rt, alloc, call, "f(a, 'x')")?;
     let none = Expression::call(name("pid"), Vec::new(alloc));
-    rows.push((none, "pid()"))?;
+    expect(&rt, alloc, none, "pid()")?;
     let list = Expression::list(pair(alloc)?, token("["));
-    rows.push((list, "[a, 'x']"))?;
+    expect(&rt, alloc, list, "[a, 'x']")?;
     let command = Expression::backtick(alloc, "date -u", token("`date -u`"))?;
-    rows.push((command, "`date -u`"))?;
+    expect(&rt, alloc, command, "`date -u`")?;
+    Ok(())
+}
+
+#[test]
+fn format_strings(rt: HostRuntime) -> Result<(), Fail> {
+    let alloc = rt.alloc();
+    let last = StringLiteral::new(alloc, " last", "}} last'")?;
     let mut pieces = Vec::new(alloc);
-    pieces.push((
-        variable("a"),
-        StringLiteral::new(alloc, " last", "}} last'")?,
-    ))?;
-    let start = StringLiteral::new(alloc, "first ", "f'first {{")?;
-    rows.push((
-        Expression::format_string(start, pieces),
-        "f'first {{a}} last'",
-    ))?;
-    expect(&rt, alloc, rows)
+    pieces.push((a(), last))?;
+    let first = StringLiteral::new(alloc, "first ", "f'first {{")?;
+    let written = Expression::format_string(first, pieces);
+    expect(&rt, alloc, written, "f'first {{a}} last'")?;
+    Ok(())
 }
 
 // A variable and a literal.
@@ -140,13 +156,15 @@ fn pair<'src>(alloc: Global) -> Result<Vec<Expression<'src>>, OutOfMemory> {
     Ok(pair)
 }
 
+// Texts, and how literals of them are written.
+const LITERALS: &[(&str, &str)] = &[("x", "'x'"), ("a\tb", "\"a\\tb\""), ("", "''")];
+
 #[test]
 fn texts_of_literals(rt: HostRuntime) -> Result<(), Fail> {
-    let alloc = rt.alloc();
-    for (text, lexeme) in [("x", "'x'"), ("a\tb", "\"a\\tb\""), ("", "''")] {
-        let literal = StringLiteral::new(alloc, text, lexeme)?;
-        assert_eq!(rt; literal.cooked.as_str(), text);
-        assert_eq!(rt; literal.lexeme, lexeme);
+    for (text, lexeme) in LITERALS {
+        let literal = StringLiteral::new(rt.alloc(), text, lexeme)?;
+        assert_eq!(rt; literal.cooked.as_str(), *text);
+        assert_eq!(rt; literal.lexeme, *lexeme);
         assert!(rt; !literal.indented);
     }
     Ok(())

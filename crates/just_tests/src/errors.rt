@@ -10,6 +10,7 @@ use just_value::const_error::ConstError;
 use just_value::const_eval_error::ConstEvalError;
 use just_value::error::{CommandFault, Error};
 use std::alloc::Global;
+use std::fmt::Display;
 use std::process::Abort;
 use std::test::Fail;
 
@@ -28,24 +29,27 @@ fn expect(
 }
 
 #[test]
-fn refusals_of_expressions(rt: HostRuntime) -> Result<(), Fail> {
+fn refusals_that_hold_a_message(rt: HostRuntime) -> Result<(), Fail> {
     let alloc = rt.alloc();
-    let message = String::from_str(alloc, "no bar")?;
     let error = Error::Assert {
-        message,
+        message: String::from_str(alloc, "no bar")?,
         name: name("assert"),
     };
     expect(&rt, alloc, error, "assert failed: no bar", Some("assert"))?;
-    let error = Error::Const(ConstError::Variable(name("x")));
-    let text = "cannot access non-const variable `x` in const context";
-    expect(&rt, alloc, error, text, Some("x"))?;
-    let message = String::from_str(alloc, "unknown assignment `a`")?;
     let error = Error::Internal {
-        message,
+        message: String::from_str(alloc, "unknown assignment `a`")?,
         token: token("a"),
     };
     let text = "internal error: unknown assignment `a`";
-    expect(&rt, alloc, error, text, Some("a"))?;
+    expect(&rt, alloc, error, text, Some("a"))
+}
+
+#[test]
+fn refusals_of_expressions(rt: HostRuntime) -> Result<(), Fail> {
+    let alloc = rt.alloc();
+    let error = Error::Const(ConstError::Variable(name("x")));
+    let text = "cannot access non-const variable `x` in const context";
+    expect(&rt, alloc, error, text, Some("x"))?;
     let error = Error::LeftOutRegex { token: token("=~") };
     let text = "regular expression operators are left out";
     expect(&rt, alloc, error, text, Some("=~"))?;
@@ -54,31 +58,31 @@ fn refusals_of_expressions(rt: HostRuntime) -> Result<(), Fail> {
     expect(&rt, alloc, Error::from(OutOfMemory), text, None)
 }
 
+fn expect_fault(
+    rt: &impl Abort,
+    alloc: Global,
+    output_error: CommandFault,
+    text: &str,
+) -> Result<(), Fail> {
+    let token = token("`exit`");
+    let error = Error::Backtick {
+        token,
+        output_error,
+    };
+    expect(rt, alloc, error, text, Some("`exit`"))
+}
+
 #[test]
 fn refusals_of_commands(rt: HostRuntime) -> Result<(), Fail> {
     let alloc = rt.alloc();
-    for (fault, text) in [
-        (
-            CommandFault::Code(3),
-            "backtick failed: process exited with status code 3",
-        ),
-        (
-            CommandFault::Code(-9),
-            "backtick failed: process exited with status code -9",
-        ),
-        (
-            CommandFault::Fault(String::from_str(alloc, "no shell")?),
-            "backtick failed: no shell",
-        ),
-        (CommandFault::OutOfMemory, "backtick failed: out of memory"),
-    ] {
-        let error = Error::Backtick {
-            token: token("`exit`"),
-            output_error: fault,
-        };
-        expect(&rt, alloc, error, text, Some("`exit`"))?;
-    }
-    Ok(())
+    let text = "backtick failed: process exited with status code 3";
+    expect_fault(&rt, alloc, CommandFault::Code(3), text)?;
+    let text = "backtick failed: process exited with status code -9";
+    expect_fault(&rt, alloc, CommandFault::Code(-9), text)?;
+    let fault = CommandFault::Fault(String::from_str(alloc, "no shell")?);
+    expect_fault(&rt, alloc, fault, "backtick failed: no shell")?;
+    let text = "backtick failed: out of memory";
+    expect_fault(&rt, alloc, CommandFault::OutOfMemory, text)
 }
 
 #[test]
@@ -118,7 +122,7 @@ fn refusals_of_arguments(rt: HostRuntime) -> Result<(), Fail> {
 }
 
 #[test]
-fn refusals_of_lists(rt: HostRuntime) -> Result<(), Fail> {
+fn refusal_of_a_list_where_a_text_is_wanted(rt: HostRuntime) -> Result<(), Fail> {
     let alloc = rt.alloc();
     let error = Error::ListInStringContext {
         context: StringContext::Function(name("quote")),
@@ -127,50 +131,73 @@ fn refusals_of_lists(rt: HostRuntime) -> Result<(), Fail> {
     let text = "list value [\"a\", \"b\"] in argument to function `quote`\n\
         the behavior of lists with many built-in functions is undecided\n\
         see https://github.com/casey/just#lists";
-    expect(&rt, alloc, error, text, Some("quote"))?;
-    for (lhs, text) in [
-        (
-            [].as_slice(),
-            "operator `+` cannot be applied to empty lists",
-        ),
-        (
-            ["a", "b"].as_slice(),
-            "operator `+` cannot be applied to lists of different lengths: [\"a\", \"b\"] + [\"c\", \"d\", \"e\"]",
-        ),
-    ] {
-        let error = Error::ListOperation {
-            lhs: value(alloc, lhs)?,
-            operator: ListOperator::Concatenate,
-            rhs: value(alloc, &["c", "d", "e"])?,
-            token: token("+"),
-        };
+    expect(&rt, alloc, error, text, Some("quote"))
+}
+
+// What is beside `+` and `c`, `d` and `e`, and what its refusal says.
+const ILL_MATCHED: &[(&[&str], &str)] = &[
+    (&[], "operator `+` cannot be applied to empty lists"),
+    (
+        &["a", "b"],
+        "operator `+` cannot be applied to lists of different lengths: [\"a\", \"b\"] + [\"c\", \"d\", \"e\"]",
+    ),
+];
+
+fn refusal_of<'src>(alloc: Global, lhs: &[&str], rhs: &[&str]) -> Result<Error<'src>, OutOfMemory> {
+    Ok(Error::ListOperation {
+        lhs: value(alloc, lhs)?,
+        operator: ListOperator::Concatenate,
+        rhs: value(alloc, rhs)?,
+        token: token("+"),
+    })
+}
+
+#[test]
+fn refusals_of_lists(rt: HostRuntime) -> Result<(), Fail> {
+    let alloc = rt.alloc();
+    for (lhs, text) in ILL_MATCHED {
+        let error = refusal_of(alloc, lhs, &["c", "d", "e"])?;
         expect(&rt, alloc, error, text, Some("+"))?;
     }
+    Ok(())
+}
+
+// Whether `Display` writes this text, whatever the width.
+fn shows<T: Display + Drop>(
+    rt: &impl Abort,
+    alloc: Global,
+    fault: T,
+    text: &str,
+) -> Result<(), OutOfMemory> {
+    assert_eq!(rt; format!(in alloc; "{fault:>40}")?.as_str(), text);
     Ok(())
 }
 
 #[test]
 fn faults_say(rt: HostRuntime) -> Result<(), Fail> {
     let alloc = rt.alloc();
-    for (fault, text) in [
-        (CommandFault::Code(1), "process exited with status code 1"),
-        (
-            CommandFault::Fault(String::from_str(alloc, "not UTF-8")?),
-            "not UTF-8",
-        ),
-        (CommandFault::OutOfMemory, "out of memory"),
-    ] {
-        assert_eq!(rt; format!(in alloc; "{fault:>40}")?.as_str(), text);
-    }
-    for (fault, text) in [
-        (
-            CheckFault::Refused(String::from_str(alloc, "no digit")?),
-            "no digit",
-        ),
-        (CheckFault::OutOfMemory, "out of memory"),
-    ] {
-        assert_eq!(rt; format!(in alloc; "{fault:>40}")?.as_str(), text);
-    }
+    let text = "process exited with status code 1";
+    shows(&rt, alloc, CommandFault::Code(1), text)?;
+    let fault = CommandFault::Fault(String::from_str(alloc, "not UTF-8")?);
+    shows(&rt, alloc, fault, "not UTF-8")?;
+    shows(&rt, alloc, CommandFault::OutOfMemory, "out of memory")?;
+    let fault = CheckFault::Refused(String::from_str(alloc, "no digit")?);
+    shows(&rt, alloc, fault, "no digit")?;
+    shows(&rt, alloc, CheckFault::OutOfMemory, "out of memory")?;
+    Ok(())
+}
+
+// The same as `expect` of an error that ends the compilation.
+fn expect_compile(
+    rt: &impl Abort,
+    alloc: Global,
+    error: CompileError,
+    text: &str,
+    at: Option<&str>,
+) -> Result<(), Fail> {
+    assert_eq!(rt; format!(in alloc; "{error}")?.as_str(), text);
+    assert_eq!(rt; format!(in alloc; "{error:#120}")?.as_str(), text);
+    assert_eq!(rt; error.token(), at.map(|lexeme| token(lexeme)), "{text}");
     Ok(())
 }
 
@@ -180,25 +207,14 @@ fn compile_errors_say(rt: HostRuntime) -> Result<(), Fail> {
     let interpreter = ConstEvalError::EmptyInterpreter {
         setting: name("shell"),
     };
+    let error = interpreter.into_compile_error();
+    let text = "`shell` setting requires at least one element but evaluated to empty list";
+    expect_compile(&rt, alloc, error, text, Some("shell"))?;
     let variable = ConstEvalError::Const(ConstError::Variable(name("x")));
-    for (error, text, at) in [
-        (
-            interpreter.into_compile_error(),
-            "`shell` setting requires at least one element but evaluated to empty list",
-            Some(token("shell")),
-        ),
-        (
-            variable.into_compile_error(),
-            "cannot access non-const variable `x` in const context",
-            Some(token("x")),
-        ),
-        (CompileError::OutOfMemory, "out of memory", None),
-    ] {
-        assert_eq!(rt; format!(in alloc; "{error}")?.as_str(), text);
-        assert_eq!(rt; format!(in alloc; "{error:#120}")?.as_str(), text);
-        assert_eq!(rt; error.token(), at, "{text}");
-    }
-    Ok(())
+    let error = variable.into_compile_error();
+    let text = "cannot access non-const variable `x` in const context";
+    expect_compile(&rt, alloc, error, text, Some("x"))?;
+    expect_compile(&rt, alloc, CompileError::OutOfMemory, "out of memory", None)
 }
 
 // What becomes of an error that a program passes on.
@@ -206,34 +222,34 @@ fn passed_on<E: std::error::Error>(error: E) -> anyhow::Result<()> {
     Err(error)?
 }
 
+// Whether an error says this text where it is passed on.
+fn expect_passed_on<E: std::error::Error>(
+    rt: &impl Abort,
+    alloc: Global,
+    error: E,
+    text: &str,
+) -> Result<(), Fail> {
+    match passed_on(error) {
+        Ok(()) => assert!(rt; false, "{text}"),
+        Err(error) => assert_eq!(rt; format!(in alloc; "{error}")?.as_str(), text),
+    }
+    Ok(())
+}
+
 #[test]
 fn errors_are_passed_on(rt: HostRuntime) -> Result<(), Fail> {
     let alloc = rt.alloc();
+    let error = Error::LeftOut {
+        function: name("uuid"),
+    };
+    expect_passed_on(&rt, alloc, error, "function `uuid` is left out")?;
+    expect_passed_on(&rt, alloc, CompileError::OutOfMemory, "out of memory")?;
+    expect_passed_on(&rt, alloc, OutOfMemory, "out of memory")?;
+    let text = "process exited with status code 2";
+    expect_passed_on(&rt, alloc, CommandFault::Code(2), text)?;
+    expect_passed_on(&rt, alloc, CheckFault::OutOfMemory, "out of memory")?;
     let refusal = ConstError::FunctionCall(name("f"));
-    for (result, text) in [
-        (
-            passed_on(Error::LeftOut {
-                function: name("uuid"),
-            }),
-            "function `uuid` is left out",
-        ),
-        (passed_on(CompileError::OutOfMemory), "out of memory"),
-        (passed_on(OutOfMemory), "out of memory"),
-        (
-            passed_on(CommandFault::Code(2)),
-            "process exited with status code 2",
-        ),
-        (passed_on(CheckFault::OutOfMemory), "out of memory"),
-        (passed_on(refusal), "cannot call functions in const context"),
-        (
-            passed_on(ConstEvalError::Const(refusal)),
-            "cannot call functions in const context",
-        ),
-    ] {
-        match result {
-            Ok(()) => assert!(rt; false, "{text}"),
-            Err(error) => assert_eq!(rt; format!(in alloc; "{error}")?.as_str(), text),
-        }
-    }
-    Ok(())
+    let text = "cannot call functions in const context";
+    expect_passed_on(&rt, alloc, refusal, text)?;
+    expect_passed_on(&rt, alloc, ConstEvalError::Const(refusal), text)
 }

@@ -1,102 +1,134 @@
 // Why modules are not resolved: the first fault, and its place.
 
 use crate::modules::Part::{Call, Read, Unnumbered};
-use crate::modules::{
-    Function, OUTER, Variable, assignments, bind, functions, module, name_at, references,
-};
+use crate::modules::{Function, OUTER, Sketch, Variable, module, name_at, outer_scope, references};
 use crate::parts::name;
+use just_host::justfile::Justfile;
 use just_resolution::fault::Fault;
 use just_resolution::first_fault::first_fault;
 use just_syntax::name::Name;
 use just_syntax::out_of_memory::OutOfMemory;
-use just_value::scope::Scope;
 use std::alloc::Global;
 use std::process::Abort;
 use std::test::Fail;
 
-// What such a module's first fault is, where these numbers are referenced: each, where none are given.
-fn expect<'a>(
+// A fault in short: assignments, functions and parameters by their names, and parts of an expression by their places.
+#[derive(Clone, Copy)]
+enum Short<'a> {
+    // A parameter that is bound outside.
+    Bound(&'a str),
+    // A variable with the number of another.
+    Duplicate(&'a str),
+    // A call of this name, at this place, and how many arguments it has.
+    Miscounted(&'a str, usize, usize),
+    // A call of this name, at this place, which nothing defines.
+    Uncallable(&'a str, usize),
+    // A variable without a number, at this place.
+    Undefined(usize),
+    // A name of the order that no assignment has.
+    Unknown(&'a str),
+    // An assignment, and the place of the variable that it reads too early.
+    Untaken(&'a str, usize),
+}
+
+use Short::{Bound, Duplicate, Miscounted, Uncallable, Undefined, Unknown, Untaken};
+
+fn whole(short: Short<'_>) -> Fault<'_> {
+    match short {
+        Bound(lexeme) => Fault::BoundParameter {
+            parameter: name(lexeme),
+        },
+        Duplicate(lexeme) => Fault::DuplicateNumber {
+            variable: name(lexeme),
+        },
+        Miscounted(lexeme, offset, found) => Fault::ArgumentCountMismatch {
+            function: name_at(lexeme, offset),
+            found,
+        },
+        Uncallable(lexeme, offset) => Fault::UndefinedFunction {
+            function: name_at(lexeme, offset),
+        },
+        Undefined(offset) => Fault::UndefinedVariable {
+            variable: name_at("v", offset),
+        },
+        Unknown(lexeme) => Fault::UnknownAssignment {
+            assignment: name(lexeme),
+        },
+        Untaken(lexeme, offset) => Fault::UntakenVariable {
+            assignment: name(lexeme),
+            variable: name_at("v", offset),
+        },
+    }
+}
+
+// The first fault of a module, where these numbers are referenced: each, where none are given.
+fn found<'a>(
+    alloc: Global,
+    module: &Justfile<'a>,
+    referenced: Option<&[u64]>,
+) -> Result<Option<Fault<'a>>, OutOfMemory> {
+    let outer = outer_scope(alloc)?;
+    let parent = outer.child(alloc)?;
+    match referenced {
+        Some(numbers) => first_fault(alloc, module, &parent, Some(&references(alloc, numbers)?)),
+        None => first_fault(alloc, module, &parent, None),
+    }
+}
+
+fn expect(
     rt: &impl Abort,
     alloc: Global,
-    functions_of: &[Function<'a>],
-    assignments_of: &[Variable<'a>],
-    order: &[&'a str],
+    sketch: Sketch,
     referenced: Option<&[u64]>,
-    expected: Option<Fault<'a>>,
+    expected: Option<Short>,
 ) -> Result<(), OutOfMemory> {
-    let functions = functions(alloc, functions_of)?;
-    let assignments = assignments(alloc, assignments_of)?;
-    let module = module(alloc, functions, assignments, order)?;
-    let mut outer = Scope::root(alloc, &[])?;
-    bind(alloc, &mut outer, OUTER)?;
-    let parent = outer.child(alloc)?;
-    let found = match referenced {
-        Some(numbers) => {
-            let referenced = references(alloc, numbers)?;
-            first_fault(alloc, &module, &parent, Some(&referenced))?
-        }
-        None => first_fault(alloc, &module, &parent, None)?,
-    };
-    assert_eq!(rt; found, expected, "{order:?} {referenced:?}");
+    let module = module(alloc, sketch)?;
+    let found = found(alloc, &module, referenced)?;
+    let (_, _, order) = sketch;
+    assert_eq!(rt; found, expected.map(whole), "{order:?} {referenced:?}");
     Ok(())
 }
 
-// What a fault says, and where it stands.
-#[test]
-fn faults_say(rt: HostRuntime) -> Result<(), Fail> {
-    let alloc = rt.alloc();
-    let (function, variable, assignment) = (name_at("f", 3), name_at("v", 5), name("a"));
-    for (fault, text, at) in [
-        (
-            Fault::ArgumentCountMismatch { function, found: 2 },
-            "function `f` called with a wrong number of arguments",
-            function,
-        ),
-        (
-            Fault::BoundParameter {
-                parameter: variable,
-            },
-            "parameter `v` has a number that is bound outside",
-            variable,
-        ),
-        (
-            Fault::DuplicateNumber { variable },
-            "variable `v` has the number of another variable",
-            variable,
-        ),
-        (
-            Fault::UndefinedFunction { function },
-            "unknown function `f`",
-            function,
-        ),
-        (
-            Fault::UndefinedVariable { variable },
-            "attempted to evaluate unresolved variable `v`",
-            variable,
-        ),
-        (
-            Fault::UnknownAssignment { assignment },
-            "unknown assignment `a`",
-            assignment,
-        ),
-        (
-            Fault::UntakenVariable {
-                assignment,
-                variable,
-            },
-            "attempted to evaluate unevaluated variable `v`",
-            variable,
-        ),
-    ] {
-        says(&rt, alloc, &fault, text, at)?;
-    }
-    Ok(())
-}
+// Faults, what each says, and the name and the offset where it stands.
+const SAID: &[(Short, &str, &str, usize)] = &[
+    (
+        Miscounted("f", 3, 2),
+        "function `f` called with a wrong number of arguments",
+        "f",
+        3,
+    ),
+    (
+        Bound("v"),
+        "parameter `v` has a number that is bound outside",
+        "v",
+        7,
+    ),
+    (
+        Duplicate("v"),
+        "variable `v` has the number of another variable",
+        "v",
+        7,
+    ),
+    (Uncallable("f", 3), "unknown function `f`", "f", 3),
+    (
+        Undefined(5),
+        "attempted to evaluate unresolved variable `v`",
+        "v",
+        5,
+    ),
+    (Unknown("a"), "unknown assignment `a`", "a", 7),
+    (
+        Untaken("a", 5),
+        "attempted to evaluate unevaluated variable `v`",
+        "v",
+        5,
+    ),
+];
 
 fn says(
     rt: &impl Abort,
     alloc: Global,
-    fault: &Fault,
+    fault: Fault,
     text: &str,
     at: Name,
 ) -> Result<(), OutOfMemory> {
@@ -105,188 +137,138 @@ fn says(
     Ok(())
 }
 
-// Numbers that stand there twice, or are bound outside.
 #[test]
-fn numbers(rt: HostRuntime) -> Result<(), Fail> {
-    let alloc = rt.alloc();
-    let none: &[Function] = &[];
-    let of_assignment: &[Function] = &[("f", &[2], &[])];
-    let of_parameter: &[Function] = &[("f", &[8], &[]), ("g", &[9, 8], &[])];
-    let bound: &[Function] = &[("f", &[9, OUTER], &[])];
-    let plain: &[Variable] = &[("a", 1, &[]), ("b", 2, &[])];
-    let same_number: &[Variable] = &[("a", 1, &[]), ("b", 1, &[])];
-    let twice = |variable| Some(Fault::DuplicateNumber { variable });
-    let outside = Some(Fault::BoundParameter {
-        parameter: name("p"),
-    });
-    for (functions, variables, expected) in [
-        (none, plain, None),
-        (none, same_number, twice(name("b"))),
-        (of_assignment, plain, twice(name("p"))),
-        (of_parameter, plain, twice(name("p"))),
-        (bound, plain, outside),
-        (bound, same_number, twice(name("b"))),
-    ] {
-        expect(
-            &rt,
-            alloc,
-            functions,
-            variables,
-            &["a", "b"],
-            None,
-            expected,
-        )?;
+fn faults_say(rt: HostRuntime) -> Result<(), Fail> {
+    for (short, text, lexeme, offset) in SAID {
+        let at = name_at(lexeme, *offset);
+        says(&rt, rt.alloc(), whole(*short), text, at)?;
     }
     Ok(())
 }
+
+const ONE_PARAMETER: &[Function] = &[("f", &[9], &[])];
+
+const PLAIN: &[Variable] = &[("a", 1, &[]), ("b", 2, &[])];
+
+const SAME_NUMBER: &[Variable] = &[("a", 1, &[]), ("b", 1, &[])];
+
+const OF_ASSIGNMENT: &[Function] = &[("f", &[2], &[])];
+
+const OF_PARAMETER: &[Function] = &[("f", &[8], &[]), ("g", &[9, 8], &[])];
+
+const BOUND: &[Function] = &[("f", &[9, OUTER], &[])];
+
+const NUMBERS: &[(&[Function], &[Variable], Option<Short>)] = &[
+    (&[], PLAIN, None),
+    (&[], SAME_NUMBER, Some(Duplicate("b"))),
+    (OF_ASSIGNMENT, PLAIN, Some(Duplicate("p"))),
+    (OF_PARAMETER, PLAIN, Some(Duplicate("p"))),
+    (BOUND, PLAIN, Some(Bound("p"))),
+    (BOUND, SAME_NUMBER, Some(Duplicate("b"))),
+];
+
+// Numbers that stand there twice, or are bound outside.
+#[test]
+fn numbers(rt: HostRuntime) -> Result<(), Fail> {
+    for (functions, variables, expected) in NUMBERS {
+        let sketch: Sketch = (functions, variables, &["a", "b"]);
+        expect(&rt, rt.alloc(), sketch, None, *expected)?;
+    }
+    Ok(())
+}
+
+const UNNUMBERED_BODY: &[Function] = &[("f", &[9], &[Read(9), Unnumbered])];
+
+const KNOWN: &[Variable] = &[("a", 1, &[Call("f", &[OUTER]), Call("sha256", &[])])];
+
+const UNNUMBERED: &[Variable] = &[("a", 1, &[Read(OUTER), Unnumbered, Call("nope", &[])])];
+
+const UNKNOWN: &[Variable] = &[("a", 1, &[Call("nope", &[]), Unnumbered])];
+
+const MISCOUNTED: &[Variable] = &[("a", 1, &[Call("f", &[OUTER, OUTER])])];
+
+const BUILT_IN: &[Variable] = &[("a", 1, &[]), ("b", 2, &[Read(1), Call("len", &[])])];
+
+const NAMES: &[(&[Function], &[Variable], Option<Short>)] = &[
+    (ONE_PARAMETER, KNOWN, None),
+    (ONE_PARAMETER, UNNUMBERED, Some(Undefined(1))),
+    (ONE_PARAMETER, UNKNOWN, Some(Uncallable("nope", 0))),
+    (ONE_PARAMETER, MISCOUNTED, Some(Miscounted("f", 0, 2))),
+    (ONE_PARAMETER, BUILT_IN, Some(Miscounted("len", 1, 0))),
+    (UNNUMBERED_BODY, KNOWN, Some(Undefined(1))),
+    (UNNUMBERED_BODY, BUILT_IN, Some(Miscounted("len", 1, 0))),
+];
 
 // Variables without a number, and calls that their names do not take.
 #[test]
 fn names(rt: HostRuntime) -> Result<(), Fail> {
-    let alloc = rt.alloc();
-    let one: &[Function] = &[("f", &[9], &[])];
-    let unnumbered_body: &[Function] = &[("f", &[9], &[Read(9), Unnumbered])];
-    let known: &[Variable] = &[("a", 1, &[Call("f", &[OUTER]), Call("sha256", &[])])];
-    let unnumbered: &[Variable] = &[("a", 1, &[Read(OUTER), Unnumbered, Call("nope", &[])])];
-    let unknown: &[Variable] = &[("a", 1, &[Call("nope", &[]), Unnumbered])];
-    let miscounted: &[Variable] = &[("a", 1, &[Call("f", &[OUTER, OUTER])])];
-    let built_in: &[Variable] = &[("a", 1, &[]), ("b", 2, &[Read(1), Call("len", &[])])];
-    let undefined = |offset| {
-        Some(Fault::UndefinedVariable {
-            variable: name_at("v", offset),
-        })
-    };
-    let mismatch = |function, found| Some(Fault::ArgumentCountMismatch { function, found });
-    for (functions, variables, expected) in [
-        (one, known, None),
-        (one, unnumbered, undefined(1)),
-        (
-            one,
-            unknown,
-            Some(Fault::UndefinedFunction {
-                function: name_at("nope", 0),
-            }),
-        ),
-        (one, miscounted, mismatch(name_at("f", 0), 2)),
-        (one, built_in, mismatch(name_at("len", 1), 0)),
-        (unnumbered_body, known, undefined(1)),
-        (unnumbered_body, built_in, mismatch(name_at("len", 1), 0)),
-    ] {
-        expect(&rt, alloc, functions, variables, &[], None, expected)?;
+    for (functions, variables, expected) in NAMES {
+        let sketch: Sketch = (functions, variables, &[]);
+        expect(&rt, rt.alloc(), sketch, None, *expected)?;
     }
     Ok(())
 }
+
+const READS_SECOND: &[Function] = &[
+    ("f", &[9], &[Read(9), Call("g", &[])]),
+    ("g", &[], &[Read(OUTER), Read(2)]),
+];
+
+const READERS: &[Variable] = &[
+    ("a", 1, &[Call("f", &[OUTER])]),
+    ("b", 2, &[]),
+    ("c", 3, &[Read(OUTER), Read(2), Read(1)]),
+    ("d", 4, &[Call("g", &[]), Read(1)]),
+];
+
+const ORDERS: &[(&[&str], Option<&[u64]>, Option<Short>)] = &[
+    (&["b", "a", "c", "d"], None, None),
+    (&["b", "e", "c"], None, Some(Unknown("e"))),
+    (&["b", "c", "e"], None, Some(Untaken("c", 2))),
+    (&["c", "b"], None, Some(Untaken("c", 1))),
+    // In the body of a function that is reached, unless something is read too early by itself.
+    (&["a", "b"], None, Some(Untaken("a", 1))),
+    (&["d", "b"], None, Some(Untaken("d", 1))),
+    // What is not referenced is not taken, and may read what it wants.
+    (&["a", "b"], Some(&[2]), None),
+    (&["b", "d"], Some(&[4]), Some(Untaken("d", 1))),
+    (&["e"], Some(&[2]), Some(Unknown("e"))),
+];
 
 // Names of an order that are no assignments', and variables that are read too early.
 #[test]
 fn orders(rt: HostRuntime) -> Result<(), Fail> {
-    let alloc = rt.alloc();
-    let reads_second: &[Function] = &[
-        ("f", &[9], &[Read(9), Call("g", &[])]),
-        ("g", &[], &[Read(OUTER), Read(2)]),
-    ];
-    let variables: &[Variable] = &[
-        ("a", 1, &[Call("f", &[OUTER])]),
-        ("b", 2, &[]),
-        ("c", 3, &[Read(OUTER), Read(2), Read(1)]),
-        ("d", 4, &[Call("g", &[]), Read(1)]),
-    ];
-    let untaken = |assignment, offset| {
-        Some(Fault::UntakenVariable {
-            assignment,
-            variable: name_at("v", offset),
-        })
-    };
-    let unknown = Some(Fault::UnknownAssignment {
-        assignment: name("e"),
-    });
-    for (order, referenced, expected) in [
-        (["b", "a", "c", "d"].as_slice(), None, None),
-        (["b", "e", "c"].as_slice(), None, unknown),
-        (["b", "c", "e"].as_slice(), None, untaken(name("c"), 2)),
-        (["c", "b"].as_slice(), None, untaken(name("c"), 1)),
-        // In the body of a function that is reached, unless something is read too early by itself.
-        (["a", "b"].as_slice(), None, untaken(name("a"), 1)),
-        (["d", "b"].as_slice(), None, untaken(name("d"), 1)),
-        // What is not referenced is not taken, and may read what it wants.
-        (["a", "b"].as_slice(), Some([2].as_slice()), None),
-        (
-            ["b", "d"].as_slice(),
-            Some([4].as_slice()),
-            untaken(name("d"), 1),
-        ),
-        (["e"].as_slice(), Some([2].as_slice()), unknown),
-    ] {
-        expect(
-            &rt,
-            alloc,
-            reads_second,
-            variables,
-            order,
-            referenced,
-            expected,
-        )?;
+    for (order, referenced, expected) in ORDERS {
+        let sketch = (READS_SECOND, READERS, *order);
+        expect(&rt, rt.alloc(), sketch, *referenced, *expected)?;
     }
     Ok(())
 }
 
+const BOUND_AND_UNNUMBERED: &[Function] = &[("f", &[OUTER], &[Unnumbered])];
+
+const UNNUMBERED_ALONE: &[Function] = &[("f", &[9], &[Unnumbered])];
+
+const TWICE: &[Variable] = &[("a", 1, &[Unnumbered]), ("b", 1, &[Read(3)])];
+
+const UNKNOWN_AND_EARLY: &[Variable] = &[("a", 1, &[Call("nope", &[])]), ("b", 2, &[Read(3)])];
+
+const EARLY: &[Variable] = &[("a", 1, &[]), ("b", 2, &[Read(3)])];
+
+const SEVERAL: &[(&[Function], &[Variable], Short)] = &[
+    (BOUND_AND_UNNUMBERED, TWICE, Duplicate("b")),
+    (BOUND_AND_UNNUMBERED, UNKNOWN_AND_EARLY, Bound("p")),
+    (UNNUMBERED_ALONE, UNKNOWN_AND_EARLY, Uncallable("nope", 0)),
+    (UNNUMBERED_ALONE, EARLY, Undefined(0)),
+    (ONE_PARAMETER, EARLY, Untaken("b", 0)),
+];
+
 // Modules with several faults: the first in the order in which they are looked for.
 #[test]
 fn several_faults(rt: HostRuntime) -> Result<(), Fail> {
-    let alloc = rt.alloc();
-    let bound: &[Function] = &[("f", &[OUTER], &[Unnumbered])];
-    let unnumbered: &[Function] = &[("f", &[9], &[Unnumbered])];
-    let plain: &[Function] = &[("f", &[9], &[])];
-    let twice: &[Variable] = &[("a", 1, &[Unnumbered]), ("b", 1, &[Read(3)])];
-    let unknown: &[Variable] = &[("a", 1, &[Call("nope", &[])]), ("b", 2, &[Read(3)])];
-    let early: &[Variable] = &[("a", 1, &[]), ("b", 2, &[Read(3)])];
-    for (functions, variables, expected) in [
-        (
-            bound,
-            twice,
-            Fault::DuplicateNumber {
-                variable: name("b"),
-            },
-        ),
-        (
-            bound,
-            unknown,
-            Fault::BoundParameter {
-                parameter: name("p"),
-            },
-        ),
-        (
-            unnumbered,
-            unknown,
-            Fault::UndefinedFunction {
-                function: name_at("nope", 0),
-            },
-        ),
-        (
-            unnumbered,
-            early,
-            Fault::UndefinedVariable {
-                variable: name_at("v", 0),
-            },
-        ),
-        (
-            plain,
-            early,
-            Fault::UntakenVariable {
-                assignment: name("b"),
-                variable: name_at("v", 0),
-            },
-        ),
-    ] {
-        expect(
-            &rt,
-            alloc,
-            functions,
-            variables,
-            &["a", "b", "c"],
-            None,
-            Some(expected),
-        )?;
+    for (functions, variables, expected) in SEVERAL {
+        let sketch: Sketch = (functions, variables, &["a", "b", "c"]);
+        expect(&rt, rt.alloc(), sketch, None, Some(*expected))?;
     }
     Ok(())
 }

@@ -1,7 +1,7 @@
 // Frames that are bound in any order, and names that come again.
 
 use crate::parts::name;
-use crate::scope::{bind, told_value};
+use crate::scope::{bind, holds};
 use just_syntax::number::Number;
 use just_syntax::out_of_memory::OutOfMemory;
 use just_value::expression_context::ExpressionContext;
@@ -31,6 +31,18 @@ fn walked_by_rising_number(rt: HostRuntime) -> Result<(), Fail> {
     Ok(())
 }
 
+// Numbers, and their values in a child where its parent binds 6, 2, 1 and 0.
+const BETWEEN_AND_BESIDE: &[(u64, &str)] = &[
+    (0, "outer"),
+    (1, "second"),
+    (2, "outer"),
+    (3, "three"),
+    (4, "not bound"),
+    (5, "five"),
+    (6, "outer"),
+    (7, "not bound"),
+];
+
 #[test]
 fn looked_up_between_and_beside(rt: HostRuntime) -> Result<(), Fail> {
     let alloc = rt.alloc();
@@ -40,21 +52,8 @@ fn looked_up_between_and_beside(rt: HostRuntime) -> Result<(), Fail> {
     }
     let mut child = parent.child(alloc)?;
     bind_in_any_order(alloc, &mut child)?;
-    for (number, wanted) in [
-        (0, "outer"),
-        (1, "second"),
-        (2, "outer"),
-        (3, "three"),
-        (4, "not bound"),
-        (5, "five"),
-        (6, "outer"),
-        (7, "not bound"),
-    ] {
-        assert_eq!(rt;
-            told_value(alloc, &child, number)?.as_str(),
-            wanted,
-            "{number}"
-        );
+    for (number, wanted) in BETWEEN_AND_BESIDE {
+        holds(&rt, alloc, &child, *number, wanted)?;
     }
     Ok(())
 }

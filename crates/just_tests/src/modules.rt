@@ -1,10 +1,10 @@
 // Modules that tests are made of.
 
 use crate::parts::{name, token};
+use crate::scope::bind;
 use just_host::justfile::Justfile;
 use just_host::settings::Settings;
 use just_syntax::assignment::Assignment;
-use just_syntax::attribute_set::AttributeSet;
 use just_syntax::expression::Expression;
 use just_syntax::function_definition::FunctionDefinition;
 use just_syntax::name::Name;
@@ -12,9 +12,7 @@ use just_syntax::number::Number;
 use just_syntax::out_of_memory::OutOfMemory;
 use just_syntax::table::Table;
 use just_syntax::token::Token;
-use just_value::binding::Binding;
 use just_value::scope::Scope;
-use just_value::value::Value;
 use std::alloc::Global;
 use std::collections::HashSet;
 
@@ -34,6 +32,9 @@ pub(crate) type Function<'a> = (&'a str, &'a [u64], &'a [Part<'a>]);
 
 // An assignment: its name, its number, and what stands in its value.
 pub(crate) type Variable<'a> = (&'a str, u64, &'a [Part<'a>]);
+
+// A module: its functions, its assignments, and the order of these.
+pub(crate) type Sketch<'a> = (&'a [Function<'a>], &'a [Variable<'a>], &'a [&'a str]);
 
 // A name at an offset in its file.
 pub(crate) fn name_at(lexeme: &str, offset: usize) -> Name<'_> {
@@ -81,22 +82,24 @@ fn expression<'a>(alloc: Global, parts: &[Part<'a>]) -> Result<Expression<'a>, O
     })
 }
 
-pub(crate) fn functions<'a>(
+// Parameters with these numbers.
+fn parameters<'a>(alloc: Global, numbers: &[u64]) -> Result<Vec<(Name<'a>, Number)>, OutOfMemory> {
+    let mut parameters = Vec::new(alloc);
+    for number in numbers {
+        parameters.extend_from_slice(&[(name("p"), Number::new(*number))])?;
+    }
+    Ok(parameters)
+}
+
+fn functions<'a>(
     alloc: Global,
     all: &[Function<'a>],
 ) -> Result<Table<FunctionDefinition<'a>>, OutOfMemory> {
     let mut table = Table::new(alloc);
     for (lexeme, numbers, body) in all {
-        let mut parameters = Vec::new(alloc);
-        for number in *numbers {
-            parameters.extend_from_slice(&[(name("p"), Number::new(*number))])?;
-        }
         let body = expression(alloc, body)?;
-        table.insert(FunctionDefinition {
-            body,
-            name: name(lexeme),
-            parameters,
-        })?;
+        let parameters = parameters(alloc, numbers)?;
+        table.insert(FunctionDefinition::new(name(lexeme), parameters, body))?;
     }
     Ok(table)
 }
@@ -108,14 +111,7 @@ pub(crate) fn assignments<'a>(
     let mut table = Table::new(alloc);
     for (lexeme, number, value) in all {
         let value = expression(alloc, value)?;
-        table.insert(Assignment {
-            eager: false,
-            export: false,
-            name: name(lexeme),
-            number: Number::new(*number),
-            private: false,
-            value,
-        })?;
+        table.insert(Assignment::new(name(lexeme), Number::new(*number), value))?;
     }
     Ok(table)
 }
@@ -128,12 +124,10 @@ pub(crate) fn names<'a>(alloc: Global, lexemes: &[&'a str]) -> Result<Vec<Name<'
     Ok(all)
 }
 
-pub(crate) fn module<'a>(
-    alloc: Global,
-    functions: Table<FunctionDefinition<'a>>,
-    assignments: Table<Assignment<'a>>,
-    order: &[&'a str],
-) -> Result<Justfile<'a>, OutOfMemory> {
+pub(crate) fn module<'a>(alloc: Global, sketch: Sketch<'a>) -> Result<Justfile<'a>, OutOfMemory> {
+    let (functions_of, variables, order) = sketch;
+    let functions = functions(alloc, functions_of)?;
+    let assignments = assignments(alloc, variables)?;
     Ok(Justfile {
         assignments,
         evaluation_order: names(alloc, order)?,
@@ -147,22 +141,14 @@ pub(crate) fn module<'a>(
     })
 }
 
-pub(crate) fn bind(alloc: Global, scope: &mut Scope, number: u64) -> Result<(), OutOfMemory> {
-    scope.bind(Binding {
-        attributes: AttributeSet::new(alloc),
-        eager: false,
-        export: false,
-        file_depth: 0,
-        name: name("outer"),
-        number: Number::new(number),
-        prelude: false,
-        private: false,
-        value: Value::new(alloc),
-    })
-}
-
 // The tests' modules stand below a scope that binds this number.
 pub(crate) const OUTER: u64 = 100;
+
+pub(crate) fn outer_scope<'src, 'run>(alloc: Global) -> Result<Scope<'src, 'run>, OutOfMemory> {
+    let mut scope = Scope::root(alloc, &[])?;
+    bind(alloc, &mut scope, "outer", OUTER, "")?;
+    Ok(scope)
+}
 
 pub(crate) fn references(alloc: Global, numbers: &[u64]) -> Result<HashSet<Number>, OutOfMemory> {
     let mut referenced = HashSet::new(alloc);

@@ -1,4 +1,4 @@
-// Names and values that tests are made of.
+// Names and values that tests are made of, and what is shown.
 
 use just_syntax::name::Name;
 use just_syntax::out_of_memory::OutOfMemory;
@@ -6,6 +6,8 @@ use just_syntax::place::Place;
 use just_syntax::token::Token;
 use just_value::value::Value;
 use std::alloc::Global;
+use std::fmt::Display;
+use std::process::Abort;
 
 // Where each token and each name stands.
 const PLACE: Place = Place {
@@ -29,4 +31,15 @@ pub(crate) fn value(alloc: Global, elements: &[&str]) -> Result<Value, OutOfMemo
         value.push(element)?;
     }
     Ok(value)
+}
+
+// Whether `Display` writes this text.
+pub(crate) fn shows<T: Display>(
+    rt: &impl Abort,
+    alloc: Global,
+    item: &T,
+    text: &str,
+) -> Result<(), OutOfMemory> {
+    assert_eq!(rt; format!(in alloc; "{item}")?.as_str(), text);
+    Ok(())
 }

@@ -11,6 +11,7 @@ use just_value::expression_context::ExpressionContext;
 use just_value::scope::Scope;
 use just_value::value::Value;
 use std::alloc::Global;
+use std::process::Abort;
 use std::test::Fail;
 
 fn binding<'src>(alloc: Global, lexeme: &'src str, number: u64, value: Value) -> Binding<'src> {
@@ -27,28 +28,48 @@ fn binding<'src>(alloc: Global, lexeme: &'src str, number: u64, value: Value) ->
     }
 }
 
+// Whether a context gives a name this number.
+pub(crate) fn gives(rt: &impl Abort, context: &ExpressionContext, name: &str, number: Option<u64>) {
+    assert_eq!(rt; context.lookup(name), number.map(Number::new), "{name}");
+}
+
+#[test]
+fn names_of_no_context(rt: HostRuntime) {
+    let empty = ExpressionContext::new(rt.alloc());
+    for name in ["n", "m", "x", ""] {
+        gives(&rt, &empty, name, None);
+    }
+}
+
+const FROM_PAIRS: &[(&str, Option<u64>)] = &[
+    ("n", Some(2)),
+    ("m", Some(3)),
+    ("x", None),
+    ("", None),
+];
+
 #[test]
 fn names_and_numbers(rt: HostRuntime) -> Result<(), Fail> {
-    let alloc = rt.alloc();
     let pairs = [
         (name("n"), Number::new(1)),
         (name("m"), Number::new(3)),
         (name("n"), Number::new(2)),
     ];
-    let parameters = [parameter("x", 5), parameter("y", 6), parameter("x", 7)];
-    let from_pairs = ExpressionContext::from_pairs(alloc, &pairs)?;
-    let from_parameters = ExpressionContext::from_parameters(alloc, &parameters)?;
-    let empty = ExpressionContext::new(alloc);
-    for (name, number) in [("n", Some(2)), ("m", Some(3)), ("x", None), ("", None)] {
-        assert_eq!(rt; from_pairs.lookup(name), number.map(Number::new), "{name}");
-        assert_eq!(rt; empty.lookup(name), None, "{name}");
+    let context = ExpressionContext::from_pairs(rt.alloc(), &pairs)?;
+    for (name, number) in FROM_PAIRS {
+        gives(&rt, &context, name, *number);
     }
-    for (name, number) in [("x", Some(7)), ("y", Some(6)), ("n", None)] {
-        assert_eq!(rt;
-            from_parameters.lookup(name),
-            number.map(Number::new),
-            "{name}"
-        );
+    Ok(())
+}
+
+const FROM_PARAMETERS: &[(&str, Option<u64>)] = &[("x", Some(7)), ("y", Some(6)), ("n", None)];
+
+#[test]
+fn parameters_and_numbers(rt: HostRuntime) -> Result<(), Fail> {
+    let parameters = [parameter("x", 5), parameter("y", 6), parameter("x", 7)];
+    let context = ExpressionContext::from_parameters(rt.alloc(), &parameters)?;
+    for (name, number) in FROM_PARAMETERS {
+        gives(&rt, &context, name, *number);
     }
     Ok(())
 }
@@ -117,24 +138,50 @@ pub(crate) fn bind<'src>(
     scope.bind(binding(alloc, lexeme, number, value))
 }
 
+// Binds 2 and 1.
+fn bind_two(alloc: Global, scope: &mut Scope) -> Result<(), OutOfMemory> {
+    bind(alloc, scope, "x", 2, "two")?;
+    bind(alloc, scope, "y", 1, "one")
+}
+
+// Binds 1 and 3.
+fn bind_own(alloc: Global, scope: &mut Scope) -> Result<(), OutOfMemory> {
+    bind(alloc, scope, "y", 1, "own")?;
+    bind(alloc, scope, "z", 3, "three")
+}
+
+// Whether a number has this value in a scope.
+pub(crate) fn holds(
+    rt: &impl Abort,
+    alloc: Global,
+    scope: &Scope,
+    number: u64,
+    wanted: &str,
+) -> Result<(), OutOfMemory> {
+    let told = told_value(alloc, scope, number)?;
+    assert_eq!(rt; told.as_str(), wanted, "{number}");
+    Ok(())
+}
+
+// Numbers, and their values in the child and in its parent.
+const IN_BOTH: &[(u64, &str, &str)] = &[
+    (1, "own", "one"),
+    (2, "two", "two"),
+    (3, "three", "not bound"),
+    (4, "not bound", "not bound"),
+];
+
 #[test]
 fn child_binds_its_own(rt: HostRuntime) -> Result<(), Fail> {
     let alloc = rt.alloc();
     let mut parent = Scope::root(alloc, &[])?;
-    bind(alloc, &mut parent, "x", 2, "two")?;
-    bind(alloc, &mut parent, "y", 1, "one")?;
+    bind_two(alloc, &mut parent)?;
     let mut child = parent.child(alloc)?;
     assert_eq!(rt; child.value(Number::new(1)), parent.value(Number::new(1)));
-    bind(alloc, &mut child, "y", 1, "own")?;
-    bind(alloc, &mut child, "z", 3, "three")?;
-    for (number, in_child, in_parent) in [
-        (1, "own", "one"),
-        (2, "two", "two"),
-        (3, "three", "not bound"),
-        (4, "not bound", "not bound"),
-    ] {
-        assert_eq!(rt; told_value(alloc, &child, number)?.as_str(), in_child);
-        assert_eq!(rt; told_value(alloc, &parent, number)?.as_str(), in_parent);
+    bind_own(alloc, &mut child)?;
+    for (number, in_child, in_parent) in IN_BOTH {
+        holds(&rt, alloc, &child, *number, in_child)?;
+        holds(&rt, alloc, &parent, *number, in_parent)?;
     }
     Ok(())
 }

@@ -39,6 +39,12 @@ fn numbered(alloc: Global, end: u64) -> Result<Vec<String>, OutOfMemory> {
     Ok(all)
 }
 
+// These texts, one behind the other, twice.
+fn twice(alloc: Global, texts: &[String]) -> Result<String, OutOfMemory> {
+    let once = texts.join(alloc, "")?;
+    Ok(format!(in alloc; "{once}{once}")?)
+}
+
 // Whether there are so many texts, and each is this one.
 fn are_all(found: &[String], text: &str, times: usize) -> bool {
     found.len() == times && found.iter().all(|one| one.as_str() == text)

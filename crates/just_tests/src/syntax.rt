@@ -1,16 +1,18 @@
 // Tables, what is printed, and the small calls.
 
-use crate::parts::name;
+use crate::parts::{name, shows};
 use just_syntax::enclosure::Enclosure;
 use just_syntax::keyed::Keyed;
 use just_syntax::list_operator::ListOperator;
 use just_syntax::name::Name;
 use just_syntax::number::Number;
 use just_syntax::numerator::Numerator;
+use just_syntax::out_of_memory::OutOfMemory;
 use just_syntax::parameter_kind::ParameterKind;
 use just_syntax::string_context::StringContext;
 use just_syntax::table::Table;
 use just_syntax::unindent::unindent;
+use std::alloc::Global;
 use std::test::Fail;
 
 #[derive(Drop)]
@@ -27,28 +29,43 @@ impl Keyed for Named<'_> {
     }
 }
 
-#[test]
-fn table_keeps_values_by_key(rt: HostRuntime) -> Result<(), Fail> {
-    let alloc = rt.alloc();
+// Puts a value behind each of these keys, which holds the place of the key.
+fn table_of<'a>(alloc: Global, keys: &[&'a str]) -> Result<Table<Named<'a>>, OutOfMemory> {
     let mut table = Table::new(alloc);
-    assert!(rt; table.is_empty());
-    for (place, lexeme) in ["b", "a", "", "é", "c", "a"].iter().enumerate() {
+    for (place, lexeme) in keys.iter().enumerate() {
         table.insert(Named {
             name: name(lexeme),
             place: place as u64,
         })?;
     }
+    Ok(table)
+}
+
+const KEYS: &[&str] = &["b", "a", "", "é", "c", "a"];
+
+const PLACES: &[(&str, Option<u64>)] = &[
+    ("", Some(2)),
+    ("a", Some(5)),
+    ("b", Some(0)),
+    ("aa", None),
+    ("é", Some(3)),
+];
+
+#[test]
+fn table_keeps_values_by_key(rt: HostRuntime) -> Result<(), Fail> {
+    let empty: Table<Named> = Table::new(rt.alloc());
+    assert!(rt; empty.is_empty());
+    let table = table_of(rt.alloc(), KEYS)?;
     assert_eq!(rt; table.len(), 5);
     assert!(rt; !table.is_empty());
-    for (key, place) in [
-        ("", Some(2)),
-        ("a", Some(5)),
-        ("b", Some(0)),
-        ("aa", None),
-        ("é", Some(3)),
-    ] {
-        assert_eq!(rt; table.get(key).map(|named| named.place), place, "{key}");
+    for (key, place) in PLACES {
+        assert_eq!(rt; table.get(key).map(|named| named.place), *place, "{key}");
     }
+    Ok(())
+}
+
+// The keys of a table, twice.
+pub(crate) fn keys_twice(alloc: Global, table: Table<Named>) -> Result<String, OutOfMemory> {
     let mut keys = String::new(alloc);
     for named in table.iter() {
         keys.push_str(named.key())?;
@@ -56,79 +73,93 @@ fn table_keeps_values_by_key(rt: HostRuntime) -> Result<(), Fail> {
     for named in table {
         keys.push_str(named.key())?;
     }
+    Ok(keys)
+}
+
+#[test]
+fn table_is_gone_over_by_key(rt: HostRuntime) -> Result<(), Fail> {
+    let keys = keys_twice(rt.alloc(), table_of(rt.alloc(), KEYS)?)?;
     assert_eq!(rt; keys.as_str(), "abcéabcé");
     Ok(())
 }
 
 #[test]
-fn small_calls(rt: HostRuntime) -> Result<(), Fail> {
-    let alloc = rt.alloc();
+fn numbers_and_names(rt: HostRuntime) {
     assert_eq!(rt; Numerator::constant(7), Number::new(7));
     assert!(rt; Number::new(6) < Number::new(7));
     let name = name("x");
     assert_eq!(rt; name.lexeme(), "x");
     assert_eq!(rt; name.token.lexeme(), "x");
-    for (operator, separator, text) in [
-        (ListOperator::Concatenate, "", "+"),
-        (ListOperator::Join, "/", "/"),
-    ] {
-        assert_eq!(rt; operator.separator(), separator);
-        assert_eq!(rt;
-            format!(in alloc; "{operator} {name}")?.as_str(),
-            format!(in alloc; "{text} x")?.as_str()
-        );
+}
+
+// Operators on lists, what each puts between two texts, and how it is written.
+const OPERATORS: &[(ListOperator, &str, &str)] = &[
+    (ListOperator::Concatenate, "", "+"),
+    (ListOperator::Join, "/", "/"),
+];
+
+#[test]
+fn list_operators(rt: HostRuntime) -> Result<(), Fail> {
+    for (operator, separator, text) in OPERATORS {
+        assert_eq!(rt; operator.separator(), *separator);
+        shows(&rt, rt.alloc(), operator, text)?;
     }
+    shows(&rt, rt.alloc(), &name("x"), "x")?;
     Ok(())
 }
 
 #[test]
 fn where_texts_are_wanted(rt: HostRuntime) -> Result<(), Fail> {
-    let alloc = rt.alloc();
-    for (context, text) in [
-        (StringContext::EnvKey(name("n")), "in key of `n` attribute"),
-        (
-            StringContext::Function(name("n")),
-            "in argument to function `n`",
-        ),
-        (StringContext::Setting(name("n")), "in setting `n`"),
-    ] {
-        assert_eq!(rt; context.token(), name("n").token);
-        assert_eq!(rt; format!(in alloc; "{context}")?.as_str(), text);
-    }
+    let key = StringContext::EnvKey(name("n"));
+    assert_eq!(rt; key.token(), name("n").token);
+    shows(&rt, rt.alloc(), &key, "in key of `n` attribute")?;
+    let function = StringContext::Function(name("n"));
+    assert_eq!(rt; function.token(), name("n").token);
+    shows(&rt, rt.alloc(), &function, "in argument to function `n`")?;
+    let setting = StringContext::Setting(name("n"));
+    assert_eq!(rt; setting.token(), name("n").token);
+    shows(&rt, rt.alloc(), &setting, "in setting `n`")?;
     Ok(())
 }
 
 #[test]
-fn enclosures_and_parameter_kinds(rt: HostRuntime) -> Result<(), Fail> {
-    let alloc = rt.alloc();
-    let ticked = Enclosure::tick("a b");
-    assert_eq!(rt; format!(in alloc; "{ticked}")?.as_str(), "`a b`");
+fn enclosures(rt: HostRuntime) -> Result<(), Fail> {
+    shows(&rt, rt.alloc(), &Enclosure::tick("a b"), "`a b`")?;
     let twice = Enclosure::tick(Enclosure::tick(7));
-    assert_eq!(rt; format!(in alloc; "{twice}")?.as_str(), "``7``");
-    for (kind, variadic) in [
-        (ParameterKind::Singular, false),
-        (ParameterKind::Plus, true),
-        (ParameterKind::Star, true),
-    ] {
-        assert_eq!(rt; kind.is_variadic(), variadic);
-    }
+    shows(&rt, rt.alloc(), &twice, "``7``")?;
     Ok(())
 }
+
+// Kinds of parameters, and whether one takes several arguments.
+const KINDS: &[(ParameterKind, bool)] = &[
+    (ParameterKind::Singular, false),
+    (ParameterKind::Plus, true),
+    (ParameterKind::Star, true),
+];
+
+#[test]
+fn parameter_kinds(rt: HostRuntime) {
+    for (kind, variadic) in KINDS {
+        assert_eq!(rt; kind.is_variadic(), *variadic);
+    }
+}
+
+// Texts, and what they are without their indentation.
+const UNINDENTED: &[(&str, &str)] = &[
+    ("", ""),
+    ("  a", "a"),
+    ("a\n  b", "a\n  b"),
+    ("\n  a\n    b\n", "a\n  b\n"),
+    ("\n  a\n  ", "a\n"),
+    ("\t a\n\t b", "a\nb"),
+    ("  a\n   \n  b\n", "a\n\nb\n"),
+];
 
 #[test]
 fn unindented(rt: HostRuntime) -> Result<(), Fail> {
-    let alloc = rt.alloc();
-    for (text, expected) in [
-        ("", ""),
-        ("  a", "a"),
-        ("a\n  b", "a\n  b"),
-        ("\n  a\n    b\n", "a\n  b\n"),
-        ("\n  a\n  ", "a\n"),
-        ("\t a\n\t b", "a\nb"),
-        ("  a\n   \n  b\n", "a\n\nb\n"),
-    ] {
-        let unindented = unindent(alloc, text)?;
-        assert_eq!(rt; unindented.as_str(), expected, "{text}");
+    for (text, expected) in UNINDENTED {
+        let unindented = unindent(rt.alloc(), text)?;
+        assert_eq!(rt; unindented.as_str(), *expected, "{text}");
     }
     Ok(())
 }

@@ -1,6 +1,7 @@
 // Paths and texts: a call of each public function, and what no stored case can say, which is parents that a built-in
 // function does not tell apart, and texts with a line break.
 
+use just_syntax::out_of_memory::OutOfMemory;
 use just_text::affix::{append, prepend};
 use just_text::case::{capitalize, lowercase, uppercase};
 use just_text::join_list::join_list;
@@ -10,46 +11,86 @@ use just_text::quote::quote;
 use just_text::replace::replace;
 use just_text::split::{split, split_whitespace};
 use just_text::uri::encode_uri_component;
+use std::alloc::Global;
+use std::process::Abort;
 use std::test::Fail;
 
+// Paths and their parents.
+const PARENTS: &[(&str, Option<&str>)] = &[("a//b", Some("a")), (".", Some("")), ("..", Some(""))];
+
 #[test]
-fn texts(rt: HostRuntime) -> Result<(), Fail> {
-    let alloc = rt.alloc();
-    assert_eq!(rt; join(alloc, "a/", "b")?.as_str(), "a/b");
-    assert_eq!(rt; parent("a//b"), Some("a"));
-    assert_eq!(rt; parent("."), Some(""));
-    assert_eq!(rt; parent(".."), Some(""));
+fn parts_of_paths(rt: HostRuntime) {
+    for (path, wanted) in PARENTS {
+        assert_eq!(rt; parent(path), *wanted, "{path}");
+    }
     assert_eq!(rt; file_name("a//b.c"), Some("b.c"));
     assert_eq!(rt; file_stem("a.tar.gz"), Some("a.tar"));
     assert_eq!(rt; extension("a.tar.gz"), Some("gz"));
+}
+
+#[test]
+fn trimmed_texts(rt: HostRuntime) {
     assert_eq!(rt; trim_start_match("ababc", "ab"), "abc");
     assert_eq!(rt; trim_start_matches("ababc", "ab"), "c");
     assert_eq!(rt; trim_end_match("cabab", "ab"), "cab");
     assert_eq!(rt; trim_end_matches("cabab", "ab"), "c");
-    assert_eq!(rt; replace(alloc, "aXbX", "X", "é")?.as_str(), "aébé");
-    assert_eq!(rt; capitalize(alloc, "hELLO")?.as_deref(), Some("Hello"));
-    assert_eq!(rt; lowercase(alloc, "hELLO")?.as_deref(), Some("hello"));
-    assert_eq!(rt; uppercase(alloc, "hELLO")?.as_deref(), Some("HELLO"));
-    assert_eq!(rt; quote(alloc, "it's")?.as_str(), "'it'\\''s'");
-    assert_eq!(rt;
-        encode_uri_component(alloc, "/%\n~")?.as_str(),
-        "%2F%25%0A~"
-    );
-    assert_eq!(rt;
-        split(alloc, "a,,b", ",")?.join(alloc, "|")?.as_str(),
-        "a||b"
-    );
+}
+
+// Whether a text is the wanted one.
+fn expect(rt: &impl Abort, text: String, wanted: &str) {
+    assert_eq!(rt; text.as_str(), wanted);
+}
+
+#[test]
+fn texts(rt: HostRuntime) -> Result<(), Fail> {
+    let alloc = rt.alloc();
+    expect(&rt, join(alloc, "a/", "b")?, "a/b");
+    expect(&rt, replace(alloc, "aXbX", "X", "é")?, "aébé");
+    expect(&rt, quote(alloc, "it's")?, "'it'\\''s'");
+    expect(&rt, encode_uri_component(alloc, "/%\n~")?, "%2F%25%0A~");
+    Ok(())
+}
+
+// Whether there is a text, and it is the wanted one.
+fn expect_some(rt: &impl Abort, text: Option<String>, wanted: &str) {
+    assert_eq!(rt; text.as_deref(), Some(wanted));
+}
+
+#[test]
+fn cases(rt: HostRuntime) -> Result<(), Fail> {
+    let alloc = rt.alloc();
+    expect_some(&rt, capitalize(alloc, "hELLO")?, "Hello");
+    expect_some(&rt, lowercase(alloc, "hELLO")?, "hello");
+    expect_some(&rt, uppercase(alloc, "hELLO")?, "HELLO");
+    Ok(())
+}
+
+// Whether texts are the wanted ones, which have `|` between them.
+fn expect_all(
+    rt: &impl Abort,
+    alloc: Global,
+    texts: &[String],
+    wanted: &str,
+) -> Result<(), OutOfMemory> {
+    expect(rt, texts.join(alloc, "|")?, wanted);
+    Ok(())
+}
+
+#[test]
+fn cut_texts(rt: HostRuntime) -> Result<(), Fail> {
+    let alloc = rt.alloc();
+    expect_all(&rt, alloc, &split(alloc, "a,,b", ",")?, "a||b")?;
     assert!(rt; split_whitespace(alloc, " \t\n")?.is_empty());
+    Ok(())
+}
+
+#[test]
+fn words(rt: HostRuntime) -> Result<(), Fail> {
+    let alloc = rt.alloc();
     let words = split_whitespace(alloc, " a\u{2003}é  b\n")?;
-    assert_eq!(rt; words.join(alloc, "|")?.as_str(), "a|é|b");
-    assert_eq!(rt;
-        append(alloc, "!", &words)?.join(alloc, "|")?.as_str(),
-        "a!|é!|b!"
-    );
-    assert_eq!(rt;
-        prepend(alloc, "x", &words)?.join(alloc, "|")?.as_str(),
-        "xa|xé|xb"
-    );
-    assert_eq!(rt; join_list(alloc, &words, ", ")?.as_str(), "a, é, b");
+    expect_all(&rt, alloc, &words, "a|é|b")?;
+    expect_all(&rt, alloc, &append(alloc, "!", &words)?, "a!|é!|b!")?;
+    expect_all(&rt, alloc, &prepend(alloc, "x", &words)?, "xa|xé|xb")?;
+    expect(&rt, join_list(alloc, &words, ", ")?, "a, é, b");
     Ok(())
 }

@@ -1,49 +1,64 @@
 // Values.
 
-use crate::parts::{token, value};
+use crate::parts::{shows, token, value};
 use just_syntax::list_operator::ListOperator;
 use just_syntax::out_of_memory::OutOfMemory;
 use just_value::element::Element;
 use just_value::error::Error;
 use just_value::value::Value;
 use std::alloc::Global;
+use std::cmp::Ordering;
+use std::process::Abort;
 use std::test::Fail;
 
-#[test]
-fn join_and_truth(rt: HostRuntime) -> Result<(), Fail> {
-    let alloc = rt.alloc();
-    let none: [&str; 0] = [];
-    for (elements, joined, truthy) in [
-        (none.as_slice(), "", false),
-        ([""].as_slice(), "", true),
-        (["foo"].as_slice(), "foo", true),
-        (["foo", "bar"].as_slice(), "foo bar", true),
-        (["foo bar", "baz"].as_slice(), "foo bar baz", true),
-        (["", ""].as_slice(), " ", true),
-    ] {
-        let value = value(alloc, elements)?;
-        assert_eq!(rt; value.join(alloc)?.as_str(), joined);
-        assert_eq!(rt; value.is_truthy(), truthy, "{value}");
-        assert_eq!(rt; value.is_empty(), !truthy, "{value}");
-        assert_eq!(rt; value.len(), elements.len(), "{value}");
-    }
+// The elements of values, what they are joined to, and whether the value is true.
+const JOINED: &[(&[&str], &str, bool)] = &[
+    (&[], "", false),
+    (&[""], "", true),
+    (&["foo"], "foo", true),
+    (&["foo", "bar"], "foo bar", true),
+    (&["foo bar", "baz"], "foo bar baz", true),
+    (&["", ""], " ", true),
+];
+
+fn joins(
+    rt: &impl Abort,
+    alloc: Global,
+    elements: &[&str],
+    joined: &str,
+    truthy: bool,
+) -> Result<(), OutOfMemory> {
+    let value = value(alloc, elements)?;
+    assert_eq!(rt; value.is_truthy(), truthy, "{value}");
+    assert_eq!(rt; value.is_empty(), !truthy, "{value}");
+    assert_eq!(rt; value.len(), elements.len(), "{value}");
+    assert_eq!(rt; value.join(alloc)?.as_str(), joined);
     Ok(())
 }
 
 #[test]
+fn join_and_truth(rt: HostRuntime) -> Result<(), Fail> {
+    for (elements, joined, truthy) in JOINED {
+        joins(&rt, rt.alloc(), elements, joined, *truthy)?;
+    }
+    Ok(())
+}
+
+// The elements of values, and what the value is displayed as.
+const DISPLAYED: &[(&[&str], &str)] = &[
+    (&[], "[]"),
+    (&["foo"], "\"foo\""),
+    (&["foo", "bar"], "[\"foo\", \"bar\"]"),
+    (&["a\tb\"c"], "\"a\\tb\\\"c\""),
+    (&["\\", "\n"], "[\"\\\\\", \"\\n\"]"),
+    (&["\r", "é", ""], "[\"\\r\", \"é\", \"\"]"),
+];
+
+#[test]
 fn displays(rt: HostRuntime) -> Result<(), Fail> {
     let alloc = rt.alloc();
-    let none: [&str; 0] = [];
-    for (elements, shown) in [
-        (none.as_slice(), "[]"),
-        (["foo"].as_slice(), "\"foo\""),
-        (["foo", "bar"].as_slice(), "[\"foo\", \"bar\"]"),
-        (["a\tb\"c"].as_slice(), "\"a\\tb\\\"c\""),
-        (["\\", "\n"].as_slice(), "[\"\\\\\", \"\\n\"]"),
-        (["\r", "é", ""].as_slice(), "[\"\\r\", \"é\", \"\"]"),
-    ] {
-        let value = value(alloc, elements)?;
-        assert_eq!(rt; format!(in alloc; "{value}")?.as_str(), shown);
+    for (elements, text) in DISPLAYED {
+        shows(&rt, alloc, &value(alloc, elements)?, text)?;
     }
     let element = Element("x\ty");
     assert_eq!(rt; format!(in alloc; "{element}")?.as_str(), "\"x\\ty\"");
@@ -65,52 +80,82 @@ fn texts(alloc: Global, texts: &[&str]) -> Result<Vec<String>, OutOfMemory> {
     Ok(owned)
 }
 
+// Whether a value is made of these elements.
+fn expect(rt: &impl Abort, value: Value, elements: &[&str]) {
+    assert!(rt; is_made_of(&value, elements), "{value}");
+}
+
 #[test]
 fn constructors(rt: HostRuntime) -> Result<(), Fail> {
     let alloc = rt.alloc();
+    expect(&rt, Value::from_text(alloc, "foo bar")?, &["foo bar"]);
     let text = String::from_str(alloc, "foo")?;
-    assert!(rt; is_made_of(&Value::from_text(alloc, "foo bar")?, &["foo bar"]));
-    assert!(rt; is_made_of(&Value::from_string(alloc, text)?, &["foo"]));
-    assert!(rt; is_made_of(&Value::from_bool(alloc, true)?, &["true"]));
-    assert!(rt; is_made_of(&Value::from_bool(alloc, false)?, &[]));
+    expect(&rt, Value::from_string(alloc, text)?, &["foo"]);
+    expect(&rt, Value::from_bool(alloc, true)?, &["true"]);
+    expect(&rt, Value::from_bool(alloc, false)?, &[]);
     Ok(())
 }
 
 #[test]
 fn constructors_from_several(rt: HostRuntime) -> Result<(), Fail> {
     let alloc = rt.alloc();
-    let one = Some(String::from_str(alloc, "bar")?);
     let some = ["a", "b c"];
-    assert!(rt; is_made_of(&Value::from_elements(texts(alloc, &some)?), &some));
-    assert!(rt; is_made_of(&Value::from_iterator(alloc, texts(alloc, &some)?)?, &some));
-    assert!(rt; is_made_of(&Value::from_iterator(alloc, one)?, &["bar"]));
-    assert!(rt; is_made_of(&value(alloc, &some)?.try_clone(alloc)?, &some));
+    expect(&rt, Value::from_elements(texts(alloc, &some)?), &some);
+    expect(
+        &rt,
+        Value::from_iterator(alloc, texts(alloc, &some)?)?,
+        &some,
+    );
+    let one = Some(String::from_str(alloc, "bar")?);
+    expect(&rt, Value::from_iterator(alloc, one)?, &["bar"]);
+    expect(&rt, value(alloc, &some)?.try_clone(alloc)?, &some);
     Ok(())
 }
 
-#[test]
-fn iterators(rt: HostRuntime) -> Result<(), Fail> {
-    let alloc = rt.alloc();
-    let value = value(alloc, &["a", "", "bc"])?;
+// The elements that an iterator over references gives, with a `.` behind each.
+pub(crate) fn told(alloc: Global, value: &Value) -> Result<String, OutOfMemory> {
     let mut all = String::new(alloc);
     for text in value.iter() {
         all.push_str(text)?;
         all.push('.')?;
     }
-    for text in &value {
+    for text in value {
         all.push_str(text)?;
         all.push('.')?;
     }
-    let copy = value.try_clone(alloc)?;
+    Ok(all)
+}
+
+// The same of an iterator that takes the value.
+pub(crate) fn told_of_own(alloc: Global, value: Value) -> Result<String, OutOfMemory> {
+    let mut all = String::new(alloc);
     for text in value {
         all.push_str(&text)?;
         all.push('.')?;
     }
-    for text in copy.into_elements() {
+    Ok(all)
+}
+
+// The same of the elements themselves.
+pub(crate) fn told_of_elements(alloc: Global, value: Value) -> Result<String, OutOfMemory> {
+    let mut all = String::new(alloc);
+    for text in value.into_elements() {
         all.push_str(&text)?;
         all.push('.')?;
     }
-    assert_eq!(rt; all.as_str(), "a..bc.a..bc.a..bc.a..bc.");
+    Ok(all)
+}
+
+#[test]
+fn iterators(rt: HostRuntime) -> Result<(), Fail> {
+    let alloc = rt.alloc();
+    let elements = ["a", "", "bc"];
+    let of_references = told(alloc, &value(alloc, &elements)?)?;
+    assert_eq!(rt; of_references.as_str(), "a..bc.a..bc.");
+    let of_own = told_of_own(alloc, value(alloc, &elements)?)?;
+    assert_eq!(rt; of_own.as_str(), "a..bc.");
+    let of_elements = told_of_elements(alloc, value(alloc, &elements)?)?;
+    assert_eq!(rt; of_elements.as_str(), "a..bc.");
     Ok(())
 }
 
@@ -126,87 +171,77 @@ const RISING: &[&[&str]] = &[
     &["é"],
 ];
 
+// Whether values of these elements stand in this order.
+fn compare(
+    rt: &impl Abort,
+    alloc: Global,
+    left: &[&str],
+    right: &[&str],
+    order: Ordering,
+) -> Result<(), OutOfMemory> {
+    let x = value(alloc, left)?;
+    let y = value(alloc, right)?;
+    assert_eq!(rt; x == y, order.is_eq(), "{x} {y}");
+    assert_eq!(rt; x < y, order.is_lt(), "{x} {y}");
+    assert_eq!(rt; x.cmp(&y), order, "{x} {y}");
+    Ok(())
+}
+
 #[test]
 fn comparisons(rt: HostRuntime) -> Result<(), Fail> {
-    let alloc = rt.alloc();
     for (i, left) in RISING.iter().enumerate() {
         for (j, right) in RISING.iter().enumerate() {
-            let x = value(alloc, left)?;
-            let y = value(alloc, right)?;
-            assert_eq!(rt; x == y, i == j, "{x} {y}");
-            assert_eq!(rt; x < y, i < j, "{x} {y}");
-            assert_eq!(rt; x.cmp(&y), i.cmp(&j), "{x} {y}");
+            compare(&rt, rt.alloc(), left, right, i.cmp(&j))?;
         }
     }
     Ok(())
 }
 
+// What is beside `+` and beside `/`, and what that comes to.
+const SUMS: &[(&[&str], &[&str], &str)] = &[
+    (&[], &[], "[]"),
+    (&["a", "b"], &["c", "d"], "[\"ac\", \"bd\"]"),
+    (&["a"], &["b", "c", "d"], "[\"ab\", \"ac\", \"ad\"]"),
+    (&["a", "b", "c"], &["d"], "[\"ad\", \"bd\", \"cd\"]"),
+];
+
+const JOINS: &[(&[&str], &[&str], &str)] = &[
+    (&["a"], &["b"], "\"a/b\""),
+    (&["a", "b"], &["c", "d"], "[\"a/c\", \"b/d\"]"),
+    (&["a", "b"], &["c"], "[\"a/c\", \"b/c\"]"),
+];
+
+fn applied<'src>(
+    alloc: Global,
+    lhs: &[&str],
+    operator: ListOperator,
+    rhs: &[&str],
+) -> Result<Value, Error<'src>> {
+    value(alloc, lhs)?.apply(alloc, &value(alloc, rhs)?, operator, token("+"))
+}
+
 #[test]
 fn operator_on_lists(rt: HostRuntime) -> Result<(), Fail> {
     let alloc = rt.alloc();
-    let none: [&str; 0] = [];
-    let plus = ListOperator::Concatenate;
-    let slash = ListOperator::Join;
-    for (lhs, operator, rhs, wanted) in [
-        (none.as_slice(), plus, none.as_slice(), "[]"),
-        (
-            ["a", "b"].as_slice(),
-            plus,
-            ["c", "d"].as_slice(),
-            "[\"ac\", \"bd\"]",
-        ),
-        (
-            ["a"].as_slice(),
-            plus,
-            ["b", "c", "d"].as_slice(),
-            "[\"ab\", \"ac\", \"ad\"]",
-        ),
-        (
-            ["a", "b", "c"].as_slice(),
-            plus,
-            ["d"].as_slice(),
-            "[\"ad\", \"bd\", \"cd\"]",
-        ),
-        (["a"].as_slice(), slash, ["b"].as_slice(), "\"a/b\""),
-        (
-            ["a", "b"].as_slice(),
-            slash,
-            ["c", "d"].as_slice(),
-            "[\"a/c\", \"b/d\"]",
-        ),
-        (
-            ["a", "b"].as_slice(),
-            slash,
-            ["c"].as_slice(),
-            "[\"a/c\", \"b/c\"]",
-        ),
-    ] {
-        let lhs = value(alloc, lhs)?;
-        let rhs = value(alloc, rhs)?;
-        let applied = lhs.apply(alloc, &rhs, operator, token("+"))?;
-        assert_eq!(rt; format!(in alloc; "{applied}")?.as_str(), wanted);
+    for (lhs, rhs, wanted) in SUMS {
+        let sum = applied(alloc, lhs, ListOperator::Concatenate, rhs)?;
+        shows(&rt, alloc, &sum, wanted)?;
+    }
+    for (lhs, rhs, wanted) in JOINS {
+        let joined = applied(alloc, lhs, ListOperator::Join, rhs)?;
+        shows(&rt, alloc, &joined, wanted)?;
     }
     Ok(())
 }
 
-#[test]
-fn lists_that_do_not_go_together(rt: HostRuntime) -> Result<(), Fail> {
-    let alloc = rt.alloc();
-    let none: [&str; 0] = [];
-    for (lhs, rhs) in [
-        (none.as_slice(), ["a"].as_slice()),
-        (none.as_slice(), ["a", "b"].as_slice()),
-        (["a"].as_slice(), none.as_slice()),
-        (["a", "b"].as_slice(), none.as_slice()),
-        (["a", "b"].as_slice(), ["c", "d", "e"].as_slice()),
-    ] {
-        let left = value(alloc, lhs)?;
-        let right = value(alloc, rhs)?;
-        let refused = left.apply(alloc, &right, ListOperator::Join, token("/"));
-        assert!(rt; holds_both(&refused, &left, &right), "{left} {right}");
-    }
-    Ok(())
-}
+// Lists whose lengths do not go together.
+const ILL_MATCHED: &[(&[&str], &[&str])] = &[
+    (&[], &["a"]),
+    (&[], &["a", "b"]),
+    (&["a"], &[]),
+    (&["a", "b"], &[]),
+    (&["a", "b"], &["c", "d", "e"]),
+];
 
 // Whether it is a refusal of `/` with these lists.
 fn holds_both(refused: &Result<Value, Error>, left: &Value, right: &Value) -> bool {
@@ -221,4 +256,20 @@ fn holds_both(refused: &Result<Value, Error>, left: &Value, right: &Value) -> bo
         ) => { lhs == left && rhs == right && *operator == ListOperator::Join && *at == token("/") }
         _ => false,
     }
+}
+
+fn refuses(rt: &impl Abort, alloc: Global, lhs: &[&str], rhs: &[&str]) -> Result<(), OutOfMemory> {
+    let left = value(alloc, lhs)?;
+    let right = value(alloc, rhs)?;
+    let refused = left.apply(alloc, &right, ListOperator::Join, token("/"));
+    assert!(rt; holds_both(&refused, &left, &right), "{left} {right}");
+    Ok(())
+}
+
+#[test]
+fn lists_that_do_not_go_together(rt: HostRuntime) -> Result<(), Fail> {
+    for (lhs, rhs) in ILL_MATCHED {
+        refuses(&rt, rt.alloc(), lhs, rhs)?;
+    }
+    Ok(())
 }

@@ -1,58 +1,119 @@
 // Word lists and positional words.
 
+use crate::parts::shows;
 use just_syntax::out_of_memory::OutOfMemory;
 use just_value::list::List;
 use just_value::positional::Positional;
 use std::alloc::Global;
-use std::fmt::Display;
+use std::process::Abort;
 use std::test::Fail;
 
-// What `Display` writes.
-fn shown<T: Display>(alloc: Global, item: &T) -> Result<String, OutOfMemory> {
-    Ok(format!(in alloc; "{item}")?)
+// Numbers, and what the lists of them say.
+struct Lists {
+    numbers: &'static [i32],
+    or: &'static str,
+    and: &'static str,
+    or_ticked: &'static str,
+    and_ticked: &'static str,
+}
+
+const LISTS: &[Lists] = &[
+    Lists {
+        numbers: &[],
+        or: "",
+        and: "",
+        or_ticked: "",
+        and_ticked: "",
+    },
+    Lists {
+        numbers: &[1],
+        or: "1",
+        and: "1",
+        or_ticked: "`1`",
+        and_ticked: "`1`",
+    },
+    Lists {
+        numbers: &[1, 2],
+        or: "1 or 2",
+        and: "1 and 2",
+        or_ticked: "`1` or `2`",
+        and_ticked: "`1` and `2`",
+    },
+    Lists {
+        numbers: &[1, 2, 3],
+        or: "1, 2, or 3",
+        and: "1, 2, and 3",
+        or_ticked: "`1`, `2`, or `3`",
+        and_ticked: "`1`, `2`, and `3`",
+    },
+    Lists {
+        numbers: &[1, 2, 3, 4],
+        or: "1, 2, 3, or 4",
+        and: "1, 2, 3, and 4",
+        or_ticked: "`1`, `2`, `3`, or `4`",
+        and_ticked: "`1`, `2`, `3`, and `4`",
+    },
+];
+
+fn list_all(rt: &impl Abort, alloc: Global, lists: &Lists) -> Result<(), OutOfMemory> {
+    let numbers = lists.numbers;
+    shows(rt, alloc, &List::or(alloc, numbers)?, lists.or)?;
+    shows(rt, alloc, &List::and(alloc, numbers)?, lists.and)?;
+    let ticked = List::or_ticked(alloc, numbers)?;
+    shows(rt, alloc, &ticked, lists.or_ticked)?;
+    let ticked = List::and_ticked(alloc, numbers)?;
+    shows(rt, alloc, &ticked, lists.and_ticked)
 }
 
 #[test]
 fn word_lists(rt: HostRuntime) -> Result<(), Fail> {
-    let alloc = rt.alloc();
-    let numbers = [1, 2, 3, 4];
-    for (n, or, and, or_ticked, and_ticked) in [
-        (0, "", "", "", ""),
-        (1, "1", "1", "`1`", "`1`"),
-        (2, "1 or 2", "1 and 2", "`1` or `2`", "`1` and `2`"),
-        (
-            3,
-            "1, 2, or 3",
-            "1, 2, and 3",
-            "`1`, `2`, or `3`",
-            "`1`, `2`, and `3`",
-        ),
-        (
-            4,
-            "1, 2, 3, or 4",
-            "1, 2, 3, and 4",
-            "`1`, `2`, `3`, or `4`",
-            "`1`, `2`, `3`, and `4`",
-        ),
-    ] {
-        let some = &numbers[..n];
-        assert_eq!(rt; shown(alloc, &List::or(alloc, some)?)?.as_str(), or);
-        assert_eq!(rt; shown(alloc, &List::and(alloc, some)?)?.as_str(), and);
-        assert_eq!(rt;
-            shown(alloc, &List::or_ticked(alloc, some)?)?.as_str(),
-            or_ticked
-        );
-        assert_eq!(rt;
-            shown(alloc, &List::and_ticked(alloc, some)?)?.as_str(),
-            and_ticked
-        );
+    for lists in LISTS {
+        list_all(&rt, rt.alloc(), lists)?;
     }
     Ok(())
 }
 
-// Positional words as one text: the overrides, each in parentheses, the directory in brackets, the arguments in quotes.
-fn told(alloc: Global, words: &[&str]) -> Result<String, Fail> {
-    let positional = Positional::from_values(alloc, words.iter().copied())?;
+// Positional words, and what they are told as: the overrides, each in parentheses, the directory in brackets, and the
+// arguments in quotes.
+const POSITIONAL: &[(&[&str], &str)] = &[
+    (&[], ""),
+    (&["foo", "bar"], "'foo''bar'"),
+    (&["foo=bar", "bar=foo"], "(foo=bar)(bar=foo)"),
+    (&["the-dir/", "baz", "bzzd"], "[the-dir/]'baz''bzzd'"),
+    (
+        &["foo=bar", "bar=foo", "baz", "bzzd"],
+        "(foo=bar)(bar=foo)'baz''bzzd'",
+    ),
+    (
+        &["foo=bar", "bar=foo", "the-dir/"],
+        "(foo=bar)(bar=foo)[the-dir/]",
+    ),
+    (
+        &["foo=bar", "bar=foo", ".", "garnor"],
+        "(foo=bar)(bar=foo)[.]'garnor'",
+    ),
+    (
+        &["foo=bar", "bar=foo", "..", "garnor"],
+        "(foo=bar)(bar=foo)[..]'garnor'",
+    ),
+    (
+        &["foo=bar", "bar=foo", "/", "garnor"],
+        "(foo=bar)(bar=foo)[/]'garnor'",
+    ),
+    (
+        &["foo=bar", "bar=foo", "baz", "bzzd", "bar/"],
+        "(foo=bar)(bar=foo)'baz''bzzd''bar/'",
+    ),
+    (&["..", "a=b"], "[..]'a=b'"),
+    (&["a", "a=b"], "'a''a=b'"),
+    (&["=x", ".", "=y"], "(=x)[.]'=y'"),
+    (&["./x=1", "a/b", "c=d"], "(./x=1)[a/]'b''c=d'"),
+    (&["a/b=c"], "(a/b=c)"),
+    (&["a=b=c", "x/y/z"], "(a=b=c)[x/y/]'z'"),
+    (&["...", "."], "'...''.'"),
+];
+
+fn told(alloc: Global, positional: &Positional) -> Result<String, OutOfMemory> {
     let mut text = String::new(alloc);
     for (key, value) in &positional.overrides {
         text.push_str(&format!(in alloc; "({key}={value})")?)?;
@@ -66,51 +127,16 @@ fn told(alloc: Global, words: &[&str]) -> Result<String, Fail> {
     Ok(text)
 }
 
+fn expect(rt: &impl Abort, alloc: Global, words: &[&str], text: &str) -> Result<(), OutOfMemory> {
+    let positional = Positional::from_values(alloc, words.iter().copied())?;
+    assert_eq!(rt; told(alloc, &positional)?.as_str(), text);
+    Ok(())
+}
+
 #[test]
 fn positional_words(rt: HostRuntime) -> Result<(), Fail> {
-    let alloc = rt.alloc();
-    let none: [&str; 0] = [];
-    for (words, wanted) in [
-        (none.as_slice(), ""),
-        (["foo", "bar"].as_slice(), "'foo''bar'"),
-        (["foo=bar", "bar=foo"].as_slice(), "(foo=bar)(bar=foo)"),
-        (
-            ["the-dir/", "baz", "bzzd"].as_slice(),
-            "[the-dir/]'baz''bzzd'",
-        ),
-        (
-            ["foo=bar", "bar=foo", "baz", "bzzd"].as_slice(),
-            "(foo=bar)(bar=foo)'baz''bzzd'",
-        ),
-        (
-            ["foo=bar", "bar=foo", "the-dir/"].as_slice(),
-            "(foo=bar)(bar=foo)[the-dir/]",
-        ),
-        (
-            ["foo=bar", "bar=foo", ".", "garnor"].as_slice(),
-            "(foo=bar)(bar=foo)[.]'garnor'",
-        ),
-        (
-            ["foo=bar", "bar=foo", "..", "garnor"].as_slice(),
-            "(foo=bar)(bar=foo)[..]'garnor'",
-        ),
-        (
-            ["foo=bar", "bar=foo", "/", "garnor"].as_slice(),
-            "(foo=bar)(bar=foo)[/]'garnor'",
-        ),
-        (
-            ["foo=bar", "bar=foo", "baz", "bzzd", "bar/"].as_slice(),
-            "(foo=bar)(bar=foo)'baz''bzzd''bar/'",
-        ),
-        (["..", "a=b"].as_slice(), "[..]'a=b'"),
-        (["a", "a=b"].as_slice(), "'a''a=b'"),
-        (["=x", ".", "=y"].as_slice(), "(=x)[.]'=y'"),
-        (["./x=1", "a/b", "c=d"].as_slice(), "(./x=1)[a/]'b''c=d'"),
-        (["a/b=c"].as_slice(), "(a/b=c)"),
-        (["a=b=c", "x/y/z"].as_slice(), "(a=b=c)[x/y/]'z'"),
-        (["...", "."].as_slice(), "'...''.'"),
-    ] {
-        assert_eq!(rt; told(alloc, words)?.as_str(), wanted);
+    for (words, text) in POSITIONAL {
+        expect(&rt, rt.alloc(), words, text)?;
     }
     Ok(())
 }

@@ -1,28 +1,41 @@
 // Scopes of a thousand bindings, and of two hundred frames.
 
-use crate::scope::{bind, told_value};
-use crate::sizes::numbered;
+use crate::scope::{bind, holds};
+use crate::sizes::{numbered, twice};
 use just_syntax::number::Number;
+use just_syntax::out_of_memory::OutOfMemory;
 use just_value::scope::Scope;
 use std::alloc::Global;
 use std::process::Abort;
 use std::test::Fail;
 
-#[test]
-fn a_thousand_bindings(rt: HostRuntime) -> Result<(), Fail> {
-    let alloc = rt.alloc();
-    let names = numbered(alloc, 2000)?;
-    let mut scope = Scope::root(alloc, &[])?;
+// Binds each name to itself, by its place among them, the last first.
+fn bind_all<'src>(
+    alloc: Global,
+    scope: &mut Scope<'src, '_>,
+    names: &'src [String],
+) -> Result<(), OutOfMemory> {
     for (place, lexeme) in names.iter().enumerate().rev() {
-        bind(alloc, &mut scope, lexeme, place as u64, lexeme)?;
+        bind(alloc, scope, lexeme, place as u64, lexeme)?;
     }
+    Ok(())
+}
+
+// Whether each name is bound to itself, by its place among them.
+fn holds_all(
+    rt: &impl Abort,
+    alloc: Global,
+    scope: &Scope,
+    names: &[String],
+) -> Result<(), OutOfMemory> {
     for (place, lexeme) in names.iter().enumerate() {
-        assert_eq!(rt;
-            told_value(alloc, &scope, place as u64)?.as_str(),
-            lexeme.as_str()
-        );
+        holds(rt, alloc, scope, place as u64, lexeme)?;
     }
-    assert!(rt; scope.binding(Number::new(1000)).is_none());
+    Ok(())
+}
+
+// The names of the own bindings, twice.
+fn names_twice(alloc: Global, scope: &Scope) -> Result<String, OutOfMemory> {
     let mut all = String::new(alloc);
     for binding in scope.bindings() {
         all.push_str(binding.name.lexeme())?;
@@ -30,38 +43,50 @@ fn a_thousand_bindings(rt: HostRuntime) -> Result<(), Fail> {
     for binding in scope.frame().bindings() {
         all.push_str(binding.name.lexeme())?;
     }
-    let once = names.join(alloc, "")?;
-    assert_eq!(rt; all.as_str(), format!(in alloc; "{once}{once}")?.as_str());
+    Ok(all)
+}
+
+#[test]
+fn a_thousand_bindings(rt: HostRuntime) -> Result<(), Fail> {
+    let alloc = rt.alloc();
+    let names = numbered(alloc, 2000)?;
+    let mut scope = Scope::root(alloc, &[])?;
+    bind_all(alloc, &mut scope, &names)?;
+    holds_all(&rt, alloc, &scope, &names)?;
+    assert!(rt; scope.binding(Number::new(1000)).is_none());
+    let all = names_twice(alloc, &scope)?;
+    assert_eq!(rt; all.as_str(), twice(alloc, &names)?.as_str());
     Ok(())
+}
+
+// Each text beside itself.
+fn beside_themselves(alloc: Global, texts: &[String]) -> Result<Vec<(&str, &str)>, OutOfMemory> {
+    let mut pairs = Vec::new(alloc);
+    for text in texts {
+        pairs.push((text.as_str(), text.as_str()))?;
+    }
+    Ok(pairs)
 }
 
 #[test]
 fn a_thousand_constants(rt: HostRuntime) -> Result<(), Fail> {
     let alloc = rt.alloc();
     let names = numbered(alloc, 2000)?;
-    let mut constants = Vec::new(alloc);
-    for lexeme in &names {
-        constants.push((lexeme.as_str(), lexeme.as_str()))?;
-    }
+    let constants = beside_themselves(alloc, &names)?;
     let root = Scope::root(alloc, &constants)?;
-    for (place, lexeme) in names.iter().enumerate() {
-        assert_eq!(rt;
-            told_value(alloc, &root, place as u64)?.as_str(),
-            lexeme.as_str()
-        );
-    }
+    holds_all(&rt, alloc, &root, &names)?;
     Ok(())
 }
 
 // So many frames within a scope, of which each sees what it binds.
-fn descend(rt: &impl Abort, alloc: Global, scope: &Scope, levels: u64) -> Result<(), Fail> {
-    assert_eq!(rt; told_value(alloc, scope, 0)?.as_str(), "outermost");
+fn descend(rt: &impl Abort, alloc: Global, scope: &Scope, levels: u64) -> Result<(), OutOfMemory> {
+    holds(rt, alloc, scope, 0, "outermost")?;
     if levels == 0 {
         return Ok(());
     }
     let mut child = scope.child(alloc)?;
     bind(alloc, &mut child, "own", levels, "own")?;
-    assert_eq!(rt; told_value(alloc, &child, levels)?.as_str(), "own");
+    holds(rt, alloc, &child, levels, "own")?;
     descend(rt, alloc, &child, levels - 1)
 }
 
@@ -70,5 +95,6 @@ fn hundreds_of_frames(rt: HostRuntime) -> Result<(), Fail> {
     let alloc = rt.alloc();
     let mut scope = Scope::root(alloc, &[])?;
     bind(alloc, &mut scope, "x", 0, "outermost")?;
-    descend(&rt, alloc, &scope, 200)
+    descend(&rt, alloc, &scope, 200)?;
+    Ok(())
 }

@@ -1,22 +1,21 @@
 // Tables of a thousand keys, a thousand names of variables, and texts of hundreds of lines.
 
 use crate::parts::name;
-use crate::sizes::{Long, long, numbered};
-use crate::syntax::Named;
+use crate::sizes::{Long, long, numbered, twice};
+use crate::syntax::{Named, keys_twice};
 use just_syntax::assignment::Assignment;
 use just_syntax::expression::Expression;
-use just_syntax::keyed::Keyed;
 use just_syntax::number::Number;
+use just_syntax::out_of_memory::OutOfMemory;
 use just_syntax::table::Table;
 use just_syntax::unindent::unindent;
 use just_syntax::variables::{overrides_of, references_of};
+use std::alloc::Global;
 use std::process::Abort;
 use std::test::Fail;
 
-#[test]
-fn table_of_a_thousand_keys(rt: HostRuntime) -> Result<(), Fail> {
-    let alloc = rt.alloc();
-    let keys = numbered(alloc, 2000)?;
+// Puts a value behind each key, the last first.
+fn table_of(alloc: Global, keys: &[String]) -> Result<Table<Named<'_>>, OutOfMemory> {
     let mut table = Table::new(alloc);
     for (place, key) in keys.iter().rev().enumerate() {
         table.insert(Named {
@@ -24,60 +23,99 @@ fn table_of_a_thousand_keys(rt: HostRuntime) -> Result<(), Fail> {
             place: place as u64,
         })?;
     }
+    Ok(table)
+}
+
+#[test]
+fn table_of_a_thousand_keys(rt: HostRuntime) -> Result<(), Fail> {
+    let keys = numbered(rt.alloc(), 2000)?;
+    let table = table_of(rt.alloc(), &keys)?;
     assert_eq!(rt; table.len(), 1000);
     for (place, key) in keys.iter().rev().enumerate() {
         let found = table.get(key).map(|named| named.place);
         assert_eq!(rt; found, Some(place as u64), "{key}");
     }
-    let mut all = String::new(alloc);
-    for named in table.iter() {
-        all.push_str(named.key())?;
-    }
-    for named in table {
-        all.push_str(named.key())?;
-    }
-    let once = keys.join(alloc, "")?;
-    assert_eq!(rt; all.as_str(), format!(in alloc; "{once}{once}")?.as_str());
     Ok(())
 }
+
+#[test]
+fn table_gone_over_by_a_thousand_keys(rt: HostRuntime) -> Result<(), Fail> {
+    let alloc = rt.alloc();
+    let keys = numbered(alloc, 2000)?;
+    let all = keys_twice(alloc, table_of(alloc, &keys)?)?;
+    assert_eq!(rt; all.as_str(), twice(alloc, &keys)?.as_str());
+    Ok(())
+}
+
+// Long texts, and what they are without their indentation.
+const UNINDENTED: &[(Long, Long)] = &[
+    (("", "    line\n", 300, ""), ("", "line\n", 300, "")),
+    (("\n", "\t a\n\n", 300, "\t b"), ("", "a\n\n", 300, "b")),
+    (("  ", "long ", 1000, "\n"), ("", "long ", 1000, "\n")),
+];
 
 #[test]
 fn hundreds_of_lines_unindented(rt: HostRuntime) -> Result<(), Fail> {
     let alloc = rt.alloc();
-    let rows: [(Long, Long); 3] = [
-        (("", "    line\n", 300, ""), ("", "line\n", 300, "")),
-        (("\n", "\t a\n\n", 300, "\t b"), ("", "a\n\n", 300, "b")),
-        (("  ", "long ", 1000, "\n"), ("", "long ", 1000, "\n")),
-    ];
-    for (text, wanted) in rows {
-        let unindented = unindent(alloc, &long(alloc, text)?)?;
-        assert_eq!(rt; unindented.as_str(), long(alloc, wanted)?.as_str());
+    for (text, wanted) in UNINDENTED {
+        let unindented = unindent(alloc, &long(alloc, *text)?)?;
+        assert_eq!(rt; unindented.as_str(), long(alloc, *wanted)?.as_str());
     }
     Ok(())
 }
 
-#[test]
-fn a_thousand_names_of_variables(rt: HostRuntime) -> Result<(), Fail> {
-    let alloc = rt.alloc();
-    let lexemes = numbered(alloc, 2000)?;
+// Assigns each name, which has its place among them as its number.
+fn assignments(alloc: Global, names: &[String]) -> Result<Table<Assignment<'_>>, OutOfMemory> {
     let mut assignments = Table::new(alloc);
-    let mut names = Vec::new(alloc);
-    let mut pairs = Vec::new(alloc);
-    for (place, lexeme) in lexemes.iter().enumerate() {
+    for (place, lexeme) in names.iter().enumerate() {
         let value = Expression::literal(alloc, "", "''")?;
         assignments.insert(Assignment::new(name(lexeme), Number::new(place as u64), value))?;
-        names.push(lexeme.as_str())?;
+    }
+    Ok(assignments)
+}
+
+// Pairs of each name and itself.
+fn pairs(alloc: Global, names: &[String]) -> Result<Vec<(String, String)>, OutOfMemory> {
+    let mut pairs = Vec::new(alloc);
+    for lexeme in names {
         pairs.push((lexeme.clone()?, lexeme.clone()?))?;
     }
-    let overrides = overrides_of(alloc, &assignments, &pairs)?;
-    let references = references_of(alloc, &assignments, &names)?;
+    Ok(pairs)
+}
+
+#[test]
+fn a_thousand_overrides(rt: HostRuntime) -> Result<(), Fail> {
+    let alloc = rt.alloc();
+    let names = numbered(alloc, 2000)?;
+    let pairs = pairs(alloc, &names)?;
+    let overrides = overrides_of(alloc, &assignments(alloc, &names)?, &pairs)?;
     assert_eq!(rt; overrides.len(), 1000);
+    for (place, lexeme) in names.iter().enumerate() {
+        let text = overrides.get(&Number::new(place as u64));
+        assert_eq!(rt; text.map(|text| text.as_str()), Some(lexeme.as_str()));
+    }
+    Ok(())
+}
+
+// The texts, borrowed.
+fn borrowed(alloc: Global, texts: &[String]) -> Result<Vec<&str>, OutOfMemory> {
+    let mut all = Vec::new(alloc);
+    for text in texts {
+        all.push(text.as_str())?;
+    }
+    Ok(all)
+}
+
+#[test]
+fn a_thousand_references(rt: HostRuntime) -> Result<(), Fail> {
+    let alloc = rt.alloc();
+    let names = numbered(alloc, 2000)?;
+    let lexemes = borrowed(alloc, &names)?;
+    let references = references_of(alloc, &assignments(alloc, &names)?, &lexemes)?;
     assert_eq!(rt; references.len(), 1000);
-    for (place, lexeme) in lexemes.iter().enumerate() {
-        let number = Number::new(place as u64);
-        let text = overrides.get(&number).map(|text| text.as_str());
-        assert_eq!(rt; text, Some(lexeme.as_str()));
-        assert!(rt; references.contains(&number), "{lexeme}");
+    for (place, lexeme) in names.iter().enumerate() {
+        let is_there = references.contains(&Number::new(place as u64));
+        assert!(rt; is_there, "{lexeme}");
     }
     Ok(())
 }

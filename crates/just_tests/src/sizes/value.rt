@@ -1,6 +1,8 @@
 // Values of a thousand elements.
 
 use crate::sizes::{long, numbered, texts};
+use crate::value::{told, told_of_elements, told_of_own};
+use just_syntax::out_of_memory::OutOfMemory;
 use just_value::value::Value;
 use std::alloc::Global;
 use std::process::Abort;
@@ -12,25 +14,46 @@ fn is_made_of(value: &Value, elements: &[String]) -> bool {
     value.len() == elements.len() && pairs.all(|(x, y)| x.as_str() == y.as_str())
 }
 
+// Whether a value is made of these elements.
+fn expect(rt: &impl Abort, value: Value, elements: &[String]) {
+    assert!(rt; is_made_of(&value, elements));
+}
+
+// A value to which each element was added.
+fn pushed(alloc: Global, elements: &[String]) -> Result<Value, OutOfMemory> {
+    let mut value = Value::new(alloc);
+    for element in elements {
+        value.push(element)?;
+    }
+    Ok(value)
+}
+
+#[test]
+fn a_thousand_elements_added(rt: HostRuntime) -> Result<(), Fail> {
+    let alloc = rt.alloc();
+    let elements = numbered(alloc, 2000)?;
+    let value = pushed(alloc, &elements)?;
+    assert_eq!(rt; value.len(), 1000);
+    assert!(rt; value.is_truthy() && !value.is_empty());
+    expect(&rt, value.try_clone(alloc)?, &elements);
+    expect(&rt, value, &elements);
+    Ok(())
+}
+
 #[test]
 fn made_of_a_thousand_elements(rt: HostRuntime) -> Result<(), Fail> {
     let alloc = rt.alloc();
     let elements = numbered(alloc, 2000)?;
-    let mut value = Value::new(alloc);
-    for element in &elements {
-        value.push(element)?;
-    }
-    assert_eq!(rt; value.len(), 1000);
-    assert!(rt; value.is_truthy() && !value.is_empty());
-    assert!(rt; is_made_of(&value, &elements));
-    assert!(rt; is_made_of(&value.try_clone(alloc)?, &elements));
-    assert!(rt; is_made_of(&Value::from_elements(numbered(alloc, 2000)?), &elements));
-    assert!(rt;
-        is_made_of(
-            &Value::from_iterator(alloc, numbered(alloc, 2000)?)?,
-            &elements
-        )
-    );
+    expect(&rt, Value::from_elements(numbered(alloc, 2000)?), &elements);
+    let value = Value::from_iterator(alloc, numbered(alloc, 2000)?)?;
+    expect(&rt, value, &elements);
+    Ok(())
+}
+
+// Whether a text is `ab.` so many times.
+fn repeats(rt: &impl Abort, alloc: Global, text: String, times: usize) -> Result<(), OutOfMemory> {
+    let wanted = long(alloc, ("", "ab.", times, ""))?;
+    assert_eq!(rt; text.as_str(), wanted.as_str());
     Ok(())
 }
 
@@ -38,21 +61,14 @@ fn made_of_a_thousand_elements(rt: HostRuntime) -> Result<(), Fail> {
 fn gone_over_a_thousand_elements(rt: HostRuntime) -> Result<(), Fail> {
     let alloc = rt.alloc();
     let value = Value::from_elements(texts(alloc, "ab", 1000)?);
-    let copy = value.try_clone(alloc)?;
-    let mut all = String::new(alloc);
-    for text in value.iter() {
-        all.push_str(text)?;
-    }
-    for text in &value {
-        all.push_str(text)?;
-    }
-    for text in value {
-        all.push_str(&text)?;
-    }
-    for text in copy.into_elements() {
-        all.push_str(&text)?;
-    }
-    assert_eq!(rt; all.as_str(), long(alloc, ("", "ab", 4000, ""))?.as_str());
+    repeats(&rt, alloc, told(alloc, &value)?, 2000)?;
+    repeats(
+        &rt,
+        alloc,
+        told_of_own(alloc, value.try_clone(alloc)?)?,
+        1000,
+    )?;
+    repeats(&rt, alloc, told_of_elements(alloc, value)?, 1000)?;
     Ok(())
 }
 
