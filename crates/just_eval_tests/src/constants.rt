@@ -9,6 +9,7 @@ use just_eval::evaluator::Evaluator;
 use just_host::no_host::NoHost;
 use just_host::recorder::Recorder;
 use just_syntax::assignment::Assignment;
+use just_syntax::expression::Expression;
 use just_syntax::number::Number;
 use just_syntax::out_of_memory::OutOfMemory;
 use just_syntax::string_context::StringContext;
@@ -82,23 +83,25 @@ fn const_expressions(rt: HostRuntime) -> Result<(), Fail> {
     for (expression, value, text) in EXPRESSIONS {
         let case = format!(in alloc; "{STAGE}{expression}{LAST_LINES}")?;
         let expected = format!(in alloc; "{value}; {text}; {value}; 0; \"sh\" open - - - 1 own")?;
-        let told = expression_told(alloc, &case)?;
+        let told = expression_told(alloc, &case, NOTHING)?;
         assert_eq!(rt; told.as_str(), expected.as_str(), "{expression}");
     }
     Ok(())
 }
 
 // The assignments `a`, `b`, `d` and `e` have the numbers 0 to 3, and `e` is not referenced.
-const NUMBERED: &[u8] =
-    b"str x\nassign a\ncmd c\nassign b\nvar b\nassign d\nstr y\nassign e\nonly a b d\noverride e z\nconst";
+const NUMBERED: &str =
+    "str x\nassign a\ncmd c\nassign b\nvar b\nassign d\nstr y\nassign e\nonly a b d\noverride e z\nconst";
+
+// What the outer scope binds: to the numbers from 0 on, each of which has a name of its own there.
+const NOTHING: &[(&str, &str)] = &[];
+
+const TWO_NUMBERS: &[(&str, &str)] = &[("k", "v"), ("l", "w")];
 
 // What is settled is bound in front of the outer scope, what is open is not, and what is not referenced is neither.
 #[test]
 fn settled_and_open(rt: HostRuntime) -> Result<(), Fail> {
-    let alloc = rt.alloc();
-    let lines = parse_lines(alloc, NUMBERED)?;
-    let case = build(alloc, &lines)?;
-    let told = told_of(alloc, case)?;
+    let told = expression_told(rt.alloc(), NUMBERED, NOTHING)?;
     assert_eq!(rt;
         told.as_str(),
         "\"y\"; y; \"y\"; 0; \"x\" open open - - 1 own"
@@ -109,10 +112,7 @@ fn settled_and_open(rt: HostRuntime) -> Result<(), Fail> {
 // A number that the outer scope binds is passed over: it keeps its outer value, also where a command stands.
 #[test]
 fn bound_outside(rt: HostRuntime) -> Result<(), Fail> {
-    let alloc = rt.alloc();
-    let lines = parse_lines(alloc, NUMBERED)?;
-    let case = build(alloc, &lines)?;
-    let told = told_bound_outside(alloc, case)?;
+    let told = expression_told(rt.alloc(), NUMBERED, TWO_NUMBERS)?;
     assert_eq!(rt;
         told.as_str(),
         "\"y\"; y; \"y\"; 0; \"v\" \"w\" \"w\" - - 1 own"
@@ -122,20 +122,22 @@ fn bound_outside(rt: HostRuntime) -> Result<(), Fail> {
 
 // What the expression of a case comes to: as a value, as a text, as a value where a host is handed in; how often that host
 // was asked; and what the first five numbers are.
-fn expression_told(alloc: Global, case: &str) -> Result<String, Fail> {
+fn expression_told(
+    alloc: Global,
+    case: &str,
+    outside: &[(&'static str, &'static str)],
+) -> Result<String, Fail> {
     let lines = parse_lines(alloc, case.as_bytes())?;
     let case = build(alloc, &lines)?;
-    told_of(alloc, case)
+    told_of(alloc, case, outside)
 }
 
-fn told_of(alloc: Global, case: Case) -> Result<String, Fail> {
-    let scope = Scope::root(alloc, &[])?;
-    told_in(alloc, case, &scope)
-}
-
-// The same where the outer scope binds the first two numbers.
-fn told_bound_outside(alloc: Global, case: Case) -> Result<String, Fail> {
-    let scope = Scope::root(alloc, &[("k", "v"), ("l", "w")])?;
+fn told_of(
+    alloc: Global,
+    case: Case,
+    outside: &[(&'static str, &'static str)],
+) -> Result<String, Fail> {
+    let scope = Scope::root(alloc, outside)?;
     told_in(alloc, case, &scope)
 }
 
@@ -166,19 +168,58 @@ fn told_by<'src>(
     requires before_runs { IsConst evaluator.now }
 {
     let mut text = String::new(alloc);
-    let Some(assignment) = assignments.get("e") else {
-        return Ok(text);
-    };
-    let expression = &assignment.value;
+    if let Some(assignment) = assignments.get("e") {
+        let expression = &assignment.value;
+        add_value(alloc, &mut text, evaluator, expression)?;
+        add_string(alloc, &mut text, evaluator, expression)?;
+        add_asked(alloc, &mut text, evaluator, expression)?;
+        add_numbers(&mut text, evaluator)?;
+    }
+    Ok(text)
+}
+
+// Adds what an expression comes to as a value.
+fn add_value<'src>(
+    alloc: Global,
+    text: &mut String,
+    evaluator: &Evaluator<'src, '_>,
+    expression: &Expression<'src>,
+) -> Result<(), OutOfMemory>
+    requires before_runs { IsConst evaluator.now }
+{
     match evaluator.evaluate_value_const(alloc, expression) {
         Ok(value) => write!(text, "{value}; ")?,
         Err(error) => write!(text, "{}; ", said(alloc, &error)?)?,
     }
+    Ok(())
+}
+
+// Adds what it comes to as a text in the setting `set`.
+fn add_string<'src>(
+    alloc: Global,
+    text: &mut String,
+    evaluator: &Evaluator<'src, '_>,
+    expression: &Expression<'src>,
+) -> Result<(), OutOfMemory>
+    requires before_runs { IsConst evaluator.now }
+{
     let context = StringContext::Setting(name("set"));
     match evaluator.evaluate_string_const(alloc, expression, context) {
         Ok(string) => write!(text, "{string}; ")?,
         Err(error) => write!(text, "{}; ", said(alloc, &error)?)?,
     }
+    Ok(())
+}
+
+// Adds what it comes to as a value where a host is handed in, and how often that host was asked.
+fn add_asked<'src>(
+    alloc: Global,
+    text: &mut String,
+    evaluator: &Evaluator<'src, '_>,
+    expression: &Expression<'src>,
+) -> Result<(), OutOfMemory>
+    requires before_runs { IsConst evaluator.now }
+{
     let mut host = Recorder::new(alloc, NoHost);
     match evaluator.evaluate_value(alloc, &mut host, expression) {
         Ok(value) => write!(text, "{value}; ")?,
@@ -186,8 +227,7 @@ fn told_by<'src>(
     }
     let asked = host.questions().len();
     write!(text, "{asked}; ")?;
-    add_numbers(&mut text, evaluator)?;
-    Ok(text)
+    Ok(())
 }
 
 // Adds what the first five numbers are, and how many bindings are own.

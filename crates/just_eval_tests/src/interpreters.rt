@@ -114,17 +114,33 @@ fn told_by<'src>(
         if let Some(list) = &list
             && lexeme == "e"
         {
-            match evaluator.evaluate_interpreter(alloc, list, name("shell")) {
-                Ok(interpreter) => print(&mut text, &interpreter)?,
-                Err(error) => text.push_str(&said(alloc, &error)?)?,
-            }
+            add_outcome(alloc, &mut text, evaluator, list)?;
         }
     }
     Ok(text)
 }
 
-// Adds a command and its arguments.
-fn print(text: &mut String, interpreter: &Interpreter<String>) -> Result<(), OutOfMemory> {
+// Adds what an interpreter comes to, or what is said of its refusal.
+fn add_outcome<'src>(
+    alloc: Global,
+    text: &mut String,
+    evaluator: &Evaluator<'src, '_>,
+    list: &Interpreter<Expression<'src>>,
+) -> Result<(), OutOfMemory>
+    requires before_runs { IsConst evaluator.now }
+{
+    match evaluator.evaluate_interpreter(alloc, list, name("shell")) {
+        Ok(interpreter) => print(text, &interpreter)?,
+        Err(error) => text.push_str(&said(alloc, &error)?)?,
+    }
+    Ok(())
+}
+
+/// Adds a command and its arguments.
+pub(crate) fn print(
+    text: &mut String,
+    interpreter: &Interpreter<String>,
+) -> Result<(), OutOfMemory> {
     text.push_str(&interpreter.command)?;
     for argument in &interpreter.arguments {
         write!(text, " {argument}")?;

@@ -6,4 +6,6 @@ mod constants;
 #[cfg(test)]
 mod interpreters;
 #[cfg(test)]
+mod kept;
+#[cfg(test)]
 mod settings;
