@@ -7,10 +7,41 @@ use just_host::host::Host;
 use just_host::justfile::Justfile;
 use just_host::search::Search;
 use just_host::settings::Settings;
+use just_syntax::assignment::Assignment;
+use just_syntax::function_definition::FunctionDefinition;
+use just_syntax::name::Name;
 use just_syntax::out_of_memory::OutOfMemory;
+use just_syntax::table::Table;
 use just_value::error::Error;
 use just_value::scope::Scope;
 use std::alloc::Global;
+
+// The file that a case counts as, and the directory that it lies in.
+const JUSTFILE: &str = "/work/justfile";
+
+const DIRECTORY: &str = "/work";
+
+// A module of these assignments, in this order, and these functions.
+fn module_of<'src>(
+    alloc: Global,
+    assignments: Table<Assignment<'src>>,
+    evaluation_order: Vec<Name<'src>>,
+    functions: Table<FunctionDefinition<'src>>,
+) -> Result<Justfile<'src>, OutOfMemory> {
+    let source = String::from_str(alloc, JUSTFILE)?;
+    let working_directory = String::from_str(alloc, DIRECTORY)?;
+    Ok(Justfile {
+        assignments,
+        evaluation_order,
+        functions,
+        module_path: String::new(alloc),
+        settings: Settings::new(alloc),
+        source,
+        submodule: false,
+        unexports: Vec::new(alloc),
+        working_directory,
+    })
+}
 
 // Whether a case's assignments end for want of memory with this host.
 pub(crate) fn wants_memory<H: Host>(
@@ -38,30 +69,9 @@ fn wants_memory_in<'src, H: Host>(
         recursion_limit,
         ..
     } = case;
-    let module = Justfile {
-        assignments,
-        evaluation_order,
-        functions,
-        module_path: String::new(alloc),
-        settings: Settings::new(alloc),
-        source: String::from_str(alloc, "/work/justfile")?,
-        submodule: false,
-        unexports: Vec::new(alloc),
-        working_directory: String::from_str(alloc, "/work")?,
-    };
-    let config = Config {
-        dry_run: false,
-        invocation_directory: String::from_str(alloc, "/work")?,
-        jobs: None,
-        quiet: false,
-        shell: None,
-        shell_args: None,
-        shell_command: false,
-    };
-    let search = Search {
-        justfile: String::from_str(alloc, "/work/justfile")?,
-        working_directory: String::from_str(alloc, "/work")?,
-    };
+    let module = module_of(alloc, assignments, evaluation_order, functions)?;
+    let config = Config::new(alloc, DIRECTORY)?;
+    let search = Search::new(alloc, JUSTFILE, DIRECTORY)?;
     let outcome = Evaluator::evaluate_assignments(
         alloc,
         host,

@@ -6,6 +6,8 @@ use crate::towers::{FORMS, tower};
 use just_case_lines::case::build;
 use just_case_lines::line::parse_lines;
 use just_host::host::STACK_ROOM;
+use just_syntax::out_of_memory::OutOfMemory;
+use std::alloc::Global;
 use std::test::Fail;
 
 // A form around the call of a function that calls itself, in its body. A million calls may be pending.
@@ -13,18 +15,26 @@ use std::test::Fail;
 fn a_million_may_be_pending(rt: HostRuntime) -> Result<(), Fail> {
     let alloc = rt.alloc();
     for form in FORMS {
-        for levels in [0, 1, 100, 3_000] {
-            let mut text = tower(alloc, form, levels, "call f 0\n")?;
-            text.push_str("fun f\ncall f 0\nassign a\nrun\n")?;
-            let lines = parse_lines(alloc, text.as_bytes())?;
-            let mut case = build(alloc, &lines)?;
-            case.recursion_limit = 1_000_000;
-            assert!(rt;
-                wants_memory(alloc, &mut Silent { room: STACK_ROOM }, case)?,
-                "{levels} of {}",
-                form.1
-            );
+        for levels in LEVELS {
+            let case = calls_itself(alloc, *form, *levels)?;
+            assert!(rt; is_stopped(alloc, &case)?, "{levels} of {}", form.1);
         }
     }
     Ok(())
+}
+
+const LEVELS: &[usize] = &[0, 1, 100, 3_000];
+
+fn calls_itself(alloc: Global, form: (&str, &str), levels: usize) -> Result<String, OutOfMemory> {
+    let mut case = tower(alloc, form, levels, "call f 0\n")?;
+    case.push_str("fun f\ncall f 0\nassign a\nrun\n")?;
+    Ok(case)
+}
+
+// Whether a case ends for want of memory where a million calls may be pending.
+fn is_stopped(alloc: Global, case: &str) -> Result<bool, Fail> {
+    let lines = parse_lines(alloc, case.as_bytes())?;
+    let mut case = build(alloc, &lines)?;
+    case.recursion_limit = 1_000_000;
+    Ok(wants_memory(alloc, &mut Silent { room: STACK_ROOM }, case)?)
 }

@@ -5,36 +5,52 @@ use crate::silent::Silent;
 use crate::towers::tower;
 use just_case_lines::case::build;
 use just_case_lines::line::parse_lines;
+use just_host::host::Host;
 use just_host::recorder::Recorder;
 use just_script::fail_at::{FailAt, How};
+use just_syntax::out_of_memory::OutOfMemory;
+use std::alloc::Global;
 use std::test::Fail;
 
 // A hundred levels fit within a MiB and not within a thousand bytes, also where the host is inside another.
 #[test]
 fn room_of_the_host(rt: HostRuntime) -> Result<(), Fail> {
     let alloc = rt.alloc();
-    let mut text = tower(alloc, ("", "group\n"), 100, "str x\n")?;
-    text.push_str("assign a\nrun\n")?;
-    let lines = parse_lines(alloc, text.as_bytes())?;
-    for (room, wants) in [(0, true), (1_000, true), (1 << 20, false)] {
-        let mut alone = Silent { room };
+    let case = hundred_levels(alloc)?;
+    for (room, wants) in ROOMS {
+        let mut alone = Silent { room: *room };
         assert_eq!(rt;
-            wants_memory(alloc, &mut alone, build(alloc, &lines)?)?,
-            wants,
+            is_stopped(alloc, &mut alone, &case)?,
+            *wants,
             "alone: {room}"
         );
-        let mut recorder = Recorder::new(alloc, Silent { room });
+        let mut recorder = Recorder::new(alloc, Silent { room: *room });
         assert_eq!(rt;
-            wants_memory(alloc, &mut recorder, build(alloc, &lines)?)?,
-            wants,
+            is_stopped(alloc, &mut recorder, &case)?,
+            *wants,
             "recorded: {room}"
         );
-        let mut failing = FailAt::new(Silent { room }, 0, How::Fault);
+        let mut failing = FailAt::new(Silent { room: *room }, 0, How::Fault);
         assert_eq!(rt;
-            wants_memory(alloc, &mut failing, build(alloc, &lines)?)?,
-            wants,
+            is_stopped(alloc, &mut failing, &case)?,
+            *wants,
             "failing: {room}"
         );
     }
     Ok(())
+}
+
+// A room, and whether it is too small.
+const ROOMS: &[(usize, bool)] = &[(0, true), (1_000, true), (1_048_576, false)];
+
+fn hundred_levels(alloc: Global) -> Result<String, OutOfMemory> {
+    let mut case = tower(alloc, ("", "group\n"), 100, "str x\n")?;
+    case.push_str("assign a\nrun\n")?;
+    Ok(case)
+}
+
+// Whether a case ends for want of memory with this host.
+fn is_stopped<H: Host>(alloc: Global, host: &mut H, case: &str) -> Result<bool, Fail> {
+    let lines = parse_lines(alloc, case.as_bytes())?;
+    Ok(wants_memory(alloc, host, build(alloc, &lines)?)?)
 }

@@ -8,7 +8,7 @@ use std::process::Abort;
 use std::test::Fail;
 
 // What stands before and behind the expression that a form is put around.
-pub(crate) const FORMS: [(&str, &str); 25] = [
+pub(crate) const FORMS: &[(&str, &str)] = &[
     ("", "group\n"),
     ("", "not\n"),
     ("", "list 1\n"),
@@ -76,15 +76,20 @@ fn answers(rt: &impl Abort, alloc: Global, case: &str, answer: &str, status: u8,
 #[test]
 fn as_deep_as_a_case_holds(rt: HostRuntime) -> Result<(), Fail> {
     let alloc = rt.alloc();
-    for (before, behind) in FORMS {
-        let levels = ((LIMIT - 100) / before.len().saturating_add(behind.len()).max(1)).min(
-            250_000,
-        );
-        let mut case = tower(alloc, (before, behind), levels, "str x\n")?;
-        case.push_str("assign a\nrun\n")?;
-        answers(&rt, alloc, &case, "", 1, behind);
+    for form in FORMS {
+        let case = as_deep_as_held(alloc, *form)?;
+        answers(&rt, alloc, &case, "", 1, form.1);
     }
     Ok(())
+}
+
+fn as_deep_as_held(alloc: Global, form: (&str, &str)) -> Result<String, OutOfMemory> {
+    let (before, behind) = form;
+    let length = before.len().saturating_add(behind.len()).max(1);
+    let levels = ((LIMIT - 100) / length).min(250_000);
+    let mut case = tower(alloc, form, levels, "str x\n")?;
+    case.push_str("assign a\nrun\n")?;
+    Ok(case)
 }
 
 // At the most levels that it may have an expression is refused where it is evaluated, and let go where it is not.
@@ -92,33 +97,43 @@ fn as_deep_as_a_case_holds(rt: HostRuntime) -> Result<(), Fail> {
 fn as_deep_as_an_expression_may_be(rt: HostRuntime) -> Result<(), Fail> {
     let alloc = rt.alloc();
     for form in FORMS {
-        let mut case = tower(alloc, form, MOST_LEVELS, "str x\n")?;
-        case.push_str("assign a\n")?;
-        let whole = case.len();
-        case.push_str("run\n")?;
-        answers(&rt, alloc, &case, WANT, 2, form.1);
-        case.truncate(whole);
-        case.push_str("override a 5\nrun\n")?;
-        answers(&rt, alloc, &case, "a = \"5\"\n", 0, form.1);
+        for (end, answer, status) in ENDS {
+            let mut case = tower(alloc, *form, MOST_LEVELS, "str x\n")?;
+            case.push_str(end)?;
+            answers(&rt, alloc, &case, answer, *status, form.1);
+        }
     }
     Ok(())
 }
+
+// The last lines of a case, its answer and its status.
+const ENDS: &[(&str, &str, u8)] = &[
+    ("assign a\nrun\n", WANT, 2),
+    ("assign a\noverride a 5\nrun\n", "a = \"5\"\n", 0),
+];
 
 // What an assertion prints of its condition was not evaluated, and nests deeper than is left of the room.
 #[test]
 fn printed_deeper_than_evaluated(rt: HostRuntime) -> Result<(), Fail> {
     let alloc = rt.alloc();
     for form in FORMS {
-        let mut case = String::from_str(alloc, "var p\nfun g p\nlist 0\n")?;
-        repeat(&mut case, form.0, 30_000)?;
-        case.push_str("str x\n")?;
-        repeat(&mut case, form.1, 30_000)?;
-        case.push_str("and\nassert\n")?;
-        repeat(&mut case, "group\n", 16_000)?;
-        case.push_str("assign a\nrun\n")?;
+        let case = printed_deeper(alloc, *form)?;
         answers(&rt, alloc, &case, WANT, 2, form.1);
     }
     Ok(())
+}
+
+// The condition is a tower behind an empty list, and stands within 16,000 groups.
+fn printed_deeper(alloc: Global, form: (&str, &str)) -> Result<String, OutOfMemory> {
+    let (before, behind) = form;
+    let mut case = String::from_str(alloc, "var p\nfun g p\nlist 0\n")?;
+    repeat(&mut case, before, 30_000)?;
+    case.push_str("str x\n")?;
+    repeat(&mut case, behind, 30_000)?;
+    case.push_str("and\nassert\n")?;
+    repeat(&mut case, "group\n", 16_000)?;
+    case.push_str("assign a\nrun\n")?;
+    Ok(case)
 }
 
 // Before any run too.
