@@ -154,8 +154,8 @@ fn evaluate_run<'src, A: Around>(
     print_evaluation(alloc, text, &run, &mut host, parent)
 }
 
-// Runs a module with a host that was asked nothing. Adds the questions that it was asked, and the bindings or the refusal,
-// and gives the exit status.
+// Runs a module with a host that was asked nothing. Adds `unresolved` where it is that, the questions that the host was
+// asked, and the bindings or the refusal, and gives the exit status.
 fn print_evaluation<'src, H: Host>(
     alloc: Global,
     text: &mut String,

@@ -10,3 +10,4 @@ mod hosts;
 mod orders;
 mod stored_case;
 mod streams;
+mod surroundings;

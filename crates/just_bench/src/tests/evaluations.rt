@@ -1,14 +1,15 @@
 // Evaluations in a scope that binds something.
 
 use crate::around::Bare;
-use crate::context::{case_config, case_module, case_search};
+use crate::context::case_module;
 use crate::print::{print_bindings, print_refusal};
 use crate::program::evaluate_in;
+use crate::tests::surroundings::{Surroundings, module_of_case};
 use just_case_lines::case::{Case, build};
 use just_case_lines::line::parse_lines;
 use just_case_lines::token::{name, token};
-use just_eval::evaluator::Evaluator;
-use just_eval::resolved;
+use just_host::host::Host;
+use just_host::justfile::Justfile;
 use just_host::no_host::NoHost;
 use just_host::recorder::Recorder;
 use just_syntax::assignment::Assignment;
@@ -25,7 +26,6 @@ use just_value::error::CommandFault;
 use just_value::scope::Scope;
 use just_value::value::Value;
 use std::alloc::Global;
-use std::collections::{BTreeMap, HashMap};
 use std::process::Abort;
 use std::test::Fail;
 
@@ -65,29 +65,37 @@ pub(crate) fn answers_outside_nothing(
     answer: &str,
     status: u8,
 ) -> Result<(), Fail> {
-    let lines = parse_lines(alloc, case.as_bytes())?;
-    let described = build(alloc, &lines)?;
-    let parent = outer(alloc, Value::new(alloc))?;
     let mut text = String::new(alloc);
-    let answered = evaluate_in(alloc, &mut text, described, &parent, &Bare {})?;
+    let answered = answer_outside_nothing(alloc, &mut text, case)?;
     assert_eq!(rt; answered, status, "{case}");
     assert_eq!(rt; text.as_str(), answer);
     Ok(())
 }
 
+// Adds the answer of a case in that scope, and gives its status.
+fn answer_outside_nothing(alloc: Global, text: &mut String, case: &str) -> Result<u8, Fail> {
+    let lines = parse_lines(alloc, case.as_bytes())?;
+    let case = build(alloc, &lines)?;
+    let parent = outer(alloc, Value::new(alloc))?;
+    Ok(evaluate_in(alloc, text, case, &parent, &Bare {})?)
+}
+
+// A case of an operator on a list of no element, its answer and its status.
+const OPERATORS: &[(&str, &str, u8)] = &[
+    (
+        "var o\nstr d\nadd\nassign a\nrun",
+        "refused 10 ListOperation [] + \"d\"\n",
+        2,
+    ),
+    ("var o\nvar o\nadd\nassign a\nrun", "a = []\n", 0),
+    ("var o\ncmd c\nand\nassign a\nrun", "a = []\n", 0),
+    ("var o\nstr d\nor\nassign a\nrun", "a = \"d\"\n", 0),
+];
+
 #[test]
 fn operators_on_lists(rt: HostRuntime) -> Result<(), Fail> {
-    for (case, answer, status) in [
-        (
-            "var o\nstr d\nadd\nassign a\nrun",
-            "refused 10 ListOperation [] + \"d\"\n",
-            2,
-        ),
-        ("var o\nvar o\nadd\nassign a\nrun", "a = []\n", 0),
-        ("var o\ncmd c\nand\nassign a\nrun", "a = []\n", 0),
-        ("var o\nstr d\nor\nassign a\nrun", "a = \"d\"\n", 0),
-    ] {
-        answers_outside_nothing(&rt, rt.alloc(), case, answer, status)?;
+    for (case, answer, status) in OPERATORS {
+        answers_outside_nothing(&rt, rt.alloc(), case, answer, *status)?;
     }
     Ok(())
 }
@@ -138,29 +146,9 @@ fn keeps_the_outer_value<'src>(
     case: Case<'src>,
     parent: &Scope<'src, '_>,
 ) -> Result<(), Fail> {
-    let module = case_module(
-        alloc,
-        case.assignments,
-        case.evaluation_order,
-        case.functions,
-        false,
-    )?;
-    let config = case_config(alloc, false)?;
-    let search = case_search(alloc)?;
-    let dotenv = BTreeMap::new(alloc);
+    let (module, surroundings) = module_of_case(alloc, case)?;
     let mut host = Recorder::new(alloc, NoHost);
-    let outcome = Evaluator::evaluate_assignments(
-        alloc,
-        &mut host,
-        &config,
-        &dotenv,
-        &module,
-        &case.overrides,
-        parent,
-        &search,
-        100,
-        None,
-    );
+    let outcome = surroundings.evaluate(alloc, &mut host, &module, parent);
     assert!(rt; host.questions().is_empty());
     let Ok(scope) = outcome else {
         return Err("a refusal")?;
@@ -191,24 +179,29 @@ fn literal(
 
 // The format string of start `<`, the list of `a` and `b`, and the text `>` behind it.
 fn format_string(alloc: Global) -> Result<Expression<'static>, Fail> {
-    let elements = vec![in alloc;
-        Expression::StringLiteral {
-            string_literal: literal(alloc, "a", "'a'")?
-        },
-        Expression::StringLiteral {
-            string_literal: literal(alloc, "b", "'b'")?
-        },
-    ]?;
-    let list = Expression::List {
-        elements,
-        token: token("["),
-    };
-    let expressions = vec![in alloc; (list, literal(alloc, ">", "}}>'")?)]?;
+    let mut expressions = Vec::new(alloc);
+    expressions.push((list(alloc)?, literal(alloc, ">", "}}>'")?))?;
     Ok(Expression::FormatString {
         start: literal(alloc, "<", "f'<{{")?,
         expressions,
     })
 }
+
+// The list of `a` and `b`.
+fn list(alloc: Global) -> Result<Expression<'static>, Fail> {
+    let mut elements = Vec::new(alloc);
+    for (text, lexeme) in ELEMENTS {
+        elements.push(Expression::StringLiteral {
+            string_literal: literal(alloc, text, lexeme)?,
+        })?;
+    }
+    Ok(Expression::List {
+        elements,
+        token: token("["),
+    })
+}
+
+const ELEMENTS: &[(&str, &str)] = &[("a", "'a'"), ("b", "'b'")];
 
 // A table of `x`, whose number is 1, with an expression.
 fn one_assignment(
@@ -263,23 +256,29 @@ fn prints<'src>(
 ) -> Result<(), Fail> {
     let order = vec![in alloc; name("x")]?;
     let module = case_module(alloc, assignments, order, Table::new(alloc), false)?;
-    let config = case_config(alloc, false)?;
-    let search = case_search(alloc)?;
-    let dotenv = BTreeMap::new(alloc);
-    let overrides = HashMap::new(alloc);
+    let surroundings = Surroundings::new(alloc)?;
     let mut host = Recorder::new(alloc, NoHost);
     let mut text = String::new(alloc);
-    if !resolved(alloc, &module, parent, None)? {
-        text.push_str("unresolved\n")?;
-    }
-    let outcome = Evaluator::evaluate_assignments(
-        alloc, &mut host, &config, &dotenv, &module, &overrides, parent, &search, 100, None,
-    );
+    print_module(alloc, &mut text, &mut host, &module, &surroundings, parent)?;
     assert!(rt; host.questions().is_empty());
-    match outcome {
-        Ok(scope) => print_bindings(&mut text, &scope)?,
-        Err(error) => print_refusal(alloc, &mut text, &error)?,
-    }
     assert_eq!(rt; text.as_str(), answer);
     Ok(())
+}
+
+/// Adds whether a module is unresolved, and its bindings or its refusal.
+pub(crate) fn print_module<'src, H: Host>(
+    alloc: Global,
+    text: &mut String,
+    host: &mut H,
+    module: &Justfile<'src>,
+    surroundings: &Surroundings,
+    parent: &Scope<'src, '_>,
+) -> Result<(), OutOfMemory> {
+    if !surroundings.is_resolved(alloc, module, parent)? {
+        text.push_str("unresolved\n")?;
+    }
+    match surroundings.evaluate(alloc, host, module, parent) {
+        Ok(scope) => print_bindings(text, &scope),
+        Err(error) => print_refusal(alloc, text, &error),
+    }
 }

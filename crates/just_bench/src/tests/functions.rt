@@ -1,10 +1,9 @@
 // Functions that a case defines, where something is bound outside, and the frames that their commands are shown.
 
-use crate::context::{case_config, case_module, case_search};
 use crate::tests::evaluations::{answers_outside_nothing, outer};
+use crate::tests::surroundings::module_of_case;
 use just_case_lines::case::{Case, build};
 use just_case_lines::line::parse_lines;
-use just_eval::evaluator::Evaluator;
 use just_host::command_question::CommandQuestion;
 use just_host::host::Host;
 use just_host::no_host::NoHost;
@@ -104,53 +103,33 @@ fn frames_shown_in<'src>(
     case: Case<'src>,
     parent: &Scope<'src, '_>,
 ) -> Result<String, Fail> {
-    let Case {
-        assignments,
-        evaluation_order,
-        functions,
-        overrides,
-        references,
-        dotenv,
-        recursion_limit,
-        ..
-    } = case;
-    let module = case_module(alloc, assignments, evaluation_order, functions, false)?;
-    let config = case_config(alloc, false)?;
-    let search = case_search(alloc)?;
+    let (module, surroundings) = module_of_case(alloc, case)?;
     let mut host = FrameHost {
         shown: String::new(alloc),
     };
-    let _ = Evaluator::evaluate_assignments(
-        alloc,
-        &mut host,
-        &config,
-        &dotenv,
-        &module,
-        &overrides,
-        parent,
-        &search,
-        recursion_limit.max(1),
-        references.as_ref(),
-    );
+    let _ = surroundings.evaluate(alloc, &mut host, &module, parent);
     let FrameHost { shown } = host;
     Ok(shown)
 }
 
+// A case whose command is asked where a call is pending, and the frames that it is shown.
+const PENDING: &[(&str, &str)] = &[
+    // The frame of the called body, of its caller, of the module, and the one outside.
+    (
+        "var o\nassign p\ncmd who\nfun g\ncall g 0\nfun f n\nstr z\ncall f 1\nassign a\nonly a\nrun",
+        "()(n = \"z\")()(o = [])",
+    ),
+    // An argument is evaluated in the frames of the caller.
+    (
+        "var o\nassign p\nvar n\nfun f n\ncmd who\ncall f 1\nassign a\nrun",
+        "(p = [])(o = [])",
+    ),
+];
+
 #[test]
 fn frames_of_pending_calls(rt: HostRuntime) -> Result<(), Fail> {
-    for (case, shown) in [
-        // The frame of the called body, of its caller, of the module, and the one outside.
-        (
-            "var o\nassign p\ncmd who\nfun g\ncall g 0\nfun f n\nstr z\ncall f 1\nassign a\nonly a\nrun",
-            "()(n = \"z\")()(o = [])",
-        ),
-        // An argument is evaluated in the frames of the caller.
-        (
-            "var o\nassign p\nvar n\nfun f n\ncmd who\ncall f 1\nassign a\nrun",
-            "(p = [])(o = [])",
-        ),
-    ] {
-        assert_eq!(rt; frames_shown(rt.alloc(), case)?.as_str(), shown, "{case}");
+    for (case, shown) in PENDING {
+        assert_eq!(rt; frames_shown(rt.alloc(), case)?.as_str(), *shown, "{case}");
     }
     Ok(())
 }

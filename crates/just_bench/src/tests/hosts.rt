@@ -58,34 +58,67 @@ impl Asking {
         };
         host.command(alloc, &question)
     }
+
+    // The same, with the answer as a text.
+    fn told<H: Host>(
+        &self,
+        alloc: Global,
+        host: &mut H,
+        scope: &Scope,
+        command: &str,
+        arguments: Option<&[String]>,
+    ) -> Result<String, OutOfMemory> {
+        let answer = self.ask(alloc, host, scope, command, arguments);
+        Ok(format!(in alloc; "{answer:?}")?)
+    }
 }
 
 // A script of a text and a status, two commands that are always answered, and some other answers.
 fn script(alloc: Global) -> Result<ScriptedHost, Fail> {
-    let mut replies = Vec::new(alloc);
-    replies.push(Ok(String::from_str(alloc, "x")?))?;
-    replies.push(Err(CommandFault::Code(3)))?;
-    let always = vec![in alloc;
-        (
-            String::from_str(alloc, "ls")?,
-            String::from_str(alloc, "old")?
-        ),
-        (
-            String::from_str(alloc, "pwd")?,
-            String::from_str(alloc, "/work")?
-        ),
-        (
-            String::from_str(alloc, "ls")?,
-            String::from_str(alloc, "new")?
-        ),
-    ]?;
-    let mut texts = Vec::new(alloc);
-    texts.push(TextAnswer::Text(String::from_str(alloc, "t")?))?;
-    texts.push(TextAnswer::OutOfMemory)?;
+    let always = always(alloc)?;
+    let replies = replies(alloc)?;
+    let texts = texts(alloc)?;
     let exists = vec![in alloc; true]?;
     let numbers = vec![in alloc; 7u64]?;
     Ok(ScriptedHost::new(always, replies, texts, exists, numbers))
 }
+
+// The commands that are always answered, with their answers: of one command the last counts.
+const ALWAYS: &[(&str, &str)] = &[("ls", "old"), ("pwd", "/work"), ("ls", "new")];
+
+fn always(alloc: Global) -> Result<Vec<(String, String)>, OutOfMemory> {
+    let mut always = Vec::new(alloc);
+    for (command, answer) in ALWAYS {
+        let command = String::from_str(alloc, command)?;
+        always.push((command, String::from_str(alloc, answer)?))?;
+    }
+    Ok(always)
+}
+
+fn replies(alloc: Global) -> Result<Vec<Result<String, CommandFault>>, OutOfMemory> {
+    let mut replies = Vec::new(alloc);
+    replies.push(Ok(String::from_str(alloc, "x")?))?;
+    replies.push(Err(CommandFault::Code(3)))?;
+    Ok(replies)
+}
+
+fn texts(alloc: Global) -> Result<Vec<TextAnswer>, OutOfMemory> {
+    let mut texts = Vec::new(alloc);
+    texts.push(TextAnswer::Text(String::from_str(alloc, "t")?))?;
+    texts.push(TextAnswer::OutOfMemory)?;
+    Ok(texts)
+}
+
+// Commands in the order that they are asked in, and their answers.
+const COMMANDS: &[(&str, &str)] = &[
+    ("c", "Ok(\"x\")"),
+    ("ls", "Ok(\"new\")"),
+    ("c", "Err(Code(3))"),
+    ("pwd", "Ok(\"/work\")"),
+    ("c", "Err(Fault(\"no reply\"))"),
+    ("c", "Err(Fault(\"no reply\"))"),
+    ("ls", "Ok(\"new\")"),
+];
 
 #[test]
 fn script_in_order(rt: HostRuntime) -> Result<(), Fail> {
@@ -93,82 +126,102 @@ fn script_in_order(rt: HostRuntime) -> Result<(), Fail> {
     let scope = Scope::root(alloc, &[])?;
     let asking = Asking::new(alloc)?;
     let mut host = script(alloc)?;
-    for (command, expected) in [
-        ("c", "Ok(\"x\")"),
-        ("ls", "Ok(\"new\")"),
-        ("c", "Err(Code(3))"),
-        ("pwd", "Ok(\"/work\")"),
-        ("c", "Err(Fault(\"no reply\"))"),
-        ("c", "Err(Fault(\"no reply\"))"),
-        ("ls", "Ok(\"new\")"),
-    ] {
-        let answer = asking.ask(alloc, &mut host, &scope, command, None);
-        assert_eq!(rt; format!(in alloc; "{answer:?}")?.as_str(), expected);
+    for (command, expected) in COMMANDS {
+        let told = asking.told(alloc, &mut host, &scope, command, None)?;
+        assert_eq!(rt; told.as_str(), *expected, "{command}");
     }
     Ok(())
 }
+
+// The answers of the other kinds, in their order.
+const TEXTS: &[&str] = &["Text(\"t\")", "OutOfMemory", "Absent", "Absent"];
+
+const EXISTS: &[bool] = &[true, false, false];
+
+const NUMBERS: &[u64] = &[7, 0, 0];
 
 #[test]
 fn other_answers_in_order(rt: HostRuntime) -> Result<(), Fail> {
     let alloc = rt.alloc();
     let mut host = script(alloc)?;
-    for expected in ["Text(\"t\")", "OutOfMemory", "Absent", "Absent"] {
-        let answer = host.text(alloc, TextQuestion::Os);
-        assert_eq!(rt; format!(in alloc; "{answer:?}")?.as_str(), expected);
+    for expected in TEXTS {
+        let told = text_told(alloc, &mut host)?;
+        assert_eq!(rt; told.as_str(), *expected);
     }
-    for expected in [true, false, false] {
-        assert_eq!(rt; host.exists(alloc, "p")?, expected);
+    for expected in EXISTS {
+        assert_eq!(rt; host.exists(alloc, "p")?, *expected);
     }
-    for expected in [7, 0, 0] {
-        assert_eq!(rt; host.number(alloc, NumberQuestion::Cpus)?, expected);
+    for expected in NUMBERS {
+        assert_eq!(rt; host.number(alloc, NumberQuestion::Cpus)?, *expected);
     }
     Ok(())
 }
+
+fn text_told<H: Host>(alloc: Global, host: &mut H) -> Result<String, OutOfMemory> {
+    let answer = host.text(alloc, TextQuestion::Os);
+    Ok(format!(in alloc; "{answer:?}")?)
+}
+
+// How many questions are passed on, how the others fail, and the answers.
+const FAILING: &[(usize, How, &str)] = &[
+    (
+        5,
+        How::Fault,
+        "Ok(\"x\") Err(Code(3)) Text(\"t\") Ok(true) Ok(7)",
+    ),
+    (
+        1,
+        How::Fault,
+        "Ok(\"x\") Err(Fault(\"broken\")) Fault(\"broken\") Ok(true) Ok(7)",
+    ),
+    (
+        4,
+        How::Memory,
+        "Ok(\"x\") Err(Code(3)) Text(\"t\") Ok(true) Err(OutOfMemory)",
+    ),
+    (
+        0,
+        How::Memory,
+        "Err(OutOfMemory) Err(OutOfMemory) OutOfMemory Err(OutOfMemory) Err(OutOfMemory)",
+    ),
+];
 
 // Two commands, a text, an existence and a number, of which the first ones are passed on.
 #[test]
 fn fails_from_a_question_on(rt: HostRuntime) -> Result<(), Fail> {
     let alloc = rt.alloc();
-    for (passed, how, expected) in [
-        (
-            5,
-            How::Fault,
-            "Ok(\"x\") Err(Code(3)) Text(\"t\") Ok(true) Ok(7)",
-        ),
-        (
-            1,
-            How::Fault,
-            "Ok(\"x\") Err(Fault(\"broken\")) Fault(\"broken\") Ok(true) Ok(7)",
-        ),
-        (
-            4,
-            How::Memory,
-            "Ok(\"x\") Err(Code(3)) Text(\"t\") Ok(true) Err(OutOfMemory)",
-        ),
-        (
-            0,
-            How::Memory,
-            "Err(OutOfMemory) Err(OutOfMemory) OutOfMemory Err(OutOfMemory) Err(OutOfMemory)",
-        ),
-    ] {
-        let mut host = FailAt::new(script(alloc)?, passed, how);
+    for (passed, how, expected) in FAILING {
+        let mut host = FailAt::new(script(alloc)?, *passed, *how);
         let told = all_kinds_told(alloc, &mut host)?;
-        assert_eq!(rt; told.as_str(), expected, "{passed}");
+        assert_eq!(rt; told.as_str(), *expected, "{passed}");
     }
     Ok(())
 }
 
 // What comes of two commands, a text, an existence and a number.
 fn all_kinds_told<H: Host>(alloc: Global, host: &mut H) -> Result<String, Fail> {
-    let scope = Scope::root(alloc, &[])?;
-    let asking = Asking::new(alloc)?;
-    let first = asking.ask(alloc, host, &scope, "c", None);
-    let second = asking.ask(alloc, host, &scope, "c", None);
-    let text = host.text(alloc, TextQuestion::Os);
+    let commands = two_commands_told(alloc, host)?;
+    let text = text_told(alloc, host)?;
     let exists = host.exists(alloc, "p");
     let number = host.number(alloc, NumberQuestion::Cpus);
-    Ok(format!(in alloc; "{first:?} {second:?} {text:?} {exists:?} {number:?}")?)
+    Ok(format!(in alloc; "{commands} {text} {exists:?} {number:?}")?)
 }
+
+fn two_commands_told<H: Host>(alloc: Global, host: &mut H) -> Result<String, Fail> {
+    let scope = Scope::root(alloc, &[])?;
+    let asking = Asking::new(alloc)?;
+    let mut told = asking.told(alloc, host, &scope, "c", None)?;
+    told.push(' ')?;
+    told.push_str(&asking.told(alloc, host, &scope, "c", None)?)?;
+    Ok(told)
+}
+
+// The arguments that a command is asked with, and its answer.
+const RECORDED: &[(Option<&[&str]>, &str)] = &[
+    (Some(&["a b", "\""]), "Ok(\"x\")"),
+    (Some(&[]), "Err(Code(3))"),
+    (None, "Err(Fault(\"no reply\"))"),
+];
 
 #[test]
 fn records_each_question(rt: HostRuntime) -> Result<(), Fail> {
@@ -176,17 +229,9 @@ fn records_each_question(rt: HostRuntime) -> Result<(), Fail> {
     let scope = Scope::root(alloc, &[])?;
     let asking = Asking::new(alloc)?;
     let mut host = Recorder::new(alloc, script(alloc)?);
-    let arguments = vec![in alloc;
-        String::from_str(alloc, "a b")?,
-        String::from_str(alloc, "\"")?,
-    ]?;
-    for (arguments, expected) in [
-        (Some(arguments.as_slice()), "Ok(\"x\")"),
-        (Some(&[]), "Err(Code(3))"),
-        (None, "Err(Fault(\"no reply\"))"),
-    ] {
-        let answer = asking.ask(alloc, &mut host, &scope, "c\t", arguments);
-        assert_eq!(rt; format!(in alloc; "{answer:?}")?.as_str(), expected);
+    for (arguments, expected) in RECORDED {
+        let told = told_with(alloc, &asking, &mut host, &scope, *arguments)?;
+        assert_eq!(rt; told.as_str(), *expected);
     }
     let mut text = String::new(alloc);
     print_questions(&mut text, host.questions())?;
@@ -195,4 +240,22 @@ fn records_each_question(rt: HostRuntime) -> Result<(), Fail> {
         "? command \"c\\t\" \"a b\" \"\\\"\"\n? command \"c\\t\"\n? command \"c\\t\"\n"
     );
     Ok(())
+}
+
+// The answer to a command with these arguments.
+fn told_with<H: Host>(
+    alloc: Global,
+    asking: &Asking,
+    host: &mut H,
+    scope: &Scope,
+    arguments: Option<&[&str]>,
+) -> Result<String, OutOfMemory> {
+    let Some(words) = arguments else {
+        return asking.told(alloc, host, scope, "c\t", None);
+    };
+    let mut arguments = Vec::new(alloc);
+    for word in words {
+        arguments.push(String::from_str(alloc, word)?)?;
+    }
+    asking.told(alloc, host, scope, "c\t", Some(arguments.as_slice()))
 }

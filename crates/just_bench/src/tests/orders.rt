@@ -1,11 +1,11 @@
 // Runs of one module in two orders.
 
-use crate::context::{case_config, case_module, case_search};
-use crate::print::{print_bindings, print_questions, print_refusal};
+use crate::print::print_questions;
+use crate::script::case_script;
+use crate::tests::evaluations::print_module;
+use crate::tests::surroundings::module_of_case;
 use just_case_lines::case::{Case, build};
 use just_case_lines::line::parse_lines;
-use just_eval::evaluator::Evaluator;
-use just_eval::resolved;
 use just_host::command_question::CommandQuestion;
 use just_host::host::Host;
 use just_host::no_host::NoHost;
@@ -15,7 +15,7 @@ use just_host::text_answer::TextAnswer;
 use just_host::text_question::TextQuestion;
 use just_script::scripted_host::ScriptedHost;
 use just_syntax::out_of_memory::OutOfMemory;
-use just_value::error::{CommandFault, Error};
+use just_value::error::CommandFault;
 use just_value::scope::Scope;
 use std::alloc::Global;
 use std::process::Abort;
@@ -52,47 +52,16 @@ impl Host for FrameHost {
     }
 }
 
-// Runs a case with a host of its own, adds the bindings or the refusal, and gives the host back.
-fn print_run<'src, H: Host + Drop>(
+// Runs a case with a host, and adds the bindings or the refusal.
+fn print_run<'src, H: Host>(
     alloc: Global,
     text: &mut String,
     case: Case<'src>,
-    mut host: H,
+    host: &mut H,
     parent: &Scope<'src, '_>,
-) -> Result<H, OutOfMemory> {
-    let order = case.evaluation_order;
-    let module = case_module(alloc, case.assignments, order, case.functions, case.lists)?;
-    let config = case_config(alloc, case.dry_run)?;
-    let search = case_search(alloc)?;
-    if !resolved(alloc, &module, parent, case.references.as_ref())? {
-        text.push_str("unresolved\n")?;
-    }
-    let outcome = Evaluator::evaluate_assignments(
-        alloc,
-        &mut host,
-        &config,
-        &case.dotenv,
-        &module,
-        &case.overrides,
-        parent,
-        &search,
-        case.recursion_limit.max(1),
-        case.references.as_ref(),
-    );
-    print_answer(alloc, text, &outcome)?;
-    Ok(host)
-}
-
-// Adds the bindings or the refusal.
-fn print_answer<'src>(
-    alloc: Global,
-    text: &mut String,
-    outcome: &Result<Scope<'src, '_>, Error<'src>>,
 ) -> Result<(), OutOfMemory> {
-    match outcome {
-        Ok(scope) => print_bindings(text, scope),
-        Err(error) => print_refusal(alloc, text, error),
-    }
+    let (module, surroundings) = module_of_case(alloc, case)?;
+    print_module(alloc, text, host, &module, &surroundings, parent)
 }
 
 // The case asks this, where `c` is always answered `y`, and binds this.
@@ -103,43 +72,52 @@ fn asks_and_binds(
     asked: &str,
     bound: &str,
 ) -> Result<(), Fail> {
-    let lines = parse_lines(alloc, case.as_bytes())?;
-    let described = build(alloc, &lines)?;
-    let parent = Scope::root(alloc, &[])?;
-    let always = vec![in alloc; (String::from_str(alloc, "c")?, String::from_str(alloc, "y")?)]?;
-    let script = ScriptedHost::new(
-        always,
-        Vec::new(alloc),
-        Vec::new(alloc),
-        Vec::new(alloc),
-        Vec::new(alloc),
-    );
-    let mut text = String::new(alloc);
-    let recorder = Recorder::new(alloc, script);
-    let host = print_run(alloc, &mut text, described, recorder, &parent)?;
-    assert_eq!(rt; text.as_str(), bound);
+    let mut host = Recorder::new(alloc, always_y(alloc)?);
+    let told = told_by_run(alloc, case, &mut host)?;
+    assert_eq!(rt; told.as_str(), bound);
     let mut questions = String::new(alloc);
     print_questions(&mut questions, host.questions())?;
     assert_eq!(rt; questions.as_str(), asked);
     Ok(())
 }
 
+// A host that answers `c` with `y`.
+fn always_y(alloc: Global) -> Result<ScriptedHost, OutOfMemory> {
+    let mut always = Vec::new(alloc);
+    let command = String::from_str(alloc, "c")?;
+    always.push((command, String::from_str(alloc, "y")?))?;
+    Ok(case_script(alloc, always, Vec::new(alloc)))
+}
+
+// What a case binds in a run, or its refusal.
+fn told_by_run<H: Host>(alloc: Global, case: &str, host: &mut H) -> Result<String, Fail> {
+    let lines = parse_lines(alloc, case.as_bytes())?;
+    let case = build(alloc, &lines)?;
+    let parent = Scope::root(alloc, &[])?;
+    let mut text = String::new(alloc);
+    print_run(alloc, &mut text, case, host, &parent)?;
+    Ok(text)
+}
+
+// The last line but one of a case, what it asks, and what it binds.
+const ORDERS: &[(&str, &str, &str)] = &[
+    (
+        "order a b d",
+        "? command \"c\"\n",
+        "a = \"x\"\nb = \"y\"\nd = \"xy\"\n",
+    ),
+    (
+        "order b a d",
+        "? command \"c\"\n",
+        "a = \"x\"\nb = \"y\"\nd = \"xy\"\n",
+    ),
+    ("only a", "", "a = \"x\"\n"),
+];
+
 #[test]
 fn two_orders(rt: HostRuntime) -> Result<(), Fail> {
     let alloc = rt.alloc();
-    for (order, asked, bound) in [
-        (
-            "order a b d",
-            "? command \"c\"\n",
-            "a = \"x\"\nb = \"y\"\nd = \"xy\"\n",
-        ),
-        (
-            "order b a d",
-            "? command \"c\"\n",
-            "a = \"x\"\nb = \"y\"\nd = \"xy\"\n",
-        ),
-        ("only a", "", "a = \"x\"\n"),
-    ] {
+    for (order, asked, bound) in ORDERS {
         let case = format!(in alloc;
             "str x\nassign a\ncmd c\nassign b\nvar a\nvar b\nadd\nassign d\n{order}\nrun"
         )?;
@@ -148,14 +126,17 @@ fn two_orders(rt: HostRuntime) -> Result<(), Fail> {
     Ok(())
 }
 
+// The last line but one of a case, and what it binds where commands are answered by the frames.
+const FRAMES: &[(&str, &str)] = &[
+    ("order a b", "a = \"x\"\nb = \"1\"\n"),
+    ("order b a", "a = \"x\"\nb = \"0\"\n"),
+];
+
 // A host that looks at the frames may answer otherwise in another order.
 #[test]
 fn frames_that_matter(rt: HostRuntime) -> Result<(), Fail> {
     let alloc = rt.alloc();
-    for (order, bound) in [
-        ("order a b", "a = \"x\"\nb = \"1\"\n"),
-        ("order b a", "a = \"x\"\nb = \"0\"\n"),
-    ] {
+    for (order, bound) in FRAMES {
         let case = format!(in alloc; "str x\nassign a\ncmd c\nassign b\n{order}\nrun")?;
         binds_by_frames(&rt, alloc, &case, bound)?;
     }
@@ -164,11 +145,7 @@ fn frames_that_matter(rt: HostRuntime) -> Result<(), Fail> {
 
 // The case binds this, where each command tells how many bindings it is shown.
 fn binds_by_frames(rt: &impl Abort, alloc: Global, case: &str, bound: &str) -> Result<(), Fail> {
-    let lines = parse_lines(alloc, case.as_bytes())?;
-    let described = build(alloc, &lines)?;
-    let parent = Scope::root(alloc, &[])?;
-    let mut text = String::new(alloc);
-    print_run(alloc, &mut text, described, FrameHost {}, &parent)?;
-    assert_eq!(rt; text.as_str(), bound);
+    let told = told_by_run(alloc, case, &mut FrameHost {})?;
+    assert_eq!(rt; told.as_str(), bound);
     Ok(())
 }

@@ -113,7 +113,11 @@ fn longest_case(rt: HostRuntime) -> Result<(), Fail> {
 
 #[test]
 fn reads_and_writes(rt: HostRuntime) -> Result<(), Fail> {
-    let alloc = rt.alloc();
+    reads(&rt, rt.alloc())?;
+    writes(&rt, rt.alloc())
+}
+
+fn reads(rt: &impl Abort, alloc: Global) -> Result<(), Fail> {
     let bytes = read_case(alloc, &mut whole_reader(b"a case"))?;
     assert_eq!(rt; bytes.as_slice(), b"a case".as_slice());
     let mut endless = EndlessReader { given: 0 };
@@ -121,6 +125,10 @@ fn reads_and_writes(rt: HostRuntime) -> Result<(), Fail> {
     let mut failing = whole_reader(b"a case");
     failing.good_reads = 1;
     assert!(rt; matches!(read_case(alloc, &mut failing), Err(StreamError::Failed)));
+    Ok(())
+}
+
+fn writes(rt: &impl Abort, alloc: Global) -> Result<(), Fail> {
     let mut out = whole_writer(alloc);
     write_text(&mut out, "an ")?;
     write_text(&mut out, "answer")?;
