@@ -180,7 +180,7 @@ fn faults_say(rt: HostRuntime) -> Result<(), Fail> {
     shows(&rt, alloc, CommandFault::Code(1), text)?;
     let fault = CommandFault::Fault(String::from_str(alloc, "not UTF-8")?);
     shows(&rt, alloc, fault, "not UTF-8")?;
-    shows(&rt, alloc, CommandFault::OutOfMemory, "out of memory")?;
+    shows(&rt, alloc, CommandFault::from(OutOfMemory), "out of memory")?;
     let fault = CheckFault::Refused(String::from_str(alloc, "no digit")?);
     shows(&rt, alloc, fault, "no digit")?;
     shows(&rt, alloc, CheckFault::OutOfMemory, "out of memory")?;
