@@ -33,10 +33,14 @@ use std::collections::{BTreeMap, HashMap};
 /// The recipe that everything is evaluated for.
 pub(crate) const RECIPE: &str = "build";
 
+// The file that each module is read from, and the directory that it lies in.
+const JUSTFILE: &str = "/work/justfile";
+
+const DIRECTORY: &str = "/work";
+
 /// A module with no function and no assignment.
 pub(crate) fn empty_module<'src>(alloc: Global) -> Result<Justfile<'src>, OutOfMemory> {
-    let order = Vec::new(alloc);
-    module_of(alloc, Table::new(alloc), order, Table::new(alloc), false)
+    Justfile::new(alloc, JUSTFILE, DIRECTORY)
 }
 
 /// The module that a case describes.
@@ -62,6 +66,8 @@ fn module_of<'src>(
     functions: Table<FunctionDefinition<'src>>,
     lists: bool,
 ) -> Result<Justfile<'src>, OutOfMemory> {
+    let source = String::from_str(alloc, JUSTFILE)?;
+    let working_directory = String::from_str(alloc, DIRECTORY)?;
     let mut settings = Settings::new(alloc);
     settings.lists = lists;
     Ok(Justfile {
@@ -70,10 +76,10 @@ fn module_of<'src>(
         functions,
         module_path: String::new(alloc),
         settings,
-        source: String::from_str(alloc, "/work/justfile")?,
+        source,
         submodule: false,
         unexports: Vec::new(alloc),
-        working_directory: String::from_str(alloc, "/work")?,
+        working_directory,
     })
 }
 
@@ -101,6 +107,7 @@ pub(crate) struct Around {
 impl Around {
     /// No override, no dotenv file, and no option.
     pub(crate) fn new(alloc: Global) -> Result<Around, OutOfMemory> {
+        let search = Search::new(alloc, JUSTFILE, DIRECTORY)?;
         Ok(Around {
             config: Config {
                 dry_run: false,
@@ -113,10 +120,7 @@ impl Around {
             },
             dotenv: BTreeMap::new(alloc),
             overrides: HashMap::new(alloc),
-            search: Search {
-                justfile: String::from_str(alloc, "/work/justfile")?,
-                working_directory: String::from_str(alloc, "/work")?,
-            },
+            search,
         })
     }
 

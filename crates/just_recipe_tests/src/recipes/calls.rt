@@ -1,9 +1,10 @@
 // The calls that a runner makes beside lines and parameters: a command, a value and a text.
 
+ghost use Rattle.just_eval.specs.View.{HasRoom};
 ghost use Rattle.std.specs.Prelude.{◌<◌};
 
 use crate::recipes::failing::{Failing, NEVER};
-use crate::recipes::hosts::TellingHost;
+use crate::recipes::hosts::{TellingHost, refusal};
 use crate::recipes::{Around, RECIPE, empty_module};
 use just_case_lines::token::{name, token};
 use just_eval::evaluator::Evaluator;
@@ -13,7 +14,7 @@ use just_script::fail_at::How;
 use just_syntax::expression::Expression;
 use just_syntax::out_of_memory::OutOfMemory;
 use just_syntax::string_context::StringContext;
-use just_value::error::{CommandFault, Error};
+use just_value::error::CommandFault;
 use just_value::scope::Scope;
 use std::alloc::Global;
 use std::collections::BTreeMap;
@@ -64,7 +65,7 @@ fn expected(alloc: Global, passed: usize, how: How) -> Result<String, OutOfMemor
     for (question, answer) in CALLS {
         expected.push_str(question)?;
         if left == 0 {
-            expected.push_str(refusal(how))?;
+            expected.push_str(refused(how))?;
         } else {
             expected.push_str(answer)?;
             left -= 1;
@@ -74,7 +75,7 @@ fn expected(alloc: Global, passed: usize, how: How) -> Result<String, OutOfMemor
 }
 
 // How the refusal of a call whose question fails is told.
-fn refusal(how: How) -> &'static str {
+fn refused(how: How) -> &'static str {
     match how {
         How::Fault => "refused;",
         How::Memory => "no memory;",
@@ -130,22 +131,47 @@ fn evaluate<'src>(
 ) -> Result<(), Fail>
     requires room { 0 < context.now.recursion_limit }
 {
-    let command = Expression::Backtick {
-        contents: String::from_str(alloc, "c")?,
-        token: token("c"),
-    };
+    let command = command(alloc)?;
     let recipe = Some(name(RECIPE));
     let evaluator = Evaluator::new(alloc, context, env(alloc)?, false, recipe, scope)?;
-    match evaluator.evaluate_value(alloc, host, &command) {
+    evaluate_value(alloc, host, &evaluator, &command)?;
+    evaluate_text(alloc, host, &evaluator, &command)?;
+    Ok(())
+}
+
+fn command<'src>(alloc: Global) -> Result<Expression<'src>, OutOfMemory> {
+    Ok(Expression::Backtick {
+        contents: String::from_str(alloc, "c")?,
+        token: token("c"),
+    })
+}
+
+fn evaluate_value<'src>(
+    alloc: Global,
+    host: &mut TellingHost,
+    evaluator: &Evaluator<'src, '_>,
+    command: &Expression<'src>,
+) -> Result<(), OutOfMemory>
+    requires room { HasRoom evaluator.now }
+{
+    match evaluator.evaluate_value(alloc, host, command) {
         Ok(value) => write!(host.told, "{value};")?,
-        Err(Error::OutOfMemory) => host.told.push_str("no memory;")?,
-        Err(_error) => host.told.push_str("refused;")?,
+        Err(error) => write!(host.told, "{};", refusal(&error))?,
     }
+    Ok(())
+}
+
+fn evaluate_text<'src>(
+    alloc: Global,
+    host: &mut TellingHost,
+    evaluator: &Evaluator<'src, '_>,
+    command: &Expression<'src>,
+) -> Result<(), OutOfMemory>
+    requires room { HasRoom evaluator.now }
+{
     let place = StringContext::Setting(name("set"));
-    match evaluator.evaluate_string(alloc, host, &command, place) {
-        Ok(text) => write!(host.told, "{text};")?,
-        Err(Error::OutOfMemory) => host.told.push_str("no memory;")?,
-        Err(_error) => host.told.push_str("refused;")?,
-    }
+    let outcome = evaluator.evaluate_string(alloc, host, command, place);
+    host.tell(outcome)?;
+    host.told.push(';')?;
     Ok(())
 }

@@ -2,7 +2,7 @@
 
 use crate::recipes::conditions::{Check, Conditions};
 use crate::recipes::failing::NEVER;
-use crate::recipes::parameter_rows::{NONE, ROWS};
+use crate::recipes::parameter_rows::{NONE, ROWS, Row};
 use crate::recipes::parameters::parameters_told;
 use std::alloc::Global;
 use std::process::Abort;
@@ -31,12 +31,7 @@ fn ends_at_first(
         assert_eq!(rt; told, whole);
         return Ok(());
     };
-    let name = first.trim_start_matches('*').trim_start_matches('+');
-    let name = match name.split_once('/') {
-        Some((name, _)) => name,
-        None => name,
-    };
-    match told.strip_suffix(end(alloc, check, name)?.as_str()) {
+    match told.strip_suffix(end(alloc, check, name_in(first))?.as_str()) {
         Some(asked) => assert!(rt; whole.starts_with(asked), "{told}"),
         None => {
             assert!(rt;
@@ -49,41 +44,63 @@ fn ends_at_first(
     Ok(())
 }
 
+// The name of a parameter that a word describes.
+fn name_in(word: &str) -> &str {
+    let name = word.trim_start_matches('*').trim_start_matches('+');
+    match name.split_once('/') {
+        Some((name, _)) => name,
+        None => name,
+    }
+}
+
 #[test]
 fn checks_that_refuse_all(rt: HostRuntime) -> Result<(), Fail> {
     let alloc = rt.alloc();
     for check in [Check::RefusesAll, Check::OutOfMemory] {
-        for (case, parameters, arguments, is_dependency, whole) in ROWS {
-            let conditions = Conditions {
-                is_dependency: *is_dependency,
-                check,
-                failing: NEVER,
-            };
-            let told = parameters_told(alloc, case, parameters, arguments, conditions)?;
-            ends_at_first(&rt, alloc, check, parameters, &told, whole)?;
+        for row in ROWS {
+            row_ends_at_first(&rt, alloc, check, row)?;
         }
     }
     Ok(())
 }
 
+fn row_ends_at_first(
+    rt: &impl Abort,
+    alloc: Global,
+    check: Check,
+    row: &Row<'static>,
+) -> Result<(), Fail> {
+    let (case, parameters, arguments, is_dependency, whole) = *row;
+    let conditions = Conditions {
+        is_dependency,
+        check,
+        failing: NEVER,
+    };
+    let told = parameters_told(alloc, case, parameters, arguments, conditions)?;
+    ends_at_first(rt, alloc, check, parameters, &told, whole)
+}
+
+// An attribute and two parameters, each of which asks.
+const ASKING: &str =
+    "only p q\nstr A\nassign k-1\ncmd e\nassign e-1\ncmd c\nassign d-p\ncmd d\nassign d-q\nrun";
+
+// What comes of it where all is refused, and where there is no memory to check.
+const ENDS: &[(Check, &str)] = &[
+    (Check::RefusesAll, "? e () ();? c A=<e> () ();check p no"),
+    (Check::OutOfMemory, "? e () ();? c A=<e> () ();no memory"),
+];
+
 // The attributes and the first parameter's default ask, and what stands behind does not.
 #[test]
 fn asked_before_the_first_check(rt: HostRuntime) -> Result<(), Fail> {
-    let alloc = rt.alloc();
-    let case =
-        "only p q\nstr A\nassign k-1\ncmd e\nassign e-1\ncmd c\nassign d-p\ncmd d\nassign d-q\nrun";
-    for (check, end) in [
-        (Check::RefusesAll, "check p no"),
-        (Check::OutOfMemory, "no memory"),
-    ] {
+    for (check, expected) in ENDS {
         let conditions = Conditions {
             is_dependency: false,
-            check,
+            check: *check,
             failing: NEVER,
         };
-        let told = parameters_told(alloc, case, "p q", &[NONE, NONE], conditions)?;
-        let expected = format!(in alloc; "? e () ();? c A=<e> () ();{end}")?;
-        assert_eq!(rt; told.as_str(), expected.as_str(), "{check:?}");
+        let told = parameters_told(rt.alloc(), ASKING, "p q", &[NONE, NONE], conditions)?;
+        assert_eq!(rt; told.as_str(), *expected, "{check:?}");
     }
     Ok(())
 }

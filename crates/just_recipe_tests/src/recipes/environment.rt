@@ -3,7 +3,7 @@
 ghost use Rattle.std.specs.Prelude.{◌<◌};
 
 use crate::recipes::failing::{Failing, NEVER, each_way, told_failing};
-use crate::recipes::hosts::TellingHost;
+use crate::recipes::hosts::{TellingHost, refusal};
 use crate::recipes::{Around, RECIPE, expressions_of, module_of_case};
 use just_case_lines::case::{Case, build};
 use just_case_lines::line::parse_lines;
@@ -13,12 +13,13 @@ use just_host::execution_context::ExecutionContext;
 use just_host::justfile::Justfile;
 use just_syntax::attribute::Attribute;
 use just_syntax::attribute_set::AttributeSet;
+use just_syntax::expression::Expression;
 use just_syntax::fragment::Fragment;
 use just_syntax::line::Line;
+use just_syntax::out_of_memory::OutOfMemory;
 use just_syntax::parameter::Parameter;
 use just_syntax::recipe::Recipe;
 use just_value::check_fault::CheckFault;
-use just_value::error::Error;
 use just_value::scope::Scope;
 use just_value::value::Value;
 use std::alloc::Global;
@@ -42,9 +43,8 @@ const LINES: &[(&str, &str)] = &[
 fn environment_of_a_line(rt: HostRuntime) -> Result<(), Fail> {
     let alloc = rt.alloc();
     for (called, whole) in LINES {
-        let case = format!(in alloc; "str v\nassign a\nstr K\nassign b\n{called}assign c\nrun")?;
         for failing in &each_way(alloc, whole)? {
-            let told = line_told(alloc, &case, *failing)?;
+            let told = called_told(alloc, called, *failing)?;
             let expected = told_failing(alloc, whole, *failing)?;
             assert_eq!(rt; told.as_str(), expected.as_str(), "{called} {failing:?}");
         }
@@ -52,24 +52,55 @@ fn environment_of_a_line(rt: HostRuntime) -> Result<(), Fail> {
     Ok(())
 }
 
+fn called_told(alloc: Global, called: &str, failing: Failing) -> Result<String, Fail> {
+    let case = format!(in alloc; "str v\nassign a\nstr K\nassign b\n{called}assign c\nrun")?;
+    line_told(alloc, &case, failing)
+}
+
 // What the line of a case's third assignment comes to, behind what was asked, where the first two give an attribute.
 fn line_told(alloc: Global, case: &str, failing: Failing) -> Result<String, Fail> {
     let lines = parse_lines(alloc, case.as_bytes())?;
-    let mut left = expressions_of(alloc, build(alloc, &lines)?)?.into_iter();
-    let mut attributes = AttributeSet::new(alloc);
-    let mut fragments = Vec::new(alloc);
-    if let (Some(value), Some(key)) = (left.next(), left.next()) {
-        attributes.push(Attribute::Env(key, value), name("env"))?;
-    }
-    if let Some(expression) = left.next() {
-        fragments.push(Fragment::Interpolation { expression })?;
-    }
+    let (recipe, line) = recipe_and_line(alloc, build(alloc, &lines)?)?;
+    let module = module_of_case(alloc, build(alloc, &lines)?)?;
+    told_in_module(alloc, &module, &recipe, &line, failing)
+}
+
+fn recipe_and_line<'src>(
+    alloc: Global,
+    case: Case<'src>,
+) -> Result<(Recipe<'src>, Line<'src>), OutOfMemory> {
+    let mut left = expressions_of(alloc, case)?.into_iter();
     let recipe = Recipe {
-        attributes,
+        attributes: attributes_of(alloc, left.next(), left.next())?,
         name: name(RECIPE),
     };
-    let module = module_of_case(alloc, build(alloc, &lines)?)?;
-    told_in_module(alloc, &module, &recipe, &Line { fragments }, failing)
+    let line = line_of(alloc, left.next())?;
+    Ok((recipe, line))
+}
+
+// An attribute of a value and a key.
+fn attributes_of<'src>(
+    alloc: Global,
+    value: Option<Expression<'src>>,
+    key: Option<Expression<'src>>,
+) -> Result<AttributeSet<'src>, OutOfMemory> {
+    let mut attributes = AttributeSet::new(alloc);
+    if let (Some(value), Some(key)) = (value, key) {
+        attributes.push(Attribute::Env(key, value), name("env"))?;
+    }
+    Ok(attributes)
+}
+
+// A line of one interpolation.
+fn line_of<'src>(
+    alloc: Global,
+    expression: Option<Expression<'src>>,
+) -> Result<Line<'src>, OutOfMemory> {
+    let mut fragments = Vec::new(alloc);
+    if let Some(expression) = expression {
+        fragments.push(Fragment::Interpolation { expression })?;
+    }
+    Ok(Line { fragments })
 }
 
 fn told_in_module<'src>(
@@ -125,8 +156,7 @@ fn told_in<'src>(
         Ok((scope, _words, env)) => {
             tell_line(alloc, &mut host, context, &scope, recipe, line, env)?
         }
-        Err(Error::OutOfMemory) => host.told.push_str("no memory")?,
-        Err(_error) => host.told.push_str("refused")?,
+        Err(error) => host.told.push_str(refusal(&error))?,
     }
     Ok(host.into_told())
 }
@@ -144,43 +174,43 @@ fn tell_line<'src>(
 {
     let name = Some(recipe.name);
     let evaluator = Evaluator::new(alloc, context, env, false, name, scope)?;
-    match evaluator.evaluate_line(alloc, host, line, false) {
-        Ok(text) => host.told.push_str(&text)?,
-        Err(Error::OutOfMemory) => host.told.push_str("no memory")?,
-        Err(_error) => host.told.push_str("refused")?,
-    }
+    let outcome = evaluator.evaluate_line(alloc, host, line, false);
+    host.tell(outcome)?;
     Ok(())
 }
 
 // A module's assignments have no environment, and so none has a body that they call.
 #[test]
 fn environment_of_assignments(rt: HostRuntime) -> Result<(), Fail> {
-    let alloc = rt.alloc();
-    let lines = parse_lines(alloc, b"cmd who\nfun g\ncall g 0\nassign a\nrun")?;
-    let case = build(alloc, &lines)?;
-    let parent = Scope::root(alloc, &[])?;
-    let told = run_told(alloc, case, &parent)?;
+    let told = assignments_told(rt.alloc(), "cmd who\nfun g\ncall g 0\nassign a\nrun")?;
     assert_eq!(rt; told.as_str(), "? who () () ();");
     Ok(())
 }
 
 // What the assignments of a case ask.
+fn assignments_told(alloc: Global, case: &str) -> Result<String, Fail> {
+    let lines = parse_lines(alloc, case.as_bytes())?;
+    let module = module_of_case(alloc, build(alloc, &lines)?)?;
+    let around = Around::new(alloc)?;
+    let parent = Scope::root(alloc, &[])?;
+    run_told(alloc, &module, &around, &parent)
+}
+
 fn run_told<'src>(
     alloc: Global,
-    case: Case<'src>,
+    module: &Justfile<'src>,
+    around: &Around,
     parent: &Scope<'src, '_>,
 ) -> Result<String, Fail> {
-    let module = module_of_case(alloc, case)?;
-    let around = Around::new(alloc)?;
     let mut host = TellingHost::new(alloc, NEVER);
     let outcome = Evaluator::evaluate_assignments(
         alloc,
         &mut host,
         &around.config,
         &around.dotenv,
-        &module,
+        module,
         &around.overrides,
-        &*parent,
+        parent,
         &around.search,
         100,
         None,

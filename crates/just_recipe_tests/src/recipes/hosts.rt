@@ -9,10 +9,11 @@ use just_host::text_answer::TextAnswer;
 use just_host::text_question::TextQuestion;
 use just_script::fail_at::FailAt;
 use just_syntax::out_of_memory::OutOfMemory;
-use just_value::error::CommandFault;
+use just_value::error::{CommandFault, Error};
 use just_value::frame::Frame;
 use just_value::scope::Scope;
 use std::alloc::Global;
+use std::collections::BTreeMap;
 
 /// Answers each command with its own text in angle brackets, and knows nothing else.
 #[derive(Drop)]
@@ -61,6 +62,15 @@ impl TellingHost {
         }
     }
 
+    /// Tells a text, or its refusal.
+    pub(crate) fn tell(&mut self, outcome: Result<String, Error>) -> Result<(), OutOfMemory> {
+        match outcome {
+            Ok(text) => self.told.push_str(&text)?,
+            Err(error) => self.told.push_str(refusal(&error))?,
+        }
+        Ok(())
+    }
+
     /// What was told.
     pub(crate) fn into_told(self) -> String {
         let TellingHost { told, host } = self;
@@ -96,15 +106,32 @@ impl Host for TellingHost {
     }
 }
 
+/// How a refusal is told that says no more.
+pub(crate) fn refusal(error: &Error) -> &'static str {
+    match error {
+        Error::OutOfMemory => "no memory",
+        _ => "refused",
+    }
+}
+
 // Adds a command, its environment and the frames.
 fn tell_command(told: &mut String, question: &CommandQuestion) -> Result<(), OutOfMemory> {
     let command = question.command;
     write!(told, "? {command}")?;
-    for (key, value) in question.env {
-        write!(told, " {key}={value}")?;
-    }
+    tell_environment(told, question.env)?;
     tell_frames(told, question.scope)?;
     told.push(';')?;
+    Ok(())
+}
+
+/// Adds the variables of an environment, each behind a space.
+pub(crate) fn tell_environment(
+    told: &mut String,
+    env: &BTreeMap<String, String>,
+) -> Result<(), OutOfMemory> {
+    for (key, value) in env {
+        write!(told, " {key}={value}")?;
+    }
     Ok(())
 }
 

@@ -5,7 +5,7 @@ ghost use Rattle.std.specs.Prelude.{◌<◌};
 use crate::recipes::failing::{Failing, NEVER, each_way, told_failing};
 use crate::recipes::hosts::TellingHost;
 use crate::recipes::{Around, RECIPE, empty_module, expressions_of, module_of_case};
-use just_case_lines::case::build;
+use just_case_lines::case::{Case, build};
 use just_case_lines::line::parse_lines;
 use just_case_lines::token::{name, token};
 use just_eval::evaluator::Evaluator;
@@ -19,7 +19,6 @@ use just_syntax::line::Line;
 use just_syntax::number::Number;
 use just_syntax::out_of_memory::OutOfMemory;
 use just_value::binding::Binding;
-use just_value::error::Error;
 use just_value::scope::Scope;
 use just_value::value::Value;
 use std::alloc::Global;
@@ -115,24 +114,33 @@ fn lines_whose_questions_fail(rt: HostRuntime) -> Result<(), Fail> {
     Ok(())
 }
 
+// `g` runs a command, `f` puts what it gives behind a parameter, and `r` tells the recipe's name.
+const FUNCTIONS: &str =
+    "cmd who\nfun g\nvar n\ncall g 0\nadd\nfun f n\ncall recipe_name 0\nfun r\n";
+
+// A line that calls one of them, and what comes of it.
+const CALLS: &[(&str, &str)] = &[
+    (
+        "str z\ncall f 1\nassign a\nrun",
+        "? who () (n = \"z\") ();z<who>",
+    ),
+    ("call r 0\nassign a\nrun", "build"),
+];
+
 // A body that a line calls stands on the context's scope: it is shown its callers' frames and no recipe's, and knows the
 // recipe's name.
 #[test]
 fn frames_from_a_line(rt: HostRuntime) -> Result<(), Fail> {
-    let alloc = rt.alloc();
-    let functions = "cmd who\nfun g\nvar n\ncall g 0\nadd\nfun f n\ncall recipe_name 0\nfun r\n";
-    for (last, expected) in [
-        (
-            "str z\ncall f 1\nassign a\nrun",
-            "? who () (n = \"z\") ();z<who>",
-        ),
-        ("call r 0\nassign a\nrun", "build"),
-    ] {
-        let case = format!(in alloc; "{functions}{last}")?;
-        let told = line_told(alloc, &case, &[Interpolated], false, NEVER)?;
-        assert_eq!(rt; told.as_str(), expected, "{last}");
+    for (call, expected) in CALLS {
+        let told = call_told(rt.alloc(), call)?;
+        assert_eq!(rt; told.as_str(), *expected, "{call}");
     }
     Ok(())
+}
+
+fn call_told(alloc: Global, call: &str) -> Result<String, Fail> {
+    let case = format!(in alloc; "{FUNCTIONS}{call}")?;
+    line_told(alloc, &case, &[Interpolated], false, NEVER)
 }
 
 // What a line comes to, behind what was asked, where the recipe's scope binds `p` to `z`.
@@ -144,10 +152,18 @@ fn line_told(
     failing: Failing,
 ) -> Result<String, Fail> {
     let lines = parse_lines(alloc, case.as_bytes())?;
-    let expressions = expressions_of(alloc, build(alloc, &lines)?)?;
-    let line = line_of(alloc, pieces, expressions)?;
+    let line = line_of_case(alloc, pieces, build(alloc, &lines)?)?;
     let module = module_of_case(alloc, build(alloc, &lines)?)?;
     told_in_module(alloc, &module, &line, continued, failing)
+}
+
+fn line_of_case<'src>(
+    alloc: Global,
+    pieces: &[Piece],
+    case: Case<'src>,
+) -> Result<Line<'src>, OutOfMemory> {
+    let expressions = expressions_of(alloc, case)?;
+    line_of(alloc, pieces, expressions)
 }
 
 /// The same for a line that calls no function of a file.
@@ -225,11 +241,8 @@ fn told_in<'src>(
     let env = BTreeMap::new(alloc);
     let recipe = Some(name(RECIPE));
     let evaluator = Evaluator::new(alloc, context, env, false, recipe, scope)?;
-    match evaluator.evaluate_line(alloc, &mut host, line, continued) {
-        Ok(text) => host.told.push_str(&text)?,
-        Err(Error::OutOfMemory) => host.told.push_str("no memory")?,
-        Err(_error) => host.told.push_str("refused")?,
-    }
+    let outcome = evaluator.evaluate_line(alloc, &mut host, line, continued);
+    host.tell(outcome)?;
     Ok(host.into_told())
 }
 

@@ -3,8 +3,8 @@
 ghost use Rattle.std.specs.Prelude.{◌<◌};
 
 use crate::recipes::conditions::{Check, Conditions};
-use crate::recipes::failing::{NEVER, each_way, told_failing};
-use crate::recipes::hosts::{TellingHost, tell_frame};
+use crate::recipes::failing::{Failing, NEVER, each_way, told_failing};
+use crate::recipes::hosts::{TellingHost, refusal, tell_environment, tell_frame};
 use crate::recipes::parameter_rows::{BODY_ENVIRONMENT, ROWS, Row};
 use crate::recipes::{Around, RECIPE, empty_module, module_of_case};
 use just_case_lines::case::{Case, build};
@@ -34,22 +34,34 @@ use std::test::Fail;
 
 // Compares what comes of recipes with what is wanted, also where their questions fail.
 fn compare(rt: &impl Abort, alloc: Global, rows: &[Row<'static>]) -> Result<(), Fail> {
-    for (case, parameters, arguments, is_dependency, whole) in rows {
+    for row in rows {
+        let (_, _, _, _, whole) = *row;
         for failing in &each_way(alloc, whole)? {
-            let conditions = Conditions {
-                is_dependency: *is_dependency,
-                check: Check::RefusesNo,
-                failing: *failing,
-            };
-            let told = parameters_told(alloc, case, parameters, arguments, conditions)?;
-            let expected = told_failing(alloc, whole, *failing)?;
-            assert_eq!(rt;
-                told.as_str(),
-                expected.as_str(),
-                "{case} {parameters} {failing:?}"
-            );
+            compare_row(rt, alloc, row, *failing)?;
         }
     }
+    Ok(())
+}
+
+fn compare_row(
+    rt: &impl Abort,
+    alloc: Global,
+    row: &Row<'static>,
+    failing: Failing,
+) -> Result<(), Fail> {
+    let (case, parameters, arguments, is_dependency, whole) = *row;
+    let conditions = Conditions {
+        is_dependency,
+        check: Check::RefusesNo,
+        failing,
+    };
+    let told = parameters_told(alloc, case, parameters, arguments, conditions)?;
+    let expected = told_failing(alloc, whole, failing)?;
+    assert_eq!(rt;
+        told.as_str(),
+        expected.as_str(),
+        "{case} {parameters} {failing:?}"
+    );
     Ok(())
 }
 
@@ -72,15 +84,26 @@ pub(crate) fn parameters_told(
     conditions: Conditions,
 ) -> Result<String, Fail> {
     let lines = parse_lines(alloc, case.as_bytes())?;
+    let module = module_of_case(alloc, build(alloc, &lines)?)?;
     let assignments = assignments_of(build(alloc, &lines)?);
+    told_of(alloc, &module, assignments, written, given, conditions)
+}
+
+fn told_of<'src>(
+    alloc: Global,
+    module: &Justfile<'src>,
+    assignments: Table<Assignment<'src>>,
+    written: &'src str,
+    given: &[&[&str]],
+    conditions: Conditions,
+) -> Result<String, Fail> {
     let mut parameters = parameters_of(alloc, written)?;
     let recipe = Recipe {
         attributes: placed(alloc, &mut parameters, assignments)?,
         name: name(RECIPE),
     };
     let arguments = arguments_of(alloc, given)?;
-    let module = module_of_case(alloc, build(alloc, &lines)?)?;
-    told_in_module(alloc, &module, &parameters, &recipe, &arguments, conditions)
+    told_in_module(alloc, module, &parameters, &recipe, &arguments, conditions)
 }
 
 fn assignments_of<'src>(case: Case<'src>) -> Table<Assignment<'src>> {
@@ -157,27 +180,31 @@ fn parameters_of<'src>(
 ) -> Result<Vec<Parameter<'src>>, OutOfMemory> {
     let mut parameters = Vec::new(alloc);
     for (place, word) in written.split_whitespace().enumerate() {
-        let (word, marks) = match word.split_once('/') {
-            Some(parts) => parts,
-            None => (word, ""),
-        };
-        let (kind, lexeme) = match (word.strip_prefix('+'), word.strip_prefix('*')) {
-            (Some(lexeme), _) => (ParameterKind::Plus, lexeme),
-            (_, Some(lexeme)) => (ParameterKind::Star, lexeme),
-            _ => (ParameterKind::Singular, word),
-        };
-        parameters.push(Parameter {
-            default: None,
-            export: marks.contains('x'),
-            flag: marks.contains('f'),
-            kind,
-            multiple: marks.contains('m'),
-            name: name(lexeme),
-            number: Number::new(place as u64),
-            value: None,
-        })?;
+        parameters.push(parameter_of(place, word))?;
     }
     Ok(parameters)
+}
+
+fn parameter_of<'src>(place: usize, word: &'src str) -> Parameter<'src> {
+    let (word, marks) = match word.split_once('/') {
+        Some(parts) => parts,
+        None => (word, ""),
+    };
+    let (kind, lexeme) = match (word.strip_prefix('+'), word.strip_prefix('*')) {
+        (Some(lexeme), _) => (ParameterKind::Plus, lexeme),
+        (_, Some(lexeme)) => (ParameterKind::Star, lexeme),
+        _ => (ParameterKind::Singular, word),
+    };
+    Parameter {
+        default: None,
+        export: marks.contains('x'),
+        flag: marks.contains('f'),
+        kind,
+        multiple: marks.contains('m'),
+        name: name(lexeme),
+        number: Number::new(place as u64),
+        value: None,
+    }
 }
 
 // Puts each expression in its place, and gives the attributes. The assignments come by the bytes of their names.
@@ -198,6 +225,15 @@ fn placed<'src>(
             place(parameters, name, assignment.value);
         }
     }
+    attributes_of(alloc, keys, values)
+}
+
+// An attribute of each key and value, and one of another kind before each.
+fn attributes_of<'src>(
+    alloc: Global,
+    keys: Vec<Expression<'src>>,
+    values: Vec<Expression<'src>>,
+) -> Result<AttributeSet<'src>, OutOfMemory> {
     let mut attributes = AttributeSet::new(alloc);
     let mut left = values.into_iter();
     for key in keys {
@@ -286,9 +322,7 @@ fn tell(
     told.push(';')?;
     tell_frame(told, scope.frame())?;
     told.push_str(" env")?;
-    for (key, value) in env {
-        write!(told, " {key}={value}")?;
-    }
+    tell_environment(told, env)?;
     told.push(';')?;
     Ok(())
 }
@@ -302,8 +336,7 @@ fn tell_refusal(told: &mut String, error: &Error) -> Result<(), OutOfMemory> {
         )?,
         Error::Internal { message, token: _ } => write!(told, "internal {message}")?,
         Error::ListInStringContext { context, value } => write!(told, "list {value} {context}")?,
-        Error::OutOfMemory => told.push_str("no memory")?,
-        _ => told.push_str("refused")?,
+        _ => told.push_str(refusal(error))?,
     }
     Ok(())
 }

@@ -47,28 +47,49 @@ fn in_a_row<'src>(alloc: Global, count: u64) -> Result<Vec<Parameter<'src>>, Out
     Ok(parameters)
 }
 
-// The argument of the first parameter comes to be the value of each.
-fn reads_the_one_before(rt: &impl Abort, alloc: Global, count: u64) -> Result<(), Fail> {
-    let recipe = Recipe {
-        attributes: AttributeSet::new(alloc),
-        name: name("build"),
-    };
+// An argument for the first parameter alone.
+fn arguments(alloc: Global, count: u64) -> Result<Vec<Value>, OutOfMemory> {
     let mut arguments = Vec::new(alloc);
     arguments.push(Value::from_text(alloc, "a")?)?;
     for _ in 1..count {
         arguments.push(Value::new(alloc))?;
     }
+    Ok(arguments)
+}
+
+// What comes of the parameters in a row.
+fn told_in_a_row(alloc: Global, count: u64) -> Result<String, Fail> {
+    let recipe = Recipe {
+        attributes: AttributeSet::new(alloc),
+        name: name("build"),
+    };
     let parameters = in_a_row(alloc, count)?;
-    let told = parameters::told(alloc, &parameters, &recipe, &arguments)?;
+    let arguments = arguments(alloc, count)?;
+    parameters::told(alloc, &parameters, &recipe, &arguments)
+}
+
+// Adds a piece so often.
+fn repeat(text: &mut String, piece: &str, count: u64) -> Result<(), OutOfMemory> {
+    for _ in 0..count {
+        text.push_str(piece)?;
+    }
+    Ok(())
+}
+
+// A word and a binding for each parameter.
+fn wanted_in_a_row(alloc: Global, count: u64) -> Result<String, OutOfMemory> {
     let mut wanted = String::from_str(alloc, "words")?;
-    for _ in 0..count {
-        wanted.push_str(" a")?;
-    }
+    repeat(&mut wanted, " a", count)?;
     wanted.push_str("; (")?;
-    for _ in 0..count {
-        wanted.push_str("x = \"a\"")?;
-    }
+    repeat(&mut wanted, "x = \"a\"", count)?;
     wanted.push_str(") env;")?;
+    Ok(wanted)
+}
+
+// The argument of the first parameter comes to be the value of each.
+fn reads_the_one_before(rt: &impl Abort, alloc: Global, count: u64) -> Result<(), Fail> {
+    let told = told_in_a_row(alloc, count)?;
+    let wanted = wanted_in_a_row(alloc, count)?;
     assert_eq!(rt; told.as_str(), wanted.as_str());
     Ok(())
 }
@@ -83,10 +104,9 @@ fn two_thousand_parameters_in_a_row(rt: HostRuntime) -> Result<(), Fail> {
     reads_the_one_before(&rt, rt.alloc(), 2000)
 }
 
-// A line of so many texts and interpolations, of what is bound to 1000, is all of them.
-fn line_of_many(rt: &impl Abort, alloc: Global, count: u64) -> Result<(), Fail> {
+// So many texts and interpolations, of what is bound to 1000.
+fn line_of<'src>(alloc: Global, count: u64) -> Result<Line<'src>, OutOfMemory> {
     let mut fragments = Vec::new(alloc);
-    let mut wanted = String::new(alloc);
     for _ in 0..count {
         fragments.push(Fragment::Text {
             token: token("{{{{x"),
@@ -94,10 +114,15 @@ fn line_of_many(rt: &impl Abort, alloc: Global, count: u64) -> Result<(), Fail> 
         fragments.push(Fragment::Interpolation {
             expression: variable(1000),
         })?;
-        wanted.push_str("{{xz")?;
     }
-    let line = Line { fragments };
-    let told = lines::told(alloc, &line)?;
+    Ok(Line { fragments })
+}
+
+// A line of so many texts and interpolations is all of them.
+fn line_of_many(rt: &impl Abort, alloc: Global, count: u64) -> Result<(), Fail> {
+    let told = lines::told(alloc, &line_of(alloc, count)?)?;
+    let mut wanted = String::new(alloc);
+    repeat(&mut wanted, "{{xz", count)?;
     assert_eq!(rt; told.as_str(), wanted.as_str());
     Ok(())
 }
