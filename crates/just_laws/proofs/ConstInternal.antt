@@ -19,13 +19,14 @@ use Rattle.just_meaning.specs.Reaches.{Mention, VariableOf, CallOf, Stands, Read
 use Rattle.just_meaning.specs.Resolved.{AllNumbered, IsNumbered, IsOneOf, HasValue, AreAssignments, AreInOrder, with_taken, IsResolvedConst}
 use Rattle.just_meaning.specs.Stage.{Constants, Standing, Found, Stage, Finished, Stops, Unknown, Passes, Skips, StaysOpen, Settles, Opens, Breaks, const_assigned}
 use Rattle.just_laws.proofs.Bound.{has_put}
-use Rattle.just_laws.proofs.Constants.{AllConst, Allows, Fine, OfSome, const_eval, const_override, const_refused}
+use Rattle.just_laws.proofs.Forms.{OfForms}
+use Rattle.just_laws.proofs.Constants.{AllConst, Fine, OfSome, const_eval, const_override, const_refused}
 
 abbrev IsOther : Refusal → Type 0
 IsOther r = IsInternal r → ⊥
 
-allows_others : Allows IsOther
-allows_others = record { assertion = λ message t none. none; lists = λ l o r t none. none; regex = λ t none. none }
+allows_others : OfForms IsOther
+allows_others = record { assertion = λ message t none. none; operation = λ l o r t none. none; regex = λ t none. none }
 
 shut_other : (is_open : ℕ → Bool) (x : Note) (s : Refusal) → constantly is_open x ≡ Some s → IsOther s
 shut_other is_open (Read t n) s e = by (is_open n) e

@@ -1,12 +1,10 @@
 -- By the const rules nothing is asked, and few refusals come.
 use Rattle.std.proofs.Common.{◌≡◌, ℕ, Bool, true, false, List, if◌then◌else◌, Option, Some, None, refl, sym, subst}
 use Rattle.just_syntax.specs.Plain.{Text, Token, Expr}
-use Rattle.just_syntax.specs.declared.list_operator.ListOperator.{ListOperator}
 use Rattle.just_value.specs.ConstEval.{IsConstEval}
 use Rattle.just_value.specs.ConstRefusal as constants
 use Rattle.just_value.specs.Value.{Value, Names}
-use Rattle.just_value.specs.Refusal as refusal
-use Rattle.just_value.specs.Refusal.{Refusal, Const, Internal}
+use Rattle.just_value.specs.Refusal.{Refusal, Const}
 use Rattle.just_value.specs.Outcome.{Outcome, Gave, Refused, Stopped, UnlessStopped}
 use Rattle.just_host.specs.Question.{Question, Answer}
 use Rattle.just_host.specs.Interaction.{Note, Event, Read, Entered, Command, Tree, done, ask, note, check, bind, Path, Ends, Stops, Asks, Notes, Checks, Shuts, Chain, Runs}
@@ -15,7 +13,7 @@ use Rattle.just_meaning.specs.Internal.{IfRefused}
 use Rattle.just_meaning.specs.Reaches.{Mention, VariableOf, CallOf, Stands}
 use Rattle.just_meaning.specs.Meaning.{Program, Situation, Deeper, eval, named, variable}
 use Rattle.just_meaning.specs.Module.{or_override}
-use Rattle.just_laws.proofs.Forms.{holds_eval}
+use Rattle.just_laws.proofs.Forms.{OfForms, holds_eval}
 
 -- By the const rules the tree reaches no question and no check, and what it is refused with is such.
 abbrev pub AllConst : {A : Type 0} → (Refusal → Type 0) → (ℕ → Bool) → Tree A → Type 0
@@ -31,12 +29,6 @@ abbrev pub Fine : (Refusal → Type 0) → (ℕ → Bool) → Names → Mention 
 Fine P is_open names (VariableOf number) = (t : Token) → AllConst P is_open (variable t number names)
 Fine P is_open names (CallOf f n) = Unit {0}
 
--- what may be refused whatever the variables are
-pub record Allows (P : Refusal → Type 0) : Type 0 where
-  pub assertion : (message : Text) (t : Token) → P (refusal.Assert message t)
-  pub lists : (l : Value) (o : ListOperator) (r : Value) (t : Token) → P (refusal.ListOperation l o r t)
-  pub regex : (t : Token) → P (refusal.LeftOutRegex t)
-
 module _ (P : Refusal → Type 0) (is_open : ℕ → Bool) where
   pub const_bind : {A B : Type 0} (t : Tree A) (go : A → Tree B) → AllConst P is_open t → ((a : A) → AllConst P is_open (go a)) → AllConst P is_open (bind t go)
   const_bind (done (Gave a)) go h k = k a
@@ -46,11 +38,11 @@ module _ (P : Refusal → Type 0) (is_open : ℕ → Bool) where
   const_bind (check p v next) go h k = absurd h
   const_bind (note x rest) go h k = λ e. const_bind rest go (h e) k
 
-  module _ (allows : Allows P) where
+  module _ (allows : OfForms P) where
     module _ (c : Program) (d : Deeper) (s : Situation) where
       -- a call and a command are refused before anything of them is looked at
       pub const_eval : (e : Expr) → ((x : Mention) → Stands e x → Fine P is_open s.names x) → AllConst P is_open (eval c d s e)
-      const_eval = holds_eval (λ A t. AllConst P is_open t) (λ A a. tt) (λ A B t go h k. const_bind t go h k) (record { assertion = allows.assertion; operation = allows.lists; regex = allows.regex })
+      const_eval = holds_eval (λ A t. AllConst P is_open t) (λ A a. tt) (λ A B t go h k. const_bind t go h k) allows
           c d s (Fine P is_open s.names) (λ text t. λ e. absurd (cc)) (λ t es fine row. λ e. absurd (cc)) (λ number fine t. fine t)
 
   pub const_override : (o : Option Text) (t : Tree Value) → AllConst P is_open t → AllConst P is_open (or_override o t)
@@ -96,8 +88,8 @@ abbrev pub OfSome : (Refusal → Type 0) → Option Refusal → Type 0
 OfSome P (Some r) = P r
 OfSome P None = Unit {0}
 
-allows_all : Allows IsConstEval
-allows_all = record { assertion = λ message t. tt; lists = λ l o r t. tt; regex = λ t. tt }
+allows_all : OfForms IsConstEval
+allows_all = record { assertion = λ message t. tt; operation = λ l o r t. tt; regex = λ t. tt }
 
 shut_alike : (is_open : ℕ → Bool) (x : Note) (s : Refusal) → constantly is_open x ≡ Some s → IsConstEval s
 shut_alike is_open (Read t n) s e = by (is_open n) e

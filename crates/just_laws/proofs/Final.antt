@@ -19,7 +19,7 @@ abbrev pub AllFinal : {A : Type 0} → Tree A → Type 0
 AllFinal t = AllRefused IsFinal t
 
 permits_final : Permits IsFinal
-permits_final = record { assertion = λ message t. tt; command = λ t f. tt; function = λ t message. tt; list = λ context v. tt; operation = λ l o r t. tt; regex = λ t. tt }
+permits_final = record { forms = record { assertion = λ message t. tt; operation = λ l o r t. tt; regex = λ t. tt }; command = λ t f. tt; function = λ t message. tt; list = λ context v. tt }
 
 pub final_bind : {A B : Type 0} (t : Tree A) (go : A → Tree B) → AllFinal t → ((a : A) → AllFinal (go a)) → AllFinal (bind t go)
 final_bind t go h k = refused_bind IsFinal t go h k

@@ -8,15 +8,16 @@ use Rattle.just_syntax.specs.ListOperator.{separator}
 use Rattle.just_value.specs.Value.{Value, is_truthy, joined}
 use Rattle.just_value.specs.Applied.{applied, value_or_lists}
 use Rattle.just_value.specs.Refusal as refusal
+use Rattle.just_value.specs.Refusal.{Refusal}
 use Rattle.just_host.specs.Interaction.{Tree, done, bind, gives, refuses}
 use Rattle.just_meaning.specs.Meaning.{Program, Situation, Deeper, Row, as_it_is, assertion, combination, eval, eval_row, eval_pieces, is_regex, variable}
 use Rattle.just_meaning.specs.Reaches.{Mention, VariableOf, CallOf, Stands, StandsIn, StandsInPieces}
 
--- it holds of what the forms are refused with themselves
-pub record HoldsOfRefusals (H : Tree Value → Type 0) : Type 0 where
-  pub assertion : (message : Text) (t : Token) → H (refuses (refusal.Assert message t))
-  pub operation : (l : Value) (o : ListOperator) (r : Value) (t : Token) → H (refuses (refusal.ListOperation l o r t))
-  pub regex : (t : Token) → H (refuses (refusal.LeftOutRegex t))
+-- what the forms are refused with themselves is such
+pub record OfForms (P : Refusal → Type 0) : Type 0 where
+  pub assertion : (message : Text) (t : Token) → P (refusal.Assert message t)
+  pub operation : (l : Value) (o : ListOperator) (r : Value) (t : Token) → P (refusal.ListOperation l o r t)
+  pub regex : (t : Token) → P (refusal.LeftOutRegex t)
 
 module _ (H : (A : Type 0) → Tree A → Type 0) (gave : (A : Type 0) (a : A) → H A (gives a))
     (bound : (A B : Type 0) (t : Tree A) (go : A → Tree B) → H A t → ((a : A) → H B (go a)) → H B (bind t go)) where
@@ -31,7 +32,7 @@ module _ (H : (A : Type 0) → Tree A → Type 0) (gave : (A : Type 0) (a : A) �
   holds_if true x y h k = h
   holds_if false x y h k = k
 
-  module _ (refused : HoldsOfRefusals (H Value)) where
+  module _ (refused : OfForms (λ r. H Value (refuses r))) where
     holds_lists : (o : Option Value) (xs : Value) (k : ListOperator) (ys : Value) (t : Token) → H Value (done (value_or_lists o xs k ys t))
     holds_lists (Some v) xs k ys t = gave _ v
     holds_lists None xs k ys t = refused.operation xs k ys t

@@ -39,7 +39,7 @@ abbrev pub IsNeverInternal : {A : Type 0} → Tree A → Type 0
 IsNeverInternal t = AllEnd IsNotInternal t
 
 permits_others : Permits IsOther
-permits_others = record { assertion = λ message t none. none; command = λ t f none. none; function = λ t message none. none; list = λ context v none. none; operation = λ l o r t none. none; regex = λ t none. none }
+permits_others = record { forms = record { assertion = λ message t none. none; operation = λ l o r t none. none; regex = λ t none. none }; command = λ t f none. none; function = λ t message none. none; list = λ context v none. none }
 
 pub bind_never : {A B : Type 0} (t : Tree A) (go : A → Tree B) → IsNeverInternal t → ((a : A) → IsNeverInternal (go a)) → IsNeverInternal (bind t go)
 bind_never t go h k = refused_bind IsOther t go h k

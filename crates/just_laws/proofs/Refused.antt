@@ -3,7 +3,6 @@ use Rattle.std.proofs.Common.{ℕ, Bool, true, false, [], ◌∷◌, if◌then�
 use Rattle.just_syntax.specs.Plain.{Text, Token, Expr, count}
 use Rattle.just_syntax.specs.StringContext.{StringContext}
 use Rattle.just_syntax.specs.StringContext as contexts
-use Rattle.just_syntax.specs.declared.list_operator.ListOperator.{ListOperator}
 use Rattle.just_value.specs.Value.{Value, Names}
 use Rattle.just_value.specs.Frames.{Frames}
 use Rattle.just_value.specs.Refusal as refusal
@@ -22,7 +21,7 @@ use Rattle.just_meaning.specs.Internal.{IfRefused}
 use Rattle.just_meaning.specs.Meaning.{Program, Situation, Deeper, Row, answered, argument, as_it_is, built_in_call, built_in_context, called, eval, eval_row, returned, texts_of, variable}
 use Rattle.just_meaning.specs.Reaches.{Mention, VariableOf, CallOf, Stands}
 use Rattle.just_laws.proofs.Ends.{AllEnd, HasCount, ends_bind, ends_both, row_counts}
-use Rattle.just_laws.proofs.Forms.{holds_eval}
+use Rattle.just_laws.proofs.Forms.{OfForms, holds_eval}
 
 -- each refusal that the tree may end with is such
 abbrev pub AllRefused : {A : Type 0} → (Refusal → Type 0) → Tree A → Type 0
@@ -39,12 +38,10 @@ Fits P C names (CallOf f n) = C f n
 
 -- what forms, commands and built-in functions are refused with, whatever they are given
 pub record Permits (P : Refusal → Type 0) : Type 0 where
-  pub assertion : (message : Text) (t : Token) → P (refusal.Assert message t)
+  pub forms : OfForms P
   pub command : (t : Token) (f : Fault) → P (refusal.Backtick t f)
   pub function : (t : Token) (message : Text) → P (refusal.FunctionCall t message)
   pub list : (context : StringContext) (v : Value) → P (refusal.ListInStringContext context v)
-  pub operation : (l : Value) (o : ListOperator) (r : Value) (t : Token) → P (refusal.ListOperation l o r t)
-  pub regex : (t : Token) → P (refusal.LeftOutRegex t)
 
 module _ (P : Refusal → Type 0) where
   -- on from the values that satisfy more
@@ -96,6 +93,6 @@ module _ (P : Refusal → Type 0) where
     module _ (c : Program) (d : Deeper) (s : Situation) (C : Text → ℕ → Type 0)
         (calls : (t : Token) (n : ℕ) (row : Row) → C t.lexeme n → AllEnd (HasCount n) (row as_it_is) → IsRowRefused P row → AllRefused P (called c t (callee c.functions t.lexeme) d s n row)) where
       pub refused_eval : (e : Expr) → ((x : Mention) → Stands e x → Fits P C s.names x) → AllRefused P (eval c d s e)
-      refused_eval = holds_eval (λ A t. AllRefused P t) (λ A a. tt) (λ A B t go h k. refused_bind t go h k) (record { assertion = permits.assertion; operation = permits.operation; regex = permits.regex })
+      refused_eval = holds_eval (λ A t. AllRefused P t) (λ A a. tt) (λ A B t go h k. refused_bind t go h k) permits.forms
           c d s (Fits P C s.names) (λ text t. refused_if c.fixed.config.dry_run _ _ tt (λ a. refused_answer t a))
           (λ t es fit row. calls t (count es) (eval_row c d s 0 es) fit (row_counts c d s 0 es as_it_is) row) (λ number fit t. fit t)
