@@ -1,4 +1,7 @@
 mod Split
+mod Counts
+mod Maps
+mod Stacks
 pub mod Lines
 pub mod Texts
 pub mod Names

@@ -1,36 +1,35 @@
--- Names keep their numbers.
-use Rattle.std.proofs.Common.{◌≡◌, ℕ, true, List, [], ◌∷◌, ◌++◌, map, Some, refl, sym, ap, ◌∙◌, ⊎_elim}
+-- Names get numbers.
+use Rattle.std.proofs.Common.{◌≡◌, ◌≢◌, ℕ, suc, true, List, [], ◌∷◌, ◌++◌, Option, Some, None, refl, ap, ◌∙◌, ⊎_elim, if◌then◌else◌}
+use Rattle.std.proofs.Math.Path.{fun_ext}
 use Rattle.std.specs.Str.{bytes_eq}
 use Rattle.std.proofs.lemmas.Bool.{cases_Bool}
-use Rattle.std.proofs.lemmas.List.{map-append}
 use Rattle.std.proofs.lemmas.Slice.Eq.{bytes_eq-Decides}
 use Rattle.just_syntax.specs.Plain.{Text}
-use Rattle.just_case_lines.specs.Numbering.{AreNumbered, Numbers, number_of}
-use Rattle.just_case_lines.specs.declared.numbering.Numbering.{Numbering}
+use Rattle.just_case_lines.specs.Numbering.{Names, number_of, numbered, with_name, with_names}
 
--- a name that had a number has it still
-kept : (old new : Numbering) (name : Text) (number : ℕ) → Numbers old new name number → (other : Text) (k : ℕ) → number_of old other ≡ Some k → number_of new other ≡ Some k
-kept old new name number n other k had =
-    ⊎_elim
-    (λ e. let same : other ≡ name = (bytes_eq-Decides other name).0 e in
-    let given : number ≡ k = n.given ∙ (rw (sym same, had) refl) in
-    ap (number_of new) same ∙ n.named ∙ ap Some given)
-    (λ e. n.others other (λ same. absurd (let h : bytes_eq other name ≡ true = (bytes_eq-Decides other name).1 same in cc)) ∙ had)
-    (cases_Bool (bytes_eq other name))
+-- a name that came before changes nothing, and has the number that it had
+pub known : (names : Names) (name : Text) (n : ℕ) → names.number name ≡ Some n → names ≡ with_name names name
+known names name n had = rw (had) refl
 
-all_kept : (old new : Numbering) (name : Text) (number : ℕ) → Numbers old new name number → (names : List Text) (numbers : List ℕ) → AreNumbered old names numbers → AreNumbered new names numbers
-all_kept old new name number n [] [] are = refl
-all_kept old new name number n [] (k ∷ ks) are = absurd cc
-all_kept old new name number n (x ∷ xs) [] are = absurd cc
-all_kept old new name number n (x ∷ xs) (k ∷ ks) are =
-    let had : number_of old x ≡ Some k = cc in
-    let rest : AreNumbered old xs ks = cc in
-    rw (kept old new name number n x k had, all_kept old new name number n xs ks rest) refl
+-- a new name has the next number from then on, and other names keep theirs
+pub grown : (names : Names) (name : Text) (f : Text → Option ℕ) (n : ℕ) → names.number name ≡ None → f name ≡ Some names.count → ((other : Text) → other ≢ name → f other ≡ names.number other) → n ≡ suc names.count → record { number = f; count = n } ≡ with_name names name
+grown names name f n new named others counted =
+    let at : (other : Text) → f other ≡ (if bytes_eq other name then Some names.count else names.number other) =
+    λ other. ⊎_elim
+    (λ e. let same : other ≡ name = (bytes_eq-Decides other name).0 e in rw (e) (ap f same ∙ named))
+    (λ e. rw (e) (others other (λ same. absurd (let h : bytes_eq other name ≡ true = (bytes_eq-Decides other name).1 same in cc))))
+    (cases_Bool (bytes_eq other name)) in
+    rw (new, fun_ext at, counted) refl
 
 -- one more name behind those so far
-pub one_more : (old new : Numbering) (name : Text) (number : ℕ) → Numbers old new name number → (names : List Text) (numbers : List ℕ) → AreNumbered old names numbers → AreNumbered new (names ++ name ∷ []) (numbers ++ number ∷ [])
-one_more old new name number n names numbers are =
-    map-append (number_of new) names (name ∷ [])
-    ∙ ap (λ x. map (number_of new) names ++ x ∷ []) n.named
-    ∙ ap (λ xs. xs ++ Some number ∷ []) (all_kept old new name number n names numbers are)
-    ∙ sym (map-append Some numbers (number ∷ []))
+with_last : (names : Names) (xs : List Text) (x : Text) → with_names names (xs ++ x ∷ []) ≡ with_name (with_names names xs) x
+with_last names [] x = refl
+with_last names (y ∷ ys) x = with_last (with_name names y) ys x
+
+last_made : {A : Type 0} (make : Text → ℕ → A) (names : Names) (xs : List Text) (x : Text) → numbered make names (xs ++ x ∷ []) ≡ numbered make names xs ++ make x (number_of (with_names names xs) x) ∷ []
+last_made make names [] x = refl
+last_made make names (y ∷ ys) x = ap (λ made. make y (number_of names y) ∷ made) (last_made make (with_name names y) ys x)
+
+pub one_more : {A : Type 0} (make : Text → ℕ → A) (names : Names) (xs ys : List Text) (x : Text) (made : List A) (n : ℕ) (had has : Names) → (made ≡ numbered make names xs) × (had ≡ with_names names xs) → n ≡ number_of had x → has ≡ with_name had x → ys ≡ xs ++ x ∷ [] → (made ++ make x n ∷ [] ≡ numbered make names ys) × (has ≡ with_names names ys)
+one_more make names xs ys x made n had has so_far number named more =
+    rw (more, last_made make names xs x, with_last names xs x, number, named, so_far.0, so_far.1) (refl, refl)

@@ -1,15 +1,36 @@
--- What lines add to a case.
-use Rattle.std.specs.Prelude.{List, Option, Some, None, map, codes}
-use Rattle.just_syntax.specs.Plain.{Text, Token}
-use Rattle.just_syntax.specs.View.{name_view}
-use Rattle.just_case_lines.specs.declared.evaluation.Evaluation.{Evaluation}
-use Rattle.just_case_lines.specs.declared.evaluation.Evaluation.TheVariants as ends
+-- What a case says, as plain data.
+use Rattle.std.specs.Prelude.{ℕ, Bool, List, Option, codes}
+use Rattle.just_syntax.specs.Plain.{Text, Token, Assignment, Function}
+use Rattle.just_value.specs.Refusal.{Fault}
 
 -- a token of a case: all of them stand at the start of one file
 abbrev pub token_of : Text → Token
 token_of lexeme = record { column = 0; line = 0; offset = 0; lexeme = lexeme; path = codes "justfile" }
 
--- the order of the second run, where there are two
-abbrev pub second_order : Evaluation → Option (List Token)
-second_order (ends.Blocks order) = Some (map name_view order.items)
-second_order _ = None
+-- how a command is answered: by what it writes, or by a fault
+pub data Reply : Type 0 where
+  Output : Text → Reply
+  Broken : Fault → Reply
+
+-- how a case is evaluated: in a run, before any run, or in two runs of which the second has this order
+pub data Evaluation : Type 0 where
+  Run : Evaluation
+  Const : Evaluation
+  Blocks : List Token → Evaluation
+
+-- what a case says; assignments and functions stand by the bytes of their names, dotenv variables by those of their keys
+pub record Case : Type 0 where
+  pub assignments : List Assignment
+  pub evaluation_order : List Token
+  pub functions : List Function
+  pub overrides : ℕ → Option Text
+  -- which variables are referenced, where that is told
+  pub references : Option (ℕ → Bool)
+  pub dotenv : List (Text × Text)
+  -- commands with the texts that they are always answered with
+  pub always : List (Text × Text)
+  pub replies : List Reply
+  pub lists : Bool
+  pub dry_run : Bool
+  pub recursion_limit : ℕ
+  pub evaluation : Evaluation

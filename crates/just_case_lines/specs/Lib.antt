@@ -1,6 +1,8 @@
 pub mod Case
+pub mod Done
 pub mod Line
 pub mod Numbering
-pub mod References
+pub mod Reading
 pub mod Rest
+pub mod Stack
 pub mod View

@@ -1,36 +1,37 @@
 -- The numbers of names.
-use Rattle.std.specs.Prelude.{◌≡◌, ◌≢◌, ℕ, ◌+◌, Bool, false, List, map, nat_eq, Option, Some, if◌then◌else◌, unwrap_or}
-use Rattle.std.specs.Ordering.{nat_cmp}
-use Rattle.std.specs.Option.{is_some, option_map}
-use Rattle.std.specs.Cmp.Lexicographic.{slice_cmp}
-use Rattle.std.specs.BTreeMap.{get_by, btree_map_len}
-use Rattle.just_syntax.specs.Plain.{Text}
-use Rattle.just_case_lines.specs.declared.numbering.Numbering.{Numbering}
+use Rattle.std.specs.Prelude.{ℕ, suc, List, [], ◌∷◌, Option, Some, unwrap_or, if◌then◌else◌}
+use Rattle.std.specs.Option.{is_some}
+use Rattle.std.specs.Str.{bytes_eq}
+use Rattle.just_syntax.specs.Plain.{Text, Token}
+use Rattle.just_case_lines.specs.Case.{token_of}
 
--- the number of a name that came
-abbrev pub number_of : Numbering → Text → Option ℕ
-number_of numbering name = get_by (λ key. slice_cmp nat_cmp name key.now) numbering.numbers
+-- the number of each name that came, and how many came
+pub record Names : Type 0 where
+  pub number : Text → Option ℕ
+  pub count : ℕ
 
--- how many names came
-abbrev pub count_of : Numbering → ℕ
-count_of numbering = btree_map_len numbering.numbers
+-- the number that a name has, or the next one if it did not come
+abbrev pub number_of : Names → Text → ℕ
+number_of names name = unwrap_or (names.number name) names.count
 
--- A name has the number that it had, or the next one if it had none, and has it from then on; other names keep theirs.
-pub record Numbers (old new : Numbering) (name : Text) (number : ℕ) : Type 0 where
-  pub given : number ≡ unwrap_or (number_of old name) (count_of old)
-  pub named : number_of new name ≡ Some number
-  pub others : (other : Text) → other ≢ name → number_of new other ≡ number_of old other
-  pub count : count_of new ≡ count_of old + (if is_some (number_of old name) then 0 else 1)
+-- the names, once this one came
+abbrev pub with_name : Names → Text → Names
+with_name names name =
+    if is_some (names.number name) then names else
+    record { number = λ other. if bytes_eq other name then Some names.count else names.number other; count = suc names.count }
 
--- each name has the number that it had
-pub record IsUnchanged (old new : Numbering) : Type 0 where
-  pub same : (name : Text) → number_of new name ≡ number_of old name
-  pub count : count_of new ≡ count_of old
+-- the names, once these came
+abbrev pub with_names : Names → List Text → Names
+with_names names [] = names
+with_names names (x ∷ xs) = with_names (with_name names x) xs
 
--- whether a name has this number
-abbrev pub has_number : Numbering → ℕ → Text → Bool
-has_number numbering n name = unwrap_or (option_map (λ m. nat_eq m n) (number_of numbering name)) false
+-- what is made of names and their numbers, which come one after another
+abbrev pub numbered : {A : Type 0} → (Text → ℕ → A) → Names → List Text → List A
+numbered make names [] = []
+numbered make names (x ∷ xs) = make x (number_of names x) ∷ numbered make (with_name names x) xs
 
--- these names have these numbers, each its own
-abbrev pub AreNumbered : Numbering → List Text → List ℕ → Type 0
-AreNumbered numbering names numbers = map (number_of numbering) names ≡ map Some numbers
+abbrev pub numbers_of : Names → List Text → List ℕ
+numbers_of = numbered (λ name number. number)
+
+abbrev pub parameters_of : Names → List Text → List (Token × ℕ)
+parameters_of = numbered (λ name number. (token_of name, number))

@@ -1,11 +1,15 @@
 // A case so far.
 
-ghost use Rattle.std.specs.Prelude.{◌≡◌, Some, IfSome, IsSomeAnd, OnOk, map, unwrap_or};
+ghost use Rattle.std.specs.Prelude.{◌≡◌, ◌∷◌, Some, true, map};
 ghost use Rattle.std.specs.Option.{is_some, option_map};
-ghost use Rattle.just_syntax.specs.View.{name_view};
-ghost use Rattle.just_case_lines.specs.Case.{second_order, token_of};
-ghost use Rattle.just_case_lines.specs.References.{Refers};
+ghost use Rattle.just_syntax.specs.Plain.{Text};
+ghost use Rattle.just_case_lines.specs.Case as cases;
+ghost use Rattle.just_case_lines.specs.Case.{token_of};
+ghost use Rattle.just_case_lines.specs.Done.{Done};
+ghost use Rattle.just_case_lines.specs.Line as lines;
+ghost use Rattle.just_case_lines.specs.Reading.{finished, names_in, nothing, read, step};
 ghost use Rattle.just_case_lines.specs.Rest.{names};
+ghost use Rattle.just_case_lines.specs.View.{case_view, evaluation_view, line_view, reading_view};
 
 use crate::case::Case;
 use crate::evaluation::Evaluation;
@@ -37,7 +41,9 @@ pub(crate) struct Builder<'src> {
 
 impl<'src> Builder<'src> {
     /// No line. It takes no memory.
-    pub(crate) fn new(alloc: Global) -> Builder<'src> {
+    pub(crate) fn new(alloc: Global) -> Builder<'src>
+        ensures { reading_view result ≡ nothing }
+    {
         Builder {
             case: Case::new(alloc),
             is_over: false,
@@ -50,10 +56,7 @@ impl<'src> Builder<'src> {
 
     /// The whole case, if its end came. The order that a line told stands in place of that of the assignments.
     pub(crate) fn finished(self) -> Option<Case<'src>>
-        ensures over { is_some result ≡ self.entry.is_over }
-        ensures order { IfSome result (λ case. case.evaluation_order ≡ unwrap_or self.entry.order self.entry.case.evaluation_order) }
-        ensures references { IfSome result (λ case. case.references ≡ self.entry.case.references) }
-        ensures evaluation { IfSome result (λ case. case.evaluation ≡ self.entry.case.evaluation) }
+        ensures { option_map case_view result ≡ finished (reading_view self.entry) }
     {
         let Builder {
             mut case,
@@ -73,11 +76,22 @@ impl<'src> Builder<'src> {
     }
 
     /// Does what a line says. Behind the end every line is bad that is not skipped.
-    pub(crate) fn take(&mut self, alloc: Global, line: &'src Line<'src>) -> Result<(), LineError> {
+    pub(crate) fn take(&mut self, alloc: Global, line: &'src Line<'src>) -> Result<(), LineError>
+        ensures { Done result (step (line_view line.now) (reading_view self.old)) (reading_view self.new) }
+    {
+        if self.is_over && !line.is_skipped() {
+            return Err(LineError::Bad);
+        }
+        self.read(alloc, line)
+    }
+
+    // Does what a line says that does not stand behind the end.
+    fn read(&mut self, alloc: Global, line: &'src Line<'src>) -> Result<(), LineError>
+        ensures { Done result (read (line_view line.now) (reading_view self.old)) (reading_view self.new) }
+    {
         match line {
             Line::Skipped => Ok(()),
             Line::Bad => Err(LineError::Bad),
-            _ if self.is_over => Err(LineError::Bad),
             Line::Literal { text, lexeme } => self.stack.literal(alloc, text, lexeme),
             Line::Command { text, lexeme } => self.command(alloc, text, lexeme),
             Line::Variable { name } => self.variable(name),
@@ -88,13 +102,6 @@ impl<'src> Builder<'src> {
             Line::Call { name, count } => self.stack.call(alloc, name, usize::from(*count)),
             Line::Assign { name, export } => self.assign(name, *export),
             Line::Function { names } => self.function(alloc, names),
-            _ => self.set(alloc, line),
-        }
-    }
-
-    // Does what a line says that has nothing to do with expressions.
-    fn set(&mut self, alloc: Global, line: &'src Line<'src>) -> Result<(), LineError> {
-        match line {
             Line::Override { name, text } => self.override_with(alloc, name, text),
             Line::Dotenv { name, text } => self.dotenv(alloc, name, text),
             Line::Order { names } => self.order(alloc, names),
@@ -102,22 +109,12 @@ impl<'src> Builder<'src> {
             Line::Reply { text } => self.reply(alloc, text),
             Line::Fail { code } => self.fail(*code),
             Line::Always { text } => self.always(alloc, text),
-            Line::Lists => {
-                self.case.lists = true;
-                Ok(())
-            }
-            Line::Dry => {
-                self.case.dry_run = true;
-                Ok(())
-            }
-            Line::Limit { limit } => {
-                self.case.recursion_limit = usize::from(*limit);
-                Ok(())
-            }
+            Line::Lists => self.lists(),
+            Line::Dry => self.dry_run(),
+            Line::Limit { limit } => self.limit(usize::from(*limit)),
             Line::Run => self.end(Evaluation::Run),
             Line::Const => self.end(Evaluation::Const),
             Line::Blocks { names } => self.blocks(alloc, names),
-            _ => Err(LineError::Bad),
         }
     }
 
@@ -127,20 +124,26 @@ impl<'src> Builder<'src> {
         alloc: Global,
         text: &'src str,
         lexeme: &'src str,
-    ) -> Result<(), LineError> {
+    ) -> Result<(), LineError>
+        ensures { Done result (read (lines.Command text.now lexeme.now) (reading_view self.old)) (reading_view self.new) }
+    {
         self.last_command = Some(text);
         self.stack.command(alloc, text, lexeme)
     }
 
     // Pushes a variable.
-    fn variable(&mut self, name: &'src str) -> Result<(), LineError> {
+    fn variable(&mut self, name: &'src str) -> Result<(), LineError>
+        ensures { Done result (read (lines.Variable name.now) (reading_view self.old)) (reading_view self.new) }
+    {
         let number = self.numbering.number_of(name)?;
         self.stack.variable(name, number)
     }
 
     // Assigns the expression on top to a name that has none. One that takes an earlier one's place, so that there are no
     // more than before, ends the case.
-    fn assign(&mut self, lexeme: &'src str, export: bool) -> Result<(), LineError> {
+    fn assign(&mut self, lexeme: &'src str, export: bool) -> Result<(), LineError>
+        ensures { Done result (read (lines.Assign lexeme.now export) (reading_view self.old)) (reading_view self.new) }
+    {
         let value = self.stack.pop()?;
         let number = self.numbering.number_of(lexeme)?;
         let name = token::name(lexeme);
@@ -155,23 +158,34 @@ impl<'src> Builder<'src> {
         Ok(())
     }
 
-    // Defines a function, of which there is none of this name, with the expression on top as its body. Again, one that
-    // takes an earlier one's place ends the case.
-    fn function(&mut self, alloc: Global, text: &'src str) -> Result<(), LineError> {
+    // Defines a function: its name, and those of its parameters.
+    fn function(&mut self, alloc: Global, text: &'src str) -> Result<(), LineError>
+        ensures { Done result (read (lines.Function text.now) (reading_view self.old)) (reading_view self.new) }
+    {
         let Some(names) = parse_names(alloc, text)? else {
             return Err(LineError::Bad);
         };
-        let Some((name, parameters)) = names.split_first() else {
-            return Err(LineError::Bad);
-        };
+        match names.split_first() {
+            Some((name, parameters)) => self.define(alloc, name, parameters),
+            None => Err(LineError::Bad),
+        }
+    }
+
+    // Defines a function, of which there is none of this name, with the expression on top as its body. Again, one that
+    // takes an earlier one's place ends the case.
+    fn define(
+        &mut self,
+        alloc: Global,
+        lexeme: &'src str,
+        parameters: &[&'src str],
+    ) -> Result<(), LineError>
+        ensures { (text : Text) → names text ≡ Some (lexeme.now ∷ map (λ name. name.now) parameters.now) → Done result (read (lines.Function text) (reading_view self.old)) (reading_view self.new) }
+    {
         let body = self.stack.pop()?;
-        let numbers = self.numbering.numbers_of(alloc, parameters)?;
-        let parameters = token::parameters(alloc, parameters, &numbers)?;
-        let name = token::name(*name);
+        let parameters = self.numbering.parameters_of(alloc, parameters)?;
+        let function = FunctionDefinition::new(token::name(lexeme), parameters, body);
         let earlier = self.case.functions.len();
-        self.case
-            .functions
-            .insert(FunctionDefinition::new(name, parameters, body))?;
+        self.case.functions.insert(function)?;
         if self.case.functions.len() == earlier {
             return Err(LineError::Bad);
         }
@@ -179,12 +193,9 @@ impl<'src> Builder<'src> {
     }
 
     // Gives a variable's value from outside.
-    fn override_with(
-        &mut self,
-        alloc: Global,
-        name: &'src str,
-        text: &str,
-    ) -> Result<(), LineError> {
+    fn override_with(&mut self, alloc: Global, name: &'src str, text: &str) -> Result<(), LineError>
+        ensures { Done result (read (lines.Override name.now text.now) (reading_view self.old)) (reading_view self.new) }
+    {
         let number = self.numbering.number_of(name)?;
         let text = String::from_str(alloc, text)?;
         self.case.overrides.insert(number, text)?;
@@ -192,7 +203,9 @@ impl<'src> Builder<'src> {
     }
 
     // Gives a variable of the dotenv map.
-    fn dotenv(&mut self, alloc: Global, name: &str, text: &str) -> Result<(), LineError> {
+    fn dotenv(&mut self, alloc: Global, name: &str, text: &str) -> Result<(), LineError>
+        ensures { Done result (read (lines.Dotenv name.now text.now) (reading_view self.old)) (reading_view self.new) }
+    {
         let name = String::from_str(alloc, name)?;
         let text = String::from_str(alloc, text)?;
         self.case.dotenv.insert(name, text)?;
@@ -201,7 +214,7 @@ impl<'src> Builder<'src> {
 
     // Tells the evaluation order, in place of one told before.
     fn order(&mut self, alloc: Global, text: &'src str) -> Result<(), LineError>
-        ensures { OnOk result (option_map (λ order. map name_view order.items) self.new.order ≡ option_map (λ lexemes. map token_of lexemes) (names text.now)) }
+        ensures { Done result (read (lines.Order text.now) (reading_view self.old)) (reading_view self.new) }
     {
         let Some(names) = parse_names(alloc, text)? else {
             return Err(LineError::Bad);
@@ -212,7 +225,7 @@ impl<'src> Builder<'src> {
 
     // Tells the referenced variables, in place of those told before.
     fn only(&mut self, alloc: Global, text: &'src str) -> Result<(), LineError>
-        ensures { OnOk result (IsSomeAnd (names text.now) (Refers self.new.case.references self.new.numbering)) }
+        ensures { Done result (read (lines.Only text.now) (reading_view self.old)) (reading_view self.new) }
     {
         let Some(names) = parse_names(alloc, text)? else {
             return Err(LineError::Bad);
@@ -223,21 +236,27 @@ impl<'src> Builder<'src> {
     }
 
     // Answers the next command with a text.
-    fn reply(&mut self, alloc: Global, text: &str) -> Result<(), LineError> {
+    fn reply(&mut self, alloc: Global, text: &str) -> Result<(), LineError>
+        ensures { Done result (read (lines.Reply text.now) (reading_view self.old)) (reading_view self.new) }
+    {
         let text = String::from_str(alloc, text)?;
         self.case.replies.push(Ok(text))?;
         Ok(())
     }
 
     // Ends the next command with a status.
-    fn fail(&mut self, code: u16) -> Result<(), LineError> {
+    fn fail(&mut self, code: u16) -> Result<(), LineError>
+        ensures { Done result (read (lines.Fail code) (reading_view self.old)) (reading_view self.new) }
+    {
         let fault = CommandFault::Code(i32::from(code));
         self.case.replies.push(Err(fault))?;
         Ok(())
     }
 
     // Answers the last command with a text whenever it comes.
-    fn always(&mut self, alloc: Global, text: &str) -> Result<(), LineError> {
+    fn always(&mut self, alloc: Global, text: &str) -> Result<(), LineError>
+        ensures { Done result (read (lines.Always text.now) (reading_view self.old)) (reading_view self.new) }
+    {
         let Some(command) = self.last_command else {
             return Err(LineError::Bad);
         };
@@ -247,9 +266,33 @@ impl<'src> Builder<'src> {
         Ok(())
     }
 
+    // Puts lists on.
+    fn lists(&mut self) -> Result<(), LineError>
+        ensures { Done result (read lines.Lists (reading_view self.old)) (reading_view self.new) }
+    {
+        self.case.lists = true;
+        Ok(())
+    }
+
+    // Commands are shown, and none is run.
+    fn dry_run(&mut self) -> Result<(), LineError>
+        ensures { Done result (read lines.Dry (reading_view self.old)) (reading_view self.new) }
+    {
+        self.case.dry_run = true;
+        Ok(())
+    }
+
+    // How many calls may be pending, and one more.
+    fn limit(&mut self, limit: usize) -> Result<(), LineError>
+        ensures { Done result (read (lines.Limit limit) (reading_view self.old)) (reading_view self.new) }
+    {
+        self.case.recursion_limit = limit;
+        Ok(())
+    }
+
     // Ends the case with two runs, of which the second has the order of these names.
     fn blocks(&mut self, alloc: Global, text: &'src str) -> Result<(), LineError>
-        ensures { OnOk result (second_order self.new.case.evaluation ≡ option_map (λ lexemes. map token_of lexemes) (names text.now)) }
+        ensures { Done result (read (lines.Blocks text.now) (reading_view self.old)) (reading_view self.new) }
     {
         let Some(names) = parse_names(alloc, text)? else {
             return Err(LineError::Bad);
@@ -260,7 +303,9 @@ impl<'src> Builder<'src> {
 
     // Ends the case, if each expression is assigned.
     fn end(&mut self, evaluation: Evaluation<'src>) -> Result<(), LineError>
-        ensures { self.new.case.evaluation ≡ evaluation.entry }
+        ensures run { evaluation_view evaluation.entry ≡ cases.Run → Done result (read lines.Run (reading_view self.old)) (reading_view self.new) }
+        ensures constant { evaluation_view evaluation.entry ≡ cases.Const → Done result (read lines.Const (reading_view self.old)) (reading_view self.new) }
+        ensures blocks { (text : Text) → is_some (names text) ≡ true → evaluation_view evaluation.entry ≡ cases.Blocks (map token_of (names_in text)) → Done result (read (lines.Blocks text) (reading_view self.old)) (reading_view self.new) }
     {
         self.is_over = true;
         self.case.evaluation = evaluation;

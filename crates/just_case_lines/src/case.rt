@@ -1,5 +1,9 @@
 // What a case describes.
 
+ghost use Rattle.std.specs.Prelude.{◌≡◌, IfOk, map};
+ghost use Rattle.just_case_lines.specs.Reading.{Describes, BadLine, described, nothing};
+ghost use Rattle.just_case_lines.specs.View.{case_view, line_view};
+
 use crate::builder::Builder;
 use crate::evaluation::Evaluation;
 use crate::line::Line;
@@ -41,7 +45,9 @@ pub struct Case<'src> {
 
 impl<'src> Case<'src> {
     /// A case that describes nothing. It takes no memory.
-    pub(crate) fn new(alloc: Global) -> Case<'src> {
+    pub(crate) fn new(alloc: Global) -> Case<'src>
+        ensures { case_view result ≡ nothing.case }
+    {
         Case {
             assignments: Table::new(alloc),
             evaluation_order: Vec::new(alloc),
@@ -76,7 +82,10 @@ pub enum CaseError {
 /// `BadLine` with the place of the first bad line. A case that ends with none of `run`, `const` and `blocks` is
 /// bad at the line after its last. `OutOfMemory` where memory was asked for and refused, or where an expression nests
 /// deeper than the stack has room for.
-pub fn build<'src>(alloc: Global, lines: &'src [Line<'src>]) -> Result<Case<'src>, CaseError> {
+pub fn build<'src>(alloc: Global, lines: &'src [Line<'src>]) -> Result<Case<'src>, CaseError>
+    ensures case { IfOk result (λ case. described (map line_view lines.now) ≡ Describes (case_view case)) }
+    ensures bad { (place : _) → result ≡ Err (CaseError.BadLine place) → described (map line_view lines.now) ≡ BadLine place }
+{
     let mut builder = Builder::new(alloc);
     for (index, line) in lines.iter().enumerate() {
         match builder.take(alloc, line) {

@@ -3,6 +3,7 @@
 ghost use Rattle.std.specs.Prelude.{◌≡◌, ◌==◌, Some, IfOk, codes, if◌then◌else◌, length, map, position};
 ghost use Rattle.std.specs.List.{after_first, before_first};
 ghost use Rattle.just_case_lines.specs.Line.{Assign, Bad, Call, Dotenv, Fail, ListOf, Override, Variable, bare_line, is_skipped, led, limit, line_of, line_of_text, line_of_word, lines_of, named, numbered, operator_line, rare_line};
+ghost use Rattle.just_case_lines.specs.Reading as reading;
 ghost use Rattle.just_case_lines.specs.Rest.{number, rest_of, word_of};
 ghost use Rattle.just_case_lines.specs.View.{line_view};
 
@@ -65,6 +66,15 @@ pub enum Line<'case> {
     Const,
     /// `blocks N ..`: the assignments are evaluated in two runs, of which the second has this order.
     Blocks { names: &'case str },
+}
+
+impl<'case> Line<'case> {
+    /// Whether it says nothing.
+    pub(crate) fn is_skipped(&self) -> bool
+        ensures { result ≡ reading.is_skipped (line_view self.now) }
+    {
+        matches!(self, Line::Skipped)
+    }
 }
 
 /// The lines of a case. Each ends with a newline, which the last may lack.

@@ -1,5 +1,7 @@
 // The numbers of names.
 
+use crate::token::parameter;
+use just_syntax::name::Name;
 use just_syntax::number::Number;
 use just_syntax::out_of_memory::OutOfMemory;
 use std::alloc::Global;
@@ -13,14 +15,15 @@ pub(crate) struct Numbering<'src> {
 }
 
 impl<'src> Numbering<'src> {
-    ghost use Rattle.std.specs.Prelude.{◌≡◌, IfOk, OnErr, None, map};
-    ghost use Rattle.just_syntax.specs.Plain.{Text};
-    ghost use Rattle.just_case_lines.specs.Numbering.{AreNumbered, IsUnchanged, Numbers, count_of, number_of};
+    ghost use Rattle.std.specs.Prelude.{◌≡◌, IfOk, OnOk, OnErr, map};
+    ghost use Rattle.just_syntax.specs.View.{parameter_view};
+    ghost use Rattle.just_case_lines.specs.Numbering.{number_of, numbers_of, parameters_of, with_name, with_names};
+    ghost use Rattle.just_case_lines.specs.Reading.{nothing};
+    ghost use Rattle.just_case_lines.specs.View.{numbering_view};
 
     /// No name. It takes no memory.
     pub(crate) fn new(alloc: Global) -> Numbering<'src>
-        ensures empty { (name : Text) → number_of result name ≡ None }
-        ensures count { count_of result ≡ 0 }
+        ensures { numbering_view result ≡ nothing.names }
     {
         Numbering {
             numbers: BTreeMap::new(alloc),
@@ -30,8 +33,9 @@ impl<'src> Numbering<'src> {
     /// The number of a name, which is the next one for a name that did not come before. For want of memory
     /// the names stay as they were.
     pub(crate) fn number_of(&mut self, name: &'src str) -> Result<Number, OutOfMemory>
-        ensures ok { IfOk result (Numbers self.old self.new name.now) }
-        ensures err { OnErr result (IsUnchanged self.old self.new) }
+        ensures number { IfOk result (λ number. number ≡ number_of (numbering_view self.old) name.now) }
+        ensures ok { OnOk result (numbering_view self.new ≡ with_name (numbering_view self.old) name.now) }
+        ensures err { OnErr result (numbering_view self.new ≡ numbering_view self.old) }
     {
         if let Some(number) = self.numbers.get(name) {
             return Ok(*number);
@@ -49,12 +53,29 @@ impl<'src> Numbering<'src> {
         alloc: Global,
         names: &[&'src str],
     ) -> Result<Vec<Number>, OutOfMemory>
-        ensures { IfOk result (λ numbers. AreNumbered self.new (map (λ name. name.now) names.now) numbers.items) }
+        ensures numbers { IfOk result (λ numbers. numbers.items ≡ numbers_of (numbering_view self.old) (map (λ name. name.now) names.now)) }
+        ensures ok { OnOk result (numbering_view self.new ≡ with_names (numbering_view self.old) (map (λ name. name.now) names.now)) }
     {
         let mut numbers = Vec::with_capacity(alloc, names.len())?;
         for name in names {
             numbers.push(self.number_of(name)?)?;
         }
         Ok(numbers)
+    }
+    /// Parameters of these names, in their order.
+    pub(crate) fn parameters_of(
+        &mut self,
+        alloc: Global,
+        names: &[&'src str],
+    ) -> Result<Vec<(Name<'src>, Number)>, OutOfMemory>
+        ensures parameters { IfOk result (λ parameters. map parameter_view parameters.items ≡ parameters_of (numbering_view self.old) (map (λ name. name.now) names.now)) }
+        ensures ok { OnOk result (numbering_view self.new ≡ with_names (numbering_view self.old) (map (λ name. name.now) names.now)) }
+    {
+        let mut parameters = Vec::with_capacity(alloc, names.len())?;
+        for name in names {
+            let number = self.number_of(name)?;
+            parameters.extend_from_slice(&[parameter(name, number)])?;
+        }
+        Ok(parameters)
     }
 }

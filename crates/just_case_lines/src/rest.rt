@@ -1,6 +1,6 @@
 // What stands behind the word of a line.
 
-ghost use Rattle.std.specs.Prelude.{◌≡◌, ◌∷◌, ◌++◌, [], Some, None, IfOk, map};
+ghost use Rattle.std.specs.Prelude.{◌≡◌, ◌==◌, ◌∷◌, ◌++◌, [], Some, None, IfOk, map, position};
 ghost use Rattle.std.specs.List.{list_all};
 ghost use Rattle.std.specs.Option.{option_map};
 ghost use Rattle.just_case_lines.specs.Rest.{if_names, is_name, is_name_part, is_name_start, names, number, pieces, rest_of, word_of};
@@ -72,7 +72,17 @@ pub(crate) fn split_word(text: &str) -> (&str, &str)
     ensures word { result.0.now ≡ word_of text.now }
     ensures rest { result.1.now ≡ rest_of text.now }
 {
-    text.split_once(' ').unwrap_or((text, ""))
+    match space_place(text.as_bytes()) {
+        Some(end) => (&text[..end], &text[end + 1..]),
+        None => (text, ""),
+    }
+}
+
+// Where the first space stands. Each line is cut at one or two, and bytes are searched faster than characters.
+fn space_place(bytes: &[u8]) -> Option<usize>
+    ensures { result ≡ position (λ byte. byte == 32) bytes.now }
+{
+    bytes.iter().position(|byte| *byte == b' ')
 }
 
 /// The names that stand in a text with a space between two, if there is nothing else. The empty text has none.

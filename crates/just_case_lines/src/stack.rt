@@ -1,11 +1,22 @@
 // The expressions that are not yet assigned.
 
+ghost use Rattle.std.specs.Prelude.{◌≡◌, ◌∷◌, ◌==◌, [], Some, None, IfErr, IfOk, codes, length, map, option_map};
+ghost use Rattle.just_syntax.specs.Plain as plain;
+ghost use Rattle.just_syntax.specs.View.{assertion, view, views};
+ghost use Rattle.just_case_lines.specs.Case.{token_of};
+ghost use Rattle.just_case_lines.specs.Done.{Done, IfBad};
+ghost use Rattle.just_case_lines.specs.Line as lines;
+ghost use Rattle.just_case_lines.specs.Numbering.{Names, number_of};
+ghost use Rattle.just_case_lines.specs.Stack.{of_operand, several, stack_after, together};
+ghost use Rattle.just_case_lines.specs.View.{stack_view};
+
 use crate::line_error::LineError;
 use crate::operator::{BinaryOperator, UnaryOperator};
 use crate::token::{name, token};
 use just_syntax::conditional_operator::ConditionalOperator;
 use just_syntax::expression::Expression;
 use just_syntax::number::Number;
+use just_syntax::out_of_memory::OutOfMemory;
 use std::alloc::Global;
 
 // How many forms may stand in one another. What walks over an expression without evaluating it, as letting it go and the
@@ -29,19 +40,26 @@ struct Nested<'src> {
 
 impl<'src> Stack<'src> {
     /// No expression. It takes no memory.
-    pub(crate) fn new(alloc: Global) -> Stack<'src> {
+    pub(crate) fn new(alloc: Global) -> Stack<'src>
+        ensures { stack_view result ≡ [] }
+    {
         Stack {
             expressions: Vec::new(alloc),
         }
     }
 
     /// Whether each expression is assigned.
-    pub(crate) fn is_empty(&self) -> bool {
+    pub(crate) fn is_empty(&self) -> bool
+        ensures { result ≡ (length (stack_view self.now) == 0) }
+    {
         self.expressions.is_empty()
     }
 
     /// Takes the expression on top.
-    pub(crate) fn pop(&mut self) -> Result<Expression<'src>, LineError> {
+    pub(crate) fn pop(&mut self) -> Result<Expression<'src>, LineError>
+        ensures ok { IfOk result (λ e. stack_view self.old ≡ view e ∷ stack_view self.new) }
+        ensures bad { IfErr result (λ e. IfBad e (stack_view self.old ≡ [])) }
+    {
         match self.expressions.pop() {
             Some(nested) => Ok(nested.expression),
             None => Err(LineError::Bad),
@@ -54,7 +72,9 @@ impl<'src> Stack<'src> {
         alloc: Global,
         text: &str,
         lexeme: &'src str,
-    ) -> Result<(), LineError> {
+    ) -> Result<(), LineError>
+        ensures { (names : Names) → Done result (stack_after (lines.Literal text.now lexeme.now) names (stack_view self.old)) (stack_view self.new) }
+    {
         self.push(Expression::literal(alloc, text, lexeme)?, 0)
     }
 
@@ -64,21 +84,23 @@ impl<'src> Stack<'src> {
         alloc: Global,
         text: &str,
         lexeme: &'src str,
-    ) -> Result<(), LineError> {
+    ) -> Result<(), LineError>
+        ensures { (names : Names) → Done result (stack_after (lines.Command text.now lexeme.now) names (stack_view self.old)) (stack_view self.new) }
+    {
         self.push(Expression::backtick(alloc, text, token(lexeme))?, 0)
     }
 
     /// Pushes a variable.
-    pub(crate) fn variable(&mut self, lexeme: &'src str, number: Number) -> Result<(), LineError> {
+    pub(crate) fn variable(&mut self, lexeme: &'src str, number: Number) -> Result<(), LineError>
+        ensures { (names : Names) → number ≡ number_of names lexeme.now → Done result (stack_after (lines.Variable lexeme.now) names (stack_view self.old)) (stack_view self.new) }
+    {
         self.push(Expression::variable(name(lexeme), number), 0)
     }
 
     /// Puts one expression in its place with what is made of it.
-    pub(crate) fn unary(
-        &mut self,
-        alloc: Global,
-        operator: UnaryOperator,
-    ) -> Result<(), LineError> {
+    pub(crate) fn unary(&mut self, alloc: Global, operator: UnaryOperator) -> Result<(), LineError>
+        ensures { (names : Names) → Done result (stack_after (lines.Unary operator) names (stack_view self.old)) (stack_view self.new) }
+    {
         let (operand, levels) = self.pop_boxed(alloc)?;
         self.push(of_operand(operator, operand), deeper(levels))
     }
@@ -88,14 +110,18 @@ impl<'src> Stack<'src> {
         &mut self,
         alloc: Global,
         operator: BinaryOperator,
-    ) -> Result<(), LineError> {
+    ) -> Result<(), LineError>
+        ensures { (names : Names) → Done result (stack_after (lines.Binary operator) names (stack_view self.old)) (stack_view self.new) }
+    {
         let (rhs, right) = self.pop_boxed(alloc)?;
         let (lhs, left) = self.pop_boxed(alloc)?;
         self.push(together(operator, lhs, rhs), deeper(left.max(right)))
     }
 
     /// Puts a condition, a consequence and an otherwise together.
-    pub(crate) fn conditional(&mut self, alloc: Global) -> Result<(), LineError> {
+    pub(crate) fn conditional(&mut self, alloc: Global) -> Result<(), LineError>
+        ensures { (names : Names) → Done result (stack_after lines.If names (stack_view self.old)) (stack_view self.new) }
+    {
         let (otherwise, third) = self.pop_boxed(alloc)?;
         let (consequence, second) = self.pop_boxed(alloc)?;
         let (condition, first) = self.pop_boxed(alloc)?;
@@ -108,10 +134,11 @@ impl<'src> Stack<'src> {
     }
 
     /// Makes a list of so many expressions.
-    pub(crate) fn list(&mut self, alloc: Global, count: usize) -> Result<(), LineError> {
+    pub(crate) fn list(&mut self, alloc: Global, count: usize) -> Result<(), LineError>
+        ensures { (names : Names) → Done result (stack_after (lines.ListOf count) names (stack_view self.old)) (stack_view self.new) }
+    {
         let (elements, levels) = self.pop_several(alloc, count)?;
-        let token = token("[");
-        self.push(Expression::List { elements, token }, deeper(levels))
+        self.push(Expression::list(elements, token("[")), deeper(levels))
     }
 
     /// Makes a call, with so many expressions as its arguments.
@@ -120,10 +147,11 @@ impl<'src> Stack<'src> {
         alloc: Global,
         lexeme: &'src str,
         count: usize,
-    ) -> Result<(), LineError> {
+    ) -> Result<(), LineError>
+        ensures { (names : Names) → Done result (stack_after (lines.Call lexeme.now count) names (stack_view self.old)) (stack_view self.new) }
+    {
         let (arguments, levels) = self.pop_several(alloc, count)?;
-        let name = name(lexeme);
-        self.push(Expression::Call { arguments, name }, deeper(levels))
+        self.push(Expression::call(name(lexeme), arguments), deeper(levels))
     }
 
     // Takes so many expressions from the top, in the order in which they were pushed, and tells the levels of the deepest.
@@ -131,21 +159,21 @@ impl<'src> Stack<'src> {
         &mut self,
         alloc: Global,
         count: usize,
-    ) -> Result<(Vec<Expression<'src>>, usize), LineError> {
+    ) -> Result<(Vec<Expression<'src>>, usize), LineError>
+        ensures ok { IfOk result (λ taken. several count plain.Nil (stack_view self.old) ≡ Some (views taken.0.items, stack_view self.new)) }
+        ensures bad { IfErr result (λ e. IfBad e (several count plain.Nil (stack_view self.old) ≡ None)) }
+    {
         if self.expressions.len() < count {
             return Err(LineError::Bad);
         }
-        let mut expressions = Vec::with_capacity(alloc, count)?;
-        let mut levels = 0;
-        for nested in self.expressions.split_off(self.expressions.len() - count)? {
-            levels = levels.max(nested.levels);
-            expressions.push(nested.expression)?;
-        }
-        Ok((expressions, levels))
+        let taken = self.expressions.split_off(self.expressions.len() - count)?;
+        Ok(told_apart(alloc, taken)?)
     }
 
     // Pushes an expression of so many levels, if it may have so many.
-    fn push(&mut self, expression: Expression<'src>, levels: usize) -> Result<(), LineError> {
+    fn push(&mut self, expression: Expression<'src>, levels: usize) -> Result<(), LineError>
+        ensures { Done result (Some (view expression.entry ∷ stack_view self.old)) (stack_view self.new) }
+    {
         if levels > MOST_LEVELS {
             return Err(LineError::OutOfMemory);
         }
@@ -154,12 +182,31 @@ impl<'src> Stack<'src> {
     }
 
     // Takes the expression on top, to be a part of another, and tells its levels.
-    fn pop_boxed(&mut self, alloc: Global) -> Result<(Box<Expression<'src>>, usize), LineError> {
+    fn pop_boxed(&mut self, alloc: Global) -> Result<(Box<Expression<'src>>, usize), LineError>
+        ensures ok { IfOk result (λ taken. stack_view self.old ≡ view taken.0.value ∷ stack_view self.new) }
+        ensures bad { IfErr result (λ e. IfBad e (stack_view self.old ≡ [])) }
+    {
         match self.expressions.pop() {
             Some(Nested { expression, levels }) => Ok((Box::new(alloc, expression)?, levels)),
             None => Err(LineError::Bad),
         }
     }
+}
+
+// Expressions, and the levels of the deepest.
+fn told_apart<'src>(
+    alloc: Global,
+    taken: Vec<Nested<'src>>,
+) -> Result<(Vec<Expression<'src>>, usize), OutOfMemory>
+    ensures { IfOk result (λ told. told.0.items ≡ map (λ nested. nested.expression) taken.entry.items) }
+{
+    let mut expressions = Vec::with_capacity(alloc, taken.len())?;
+    let mut levels = 0;
+    for nested in taken {
+        levels = levels.max(nested.levels);
+        expressions.push(nested.expression)?;
+    }
+    Ok((expressions, levels))
 }
 
 // The levels of a form whose deepest part has so many.
@@ -168,7 +215,9 @@ fn deeper(levels: usize) -> usize {
 }
 
 // What an operator makes of one expression.
-fn of_operand<'src>(operator: UnaryOperator, operand: Box<Expression<'src>>) -> Expression<'src> {
+fn of_operand<'src>(operator: UnaryOperator, operand: Box<Expression<'src>>) -> Expression<'src>
+    ensures { view result ≡ of_operand operator (view operand.entry.value) }
+{
     match operator {
         UnaryOperator::Root => Expression::Join {
             lhs: None,
@@ -186,7 +235,9 @@ fn together<'src>(
     operator: BinaryOperator,
     lhs: Box<Expression<'src>>,
     rhs: Box<Expression<'src>>,
-) -> Expression<'src> {
+) -> Expression<'src>
+    ensures { view result ≡ together operator (view lhs.entry.value) (view rhs.entry.value) }
+{
     match operator {
         BinaryOperator::Add => Expression::Concatenation {
             lhs,
@@ -226,7 +277,9 @@ fn comparison<'src>(
     operator: ConditionalOperator,
     lexeme: &'src str,
     rhs: Box<Expression<'src>>,
-) -> Expression<'src> {
+) -> Expression<'src>
+    ensures { view result ≡ plain.Comparison (view lhs.entry.value) operator (view rhs.entry.value) (token_of lexeme.now) }
+{
     Expression::Comparison {
         lhs,
         operator,
@@ -239,7 +292,9 @@ fn comparison<'src>(
 fn assertion<'src>(
     condition: Box<Expression<'src>>,
     message: Option<Box<Expression<'src>>>,
-) -> Expression<'src> {
+) -> Expression<'src>
+    ensures { view result ≡ assertion (view condition.entry.value) (option_map (λ b. view b.value) message.entry) (token_of (codes "assert")) }
+{
     Expression::Assert {
         condition,
         message,

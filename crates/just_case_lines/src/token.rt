@@ -1,7 +1,7 @@
 // The tokens of a case.
 
 ghost use Rattle.std.specs.Prelude.{◌≡◌, IfOk, map};
-ghost use Rattle.just_syntax.specs.View.{name_view, token_view};
+ghost use Rattle.just_syntax.specs.View.{name_view, parameter_view, token_view};
 ghost use Rattle.just_case_lines.specs.Case.{token_of};
 
 use just_syntax::name::Name;
@@ -39,20 +39,9 @@ pub(crate) fn names<'src>(
     Ok(names)
 }
 
-/// Parameters of a case: names, each with its number.
-pub(crate) fn parameters<'src>(
-    alloc: Global,
-    lexemes: &[&'src str],
-    numbers: &[Number],
-) -> Result<Vec<(Name<'src>, Number)>, OutOfMemory> {
-    let mut parameters = Vec::with_capacity(alloc, lexemes.len())?;
-    for (lexeme, number) in lexemes.iter().zip(numbers) {
-        parameters.extend_from_slice(&[parameter(lexeme, *number)])?;
-    }
-    Ok(parameters)
-}
-
-// A parameter of a case.
-fn parameter(lexeme: &str, number: Number) -> (Name<'_>, Number) {
+/// A parameter of a case: a name with its number.
+pub(crate) fn parameter(lexeme: &str, number: Number) -> (Name<'_>, Number)
+    ensures { parameter_view result ≡ (token_of lexeme.now, number) }
+{
     (name(lexeme), number)
 }

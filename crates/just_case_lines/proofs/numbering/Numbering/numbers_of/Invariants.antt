@@ -1,7 +1,10 @@
-use Rattle.std.proofs.Common.{take, map}
-use Rattle.just_case_lines.specs.Numbering.{AreNumbered}
+use Rattle.std.proofs.Common.{◌≡◌, map, take}
+use Rattle.just_case_lines.specs.Numbering.{numbers_of, with_names}
+use Rattle.just_case_lines.specs.View.{numbering_view}
 use Rattle.just_case_lines.proofs.numbering.Numbering.numbers_of.Given as goal
 
--- the names so far have the numbers so far
+-- the numbers so far, and the names with them
 abbrev pub invariant-loop-name : goal.invariant-loop-name
-invariant-loop-name l = AreNumbered l.self (map (λ name. name.now) (take l.name-index l.names)) l.numbers.items
+invariant-loop-name l =
+    let so_far = map (λ name. name.now) (take l.name-index l.names) in
+    (l.numbers.items ≡ numbers_of (numbering_view l.fn.self) so_far) × (numbering_view l.self ≡ with_names (numbering_view l.fn.self) so_far)
