@@ -6,9 +6,9 @@ mod around;
 mod blocks;
 mod context;
 mod module_run;
-mod print;
 pub mod program;
 mod script;
+mod settled;
 pub mod stream;
 mod taken;
 #[cfg(test)]

@@ -7,11 +7,10 @@ use crate::around::{Around, Bare, Failing};
 use crate::blocks::evaluate_blocks;
 use crate::context::{case_config, case_module, case_search};
 use crate::module_run::ModuleRun;
-use crate::print::{
-    print_bindings, print_const_refusal, print_questions, print_refusal, print_settled,
-};
 use crate::script::case_script;
+use crate::settled::print_settled;
 use crate::stream::{StreamError, read_case, write_text};
+use just_answer::print::{print_bindings, print_const_refusal, print_questions, print_refusal};
 use just_case_lines::case::{Case, CaseError, build};
 use just_case_lines::evaluation::Evaluation;
 use just_case_lines::line::parse_lines;

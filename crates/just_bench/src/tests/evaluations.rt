@@ -2,9 +2,9 @@
 
 use crate::around::Bare;
 use crate::context::case_module;
-use crate::print::{print_bindings, print_refusal};
 use crate::program::evaluate_in;
 use crate::tests::surroundings::{Surroundings, module_of_case};
+use just_answer::print::{print_bindings, print_refusal};
 use just_case_lines::case::{Case, build};
 use just_case_lines::line::parse_lines;
 use just_case_lines::token::{name, token};

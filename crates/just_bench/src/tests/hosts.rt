@@ -1,7 +1,7 @@
 // Hosts that answer by a script, that record, and that fail.
 
 use crate::context::case_config;
-use crate::print::print_questions;
+use just_answer::print::print_questions;
 use just_host::command_question::CommandQuestion;
 use just_host::config::Config;
 use just_host::host::Host;

@@ -1,9 +1,9 @@
 // Runs of one module in two orders.
 
-use crate::print::print_questions;
 use crate::script::case_script;
 use crate::tests::evaluations::print_module;
 use crate::tests::surroundings::module_of_case;
+use just_answer::print::print_questions;
 use just_case_lines::case::{Case, build};
 use just_case_lines::line::parse_lines;
 use just_host::command_question::CommandQuestion;

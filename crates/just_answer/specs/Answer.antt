@@ -1,0 +1,79 @@
+-- The lines of a case's answer, each of which ends with a newline.
+use Rattle.std.specs.Prelude.{List, [], ◌∷◌, ◌++◌, Option, Some, None, codes}
+use Rattle.std.specs.List.{flat_map}
+use Rattle.just_syntax.specs.ListOperator.{operator_text}
+use Rattle.just_syntax.specs.Plain.{Text, Token}
+use Rattle.just_value.specs.Frames.{Bound}
+use Rattle.just_value.specs.Refusal.{Refusal, Assert, Backtick, Check, Const, EmptyInterpreter, EmptyListArgument, FunctionCall, Internal, LeftOut, LeftOutRegex, ListInStringContext, ListOperation, RecursionLimit}
+use Rattle.just_value.specs.Said.{error_text}
+use Rattle.just_value.specs.Shown.{quoted, shown}
+use Rattle.just_value.specs.Value.{Value}
+use Rattle.just_host.specs.Fault.{fault_text}
+use Rattle.just_host.specs.Printed.{kept_printed}
+use Rattle.just_host.specs.Recorded.{Kept}
+
+abbrev pub line : Text → Text
+line text = text ++ codes "\n"
+
+-- a question that was asked
+abbrev pub question_line : Kept → Text
+question_line question = line (codes "? " ++ kept_printed question)
+
+abbrev pub question_lines : List Kept → Text
+question_lines = flat_map question_line
+
+-- a name and its value
+abbrev pub value_line : Token → Value → Text
+value_line name value = line ((name.lexeme ++ codes " = ") ++ shown value)
+
+-- a name whose value is still open
+abbrev pub open_line : Token → Text
+open_line name = line (name.lexeme ++ codes " open")
+
+-- what a scope binds
+abbrev pub binding_lines : List Bound → Text
+binding_lines = flat_map (λ bound. value_line bound.name bound.value)
+
+-- names, each behind a space
+abbrev pub name_words : List Token → Text
+name_words = flat_map (λ (name : Token). codes " " ++ name.lexeme)
+
+-- the names of an order
+abbrev pub order_line : List Token → Text
+order_line names = line (codes "order" ++ name_words names)
+
+-- texts with a space between two
+abbrev pub words : Text → Text → Text
+words one other = (one ++ codes " ") ++ other
+
+-- why a run was refused: a number, a name, and what is said of it; no run is refused for an empty interpreter
+abbrev pub refusal_text : Refusal → Text
+refusal_text (Assert message t) = words (codes "1 Assert") (quoted message)
+refusal_text (Backtick t fault) = words (codes "2 Backtick") (quoted (fault_text fault))
+refusal_text (Const c) = codes "3 Const"
+refusal_text (EmptyListArgument parameter recipe) = words (words (codes "4 EmptyListArgument") parameter) recipe
+refusal_text (FunctionCall function message) = words (words (codes "5 FunctionCall") function.lexeme) (quoted message)
+refusal_text (Internal message t) = words (codes "6 Internal") (quoted message)
+refusal_text (LeftOut function) = words (codes "7 LeftOut") function.lexeme
+refusal_text (LeftOutRegex t) = codes "8 LeftOutRegex"
+refusal_text (ListInStringContext context value) = words (codes "9 ListInStringContext") (shown value)
+refusal_text (ListOperation l operator r t) = words (words (words (codes "10 ListOperation") (shown l)) (operator_text operator)) (shown r)
+refusal_text (RecursionLimit last) = words (codes "11 RecursionLimit") last.lexeme
+refusal_text (Check parameter message) = words (codes "13 Check") (quoted message)
+refusal_text (EmptyInterpreter t) = []
+
+-- the same, where there is none for want of memory
+abbrev pub refused_text : Option Refusal → Text
+refused_text (Some r) = refusal_text r
+refused_text None = codes "12 OutOfMemory"
+
+abbrev pub refusal_line : Option Refusal → Text
+refusal_line r = line (words (codes "refused") (refused_text r))
+
+-- why assignments were refused before any run
+abbrev pub const_refused_text : Option Refusal → Text
+const_refused_text None = codes "OutOfMemory"
+const_refused_text r = error_text r
+
+abbrev pub const_refusal_line : Option Refusal → Text
+const_refusal_line r = line (codes "refused: " ++ const_refused_text r)
