@@ -3,9 +3,8 @@
 
 ghost use Rattle.just_eval.specs.View.{IsConst};
 
-use crate::constants::said;
-use just_case_lines::case::{Case, build};
-use just_case_lines::line::parse_lines;
+use crate::cases::{Subject, said, told};
+use crate::compared::tells;
 use just_case_lines::token::name;
 use just_eval::evaluator::Evaluator;
 use just_syntax::assignment::Assignment;
@@ -13,9 +12,7 @@ use just_syntax::expression::Expression;
 use just_syntax::interpreter::Interpreter;
 use just_syntax::out_of_memory::OutOfMemory;
 use just_syntax::table::Table;
-use just_value::scope::Scope;
 use std::alloc::Global;
-use std::collections::HashSet;
 use std::test::Fail;
 
 /// What a list is as an interpreter: its first element is the command, and the others are arguments.
@@ -63,77 +60,54 @@ fn const_interpreters(rt: HostRuntime) -> Result<(), Fail> {
     let alloc = rt.alloc();
     for (list, expected) in INTERPRETERS {
         let case = format!(in alloc; "str zsh\nassign s\n{list}\nassign e\nonly s\nconst")?;
-        let told = interpreter_told(alloc, &case)?;
-        assert_eq!(rt; told.as_str(), *expected, "{list}");
+        let told = told(alloc, &case, &[], Subject::Interpreter)?;
+        tells(&rt, list, told, expected);
     }
     Ok(())
 }
 
-// What the interpreter of a case comes to, or what is said of its refusal.
-fn interpreter_told(alloc: Global, case: &str) -> Result<String, Fail> {
-    let lines = parse_lines(alloc, case.as_bytes())?;
-    let case = build(alloc, &lines)?;
-    told_of(alloc, case)
-}
-
-fn told_of(alloc: Global, case: Case) -> Result<String, Fail> {
-    let scope = Scope::root(alloc, &[])?;
-    told_in(alloc, case, &scope)
-}
-
-fn told_in<'src>(alloc: Global, case: Case<'src>, scope: &Scope<'src, '_>) -> Result<String, Fail> {
-    let assignments = case.assignments;
-    let order = case.evaluation_order;
-    let references = case.references.unwrap_or(HashSet::new(alloc));
-    let outcome = Evaluator::evaluate_const_assignments(
-        alloc,
-        &assignments,
-        &order,
-        &case.overrides,
-        scope,
-        &references,
-        case.lists,
-    );
-    match outcome {
-        Ok(evaluator) => told_by(alloc, &evaluator, assignments),
-        Err(error) => Ok(said(alloc, &error)?),
-    }
-}
-
-fn told_by<'src>(
+/// What the interpreter of a case comes to, or what is said of its refusal.
+pub(crate) fn told_by<'src>(
     alloc: Global,
     evaluator: &Evaluator<'src, '_>,
     assignments: Table<Assignment<'src>>,
-) -> Result<String, Fail>
+) -> Result<String, OutOfMemory>
     requires before_runs { IsConst evaluator.now }
 {
-    let mut text = String::new(alloc);
-    for assignment in assignments {
-        let lexeme = assignment.name.lexeme();
-        let list = interpreter(assignment.value);
-        if let Some(list) = &list
-            && lexeme == "e"
-        {
-            add_outcome(alloc, &mut text, evaluator, list)?;
-        }
+    match list_of(assignments) {
+        Some(list) => list_told(alloc, evaluator, &list),
+        None => Ok(String::new(alloc)),
     }
-    Ok(text)
 }
 
-// Adds what an interpreter comes to, or what is said of its refusal.
-fn add_outcome<'src>(
+// What the assignment `e` is as an interpreter.
+fn list_of<'src>(assignments: Table<Assignment<'src>>) -> Option<Interpreter<Expression<'src>>> {
+    for assignment in assignments {
+        if assignment.name.lexeme() == "e" {
+            return interpreter(assignment.value);
+        }
+    }
+    None
+}
+
+// What an interpreter comes to, or what is said of its refusal.
+fn list_told<'src>(
     alloc: Global,
-    text: &mut String,
     evaluator: &Evaluator<'src, '_>,
     list: &Interpreter<Expression<'src>>,
-) -> Result<(), OutOfMemory>
+) -> Result<String, OutOfMemory>
     requires before_runs { IsConst evaluator.now }
 {
     match evaluator.evaluate_interpreter(alloc, list, name("shell")) {
-        Ok(interpreter) => print(text, &interpreter)?,
-        Err(error) => text.push_str(&said(alloc, &error)?)?,
+        Ok(interpreter) => printed(alloc, &interpreter),
+        Err(error) => said(alloc, &error),
     }
-    Ok(())
+}
+
+fn printed(alloc: Global, interpreter: &Interpreter<String>) -> Result<String, OutOfMemory> {
+    let mut text = String::new(alloc);
+    print(&mut text, interpreter)?;
+    Ok(text)
 }
 
 /// Adds a command and its arguments.

@@ -1,9 +1,12 @@
 // Settings that no expression gives: the flags, the indentation and the least version.
 
+use crate::compared::{counts, is_so};
 use just_case_lines::token::{name, token};
 use just_eval::evaluator::Evaluator;
 use just_host::settings::Settings;
+use just_syntax::assignment::Assignment;
 use just_syntax::indentation::Indentation;
+use just_syntax::number::Number;
 use just_syntax::out_of_memory::OutOfMemory;
 use just_syntax::set::Set;
 use just_syntax::setting::Setting;
@@ -67,24 +70,27 @@ fn flag(name: &str) -> Option<Setting<'static>> {
 // What these settings come to where nothing is settled and nothing is open.
 fn settings_of<'src>(alloc: Global, sets: Table<Set<'src>>) -> Result<Settings, Fail> {
     let scope = Scope::root(alloc, &[])?;
-    settings_in(alloc, sets, &scope)
+    let assignments = Table::new(alloc);
+    let overrides = HashMap::new(alloc);
+    let references = HashSet::new(alloc);
+    settings_in(alloc, sets, &scope, &assignments, &overrides, &references)
 }
 
 fn settings_in<'src>(
     alloc: Global,
     sets: Table<Set<'src>>,
     scope: &Scope<'src, '_>,
+    assignments: &Table<Assignment<'src>>,
+    overrides: &HashMap<Number, String>,
+    references: &HashSet<Number>,
 ) -> Result<Settings, Fail> {
-    let assignments = Table::new(alloc);
-    let overrides = HashMap::new(alloc);
-    let references = HashSet::new(alloc);
     let outcome = Evaluator::evaluate_const_assignments(
         alloc,
-        &assignments,
+        assignments,
         &[],
-        &overrides,
+        overrides,
         scope,
-        &references,
+        references,
         false,
     );
     match outcome {
@@ -163,11 +169,16 @@ fn flags_of(settings: &Settings) -> [bool; 19] {
 fn kept_settings(rt: HostRuntime) -> Result<(), Fail> {
     let alloc = rt.alloc();
     let sets = sets_set_twice(alloc)?;
-    assert_eq!(rt; sets.len(), 3);
-    let mut expected = Settings::new(alloc);
-    expected.indentation = Some(Indentation::Spaces(2));
-    assert!(rt; settings_of(alloc, sets)? == expected);
+    counts(&rt, "settings", sets.len(), 3);
+    indents_by_two(&rt, alloc, &settings_of(alloc, sets)?);
     Ok(())
+}
+
+// Whether nothing is set but the indentation: to two spaces.
+fn indents_by_two(rt: &impl Abort, alloc: Global, settings: &Settings) {
+    let mut wanted = Settings::new(alloc);
+    wanted.indentation = Some(Indentation::Spaces(2));
+    is_so(rt, "indentation", *settings == wanted);
 }
 
 fn sets_set_twice(alloc: Global) -> Result<Table<Set<'static>>, OutOfMemory> {

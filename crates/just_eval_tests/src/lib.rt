@@ -2,6 +2,10 @@
 #![tactic(auto)]
 
 #[cfg(test)]
+mod cases;
+#[cfg(test)]
+mod compared;
+#[cfg(test)]
 mod constants;
 #[cfg(test)]
 mod interpreters;

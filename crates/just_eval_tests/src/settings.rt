@@ -2,10 +2,9 @@
 
 ghost use Rattle.just_eval.specs.View.{IsConst};
 
-use crate::constants::said;
+use crate::cases::{Subject, told};
+use crate::compared::tells;
 use crate::interpreters::{self, interpreter};
-use just_case_lines::case::{Case, build};
-use just_case_lines::line::parse_lines;
 use just_eval::evaluator::Evaluator;
 use just_host::settings::Settings;
 use just_syntax::assignment::Assignment;
@@ -16,10 +15,8 @@ use just_syntax::set::Set;
 use just_syntax::setting::Setting;
 use just_syntax::table::Table;
 use just_value::compile_error::CompileError;
-use just_value::scope::Scope;
 use just_value::value::Value;
 use std::alloc::Global;
-use std::collections::HashSet;
 use std::test::Fail;
 
 // A setting of an expression, by its name. That of an interpreter is a list: the command and its arguments.
@@ -52,54 +49,34 @@ fn sets_of<'src>(
     Ok(sets)
 }
 
-// What a case's settings come to: a line for each that is set to something, or what they are refused with.
-fn answer(alloc: Global, case: &str) -> Result<String, Fail> {
-    let lines = parse_lines(alloc, case.as_bytes())?;
-    let case = build(alloc, &lines)?;
-    told_of(alloc, case)
-}
-
-fn told_of(alloc: Global, case: Case) -> Result<String, Fail> {
-    let scope = Scope::root(alloc, &[])?;
-    told_in(alloc, case, &scope)
-}
-
-fn told_in<'src>(alloc: Global, case: Case<'src>, scope: &Scope<'src, '_>) -> Result<String, Fail> {
-    let assignments = case.assignments;
-    let order = case.evaluation_order;
-    let references = case.references.unwrap_or(HashSet::new(alloc));
-    let outcome = Evaluator::evaluate_const_assignments(
-        alloc,
-        &assignments,
-        &order,
-        &case.overrides,
-        scope,
-        &references,
-        case.lists,
-    );
-    match outcome {
-        Ok(evaluator) => told_by(alloc, &evaluator, assignments),
-        Err(error) => Ok(said(alloc, &error)?),
-    }
-}
-
-fn told_by<'src>(
+/// What a case's settings come to: a line for each that is set to something, or what they are refused with.
+pub(crate) fn told_by<'src>(
     alloc: Global,
     evaluator: &Evaluator<'src, '_>,
     assignments: Table<Assignment<'src>>,
-) -> Result<String, Fail>
+) -> Result<String, OutOfMemory>
     requires before_runs { IsConst evaluator.now }
 {
-    let sets = sets_of(alloc, assignments)?;
-    let mut text = String::new(alloc);
-    match evaluator.evaluate_sets(alloc, sets) {
-        Ok(settings) => print(&mut text, &settings)?,
-        Err(CompileError::ConstEval { token, error }) => {
-            let place = token.lexeme();
-            write!(text, "{place}: {error}")?;
-        }
-        Err(CompileError::OutOfMemory) => text.push_str("no memory")?,
+    match evaluator.evaluate_sets(alloc, sets_of(alloc, assignments)?) {
+        Ok(settings) => printed(alloc, &settings),
+        Err(error) => refusal_told(alloc, &error),
     }
+}
+
+// What a refusal says, behind the place where it stands.
+fn refusal_told(alloc: Global, error: &CompileError) -> Result<String, OutOfMemory> {
+    match error {
+        CompileError::ConstEval { token, error } => {
+            let place = token.lexeme();
+            Ok(format!(in alloc; "{place}: {error}")?)
+        }
+        CompileError::OutOfMemory => Ok(String::from_str(alloc, "no memory")?),
+    }
+}
+
+fn printed(alloc: Global, settings: &Settings) -> Result<String, OutOfMemory> {
+    let mut text = String::new(alloc);
+    print(&mut text, settings)?;
     Ok(text)
 }
 
@@ -215,7 +192,8 @@ const SETTINGS: &[(&str, &str)] = &[
 fn const_settings(rt: HostRuntime) -> Result<(), Fail> {
     let alloc = rt.alloc();
     for (case, settings) in SETTINGS {
-        assert_eq!(rt; answer(alloc, case)?.as_str(), *settings, "{case}");
+        let told = told(alloc, case, &[], Subject::Settings)?;
+        tells(&rt, case, told, settings);
     }
     Ok(())
 }
