@@ -1,6 +1,7 @@
 // What constant evaluation is refused with: what each refusal says, and where it stands.
 
-use crate::parts::{name, token, value};
+use crate::compared::{is_so, same_token};
+use crate::parts::{name, shows, token, value};
 use just_syntax::list_operator::ListOperator;
 use just_syntax::out_of_memory::OutOfMemory;
 use just_syntax::string_context::StringContext;
@@ -21,16 +22,30 @@ fn expect(
     text: &str,
     at: Token,
 ) -> Result<(), Fail> {
-    assert_eq!(rt; format!(in alloc; "{error}")?.as_str(), text);
-    assert_eq!(rt; error.context(), at);
-    match error.into_compile_error() {
-        CompileError::ConstEval { token, error } => {
-            assert_eq!(rt; token, at, "{text}");
-            assert_eq!(rt; format!(in alloc; "{error}")?.as_str(), text);
-        }
-        CompileError::OutOfMemory => assert!(rt; false, "{text}"),
-    }
+    shows(rt, alloc, &error, text)?;
+    same_token(rt, text, error.context(), at);
+    expect_kept(rt, alloc, &error.into_compile_error(), text, at)?;
     Ok(())
+}
+
+// Whether what ends the compilation holds a refusal that says this text and stood at this token.
+fn expect_kept(
+    rt: &impl Abort,
+    alloc: Global,
+    ended: &CompileError,
+    text: &str,
+    at: Token,
+) -> Result<(), OutOfMemory> {
+    match ended {
+        CompileError::ConstEval { token, error } => {
+            same_token(rt, text, *token, at);
+            shows(rt, alloc, error, text)
+        }
+        CompileError::OutOfMemory => {
+            is_so(rt, text, false);
+            Ok(())
+        }
+    }
 }
 
 fn expect_const(
@@ -40,7 +55,7 @@ fn expect_const(
     text: &str,
     at: &str,
 ) -> Result<(), Fail> {
-    assert_eq!(rt; format!(in alloc; "{error}")?.as_str(), text);
+    shows(rt, alloc, &error, text)?;
     expect(rt, alloc, ConstEvalError::Const(error), text, token(at))
 }
 
@@ -189,7 +204,11 @@ fn refusals_before_a_run(rt: HostRuntime) {
     ends(&rt, Error::Const(variable).unwrap_const(), same);
     let wanted = CompileError::OutOfMemory;
     ends(&rt, Error::OutOfMemory.unwrap_const(), wanted);
-    assert_eq!(rt; CompileError::from(OutOfMemory), CompileError::OutOfMemory);
+    ends(
+        &rt,
+        CompileError::from(OutOfMemory),
+        CompileError::OutOfMemory,
+    );
 }
 
 #[test]
@@ -199,6 +218,6 @@ fn context_of_const_errors(rt: HostRuntime) {
         ConstError::FunctionCall(name("`x`")),
         ConstError::Variable(name("`x`")),
     ] {
-        assert_eq!(rt; error.context(), token("`x`"));
+        same_token(&rt, "context", error.context(), token("`x`"));
     }
 }

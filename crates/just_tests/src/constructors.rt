@@ -1,6 +1,7 @@
 // Syntax made by hand.
 
-use crate::parts::{name, token};
+use crate::compared::{counts, is_so, numbered, same, same_token};
+use crate::parts::{name, shows, token};
 use just_syntax::assignment::Assignment;
 use just_syntax::conditional_operator::ConditionalOperator;
 use just_syntax::expression::Expression;
@@ -37,8 +38,7 @@ fn expect(
     expression: Expression,
     text: &str,
 ) -> Result<(), OutOfMemory> {
-    assert_eq!(rt; format!(in alloc; "{expression}")?.as_str(), text);
-    Ok(())
+    shows(rt, alloc, &expression, text)
 }
 
 #[test]
@@ -61,8 +61,8 @@ fn tokens_at_places(rt: HostRuntime) {
             lexeme: "x",
             path,
         };
-        assert_eq!(rt; Token::new("x", place), wanted, "{path}");
-        assert_eq!(rt; Name::new("x", place).token, wanted, "{path}");
+        same_token(&rt, path, Token::new("x", place), wanted);
+        same_token(&rt, path, Name::new("x", place).token, wanted);
     }
 }
 
@@ -100,12 +100,21 @@ const COMPARISONS: &[(ConditionalOperator, &str, &str)] = &[
 
 #[test]
 fn comparisons(rt: HostRuntime) -> Result<(), Fail> {
-    let alloc = rt.alloc();
     for (operator, lexeme, text) in COMPARISONS {
-        let compared = Expression::comparison(alloc, a(), *operator, b(), token(lexeme))?;
-        expect(&rt, alloc, compared, text)?;
+        compares(&rt, rt.alloc(), *operator, lexeme, text)?;
     }
     Ok(())
+}
+
+fn compares(
+    rt: &impl Abort,
+    alloc: Global,
+    operator: ConditionalOperator,
+    lexeme: &str,
+    text: &str,
+) -> Result<(), OutOfMemory> {
+    let compared = Expression::comparison(alloc, a(), operator, b(), token(lexeme))?;
+    expect(rt, alloc, compared, text)
 }
 
 #[test]
@@ -163,23 +172,37 @@ const LITERALS: &[(&str, &str)] = &[("x", "'x'"), ("a\tb", "\"a\\tb\""), ("", "'
 fn texts_of_literals(rt: HostRuntime) -> Result<(), Fail> {
     for (text, lexeme) in LITERALS {
         let literal = StringLiteral::new(rt.alloc(), text, lexeme)?;
-        assert_eq!(rt; literal.cooked.as_str(), *text);
-        assert_eq!(rt; literal.lexeme, *lexeme);
-        assert!(rt; !literal.indented);
+        is_literal(&rt, &literal, text, lexeme);
     }
     Ok(())
+}
+
+// Whether a literal has this text, and is written so.
+fn is_literal(rt: &impl Abort, literal: &StringLiteral, text: &str, lexeme: &str) {
+    same(rt, &literal.cooked, text);
+    same(rt, literal.lexeme, lexeme);
+    is_so(rt, "not indented", !literal.indented);
+}
+
+// Whether a name is the wanted one, and its number too.
+fn is_numbered(rt: &impl Abort, given: Name, number: Number, lexeme: &str, wanted: u64) {
+    same_token(rt, lexeme, given.token, token(lexeme));
+    numbered(rt, lexeme, Some(number), Some(wanted));
 }
 
 #[test]
 fn assignments(rt: HostRuntime) -> Result<(), Fail> {
     let assignment = Assignment::new(name("x"), Number::new(3), variable("a"));
-    assert_eq!(rt;
-        (assignment.name, assignment.number),
-        (name("x"), Number::new(3))
-    );
-    assert!(rt; !assignment.eager && !assignment.export && !assignment.private);
-    assert_eq!(rt; assignment.value.to_string(rt.alloc())?.as_str(), "a");
+    is_plain_assignment(&rt, &assignment);
+    shows(&rt, rt.alloc(), &assignment.value, "a")?;
     Ok(())
+}
+
+// Whether an assignment is of `x`, whose number is 3, and says nothing else.
+fn is_plain_assignment(rt: &impl Abort, assignment: &Assignment) {
+    is_numbered(rt, assignment.name, assignment.number, "x", 3);
+    let says_more = assignment.eager || assignment.export || assignment.private;
+    is_so(rt, "plain", !says_more);
 }
 
 #[test]
@@ -187,32 +210,43 @@ fn functions(rt: HostRuntime) -> Result<(), Fail> {
     let mut parameters = Vec::new(rt.alloc());
     parameters.extend_from_slice(&[(name("p"), Number::new(7))])?;
     let function = FunctionDefinition::new(name("f"), parameters, variable("p"));
-    assert_eq!(rt; function.name, name("f"));
-    assert_eq!(rt; function.parameters.len(), 1);
+    takes_one(&rt, &function);
+    shows(&rt, rt.alloc(), &function.body, "p")?;
+    Ok(())
+}
+
+// Whether a function is called `f` and has one parameter, `p`, whose number is 7.
+fn takes_one(rt: &impl Abort, function: &FunctionDefinition) {
+    same_token(rt, "f", function.name.token, token("f"));
+    counts(rt, "parameters", function.parameters.len(), 1);
     for (parameter, number) in &function.parameters {
-        assert_eq!(rt; (*parameter, *number), (name("p"), Number::new(7)));
+        is_numbered(rt, *parameter, *number, "p", 7);
     }
-    assert_eq!(rt; function.body.to_string(rt.alloc())?.as_str(), "p");
-    Ok(())
 }
 
 #[test]
-fn parameters(rt: HostRuntime) -> Result<(), Fail> {
+fn parameters(rt: HostRuntime) {
     let parameter = Parameter::new(name("p"), Number::new(5), ParameterKind::Plus);
-    assert_eq!(rt;
-        (parameter.name, parameter.number),
-        (name("p"), Number::new(5))
-    );
-    assert_eq!(rt; parameter.kind, ParameterKind::Plus);
-    assert!(rt; !parameter.export && !parameter.flag && !parameter.multiple);
-    assert!(rt; parameter.default.is_none() && parameter.value.is_none());
-    Ok(())
+    is_plain_parameter(&rt, &parameter);
+}
+
+// Whether a parameter is `p`, whose number is 5, takes several arguments, and says nothing else.
+fn is_plain_parameter(rt: &impl Abort, parameter: &Parameter) {
+    is_numbered(rt, parameter.name, parameter.number, "p", 5);
+    is_so(rt, "plus", parameter.kind == ParameterKind::Plus);
+    let says_more = parameter.export || parameter.flag || parameter.multiple;
+    is_so(rt, "plain", !says_more);
+    let holds_more = parameter.default.is_some() || parameter.value.is_some();
+    is_so(rt, "bare", !holds_more);
 }
 
 #[test]
-fn recipes(rt: HostRuntime) -> Result<(), Fail> {
-    let recipe = Recipe::new(rt.alloc(), name("build"));
-    assert_eq!(rt; recipe.name(), "build");
-    assert!(rt; recipe.attributes.iter().next().is_none());
-    Ok(())
+fn recipes(rt: HostRuntime) {
+    is_bare_recipe(&rt, &Recipe::new(rt.alloc(), name("build")));
+}
+
+// Whether a recipe is called `build` and has no attribute.
+fn is_bare_recipe(rt: &impl Abort, recipe: &Recipe) {
+    same(rt, recipe.name(), "build");
+    is_so(rt, "bare", recipe.attributes.iter().next().is_none());
 }

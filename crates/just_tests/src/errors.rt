@@ -1,9 +1,11 @@
 // What errors say, and where they stand.
 
-use crate::parts::{name, token, value};
+use crate::compared::{is_so, tells};
+use crate::parts::{name, shows, token, value};
 use just_syntax::list_operator::ListOperator;
 use just_syntax::out_of_memory::OutOfMemory;
 use just_syntax::string_context::StringContext;
+use just_syntax::token::Token;
 use just_value::check_fault::CheckFault;
 use just_value::compile_error::CompileError;
 use just_value::const_error::ConstError;
@@ -22,10 +24,26 @@ fn expect(
     text: &str,
     at: Option<&str>,
 ) -> Result<(), Fail> {
-    assert_eq!(rt; format!(in alloc; "{error}")?.as_str(), text);
-    assert_eq!(rt; format!(in alloc; "{error:#120}")?.as_str(), text);
-    assert_eq!(rt; error.token(), at.map(|lexeme| token(lexeme)), "{text}");
+    says(rt, alloc, &error, text)?;
+    stands_at(rt, text, error.token(), at);
     Ok(())
+}
+
+// Whether `Display` writes this text, with and without options.
+fn says<T: Display>(
+    rt: &impl Abort,
+    alloc: Global,
+    error: &T,
+    text: &str,
+) -> Result<(), OutOfMemory> {
+    shows(rt, alloc, error, text)?;
+    tells(rt, format!(in alloc; "{error:#120}")?, text);
+    Ok(())
+}
+
+// Whether it is the token of this lexeme, and there is none where no lexeme is given.
+fn stands_at(rt: &impl Abort, text: &str, token_of: Option<Token>, at: Option<&str>) {
+    assert_eq!(rt; token_of, at.map(|lexeme| token(lexeme)), "{text}");
 }
 
 #[test]
@@ -163,13 +181,13 @@ fn refusals_of_lists(rt: HostRuntime) -> Result<(), Fail> {
 }
 
 // Whether `Display` writes this text, whatever the width.
-fn shows<T: Display + Drop>(
+fn fault_says<T: Display + Drop>(
     rt: &impl Abort,
     alloc: Global,
     fault: T,
     text: &str,
 ) -> Result<(), OutOfMemory> {
-    assert_eq!(rt; format!(in alloc; "{fault:>40}")?.as_str(), text);
+    tells(rt, format!(in alloc; "{fault:>40}")?, text);
     Ok(())
 }
 
@@ -177,13 +195,13 @@ fn shows<T: Display + Drop>(
 fn faults_say(rt: HostRuntime) -> Result<(), Fail> {
     let alloc = rt.alloc();
     let text = "process exited with status code 1";
-    shows(&rt, alloc, CommandFault::Code(1), text)?;
+    fault_says(&rt, alloc, CommandFault::Code(1), text)?;
     let fault = CommandFault::Fault(String::from_str(alloc, "not UTF-8")?);
-    shows(&rt, alloc, fault, "not UTF-8")?;
-    shows(&rt, alloc, CommandFault::from(OutOfMemory), "out of memory")?;
+    fault_says(&rt, alloc, fault, "not UTF-8")?;
+    fault_says(&rt, alloc, CommandFault::from(OutOfMemory), "out of memory")?;
     let fault = CheckFault::Refused(String::from_str(alloc, "no digit")?);
-    shows(&rt, alloc, fault, "no digit")?;
-    shows(&rt, alloc, CheckFault::OutOfMemory, "out of memory")?;
+    fault_says(&rt, alloc, fault, "no digit")?;
+    fault_says(&rt, alloc, CheckFault::OutOfMemory, "out of memory")?;
     Ok(())
 }
 
@@ -195,9 +213,8 @@ fn expect_compile(
     text: &str,
     at: Option<&str>,
 ) -> Result<(), Fail> {
-    assert_eq!(rt; format!(in alloc; "{error}")?.as_str(), text);
-    assert_eq!(rt; format!(in alloc; "{error:#120}")?.as_str(), text);
-    assert_eq!(rt; error.token(), at.map(|lexeme| token(lexeme)), "{text}");
+    says(rt, alloc, &error, text)?;
+    stands_at(rt, text, error.token(), at);
     Ok(())
 }
 
@@ -230,8 +247,8 @@ fn expect_passed_on<E: std::error::Error>(
     text: &str,
 ) -> Result<(), Fail> {
     match passed_on(error) {
-        Ok(()) => assert!(rt; false, "{text}"),
-        Err(error) => assert_eq!(rt; format!(in alloc; "{error}")?.as_str(), text),
+        Ok(()) => is_so(rt, text, false),
+        Err(error) => tells(rt, format!(in alloc; "{error}")?, text),
     }
     Ok(())
 }

@@ -1,5 +1,6 @@
 // Why modules are not resolved: the first fault, and its place.
 
+use crate::compared::{same_token, tells};
 use crate::modules::Part::{Call, Read, Unnumbered};
 use crate::modules::{Function, OUTER, Sketch, Variable, module, name_at, outer_scope, references};
 use crate::parts::name;
@@ -85,8 +86,19 @@ fn expect(
     let module = module(alloc, sketch)?;
     let found = found(alloc, &module, referenced)?;
     let (_, _, order) = sketch;
-    assert_eq!(rt; found, expected.map(whole), "{order:?} {referenced:?}");
+    same_fault(rt, order, referenced, found, expected);
     Ok(())
+}
+
+// Whether what was found in a module with this order is the fault that is wanted.
+fn same_fault(
+    rt: &impl Abort,
+    order: &[&str],
+    referenced: Option<&[u64]>,
+    found: Option<Fault>,
+    expected: Option<Short>,
+) {
+    assert_eq!(rt; found, expected.map(whole), "{order:?} {referenced:?}");
 }
 
 // Faults, what each says, and the name and the offset where it stands.
@@ -132,8 +144,8 @@ fn says(
     text: &str,
     at: Name,
 ) -> Result<(), OutOfMemory> {
-    assert_eq!(rt; fault.to_string(alloc)?.as_str(), text);
-    assert_eq!(rt; fault.token(), at.token, "{text}");
+    tells(rt, fault.to_string(alloc)?, text);
+    same_token(rt, text, fault.token(), at.token);
     Ok(())
 }
 

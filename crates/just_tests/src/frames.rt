@@ -1,12 +1,14 @@
 // Frames that are bound in any order, and names that come again.
 
+use crate::compared::{is_so, tells};
 use crate::parts::name;
-use crate::scope::{bind, holds};
+use crate::scope::{bind, binds_itself, gives, holds, told_values};
 use just_syntax::number::Number;
 use just_syntax::out_of_memory::OutOfMemory;
 use just_value::expression_context::ExpressionContext;
 use just_value::scope::Scope;
 use std::alloc::Global;
+use std::process::Abort;
 use std::test::Fail;
 
 // Binds 5, 1, 3 and then 1 again.
@@ -22,12 +24,7 @@ fn walked_by_rising_number(rt: HostRuntime) -> Result<(), Fail> {
     let alloc = rt.alloc();
     let mut scope = Scope::root(alloc, &[])?;
     bind_in_any_order(alloc, &mut scope)?;
-    let mut told = String::new(alloc);
-    for binding in scope.bindings() {
-        told.push_str(&binding.value.join(alloc)?)?;
-        told.push(' ')?;
-    }
-    assert_eq!(rt; told.as_str(), "second three five ");
+    tells(&rt, told_values(alloc, &scope)?, "second three five ");
     Ok(())
 }
 
@@ -47,13 +44,28 @@ const BETWEEN_AND_BESIDE: &[(u64, &str)] = &[
 fn looked_up_between_and_beside(rt: HostRuntime) -> Result<(), Fail> {
     let alloc = rt.alloc();
     let mut parent = Scope::root(alloc, &[])?;
-    for number in [6, 2, 1, 0] {
-        bind(alloc, &mut parent, "outer", number, "outer")?;
-    }
+    bind_outer(alloc, &mut parent)?;
+    child_holds_between(&rt, alloc, &parent)?;
+    Ok(())
+}
+
+fn child_holds_between(rt: &impl Abort, alloc: Global, parent: &Scope) -> Result<(), OutOfMemory> {
     let mut child = parent.child(alloc)?;
     bind_in_any_order(alloc, &mut child)?;
+    holds_between(rt, alloc, &child)
+}
+
+// Binds 6, 2, 1 and 0.
+fn bind_outer(alloc: Global, scope: &mut Scope) -> Result<(), OutOfMemory> {
+    for number in [6, 2, 1, 0] {
+        bind(alloc, scope, "outer", number, "outer")?;
+    }
+    Ok(())
+}
+
+fn holds_between(rt: &impl Abort, alloc: Global, scope: &Scope) -> Result<(), OutOfMemory> {
     for (number, wanted) in BETWEEN_AND_BESIDE {
-        holds(&rt, alloc, &child, *number, wanted)?;
+        holds(rt, alloc, scope, *number, wanted)?;
     }
     Ok(())
 }
@@ -62,11 +74,26 @@ fn looked_up_between_and_beside(rt: HostRuntime) -> Result<(), Fail> {
 fn looked_up_in_no_binding(rt: HostRuntime) -> Result<(), Fail> {
     let alloc = rt.alloc();
     let root = Scope::root(alloc, &[])?;
-    let child = root.child(alloc)?;
-    assert!(rt; child.binding(Number::new(0)).is_none());
-    assert!(rt; child.frame().binding(Number::new(1)).is_none());
-    assert!(rt; child.bindings().next().is_none());
+    child_binds_none(&rt, alloc, &root)?;
     Ok(())
+}
+
+fn child_binds_none(rt: &impl Abort, alloc: Global, parent: &Scope) -> Result<(), OutOfMemory> {
+    let child = parent.child(alloc)?;
+    is_so(rt, "outside", !binds(&child, 0));
+    is_so(rt, "own", !binds_itself(&child, 1));
+    is_so(rt, "all", binds_nothing(&child));
+    Ok(())
+}
+
+// Whether a scope binds a number, itself or outside.
+pub(crate) fn binds(scope: &Scope, number: u64) -> bool {
+    scope.binding(Number::new(number)).is_some()
+}
+
+// Whether a scope itself binds no number.
+fn binds_nothing(scope: &Scope) -> bool {
+    scope.bindings().next().is_none()
 }
 
 #[test]
@@ -78,7 +105,7 @@ fn last_of_three_equal_names(rt: HostRuntime) -> Result<(), Fail> {
         (name("n"), Number::new(8)),
     ];
     let context = ExpressionContext::from_pairs(alloc, &pairs)?;
-    assert_eq!(rt; context.lookup("n"), Some(Number::new(8)));
-    assert_eq!(rt; context.lookup("m"), None);
+    gives(&rt, &context, "n", Some(8));
+    gives(&rt, &context, "m", None);
     Ok(())
 }

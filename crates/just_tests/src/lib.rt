@@ -3,6 +3,8 @@
 #![tactic(auto)]
 
 #[cfg(test)]
+mod compared;
+#[cfg(test)]
 mod const_errors;
 #[cfg(test)]
 mod constructors;

@@ -126,11 +126,22 @@ pub(crate) fn names<'a>(alloc: Global, lexemes: &[&'a str]) -> Result<Vec<Name<'
 
 pub(crate) fn module<'a>(alloc: Global, sketch: Sketch<'a>) -> Result<Justfile<'a>, OutOfMemory> {
     let (functions_of, variables, order) = sketch;
+    let evaluation_order = names(alloc, order)?;
     let functions = functions(alloc, functions_of)?;
     let assignments = assignments(alloc, variables)?;
-    Ok(Justfile {
+    Ok(made_of(alloc, assignments, evaluation_order, functions))
+}
+
+// A module that says nothing else.
+fn made_of<'a>(
+    alloc: Global,
+    assignments: Table<Assignment<'a>>,
+    evaluation_order: Vec<Name<'a>>,
+    functions: Table<FunctionDefinition<'a>>,
+) -> Justfile<'a> {
+    Justfile {
         assignments,
-        evaluation_order: names(alloc, order)?,
+        evaluation_order,
         functions,
         module_path: String::new(alloc),
         settings: Settings::new(alloc),
@@ -138,7 +149,7 @@ pub(crate) fn module<'a>(alloc: Global, sketch: Sketch<'a>) -> Result<Justfile<'
         submodule: false,
         unexports: Vec::new(alloc),
         working_directory: String::new(alloc),
-    })
+    }
 }
 
 // The tests' modules stand below a scope that binds this number.

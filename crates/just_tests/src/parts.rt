@@ -1,5 +1,6 @@
 // Names and values that tests are made of, and what is shown.
 
+use crate::compared::tells;
 use just_syntax::name::Name;
 use just_syntax::out_of_memory::OutOfMemory;
 use just_syntax::place::Place;
@@ -40,6 +41,6 @@ pub(crate) fn shows<T: Display>(
     item: &T,
     text: &str,
 ) -> Result<(), OutOfMemory> {
-    assert_eq!(rt; format!(in alloc; "{item}")?.as_str(), text);
+    tells(rt, format!(in alloc; "{item}")?, text);
     Ok(())
 }

@@ -1,5 +1,6 @@
 // Expression contexts, scopes and their bindings.
 
+use crate::compared::{counts, is_so, numbered, same, same_if_any, stands, tells};
 use crate::parts::name;
 use just_syntax::attribute_set::AttributeSet;
 use just_syntax::number::Number;
@@ -30,7 +31,7 @@ fn binding<'src>(alloc: Global, lexeme: &'src str, number: u64, value: Value) ->
 
 // Whether a context gives a name this number.
 pub(crate) fn gives(rt: &impl Abort, context: &ExpressionContext, name: &str, number: Option<u64>) {
-    assert_eq!(rt; context.lookup(name), number.map(Number::new), "{name}");
+    numbered(rt, name, context.lookup(name), number);
 }
 
 #[test]
@@ -102,20 +103,47 @@ fn told_root(alloc: Global, root: &Scope) -> Result<String, OutOfMemory> {
 fn root_binds_constants(rt: HostRuntime) -> Result<(), Fail> {
     let alloc = rt.alloc();
     let root = Scope::root(alloc, &[("HEX", "0123"), ("RED", "\u{1b}[31m")])?;
-    assert!(rt; root.parent().is_none());
-    assert_eq!(rt;
-        told_root(alloc, &root)?.as_str(),
-        "HEX=\"0123\";RED=\"\u{1b}[31m\";"
+    tells(
+        &rt,
+        told_root(alloc, &root)?,
+        "HEX=\"0123\";RED=\"\u{1b}[31m\";",
     );
-    for binding in root.bindings() {
-        assert!(rt; binding.prelude && !binding.eager && !binding.export && !binding.private);
-        assert_eq!(rt; binding.name.token.path, "PRELUDE");
-        assert_eq!(rt; binding.file_depth, 0);
-    }
-    let second = root.binding(Number::new(1)).map(|b| b.name.lexeme());
-    assert_eq!(rt; second, Some("RED"));
-    assert!(rt; root.value(Number::new(2)).is_none());
+    is_so(&rt, "no parent", outer_length(&root).is_none());
+    same_if_any(&rt, "second", name_of(&root, 1), Some("RED"));
+    holds(&rt, alloc, &root, 2, "not bound")?;
+    are_constants(&rt, &root);
     Ok(())
+}
+
+// How many bindings the parent of a scope has, if it has one.
+fn outer_length(scope: &Scope) -> Option<u64> {
+    match scope.parent() {
+        Some(outer) => Some(outer.len() as u64),
+        None => None,
+    }
+}
+
+// The name that a number is bound to.
+fn name_of<'src>(scope: &Scope<'src, '_>, number: u64) -> Option<&'src str> {
+    match scope.binding(Number::new(number)) {
+        Some(binding) => Some(binding.name.lexeme()),
+        None => None,
+    }
+}
+
+// Whether each own binding of a scope is that of a constant.
+fn are_constants(rt: &impl Abort, scope: &Scope) {
+    for binding in scope.bindings() {
+        is_constant(rt, binding);
+    }
+}
+
+// Whether a binding is that of a constant.
+fn is_constant(rt: &impl Abort, binding: &Binding) {
+    let plain = binding.prelude && !binding.eager && !binding.export && !binding.private;
+    is_so(rt, "plain", plain);
+    same(rt, binding.name.token.path, "PRELUDE");
+    counts(rt, "file depth", binding.file_depth as usize, 0);
 }
 
 // The value of a number in a scope, joined.
@@ -158,9 +186,12 @@ pub(crate) fn holds(
     number: u64,
     wanted: &str,
 ) -> Result<(), OutOfMemory> {
-    let told = told_value(alloc, scope, number)?;
-    assert_eq!(rt; told.as_str(), wanted, "{number}");
+    same_value(rt, number, &told_value(alloc, scope, number)?, wanted);
     Ok(())
+}
+
+fn same_value(rt: &impl Abort, number: u64, told: &str, wanted: &str) {
+    assert_eq!(rt; told, wanted, "{number}");
 }
 
 // Numbers, and their values in the child and in its parent.
@@ -176,23 +207,50 @@ fn child_binds_its_own(rt: HostRuntime) -> Result<(), Fail> {
     let alloc = rt.alloc();
     let mut parent = Scope::root(alloc, &[])?;
     bind_two(alloc, &mut parent)?;
+    child_hides(&rt, alloc, &parent)?;
+    Ok(())
+}
+
+// A child gives 1 the value of its parent until it binds it itself.
+fn child_hides(rt: &impl Abort, alloc: Global, parent: &Scope) -> Result<(), OutOfMemory> {
     let mut child = parent.child(alloc)?;
-    assert_eq!(rt; child.value(Number::new(1)), parent.value(Number::new(1)));
+    let number = Number::new(1);
+    same_values(rt, child.value(number), parent.value(number));
     bind_own(alloc, &mut child)?;
+    hold_their_own(rt, alloc, &child, parent)
+}
+
+// Whether two values are the same, or there are none.
+fn same_values(rt: &impl Abort, given: Option<&Value>, wanted: Option<&Value>) {
+    assert_eq!(rt; given, wanted);
+}
+
+fn hold_their_own(
+    rt: &impl Abort,
+    alloc: Global,
+    child: &Scope,
+    parent: &Scope,
+) -> Result<(), OutOfMemory> {
     for (number, in_child, in_parent) in IN_BOTH {
-        holds(&rt, alloc, &child, *number, in_child)?;
-        holds(&rt, alloc, &parent, *number, in_parent)?;
+        holds(rt, alloc, child, *number, in_child)?;
+        holds(rt, alloc, parent, *number, in_parent)?;
     }
     Ok(())
 }
 
-// The values of the own bindings of a scope, each joined, and then their names.
-fn told_bindings(alloc: Global, scope: &Scope) -> Result<String, OutOfMemory> {
+// The values of the own bindings of a scope, each joined.
+pub(crate) fn told_values(alloc: Global, scope: &Scope) -> Result<String, OutOfMemory> {
     let mut told = String::new(alloc);
     for binding in scope.bindings() {
         told.push_str(&binding.value.join(alloc)?)?;
         told.push(' ')?;
     }
+    Ok(told)
+}
+
+// The values of the own bindings of a scope, and then their names.
+fn told_bindings(alloc: Global, scope: &Scope) -> Result<String, OutOfMemory> {
+    let mut told = told_values(alloc, scope)?;
     for binding in scope.frame().bindings() {
         told.push_str(binding.name.lexeme())?;
     }
@@ -204,12 +262,28 @@ fn own_bindings(rt: HostRuntime) -> Result<(), Fail> {
     let alloc = rt.alloc();
     let mut parent = Scope::root(alloc, &[])?;
     bind(alloc, &mut parent, "x", 2, "two")?;
-    let mut child = parent.child(alloc)?;
-    bind(alloc, &mut child, "z", 3, "first")?;
-    bind(alloc, &mut child, "y", 1, "own")?;
-    bind(alloc, &mut child, "z", 3, "three")?;
-    assert_eq!(rt; told_bindings(alloc, &child)?.as_str(), "own three yz");
-    assert_eq!(rt; child.parent().map(|outer| outer.len()), Some(1));
-    assert!(rt; child.frame().binding(Number::new(2)).is_none());
+    child_binds_again(&rt, alloc, &parent)?;
     Ok(())
+}
+
+// A child binds 1 and 3, below a parent that has one binding, of 2.
+fn child_binds_again(rt: &impl Abort, alloc: Global, parent: &Scope) -> Result<(), OutOfMemory> {
+    let mut child = parent.child(alloc)?;
+    bind_again(alloc, &mut child)?;
+    tells(rt, told_bindings(alloc, &child)?, "own three yz");
+    stands(rt, "outer bindings", outer_length(&child), Some(1));
+    is_so(rt, "own", !binds_itself(&child, 2));
+    Ok(())
+}
+
+// Whether a scope itself binds a number.
+pub(crate) fn binds_itself(scope: &Scope, number: u64) -> bool {
+    scope.frame().binding(Number::new(number)).is_some()
+}
+
+// Binds 3, 1 and then 3 again.
+fn bind_again(alloc: Global, scope: &mut Scope) -> Result<(), OutOfMemory> {
+    bind(alloc, scope, "z", 3, "first")?;
+    bind(alloc, scope, "y", 1, "own")?;
+    bind(alloc, scope, "z", 3, "three")
 }

@@ -1,5 +1,8 @@
 // Tables, what is printed, and the small calls.
 
+use crate::compared::{
+    counts, is_either, is_so, numbered, same, same_token, stands, tells, tells_of,
+};
 use crate::parts::{name, shows};
 use just_syntax::enclosure::Enclosure;
 use just_syntax::keyed::Keyed;
@@ -13,6 +16,7 @@ use just_syntax::string_context::StringContext;
 use just_syntax::table::Table;
 use just_syntax::unindent::unindent;
 use std::alloc::Global;
+use std::process::Abort;
 use std::test::Fail;
 
 #[derive(Drop)]
@@ -53,43 +57,63 @@ const PLACES: &[(&str, Option<u64>)] = &[
 
 #[test]
 fn table_keeps_values_by_key(rt: HostRuntime) -> Result<(), Fail> {
-    let empty: Table<Named> = Table::new(rt.alloc());
-    assert!(rt; empty.is_empty());
+    has_length(&rt, &Table::new(rt.alloc()), 0);
     let table = table_of(rt.alloc(), KEYS)?;
-    assert_eq!(rt; table.len(), 5);
-    assert!(rt; !table.is_empty());
+    has_length(&rt, &table, 5);
     for (key, place) in PLACES {
-        assert_eq!(rt; table.get(key).map(|named| named.place), *place, "{key}");
+        keeps(&rt, &table, key, *place);
     }
     Ok(())
+}
+
+pub(crate) fn has_length(rt: &impl Abort, table: &Table<Named>, len: usize) {
+    counts(rt, "length", table.len(), len);
+    is_either(rt, "emptiness", table.is_empty(), len == 0);
+}
+
+// Whether a table has a value at a key, and its place is this one.
+pub(crate) fn keeps(rt: &impl Abort, table: &Table<Named>, key: &str, place: Option<u64>) {
+    stands(rt, key, table.get(key).map(|named| named.place), place);
 }
 
 // The keys of a table, twice.
 pub(crate) fn keys_twice(alloc: Global, table: Table<Named>) -> Result<String, OutOfMemory> {
     let mut keys = String::new(alloc);
+    add_keys(&mut keys, &table)?;
+    add_own_keys(&mut keys, table)?;
+    Ok(keys)
+}
+
+// Adds the keys that an iterator over references gives.
+fn add_keys(keys: &mut String, table: &Table<Named>) -> Result<(), OutOfMemory> {
     for named in table.iter() {
         keys.push_str(named.key())?;
     }
+    Ok(())
+}
+
+// Adds the keys that an iterator gives that takes the table.
+fn add_own_keys(keys: &mut String, table: Table<Named>) -> Result<(), OutOfMemory> {
     for named in table {
         keys.push_str(named.key())?;
     }
-    Ok(keys)
+    Ok(())
 }
 
 #[test]
 fn table_is_gone_over_by_key(rt: HostRuntime) -> Result<(), Fail> {
-    let keys = keys_twice(rt.alloc(), table_of(rt.alloc(), KEYS)?)?;
-    assert_eq!(rt; keys.as_str(), "abcéabcé");
+    let table = table_of(rt.alloc(), KEYS)?;
+    tells(&rt, keys_twice(rt.alloc(), table)?, "abcéabcé");
     Ok(())
 }
 
 #[test]
 fn numbers_and_names(rt: HostRuntime) {
-    assert_eq!(rt; Numerator::constant(7), Number::new(7));
-    assert!(rt; Number::new(6) < Number::new(7));
+    numbered(&rt, "constant", Some(Numerator::constant(7)), Some(7));
+    is_so(&rt, "6 < 7", Number::new(6) < Number::new(7));
     let name = name("x");
-    assert_eq!(rt; name.lexeme(), "x");
-    assert_eq!(rt; name.token.lexeme(), "x");
+    same(&rt, name.lexeme(), "x");
+    same(&rt, name.token.lexeme(), "x");
 }
 
 // Operators on lists, what each puts between two texts, and how it is written.
@@ -101,24 +125,33 @@ const OPERATORS: &[(ListOperator, &str, &str)] = &[
 #[test]
 fn list_operators(rt: HostRuntime) -> Result<(), Fail> {
     for (operator, separator, text) in OPERATORS {
-        assert_eq!(rt; operator.separator(), *separator);
+        same(&rt, operator.separator(), separator);
         shows(&rt, rt.alloc(), operator, text)?;
     }
     shows(&rt, rt.alloc(), &name("x"), "x")?;
     Ok(())
 }
 
+// Whether it is the place of `n`, and is written so.
+fn is_where(
+    rt: &impl Abort,
+    alloc: Global,
+    place: StringContext,
+    text: &str,
+) -> Result<(), OutOfMemory> {
+    same_token(rt, text, place.token(), name("n").token);
+    shows(rt, alloc, &place, text)
+}
+
 #[test]
 fn where_texts_are_wanted(rt: HostRuntime) -> Result<(), Fail> {
+    let alloc = rt.alloc();
     let key = StringContext::EnvKey(name("n"));
-    assert_eq!(rt; key.token(), name("n").token);
-    shows(&rt, rt.alloc(), &key, "in key of `n` attribute")?;
+    is_where(&rt, alloc, key, "in key of `n` attribute")?;
     let function = StringContext::Function(name("n"));
-    assert_eq!(rt; function.token(), name("n").token);
-    shows(&rt, rt.alloc(), &function, "in argument to function `n`")?;
+    is_where(&rt, alloc, function, "in argument to function `n`")?;
     let setting = StringContext::Setting(name("n"));
-    assert_eq!(rt; setting.token(), name("n").token);
-    shows(&rt, rt.alloc(), &setting, "in setting `n`")?;
+    is_where(&rt, alloc, setting, "in setting `n`")?;
     Ok(())
 }
 
@@ -140,7 +173,7 @@ const KINDS: &[(ParameterKind, bool)] = &[
 #[test]
 fn parameter_kinds(rt: HostRuntime) {
     for (kind, variadic) in KINDS {
-        assert_eq!(rt; kind.is_variadic(), *variadic);
+        is_either(&rt, "several", kind.is_variadic(), *variadic);
     }
 }
 
@@ -158,8 +191,7 @@ const UNINDENTED: &[(&str, &str)] = &[
 #[test]
 fn unindented(rt: HostRuntime) -> Result<(), Fail> {
     for (text, expected) in UNINDENTED {
-        let unindented = unindent(rt.alloc(), text)?;
-        assert_eq!(rt; unindented.as_str(), *expected, "{text}");
+        tells_of(&rt, text, unindent(rt.alloc(), text)?, expected);
     }
     Ok(())
 }

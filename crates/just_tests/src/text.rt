@@ -1,6 +1,7 @@
 // Paths and texts: a call of each public function, and what no stored case can say, which is parents that a built-in
 // function does not tell apart, and texts with a line break.
 
+use crate::compared::{is_so, same, same_if_any, tells};
 use just_syntax::out_of_memory::OutOfMemory;
 use just_text::affix::{append, prepend};
 use just_text::case::{capitalize, lowercase, uppercase};
@@ -21,39 +22,34 @@ const PARENTS: &[(&str, Option<&str>)] = &[("a//b", Some("a")), (".", Some("")),
 #[test]
 fn parts_of_paths(rt: HostRuntime) {
     for (path, wanted) in PARENTS {
-        assert_eq!(rt; parent(path), *wanted, "{path}");
+        same_if_any(&rt, path, parent(path), *wanted);
     }
-    assert_eq!(rt; file_name("a//b.c"), Some("b.c"));
-    assert_eq!(rt; file_stem("a.tar.gz"), Some("a.tar"));
-    assert_eq!(rt; extension("a.tar.gz"), Some("gz"));
+    same_if_any(&rt, "file name", file_name("a//b.c"), Some("b.c"));
+    same_if_any(&rt, "file stem", file_stem("a.tar.gz"), Some("a.tar"));
+    same_if_any(&rt, "extension", extension("a.tar.gz"), Some("gz"));
 }
 
 #[test]
 fn trimmed_texts(rt: HostRuntime) {
-    assert_eq!(rt; trim_start_match("ababc", "ab"), "abc");
-    assert_eq!(rt; trim_start_matches("ababc", "ab"), "c");
-    assert_eq!(rt; trim_end_match("cabab", "ab"), "cab");
-    assert_eq!(rt; trim_end_matches("cabab", "ab"), "c");
-}
-
-// Whether a text is the wanted one.
-fn expect(rt: &impl Abort, text: String, wanted: &str) {
-    assert_eq!(rt; text.as_str(), wanted);
+    same(&rt, trim_start_match("ababc", "ab"), "abc");
+    same(&rt, trim_start_matches("ababc", "ab"), "c");
+    same(&rt, trim_end_match("cabab", "ab"), "cab");
+    same(&rt, trim_end_matches("cabab", "ab"), "c");
 }
 
 #[test]
 fn texts(rt: HostRuntime) -> Result<(), Fail> {
     let alloc = rt.alloc();
-    expect(&rt, join(alloc, "a/", "b")?, "a/b");
-    expect(&rt, replace(alloc, "aXbX", "X", "é")?, "aébé");
-    expect(&rt, quote(alloc, "it's")?, "'it'\\''s'");
-    expect(&rt, encode_uri_component(alloc, "/%\n~")?, "%2F%25%0A~");
+    tells(&rt, join(alloc, "a/", "b")?, "a/b");
+    tells(&rt, replace(alloc, "aXbX", "X", "é")?, "aébé");
+    tells(&rt, quote(alloc, "it's")?, "'it'\\''s'");
+    tells(&rt, encode_uri_component(alloc, "/%\n~")?, "%2F%25%0A~");
     Ok(())
 }
 
 // Whether there is a text, and it is the wanted one.
 fn expect_some(rt: &impl Abort, text: Option<String>, wanted: &str) {
-    assert_eq!(rt; text.as_deref(), Some(wanted));
+    same_if_any(rt, "case", text.as_deref(), Some(wanted));
 }
 
 #[test]
@@ -72,7 +68,7 @@ fn expect_all(
     texts: &[String],
     wanted: &str,
 ) -> Result<(), OutOfMemory> {
-    expect(rt, texts.join(alloc, "|")?, wanted);
+    tells(rt, texts.join(alloc, "|")?, wanted);
     Ok(())
 }
 
@@ -80,17 +76,23 @@ fn expect_all(
 fn cut_texts(rt: HostRuntime) -> Result<(), Fail> {
     let alloc = rt.alloc();
     expect_all(&rt, alloc, &split(alloc, "a,,b", ",")?, "a||b")?;
-    assert!(rt; split_whitespace(alloc, " \t\n")?.is_empty());
+    let none = split_whitespace(alloc, " \t\n")?;
+    is_so(&rt, "no word", none.is_empty());
     Ok(())
 }
 
 #[test]
 fn words(rt: HostRuntime) -> Result<(), Fail> {
     let alloc = rt.alloc();
-    let words = split_whitespace(alloc, " a\u{2003}é  b\n")?;
-    expect_all(&rt, alloc, &words, "a|é|b")?;
-    expect_all(&rt, alloc, &append(alloc, "!", &words)?, "a!|é!|b!")?;
-    expect_all(&rt, alloc, &prepend(alloc, "x", &words)?, "xa|xé|xb")?;
-    expect(&rt, join_list(alloc, &words, ", ")?, "a, é, b");
+    words_are_changed(&rt, alloc, &split_whitespace(alloc, " a\u{2003}é  b\n")?)?;
+    Ok(())
+}
+
+// The words `a`, `é` and `b`, with something behind or before each, and as one text.
+fn words_are_changed(rt: &impl Abort, alloc: Global, words: &[String]) -> Result<(), OutOfMemory> {
+    expect_all(rt, alloc, words, "a|é|b")?;
+    expect_all(rt, alloc, &append(alloc, "!", words)?, "a!|é!|b!")?;
+    expect_all(rt, alloc, &prepend(alloc, "x", words)?, "xa|xé|xb")?;
+    tells(rt, join_list(alloc, words, ", ")?, "a, é, b");
     Ok(())
 }

@@ -1,5 +1,6 @@
 // Values.
 
+use crate::compared::{counts, is_either, tells};
 use crate::parts::{shows, token, value};
 use just_syntax::list_operator::ListOperator;
 use just_syntax::out_of_memory::OutOfMemory;
@@ -29,11 +30,16 @@ fn joins(
     truthy: bool,
 ) -> Result<(), OutOfMemory> {
     let value = value(alloc, elements)?;
-    assert_eq!(rt; value.is_truthy(), truthy, "{value}");
-    assert_eq!(rt; value.is_empty(), !truthy, "{value}");
-    assert_eq!(rt; value.len(), elements.len(), "{value}");
-    assert_eq!(rt; value.join(alloc)?.as_str(), joined);
+    is_long_and_true(rt, &value.to_string(alloc)?, &value, elements.len(), truthy);
+    tells(rt, value.join(alloc)?, joined);
     Ok(())
+}
+
+// Whether a value has so many elements, and is true.
+fn is_long_and_true(rt: &impl Abort, shown: &str, value: &Value, len: usize, truthy: bool) {
+    is_either(rt, shown, value.is_truthy(), truthy);
+    is_either(rt, shown, value.is_empty(), !truthy);
+    counts(rt, shown, value.len(), len);
 }
 
 #[test]
@@ -60,8 +66,7 @@ fn displays(rt: HostRuntime) -> Result<(), Fail> {
     for (elements, text) in DISPLAYED {
         shows(&rt, alloc, &value(alloc, elements)?, text)?;
     }
-    let element = Element("x\ty");
-    assert_eq!(rt; format!(in alloc; "{element}")?.as_str(), "\"x\\ty\"");
+    shows(&rt, alloc, &Element("x\ty"), "\"x\\ty\"")?;
     Ok(())
 }
 
@@ -82,7 +87,11 @@ fn texts(alloc: Global, texts: &[&str]) -> Result<Vec<String>, OutOfMemory> {
 
 // Whether a value is made of these elements.
 fn expect(rt: &impl Abort, value: Value, elements: &[&str]) {
-    assert!(rt; is_made_of(&value, elements), "{value}");
+    expect_elements(rt, &value, elements);
+}
+
+fn expect_elements(rt: &impl Abort, value: &Value, elements: &[&str]) {
+    assert!(rt; is_made_of(value, elements), "{value}");
 }
 
 #[test]
@@ -151,11 +160,11 @@ fn iterators(rt: HostRuntime) -> Result<(), Fail> {
     let alloc = rt.alloc();
     let elements = ["a", "", "bc"];
     let of_references = told(alloc, &value(alloc, &elements)?)?;
-    assert_eq!(rt; of_references.as_str(), "a..bc.a..bc.");
+    tells(&rt, of_references, "a..bc.a..bc.");
     let of_own = told_of_own(alloc, value(alloc, &elements)?)?;
-    assert_eq!(rt; of_own.as_str(), "a..bc.");
+    tells(&rt, of_own, "a..bc.");
     let of_elements = told_of_elements(alloc, value(alloc, &elements)?)?;
-    assert_eq!(rt; of_elements.as_str(), "a..bc.");
+    tells(&rt, of_elements, "a..bc.");
     Ok(())
 }
 
@@ -181,10 +190,14 @@ fn compare(
 ) -> Result<(), OutOfMemory> {
     let x = value(alloc, left)?;
     let y = value(alloc, right)?;
-    assert_eq!(rt; x == y, order.is_eq(), "{x} {y}");
-    assert_eq!(rt; x < y, order.is_lt(), "{x} {y}");
-    assert_eq!(rt; x.cmp(&y), order, "{x} {y}");
+    stand_so(rt, &format!(in alloc; "{x} {y}")?, &x, &y, order);
     Ok(())
+}
+
+fn stand_so(rt: &impl Abort, shown: &str, x: &Value, y: &Value, order: Ordering) {
+    is_either(rt, shown, x == y, order.is_eq());
+    is_either(rt, shown, x < y, order.is_lt());
+    assert_eq!(rt; x.cmp(y), order, "{shown}");
 }
 
 #[test]
@@ -262,8 +275,12 @@ fn refuses(rt: &impl Abort, alloc: Global, lhs: &[&str], rhs: &[&str]) -> Result
     let left = value(alloc, lhs)?;
     let right = value(alloc, rhs)?;
     let refused = left.apply(alloc, &right, ListOperator::Join, token("/"));
-    assert!(rt; holds_both(&refused, &left, &right), "{left} {right}");
+    expect_both(rt, &refused, &left, &right);
     Ok(())
+}
+
+fn expect_both(rt: &impl Abort, refused: &Result<Value, Error>, left: &Value, right: &Value) {
+    assert!(rt; holds_both(refused, left, right), "{left} {right}");
 }
 
 #[test]

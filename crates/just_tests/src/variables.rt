@@ -1,6 +1,7 @@
 // Overrides and references, told by the names of variables.
 
-use crate::parts::name;
+use crate::compared::{counts, numbered, same_if_any, tells};
+use crate::parts::{name, shows};
 use just_syntax::assignment::Assignment;
 use just_syntax::expression::Expression;
 use just_syntax::number::Number;
@@ -9,14 +10,18 @@ use just_syntax::table::Table;
 use just_syntax::variable_error::VariableError;
 use just_syntax::variables::{number_of, overrides_of, references_of, set_of};
 use std::alloc::Global;
+use std::collections::{HashMap, HashSet};
+use std::process::Abort;
 use std::test::Fail;
 
-// `a` has the number 4, `b` 2 and `c` 9.
+// Variables and their numbers.
+const VARIABLES: &[(&str, u64)] = &[("b", 2), ("c", 9), ("a", 4)];
+
 fn assignments<'src>(alloc: Global) -> Result<Table<Assignment<'src>>, OutOfMemory> {
     let mut assignments = Table::new(alloc);
-    for (lexeme, number) in [("b", 2), ("c", 9), ("a", 4)] {
+    for (lexeme, number) in VARIABLES {
         let value = Expression::literal(alloc, "", "''")?;
-        assignments.insert(Assignment::new(name(lexeme), Number::new(number), value))?;
+        assignments.insert(Assignment::new(name(lexeme), Number::new(*number), value))?;
     }
     Ok(assignments)
 }
@@ -35,80 +40,124 @@ fn pairs(alloc: Global, words: &[&str]) -> Result<Vec<(String, String)>, OutOfMe
     Ok(pairs)
 }
 
+// Names, and the numbers of the variables that they stand for.
+const NUMBERS: &[(&str, Option<u64>)] = &[
+    ("a", Some(4)),
+    ("b", Some(2)),
+    ("c", Some(9)),
+    ("d", None),
+    ("", None),
+];
+
 #[test]
 fn numbers_of_names(rt: HostRuntime) -> Result<(), Fail> {
     let assignments = assignments(rt.alloc())?;
-    for (name, number) in [
-        ("a", Some(4)),
-        ("b", Some(2)),
-        ("c", Some(9)),
-        ("d", None),
-        ("", None),
-    ] {
-        assert_eq!(rt;
-            number_of(&assignments, name),
-            number.map(Number::new),
-            "{name}"
-        );
+    for (name, number) in NUMBERS {
+        numbered(&rt, name, number_of(&assignments, name), *number);
     }
     Ok(())
 }
+
+// Pairs, what they say of `a` and of `b`, and how many variables they say something of.
+const OVERRIDES: &[(&[&str], Option<&str>, Option<&str>, usize)] = &[
+    (&[], None, None, 0),
+    (&["a=x"], Some("x"), None, 1),
+    (&["a=x", "b=", "a=z=1"], Some("z=1"), Some(""), 2),
+];
 
 #[test]
 fn overrides_by_number(rt: HostRuntime) -> Result<(), Fail> {
     let alloc = rt.alloc();
     let assignments = assignments(alloc)?;
-    for (words, a, b, len) in [
-        ([].as_slice(), None, None, 0),
-        (["a=x"].as_slice(), Some("x"), None, 1),
-        (["a=x", "b=", "a=z=1"].as_slice(), Some("z=1"), Some(""), 2),
-    ] {
+    for (words, a, b, len) in OVERRIDES {
         let pairs = pairs(alloc, words)?;
-        let overrides = overrides_of(alloc, &assignments, &pairs)?;
-        assert_eq!(rt; overrides.get(&Number::new(4)).map(|text| text.as_str()), a);
-        assert_eq!(rt; overrides.get(&Number::new(2)).map(|text| text.as_str()), b);
-        assert_eq!(rt; overrides.len(), len);
+        overrides(
+            &rt,
+            &overrides_of(alloc, &assignments, &pairs)?,
+            *a,
+            *b,
+            *len,
+        );
     }
     Ok(())
 }
+
+fn overrides(
+    rt: &impl Abort,
+    overrides: &HashMap<Number, String>,
+    a: Option<&str>,
+    b: Option<&str>,
+    len: usize,
+) {
+    overrides_with(rt, overrides, 4, a);
+    overrides_with(rt, overrides, 2, b);
+    counts(rt, "overrides", overrides.len(), len);
+}
+
+pub(crate) fn overrides_with(
+    rt: &impl Abort,
+    overrides: &HashMap<Number, String>,
+    number: u64,
+    text: Option<&str>,
+) {
+    let given = overrides
+        .get(&Number::new(number))
+        .map(|text| text.as_str());
+    same_if_any(rt, "override", given, text);
+}
+
+// Pairs, and the first name in them that no assignment has.
+const UNKNOWN: &[(&[&str], &str)] = &[
+    (&["d=x"], "d"),
+    (&["a=x", "e=y", "d=z"], "e"),
+    (&["=x"], ""),
+];
 
 #[test]
 fn overrides_of_no_variable(rt: HostRuntime) -> Result<(), Fail> {
     let alloc = rt.alloc();
     let assignments = assignments(alloc)?;
-    for (words, unknown) in [
-        (["d=x"].as_slice(), "d"),
-        (["a=x", "e=y", "d=z"].as_slice(), "e"),
-        (["=x"].as_slice(), ""),
-    ] {
+    for (words, unknown) in UNKNOWN {
         let pairs = pairs(alloc, words)?;
-        match overrides_of(alloc, &assignments, &pairs) {
-            Ok(_) => assert!(rt; false, "{unknown}"),
-            Err(error) => assert_eq!(rt; error, VariableError::Unknown(unknown)),
-        }
+        is_unknown(
+            &rt,
+            overrides_of(alloc, &assignments, &pairs).err(),
+            unknown,
+        );
     }
     Ok(())
 }
+
+// Whether there is an error, which is that no variable has this name.
+fn is_unknown(rt: &impl Abort, error: Option<VariableError>, unknown: &str) {
+    assert_eq!(rt; error, Some(VariableError::Unknown(unknown)));
+}
+
+// Names, and the numbers of the variables that they stand for, each once.
+const REFERENCES: &[(&[&str], &[u64])] = &[(&[], &[]), (&["c", "b", "c"], &[2, 9])];
 
 #[test]
 fn references_by_name(rt: HostRuntime) -> Result<(), Fail> {
     let alloc = rt.alloc();
     let assignments = assignments(alloc)?;
-    for (names, numbers) in [
-        ([].as_slice(), [].as_slice()),
-        (["c", "b", "c"].as_slice(), [2, 9].as_slice()),
-    ] {
-        let references = references_of(alloc, &assignments, names)?;
-        assert_eq!(rt; references.len(), numbers.len());
-        for number in numbers {
-            assert!(rt; references.contains(&Number::new(*number)), "{number}");
-        }
+    for (names, numbers) in REFERENCES {
+        are_numbers(&rt, &references_of(alloc, &assignments, names)?, numbers);
     }
-    match references_of(alloc, &assignments, &["a", "x", "y"]) {
-        Ok(_) => assert!(rt; false, "x"),
-        Err(error) => assert_eq!(rt; error, VariableError::Unknown("x")),
-    }
+    let refused = references_of(alloc, &assignments, &["a", "x", "y"]);
+    is_unknown(&rt, refused.err(), "x");
     Ok(())
+}
+
+// Whether these numbers are referenced, and no others.
+fn are_numbers(rt: &impl Abort, references: &HashSet<Number>, numbers: &[u64]) {
+    counts(rt, "references", references.len(), numbers.len());
+    for number in numbers {
+        contains(rt, references, *number, true);
+    }
+}
+
+pub(crate) fn contains(rt: &impl Abort, set: &HashSet<Number>, number: u64, is_there: bool) {
+    assert_eq!(rt; set.contains(&Number::new(number)), is_there, "{number}");
 }
 
 #[test]
@@ -117,9 +166,9 @@ fn sets_of_numbers(rt: HostRuntime) -> Result<(), Fail> {
         rt.alloc(),
         &[Number::new(3), Number::new(1), Number::new(3)],
     )?;
-    assert_eq!(rt; set.len(), 2);
+    counts(&rt, "numbers", set.len(), 2);
     for (number, is_there) in [(1, true), (2, false), (3, true)] {
-        assert_eq!(rt; set.contains(&Number::new(number)), is_there);
+        contains(&rt, &set, number, is_there);
     }
     Ok(())
 }
@@ -132,12 +181,9 @@ fn variable_errors_say(rt: HostRuntime) -> Result<(), Fail> {
         (VariableError::OutOfMemory, "out of memory"),
         (VariableError::from(OutOfMemory), "out of memory"),
     ] {
-        assert_eq!(rt; format!(in alloc; "{error}")?.as_str(), text);
-        assert_eq!(rt; format!(in alloc; "{error:30}")?.as_str(), text);
+        shows(&rt, alloc, &error, text)?;
+        tells(&rt, format!(in alloc; "{error:30}")?, text);
     }
-    assert_eq!(rt;
-        format!(in alloc; "{OutOfMemory}")?.as_str(),
-        "out of memory"
-    );
+    shows(&rt, alloc, &OutOfMemory, "out of memory")?;
     Ok(())
 }

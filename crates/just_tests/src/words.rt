@@ -1,5 +1,6 @@
 // Word lists and positional words.
 
+use crate::compared::{counts, is_so, same, tells};
 use crate::parts::shows;
 use just_syntax::out_of_memory::OutOfMemory;
 use just_value::list::List;
@@ -129,7 +130,7 @@ fn told(alloc: Global, positional: &Positional) -> Result<String, OutOfMemory> {
 
 fn expect(rt: &impl Abort, alloc: Global, words: &[&str], text: &str) -> Result<(), OutOfMemory> {
     let positional = Positional::from_values(alloc, words.iter().copied())?;
-    assert_eq!(rt; told(alloc, &positional)?.as_str(), text);
+    tells(rt, told(alloc, &positional)?, text);
     Ok(())
 }
 
@@ -145,10 +146,11 @@ fn positional_words(rt: HostRuntime) -> Result<(), Fail> {
 fn override_is_cut_at_its_first_equals_sign(rt: HostRuntime) -> Result<(), Fail> {
     let alloc = rt.alloc();
     let positional = Positional::from_values(alloc, ["a=b=c"])?;
-    assert_eq!(rt; positional.overrides.len(), 1);
-    let (key, value) = &positional.overrides[0];
-    assert_eq!(rt; key.as_str(), "a");
-    assert_eq!(rt; value.as_str(), "b=c");
+    counts(&rt, "overrides", positional.overrides.len(), 1);
+    for (key, value) in &positional.overrides {
+        same(&rt, key, "a");
+        same(&rt, value, "b=c");
+    }
     Ok(())
 }
 
@@ -158,7 +160,7 @@ fn words_that_mean_the_same(rt: HostRuntime) -> Result<(), Fail> {
     let one = Positional::from_values(alloc, ["a/b", "c"])?;
     let other = Positional::from_values(alloc, ["a/", "b", "c"])?;
     let third = Positional::from_values(alloc, ["a/", "c"])?;
-    assert!(rt; one == other);
-    assert!(rt; one != third);
+    is_so(&rt, "same words", one == other);
+    is_so(&rt, "other words", one != third);
     Ok(())
 }

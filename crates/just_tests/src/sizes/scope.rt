@@ -1,8 +1,9 @@
 // Scopes of a thousand bindings, and of two hundred frames.
 
+use crate::compared::{is_so, same};
+use crate::frames::binds;
 use crate::scope::{bind, holds};
 use crate::sizes::{numbered, twice};
-use just_syntax::number::Number;
 use just_syntax::out_of_memory::OutOfMemory;
 use just_value::scope::Scope;
 use std::alloc::Global;
@@ -53,9 +54,8 @@ fn a_thousand_bindings(rt: HostRuntime) -> Result<(), Fail> {
     let mut scope = Scope::root(alloc, &[])?;
     bind_all(alloc, &mut scope, &names)?;
     holds_all(&rt, alloc, &scope, &names)?;
-    assert!(rt; scope.binding(Number::new(1000)).is_none());
-    let all = names_twice(alloc, &scope)?;
-    assert_eq!(rt; all.as_str(), twice(alloc, &names)?.as_str());
+    is_so(&rt, "no more", !binds(&scope, 1000));
+    same(&rt, &names_twice(alloc, &scope)?, &twice(alloc, &names)?);
     Ok(())
 }
 
@@ -72,10 +72,14 @@ fn beside_themselves(alloc: Global, texts: &[String]) -> Result<Vec<(&str, &str)
 fn a_thousand_constants(rt: HostRuntime) -> Result<(), Fail> {
     let alloc = rt.alloc();
     let names = numbered(alloc, 2000)?;
-    let constants = beside_themselves(alloc, &names)?;
-    let root = Scope::root(alloc, &constants)?;
-    holds_all(&rt, alloc, &root, &names)?;
+    are_constants(&rt, alloc, &names)?;
     Ok(())
+}
+
+// A root binds each name to itself, by its place among them.
+fn are_constants(rt: &impl Abort, alloc: Global, names: &[String]) -> Result<(), OutOfMemory> {
+    let root = Scope::root(alloc, &beside_themselves(alloc, names)?)?;
+    holds_all(rt, alloc, &root, names)
 }
 
 // So many frames within a scope, of which each sees what it binds.

@@ -1,8 +1,10 @@
 // Tables of a thousand keys, a thousand names of variables, and texts of hundreds of lines.
 
+use crate::compared::{counts, same};
 use crate::parts::name;
 use crate::sizes::{Long, long, numbered, twice};
-use crate::syntax::{Named, keys_twice};
+use crate::syntax::{Named, has_length, keeps, keys_twice};
+use crate::variables::{contains, overrides_with};
 use just_syntax::assignment::Assignment;
 use just_syntax::expression::Expression;
 use just_syntax::number::Number;
@@ -11,6 +13,7 @@ use just_syntax::table::Table;
 use just_syntax::unindent::unindent;
 use just_syntax::variables::{overrides_of, references_of};
 use std::alloc::Global;
+use std::collections::HashMap;
 use std::process::Abort;
 use std::test::Fail;
 
@@ -29,13 +32,16 @@ fn table_of(alloc: Global, keys: &[String]) -> Result<Table<Named<'_>>, OutOfMem
 #[test]
 fn table_of_a_thousand_keys(rt: HostRuntime) -> Result<(), Fail> {
     let keys = numbered(rt.alloc(), 2000)?;
-    let table = table_of(rt.alloc(), &keys)?;
-    assert_eq!(rt; table.len(), 1000);
-    for (place, key) in keys.iter().rev().enumerate() {
-        let found = table.get(key).map(|named| named.place);
-        assert_eq!(rt; found, Some(place as u64), "{key}");
-    }
+    keeps_all(&rt, &table_of(rt.alloc(), &keys)?, &keys);
     Ok(())
+}
+
+// Whether a table has a value at each of a thousand keys, the last first.
+fn keeps_all(rt: &impl Abort, table: &Table<Named>, keys: &[String]) {
+    has_length(rt, table, 1000);
+    for (place, key) in keys.iter().rev().enumerate() {
+        keeps(rt, table, key, Some(place as u64));
+    }
 }
 
 #[test]
@@ -43,7 +49,7 @@ fn table_gone_over_by_a_thousand_keys(rt: HostRuntime) -> Result<(), Fail> {
     let alloc = rt.alloc();
     let keys = numbered(alloc, 2000)?;
     let all = keys_twice(alloc, table_of(alloc, &keys)?)?;
-    assert_eq!(rt; all.as_str(), twice(alloc, &keys)?.as_str());
+    same(&rt, &all, &twice(alloc, &keys)?);
     Ok(())
 }
 
@@ -59,7 +65,7 @@ fn hundreds_of_lines_unindented(rt: HostRuntime) -> Result<(), Fail> {
     let alloc = rt.alloc();
     for (text, wanted) in UNINDENTED {
         let unindented = unindent(alloc, &long(alloc, *text)?)?;
-        assert_eq!(rt; unindented.as_str(), long(alloc, *wanted)?.as_str());
+        same(&rt, &unindented, &long(alloc, *wanted)?);
     }
     Ok(())
 }
@@ -89,12 +95,16 @@ fn a_thousand_overrides(rt: HostRuntime) -> Result<(), Fail> {
     let names = numbered(alloc, 2000)?;
     let pairs = pairs(alloc, &names)?;
     let overrides = overrides_of(alloc, &assignments(alloc, &names)?, &pairs)?;
-    assert_eq!(rt; overrides.len(), 1000);
-    for (place, lexeme) in names.iter().enumerate() {
-        let text = overrides.get(&Number::new(place as u64));
-        assert_eq!(rt; text.map(|text| text.as_str()), Some(lexeme.as_str()));
-    }
+    override_themselves(&rt, &overrides, &names);
     Ok(())
+}
+
+// Whether each name overrides itself, by its place among them.
+fn override_themselves(rt: &impl Abort, overrides: &HashMap<Number, String>, names: &[String]) {
+    counts(rt, "overrides", overrides.len(), 1000);
+    for (place, lexeme) in names.iter().enumerate() {
+        overrides_with(rt, overrides, place as u64, Some(lexeme));
+    }
 }
 
 // The texts, borrowed.
@@ -112,10 +122,9 @@ fn a_thousand_references(rt: HostRuntime) -> Result<(), Fail> {
     let names = numbered(alloc, 2000)?;
     let lexemes = borrowed(alloc, &names)?;
     let references = references_of(alloc, &assignments(alloc, &names)?, &lexemes)?;
-    assert_eq!(rt; references.len(), 1000);
-    for (place, lexeme) in names.iter().enumerate() {
-        let is_there = references.contains(&Number::new(place as u64));
-        assert!(rt; is_there, "{lexeme}");
+    counts(&rt, "references", references.len(), 1000);
+    for place in 0..names.len() {
+        contains(&rt, &references, place as u64, true);
     }
     Ok(())
 }

@@ -1,5 +1,6 @@
 // Values of a thousand elements.
 
+use crate::compared::{counts, is_so, same};
 use crate::sizes::{long, numbered, texts};
 use crate::value::{told, told_of_elements, told_of_own};
 use just_syntax::out_of_memory::OutOfMemory;
@@ -16,7 +17,7 @@ fn is_made_of(value: &Value, elements: &[String]) -> bool {
 
 // Whether a value is made of these elements.
 fn expect(rt: &impl Abort, value: Value, elements: &[String]) {
-    assert!(rt; is_made_of(&value, elements));
+    is_so(rt, "elements", is_made_of(&value, elements));
 }
 
 // A value to which each element was added.
@@ -33,8 +34,8 @@ fn a_thousand_elements_added(rt: HostRuntime) -> Result<(), Fail> {
     let alloc = rt.alloc();
     let elements = numbered(alloc, 2000)?;
     let value = pushed(alloc, &elements)?;
-    assert_eq!(rt; value.len(), 1000);
-    assert!(rt; value.is_truthy() && !value.is_empty());
+    counts(&rt, "elements", value.len(), 1000);
+    is_so(&rt, "true", value.is_truthy() && !value.is_empty());
     expect(&rt, value.try_clone(alloc)?, &elements);
     expect(&rt, value, &elements);
     Ok(())
@@ -53,7 +54,7 @@ fn made_of_a_thousand_elements(rt: HostRuntime) -> Result<(), Fail> {
 // Whether a text is `ab.` so many times.
 fn repeats(rt: &impl Abort, alloc: Global, text: String, times: usize) -> Result<(), OutOfMemory> {
     let wanted = long(alloc, ("", "ab.", times, ""))?;
-    assert_eq!(rt; text.as_str(), wanted.as_str());
+    same(rt, &text, &wanted);
     Ok(())
 }
 
@@ -77,10 +78,18 @@ fn a_thousand_elements_compared(rt: HostRuntime) -> Result<(), Fail> {
     let alloc = rt.alloc();
     let value = Value::from_elements(numbered(alloc, 2000)?);
     let mut more = value.try_clone(alloc)?;
-    assert!(rt; value == more && !(value < more));
-    assert!(rt; value.cmp(&more).is_eq());
+    are_equal(&rt, &value, &more);
     more.push("")?;
-    assert!(rt; value != more && value < more);
-    assert!(rt; more.cmp(&value).is_gt());
+    is_less(&rt, &value, &more);
     Ok(())
+}
+
+fn are_equal(rt: &impl Abort, value: &Value, same: &Value) {
+    is_so(rt, "equal", value == same && !(value < same));
+    is_so(rt, "compared", value.cmp(same).is_eq());
+}
+
+fn is_less(rt: &impl Abort, value: &Value, more: &Value) {
+    is_so(rt, "less", value != more && value < more);
+    is_so(rt, "compared", more.cmp(value).is_gt());
 }

@@ -1,5 +1,6 @@
 // Word lists, positional words, and the names of an expression.
 
+use crate::compared::{counts, is_so, same, same_if_any};
 use crate::parts::name;
 use crate::scope::{gives, parameter};
 use crate::sizes::{Long, are_all, long, numbered, texts};
@@ -18,7 +19,7 @@ use std::test::Fail;
 // What `Display` writes is this text.
 fn shows<T: Display>(rt: &impl Abort, alloc: Global, item: &T, text: Long) -> Result<(), Fail> {
     let wanted = long(alloc, text)?;
-    assert_eq!(rt; format!(in alloc; "{item}")?.as_str(), wanted.as_str());
+    same(rt, &format!(in alloc; "{item}")?, &wanted);
     Ok(())
 }
 
@@ -63,16 +64,21 @@ fn positional(alloc: Global, directory: &str) -> Result<Positional, OutOfMemory>
 fn thousands_of_positional_words(rt: HostRuntime) -> Result<(), Fail> {
     let alloc = rt.alloc();
     let directory = long(alloc, ("", "up/", 1000, ""))?;
-    let positional = positional(alloc, &directory)?;
-    assert_eq!(rt; positional.overrides.len(), 1000);
+    are_thousands(&rt, &positional(alloc, &directory)?, &directory);
+    Ok(())
+}
+
+// Whether there are a thousand overrides, this directory, and a thousand arguments.
+fn are_thousands(rt: &impl Abort, positional: &Positional, directory: &str) {
+    counts(rt, "overrides", positional.overrides.len(), 1000);
     for (key, value) in &positional.overrides {
-        assert_eq!(rt; key.as_str(), "key");
-        assert_eq!(rt; value.as_str(), "value");
+        same(rt, key, "key");
+        same(rt, value, "value");
     }
     let searched = positional.search_directory.as_deref();
-    assert_eq!(rt; searched, Some(directory.as_str()));
-    assert!(rt; are_all(&positional.arguments, "word", 1000));
-    Ok(())
+    same_if_any(rt, "directory", searched, Some(directory));
+    let are_words = are_all(&positional.arguments, "word", 1000);
+    is_so(rt, "arguments", are_words);
 }
 
 // Whether a context gives each name its place among them.
@@ -94,10 +100,16 @@ fn pairs(alloc: Global, names: &[String]) -> Result<Vec<(Name<'_>, Number)>, Out
 #[test]
 fn a_thousand_names_of_an_expression(rt: HostRuntime) -> Result<(), Fail> {
     let alloc = rt.alloc();
-    let names = numbered(alloc, 2000)?;
-    let context = ExpressionContext::from_pairs(alloc, &pairs(alloc, &names)?)?;
-    gives_all(&rt, &context, &names);
-    gives(&rt, &context, "x2000", None);
+    gives_pairs(&rt, alloc, &numbered(alloc, 2000)?)?;
+    Ok(())
+}
+
+// A context of pairs gives each name its place, and a name that is not among them none.
+fn gives_pairs(rt: &impl Abort, alloc: Global, names: &[String]) -> Result<(), OutOfMemory> {
+    let pairs = pairs(alloc, names)?;
+    let context = ExpressionContext::from_pairs(alloc, &pairs)?;
+    gives_all(rt, &context, names);
+    gives(rt, &context, "x2000", None);
     Ok(())
 }
 
@@ -113,8 +125,14 @@ fn parameters(alloc: Global, names: &[String]) -> Result<Vec<Parameter<'_>>, Out
 #[test]
 fn a_thousand_names_of_parameters(rt: HostRuntime) -> Result<(), Fail> {
     let alloc = rt.alloc();
-    let names = numbered(alloc, 2000)?;
-    let context = ExpressionContext::from_parameters(alloc, &parameters(alloc, &names)?)?;
-    gives_all(&rt, &context, &names);
+    gives_parameters(&rt, alloc, &numbered(alloc, 2000)?)?;
+    Ok(())
+}
+
+// A context of parameters gives each name its place.
+fn gives_parameters(rt: &impl Abort, alloc: Global, names: &[String]) -> Result<(), OutOfMemory> {
+    let parameters = parameters(alloc, names)?;
+    let context = ExpressionContext::from_parameters(alloc, &parameters)?;
+    gives_all(rt, &context, names);
     Ok(())
 }
