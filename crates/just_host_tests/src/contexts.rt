@@ -1,107 +1,113 @@
 // What a context is made of where nothing else is said.
 
-use crate::host::{Around, map, works_in};
-use crate::texts::{same, same_if_any};
+use crate::around::{Around, config, map, module_at, search};
+use crate::texts::{gives, is_either, owned, same, same_if_any};
 use just_host::config::Config;
 use just_host::execution_context::{ExecutionContext, RECURSION_LIMIT};
 use just_host::justfile::Justfile;
-use just_host::search::Search;
 use just_host::settings::Settings;
 use just_syntax::number::Number;
 use just_syntax::numerator::Numerator;
-use just_syntax::out_of_memory::OutOfMemory;
 use just_value::scope::Scope;
 use std::alloc::Global;
+use std::collections::HashMap;
 use std::process::Abort;
-use std::test::Fail;
 
 #[test]
-fn configuration(rt: HostRuntime) -> Result<(), Fail> {
-    says_only_where(&rt, &Config::new(rt.alloc(), "/called/here")?);
-    Ok(())
+fn configuration(rt: HostRuntime) {
+    says_only_where(&rt, &config(&rt, rt.alloc()));
 }
 
 // Nothing is said of how the program was called, but that it was in the directory `/called/here`.
 fn says_only_where(rt: &impl Abort, config: &Config) {
     same(rt, &config.invocation_directory, "/called/here");
-    assert!(rt; !config.dry_run && !config.quiet && !config.shell_command);
-    assert_eq!(rt; config.jobs, None);
-    assert!(rt; config.shell.is_none() && config.shell_args.is_none());
+    let has_flag = config.dry_run || config.quiet || config.shell_command;
+    is_either(rt, "a flag", has_flag, false);
+    let has_shell = config.shell.is_some() || config.shell_args.is_some();
+    is_either(rt, "a shell", has_shell, false);
+    is_either(rt, "jobs", config.jobs.is_some(), false);
 }
 
 #[test]
-fn search(rt: HostRuntime) -> Result<(), Fail> {
-    let search = Search::new(rt.alloc(), "/work/a.just", "/work")?;
+fn what_was_found(rt: HostRuntime) {
+    let search = search(&rt, rt.alloc(), "/work/a.just");
     same(&rt, &search.justfile, "/work/a.just");
     same(&rt, &search.working_directory, "/work");
-    Ok(())
 }
 
 #[test]
-fn module_with_nothing(rt: HostRuntime) -> Result<(), Fail> {
-    let module = Justfile::new(rt.alloc(), "/work/a.just", "/work")?;
+fn module_with_nothing(rt: HostRuntime) {
+    let module = module_at(&rt, rt.alloc(), "/work/a.just", "/work");
     holds_nothing(&rt, &module);
-    assert_eq!(rt; module.settings, Settings::new(rt.alloc()));
-    Ok(())
+    sets_nothing(&rt, rt.alloc(), &module.settings);
+}
+
+fn sets_nothing(rt: &impl Abort, alloc: Global, settings: &Settings) {
+    is_either(rt, "settings", *settings == Settings::new(alloc), true);
 }
 
 // A module is the root in the file `/work/a.just`, with nothing in it.
 fn holds_nothing(rt: &impl Abort, module: &Justfile) {
-    assert!(rt; module.assignments.is_empty() && module.functions.is_empty());
-    assert!(rt; module.evaluation_order.is_empty() && module.unexports.is_empty());
+    let has_items = !module.assignments.is_empty() || !module.functions.is_empty();
+    is_either(rt, "items", has_items, false);
+    let has_names = !module.evaluation_order.is_empty() || !module.unexports.is_empty();
+    is_either(rt, "names", has_names, false);
     same(rt, &module.module_path, "");
     same(rt, &module.source, "/work/a.just");
     same(rt, &module.working_directory, "/work");
-    assert!(rt; !module.is_submodule());
+    is_either(rt, "submodule", module.is_submodule(), false);
 }
 
 #[test]
-fn context_of_its_parts(rt: HostRuntime) -> Result<(), Fail> {
-    let alloc = rt.alloc();
-    let around = around(alloc)?;
-    let module = Justfile::new(alloc, "/work/a.just", "/module")?;
-    let scope = Scope::root(alloc, &[("HEX", "0123456789abcdef")])?;
-    has_its_parts(&rt, alloc, around, &module, &scope)?;
-    Ok(())
+fn context_of_its_parts(rt: HostRuntime) {
+    has_its_parts(&rt, rt.alloc(), &around(&rt, rt.alloc()));
 }
 
-// With a variable of a dotenv file, and another that is given from outside.
-fn around(alloc: Global) -> Result<Around, OutOfMemory> {
-    let mut around = Around::new(alloc)?;
-    around.dotenv = map(alloc, &[("K", "v")])?;
-    let text = String::from_str(alloc, "o")?;
-    around.overrides.insert(Number::new(7), text)?;
-    Ok(around)
+// With a variable of a dotenv file, another that is given from outside, and one that is bound.
+fn around(rt: &impl Abort, alloc: Global) -> Around {
+    Around {
+        config: config(rt, alloc),
+        dotenv: map(rt, alloc, &[("K", "v")]),
+        module: module_at(rt, alloc, "/work/a.just", "/module"),
+        overrides: overrides(rt, alloc),
+        scope: constants(rt, alloc),
+        search: search(rt, alloc, "/work/justfile"),
+    }
+}
+
+fn overrides(rt: &impl Abort, alloc: Global) -> HashMap<Number, String> {
+    let mut overrides = HashMap::new(alloc);
+    let inserted: Result<_, _> = overrides.insert(Number::new(7), owned(rt, alloc, "o"));
+    inserted.expect(rt, "no memory");
+    overrides
+}
+
+fn constants(rt: &impl Abort, alloc: Global) -> Scope<'static, 'static> {
+    Scope::root(alloc, &[("HEX", "0123456789abcdef")]).expect(rt, "no memory")
 }
 
 // A context is what it is made of, under the usual limit.
-fn has_its_parts<'src>(
-    rt: &impl Abort,
-    alloc: Global,
-    around: Around,
-    module: &Justfile<'src>,
-    scope: &Scope<'src, '_>,
-) -> Result<(), OutOfMemory> {
-    let Around {
-        config,
-        dotenv,
-        overrides,
-        search,
-    } = around;
-    let context = ExecutionContext::new(&config, &dotenv, module, &overrides, scope, &search);
-    works_in(rt, alloc, &context, "/work")?;
+fn has_its_parts(rt: &impl Abort, alloc: Global, around: &Around) {
+    let context = ExecutionContext::new(
+        &around.config,
+        &around.dotenv,
+        &around.module,
+        &around.overrides,
+        &around.scope,
+        &around.search,
+    );
+    gives(rt, context.working_directory(alloc), "/work");
     is_made_of_them(rt, &context);
-    Ok(())
 }
 
 fn is_made_of_them(rt: &impl Abort, context: &ExecutionContext) {
-    assert_eq!(rt; RECURSION_LIMIT, 100);
-    assert_eq!(rt; context.recursion_limit, 100);
+    assert_eq!(rt; [context.recursion_limit, RECURSION_LIMIT], [100; 2]);
     same(rt, &context.config.invocation_directory, "/called/here");
     same(rt, &context.module.working_directory, "/module");
     let loaded = context.dotenv.get("K");
     same_if_any(rt, loaded.map(|text| text.as_str()), Some("v"));
     let given = context.overrides.get(&Number::new(7));
     same_if_any(rt, given.map(|text| text.as_str()), Some("o"));
-    assert!(rt; context.scope.value(Numerator::constant(0)).is_some());
+    let constant = context.scope.value(Numerator::constant(0));
+    is_either(rt, "a constant", constant.is_some(), true);
 }

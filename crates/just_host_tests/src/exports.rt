@@ -1,7 +1,6 @@
 // What a scope exports.
 
-use crate::host::owned;
-use crate::texts::same;
+use crate::texts::{all_owned, gives};
 use just_host::exports::{EnvironmentChange, exports};
 use just_syntax::attribute_set::AttributeSet;
 use just_syntax::name::Name;
@@ -11,9 +10,8 @@ use just_syntax::token::Token;
 use just_value::binding::Binding;
 use just_value::scope::Scope;
 use just_value::value::Value;
-use std::alloc::Global;
+use std::alloc::{AllocError, Global};
 use std::process::Abort;
-use std::test::Fail;
 
 // A name, its value, and whether it is exported.
 type Bound = (&'static str, &'static [&'static str], bool);
@@ -45,59 +43,69 @@ const EXPORTS: &[([&[Bound]; 3], &str)] = &[
 ];
 
 #[test]
-fn exported_variables(rt: HostRuntime) -> Result<(), Fail> {
+fn exported_variables(rt: HostRuntime) {
     for (frames, printed) in EXPORTS {
-        export(&rt, rt.alloc(), frames, printed)?;
+        export(&rt, rt.alloc(), frames, printed);
     }
-    Ok(())
 }
 
 // These frames make these changes.
-fn export(
+fn export(rt: &impl Abort, alloc: Global, [outermost, outer, own]: &[&[Bound]; 3], printed: &str) {
+    let mut scope = Scope::root(alloc, &[]).expect(rt, "no memory");
+    bind_all(rt, alloc, &mut scope, outermost);
+    export_outer(rt, alloc, &scope, outer, own, printed);
+}
+
+// The same of two frames in front of a scope.
+fn export_outer(
     rt: &impl Abort,
     alloc: Global,
-    [outermost, outer, own]: &[&[Bound]; 3],
+    scope: &Scope<'static, '_>,
+    outer: &[Bound],
+    own: &[Bound],
     printed: &str,
-) -> Result<(), OutOfMemory> {
-    let mut first = Scope::root(alloc, &[])?;
-    bind_all(alloc, &mut first, outermost)?;
-    let second = child(alloc, &first, outer)?;
-    let third = child(alloc, &second, own)?;
-    same(rt, &exported(alloc, &third)?, printed);
-    Ok(())
+) {
+    let scope = child(rt, alloc, scope, outer);
+    export_own(rt, alloc, &scope, own, printed);
+}
+
+// The same of one.
+fn export_own(
+    rt: &impl Abort,
+    alloc: Global,
+    scope: &Scope<'static, '_>,
+    own: &[Bound],
+    printed: &str,
+) {
+    let scope = child(rt, alloc, scope, own);
+    let unexports = all_owned(rt, alloc, &["u", "v"]);
+    gives(rt, exported(alloc, &scope, &unexports), printed);
 }
 
 // A frame with these bindings in front of a scope.
-fn child<'src, 'out>(
+fn child<'out>(
+    rt: &impl Abort,
     alloc: Global,
-    outer: &'out Scope<'src, '_>,
+    outer: &'out Scope<'static, '_>,
     bindings: &[Bound],
-) -> Result<Scope<'src, 'out>, OutOfMemory> {
-    let mut scope = outer.child(alloc)?;
-    bind_all(alloc, &mut scope, bindings)?;
-    Ok(scope)
+) -> Scope<'static, 'out> {
+    let mut scope = outer.child(alloc).expect(rt, "no memory");
+    bind_all(rt, alloc, &mut scope, bindings);
+    scope
 }
 
 // Binds these to 0, 1 and so on.
-fn bind_all(
-    alloc: Global,
-    scope: &mut Scope<'_, '_>,
-    bindings: &[Bound],
-) -> Result<(), OutOfMemory> {
+fn bind_all(rt: &impl Abort, alloc: Global, scope: &mut Scope<'static, '_>, bindings: &[Bound]) {
     for (number, bound) in bindings.iter().enumerate() {
-        scope.bind(binding(alloc, Number::new(number as u64), bound)?)?;
+        let binding = binding(rt, alloc, Number::new(number as u64), bound);
+        scope.bind(binding).expect(rt, "no memory");
     }
-    Ok(())
 }
 
-fn binding<'src>(
-    alloc: Global,
-    number: Number,
-    bound: &Bound,
-) -> Result<Binding<'src>, OutOfMemory> {
+fn binding(rt: &impl Abort, alloc: Global, number: Number, bound: &Bound) -> Binding<'static> {
     let (lexeme, texts, export) = *bound;
-    let value = Value::from_elements(owned(alloc, texts)?);
-    Ok(Binding {
+    let value = Value::from_elements(all_owned(rt, alloc, texts));
+    Binding {
         attributes: AttributeSet::new(alloc),
         eager: false,
         export,
@@ -115,18 +123,16 @@ fn binding<'src>(
         prelude: false,
         private: false,
         value,
-    })
+    }
 }
 
-// The changes that a scope makes where `u` and `v` are not exported.
-fn exported(alloc: Global, scope: &Scope) -> Result<String, OutOfMemory> {
-    let unexports = owned(alloc, &["u", "v"])?;
-    let changes = exports(alloc, scope, &unexports)?;
-    written(alloc, &changes)
+// The changes that a scope makes where these are not exported, written.
+fn exported(alloc: Global, scope: &Scope, unexports: &[String]) -> Result<String, OutOfMemory> {
+    Ok(written(alloc, &exports(alloc, scope, unexports)?)?)
 }
 
 // Changes, written: `-a ` where a variable is taken away, `a=text;` where it is set.
-fn written(alloc: Global, changes: &[EnvironmentChange]) -> Result<String, OutOfMemory> {
+fn written(alloc: Global, changes: &[EnvironmentChange]) -> Result<String, AllocError> {
     let mut all = String::new(alloc);
     for change in changes {
         match change {

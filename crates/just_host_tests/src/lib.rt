@@ -3,6 +3,8 @@
 #![tactic(auto)]
 
 #[cfg(test)]
+mod around;
+#[cfg(test)]
 mod builtins;
 #[cfg(test)]
 mod contexts;

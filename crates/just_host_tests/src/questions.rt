@@ -1,12 +1,13 @@
 // How questions print, and the words that a command is run with.
 
-use crate::host::{Around, answer_in, owned};
-use crate::texts::same;
+use crate::host::answer_under;
+use crate::texts::{all_owned, owned, same};
 use just_host::command_question::CommandQuestion;
 use just_host::directory_kind::DirectoryKind;
 use just_host::host::Host;
 use just_host::no_host::NoHost;
 use just_host::number_question::NumberQuestion;
+use just_host::recorded::Recorded;
 use just_host::recorder::Recorder;
 use just_host::settings::Settings;
 use just_host::text_answer::TextAnswer;
@@ -14,10 +15,8 @@ use just_host::text_question::TextQuestion;
 use just_syntax::interpreter::Interpreter;
 use just_syntax::out_of_memory::OutOfMemory;
 use just_value::error::CommandFault;
-use just_value::scope::Scope;
-use std::alloc::Global;
+use std::alloc::{AllocError, Global};
 use std::process::Abort;
-use std::test::Fail;
 
 // Questions for a text, and what they print.
 const TEXTS: &[(TextQuestion, &str)] = &[
@@ -99,46 +98,45 @@ const COMMANDS: &[Command] = &[
 ];
 
 #[test]
-fn questions_print(rt: HostRuntime) -> Result<(), Fail> {
+fn questions_print(rt: HostRuntime) {
     let alloc = rt.alloc();
     let mut host = Recorder::new(alloc, NoHost);
-    all_print(&rt, alloc, &mut host)?;
-    same(&rt, &DirectoryKind::Data.to_string(alloc)?, "data");
-    Ok(())
+    for (question, printed) in TEXTS {
+        prints(&rt, question.to_string(alloc), printed);
+        host.text(alloc, *question);
+        prints_last(&rt, alloc, host.questions(), printed);
+    }
+    numbers_print(&rt, alloc, &mut host);
+    existence_prints(&rt, alloc, &mut host);
+    prints(&rt, DirectoryKind::Data.to_string(alloc), "data");
 }
 
-// Each question prints so, both by itself and as it is kept.
-fn all_print<H: Host>(
-    rt: &impl Abort,
-    alloc: Global,
-    host: &mut Recorder<H>,
-) -> Result<(), OutOfMemory> {
-    for (question, printed) in TEXTS {
-        same(rt, &question.to_string(alloc)?, printed);
-        host.text(alloc, *question);
-        prints_last(rt, alloc, host, printed)?;
-    }
+// Each question for a number prints so, both by itself and as it is kept.
+fn numbers_print<H: Host>(rt: &impl Abort, alloc: Global, host: &mut Recorder<H>) {
     for (question, printed) in NUMBERS {
-        same(rt, &question.to_string(alloc)?, printed);
-        host.number(alloc, *question)?;
-        prints_last(rt, alloc, host, printed)?;
+        prints(rt, question.to_string(alloc), printed);
+        host.number(alloc, *question).expect(rt, "no memory");
+        prints_last(rt, alloc, host.questions(), printed);
     }
-    host.exists(alloc, "/a b")?;
-    prints_last(rt, alloc, host, "exists \"/a b\"")
+}
+
+// A question for what stands at a path prints so as it is kept.
+fn existence_prints<H: Host>(rt: &impl Abort, alloc: Global, host: &mut Recorder<H>) {
+    host.exists(alloc, "/a b").expect(rt, "no memory");
+    prints_last(rt, alloc, host.questions(), "exists \"/a b\"");
+}
+
+// What was printed is what is wanted.
+fn prints(rt: &impl Abort, printed: Result<String, AllocError>, wanted: &str) {
+    same(rt, &printed.expect(rt, "no memory"), wanted);
 }
 
 // The last question that was kept prints this.
-fn prints_last<H: Host>(
-    rt: &impl Abort,
-    alloc: Global,
-    host: &Recorder<H>,
-    printed: &str,
-) -> Result<(), OutOfMemory> {
-    let Some(last) = host.questions().last() else {
-        panic!(rt; "{printed}");
-    };
-    same(rt, &last.to_string(alloc)?, printed);
-    Ok(())
+fn prints_last(rt: &impl Abort, alloc: Global, questions: &[Recorded], wanted: &str) {
+    match questions.last() {
+        Some(last) => prints(rt, last.to_string(alloc), wanted),
+        None => panic!(rt; "{wanted}"),
+    }
 }
 
 // Answers a command with the words that it is run with, `|` between them.
@@ -158,7 +156,7 @@ impl Host for Shell {
         alloc: Global,
         question: &CommandQuestion,
     ) -> Result<String, CommandFault> {
-        Ok(words_of(alloc, question, self.takes_shell_name)?)
+        words_of(alloc, question, self.takes_shell_name)
     }
 
     fn text(&mut self, alloc: Global, question: TextQuestion) -> TextAnswer {
@@ -179,93 +177,62 @@ fn words_of(
     alloc: Global,
     question: &CommandQuestion,
     takes_shell_name: bool,
-) -> Result<String, OutOfMemory> {
+) -> Result<String, CommandFault> {
     let words = question.command_line(alloc, takes_shell_name)?;
     Ok(words.join(alloc, "|")?)
 }
 
 #[test]
-fn commands(rt: HostRuntime) -> Result<(), Fail> {
-    let alloc = rt.alloc();
-    let around = Around::new(alloc)?;
-    let scope = Scope::root(alloc, &[])?;
+fn commands(rt: HostRuntime) {
     for command in COMMANDS {
-        runs(&rt, alloc, &around, &scope, command)?;
+        runs(&rt, rt.alloc(), command);
     }
-    Ok(())
 }
 
 // The command `c d` prints so, and is run with these words.
-fn runs(
-    rt: &impl Abort,
-    alloc: Global,
-    around: &Around,
-    scope: &Scope,
-    command: &Command,
-) -> Result<(), OutOfMemory> {
+fn runs(rt: &impl Abort, alloc: Global, command: &Command) {
     let shell = Shell {
         takes_shell_name: command.takes_shell_name,
     };
     let mut host = Recorder::new(alloc, shell);
-    let settings = Settings::new(alloc);
-    let words = text_of(
-        rt,
-        alloc,
-        &mut host,
-        around,
-        scope,
-        settings,
-        command.arguments,
-    )?;
+    let words = answer_with(rt, alloc, &mut host, command.arguments);
     same(rt, &words, command.words);
-    prints_last(rt, alloc, &host, command.printed)
+    prints_last(rt, alloc, host.questions(), command.printed);
 }
 
 // What a host answers to the command `c d`, with these arguments.
-fn text_of<H: Host>(
+fn answer_with<H: Host>(
     rt: &impl Abort,
     alloc: Global,
     host: &mut H,
-    around: &Around,
-    scope: &Scope,
-    settings: Settings,
     arguments: Option<&[&str]>,
-) -> Result<String, OutOfMemory> {
+) -> String {
+    let settings = Settings::new(alloc);
     match arguments {
-        Some(arguments) => {
-            let arguments = owned(alloc, arguments)?;
-            answer_in(
-                rt,
-                alloc,
-                host,
-                around,
-                scope,
-                settings,
-                ("c d", Some(arguments.as_slice())),
-            )
+        Some(words) => {
+            let words = all_owned(rt, alloc, words);
+            answer_under(rt, alloc, host, settings, "c d", Some(&words))
         }
-        None => answer_in(rt, alloc, host, around, scope, settings, ("c d", None)),
+        None => answer_under(rt, alloc, host, settings, "c d", None),
     }
 }
 
 #[test]
-fn command_of_another_shell(rt: HostRuntime) -> Result<(), Fail> {
+fn command_of_another_shell(rt: HostRuntime) {
     let alloc = rt.alloc();
-    let around = Around::new(alloc)?;
-    let scope = Scope::root(alloc, &[])?;
-    let settings = set_to_bash(alloc)?;
     let mut host = Shell {
         takes_shell_name: true,
     };
-    let text = text_of(&rt, alloc, &mut host, &around, &scope, settings, None)?;
-    same(&rt, &text, "bash|-e|-c|c d");
-    Ok(())
+    let settings = set_to_bash(&rt, alloc);
+    let words = answer_under(&rt, alloc, &mut host, settings, "c d", None);
+    same(&rt, &words, "bash|-e|-c|c d");
 }
 
-fn set_to_bash(alloc: Global) -> Result<Settings, OutOfMemory> {
-    let arguments = owned(alloc, &["-e", "-c"])?;
-    let command = String::from_str(alloc, "bash")?;
+fn set_to_bash(rt: &impl Abort, alloc: Global) -> Settings {
     let mut settings = Settings::new(alloc);
-    settings.shell = Some(Interpreter { arguments, command });
-    Ok(settings)
+    settings.shell = Some(Interpreter {
+        arguments: all_owned(rt, alloc, &["-e", "-c"]),
+        command: owned(rt, alloc, "bash"),
+    });
+    settings
 }

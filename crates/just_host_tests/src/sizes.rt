@@ -1,38 +1,40 @@
 // Calls at large sizes that no case reaches. Where memory is there each must succeed: no clause forbids one that gives up.
 
-use crate::host::{Around, module, works_in};
-use crate::texts::same;
+use crate::around::{Around, config, module, search};
+use crate::host::works_in;
+use crate::texts::{is_either, owned, same};
 use just_host::config::Config;
 use just_host::justfile::Justfile;
 use just_host::settings::Settings;
 use just_syntax::interpreter::Interpreter;
-use just_syntax::out_of_memory::OutOfMemory;
-use just_value::scope::Scope;
 use just_value::value::Value;
 use std::alloc::Global;
 use std::process::Abort;
-use std::test::Fail;
 
 // A text: what it begins with, a piece and how often that stands there, and what it ends with.
 type Long = (&'static str, &'static str, usize, &'static str);
 
-fn long(alloc: Global, of: Long) -> Result<String, OutOfMemory> {
+fn long(rt: &impl Abort, alloc: Global, of: Long) -> String {
     let (front, piece, times, back) = of;
-    let mut text = String::from_str(alloc, front)?;
+    let mut text = owned(rt, alloc, front);
     for _ in 0..times {
-        text.push_str(piece)?;
+        add(rt, &mut text, piece);
     }
-    text.push_str(back)?;
-    Ok(text)
+    add(rt, &mut text, back);
+    text
 }
 
-// A text so many times.
-fn texts(alloc: Global, text: &str, times: usize) -> Result<Vec<String>, OutOfMemory> {
+fn add(rt: &impl Abort, text: &mut String, piece: &str) {
+    text.push_str(piece).expect(rt, "no memory");
+}
+
+// A text a thousand times.
+fn thousand(rt: &impl Abort, alloc: Global, text: &str) -> Vec<String> {
     let mut all = Vec::new(alloc);
-    for _ in 0..times {
-        all.push(String::from_str(alloc, text)?)?;
+    for _ in 0..1000 {
+        all.push(owned(rt, alloc, text)).expect(rt, "no memory");
     }
-    Ok(all)
+    all
 }
 
 // The working directory of the search, and the module's own.
@@ -51,44 +53,54 @@ const DIRECTORIES: &[(bool, Option<Long>, Long)] = &[
 ];
 
 #[test]
-fn long_working_directories(rt: HostRuntime) -> Result<(), Fail> {
+fn long_working_directories(rt: HostRuntime) {
     let alloc = rt.alloc();
-    let scope = Scope::root(alloc, &[])?;
-    let mut around = Around::new(alloc)?;
-    around.search.working_directory = long(alloc, BASE)?;
     for (submodule, setting, directory) in DIRECTORIES {
-        let module = module_below(alloc, *submodule, *setting)?;
-        let directory = long(alloc, *directory)?;
-        works_in(&rt, alloc, &around.context(&module, &scope), &directory)?;
+        let around = around(&rt, alloc, *submodule, *setting);
+        works_in(&rt, alloc, around, &long(&rt, alloc, *directory));
     }
-    Ok(())
+}
+
+// With long working directories of the search, and of the module.
+fn around(rt: &impl Abort, alloc: Global, submodule: bool, setting: Option<Long>) -> Around {
+    let mut search = search(rt, alloc, "/work/justfile");
+    search.working_directory = long(rt, alloc, BASE);
+    let module = module_below(rt, alloc, submodule, setting);
+    Around::with(rt, alloc, config(rt, alloc), search, module)
 }
 
 // A module with nothing in it but a working directory.
-fn module_below<'src>(
+fn module_below(
+    rt: &impl Abort,
     alloc: Global,
     submodule: bool,
     setting: Option<Long>,
-) -> Result<Justfile<'src>, OutOfMemory> {
+) -> Justfile<'static> {
+    let settings = settings_below(rt, alloc, setting);
+    let mut module = module(rt, alloc, submodule, settings);
+    module.working_directory = long(rt, alloc, BASE);
+    module
+}
+
+// Settings of which at most the working directory is set.
+fn settings_below(rt: &impl Abort, alloc: Global, directory: Option<Long>) -> Settings {
     let mut settings = Settings::new(alloc);
-    if let Some(of) = setting {
-        settings.working_directory = Some(long(alloc, of)?);
+    if let Some(of) = directory {
+        settings.working_directory = Some(long(rt, alloc, of));
     }
-    let mut module = module(alloc, submodule, settings)?;
-    module.working_directory = long(alloc, BASE)?;
-    Ok(module)
+    settings
 }
 
 // What sets a thousand elements and texts of some thousand bytes.
-fn large_settings(alloc: Global) -> Result<Settings, OutOfMemory> {
+fn large_settings(rt: &impl Abort, alloc: Global) -> Settings {
     let mut settings = Settings::new(alloc);
-    settings.dotenv_command = Value::from_elements(texts(alloc, "env", 1000)?);
+    settings.dotenv_command = Value::from_elements(thousand(rt, alloc, "env"));
     settings.shell = Some(Interpreter {
-        arguments: texts(alloc, "-c", 1000)?,
-        command: long(alloc, ("", "sh", 1000, ""))?,
+        arguments: thousand(rt, alloc, "-c"),
+        command: long(rt, alloc, ("", "sh", 1000, "")),
     });
-    settings.tempdir = Some(long(alloc, ("/", "ab/", 1000, ""))?);
-    Ok(settings)
+    settings.tempdir = Some(long(rt, alloc, ("/", "ab/", 1000, "")));
+    settings
 }
 
 // The shell of these settings where the program is called so is this one, with a thousand times this argument.
@@ -98,11 +110,11 @@ fn chooses(
     settings: &Settings,
     config: &Config,
     (shell, argument): (Long, &str),
-) -> Result<(), OutOfMemory> {
-    let (command, arguments) = settings.shell(alloc, config)?;
-    same(rt, command, &long(alloc, shell)?);
+) {
+    let wanted = long(rt, alloc, shell);
+    let (command, arguments) = settings.shell(alloc, config).expect(rt, "no memory");
+    same(rt, command, &wanted);
     are_a_thousand(rt, &arguments, argument);
-    Ok(())
 }
 
 fn are_a_thousand(rt: &impl Abort, arguments: &[&str], wanted: &str) {
@@ -113,25 +125,30 @@ fn are_a_thousand(rt: &impl Abort, arguments: &[&str], wanted: &str) {
 }
 
 #[test]
-fn shells_with_a_thousand_arguments(rt: HostRuntime) -> Result<(), Fail> {
+fn shells_with_a_thousand_arguments(rt: HostRuntime) {
     let alloc = rt.alloc();
-    let settings = large_settings(alloc)?;
-    let mut config = Config::new(alloc, "/called/here")?;
+    let settings = large_settings(&rt, alloc);
     let expected = (("", "sh", 1000, ""), "-c");
-    chooses(&rt, alloc, &settings, &config, expected)?;
-    config.shell = Some(long(alloc, ("", "zsh", 1000, ""))?);
-    config.shell_args = Some(texts(alloc, "-x", 1000)?);
+    chooses(&rt, alloc, &settings, &config(&rt, alloc), expected);
+    let config = called_with_a_thousand(&rt, alloc);
     let expected = (("", "zsh", 1000, ""), "-x");
-    chooses(&rt, alloc, &settings, &config, expected)?;
-    Ok(())
+    chooses(&rt, alloc, &settings, &config, expected);
+}
+
+// Called with a long shell and a thousand arguments.
+fn called_with_a_thousand(rt: &impl Abort, alloc: Global) -> Config {
+    let mut config = config(rt, alloc);
+    config.shell = Some(long(rt, alloc, ("", "zsh", 1000, "")));
+    config.shell_args = Some(thousand(rt, alloc, "-x"));
+    config
 }
 
 #[test]
-fn large_settings_are_compared(rt: HostRuntime) -> Result<(), Fail> {
+fn large_settings_are_compared(rt: HostRuntime) {
     let alloc = rt.alloc();
-    let mut settings = large_settings(alloc)?;
-    assert!(rt; settings == large_settings(alloc)?);
-    settings.dotenv_command.push("")?;
-    assert!(rt; settings != large_settings(alloc)?);
-    Ok(())
+    let mut settings = large_settings(&rt, alloc);
+    let others = large_settings(&rt, alloc);
+    is_either(&rt, "equal", settings == others, true);
+    settings.dotenv_command.push("").expect(&rt, "no memory");
+    is_either(&rt, "equal", settings == others, false);
 }

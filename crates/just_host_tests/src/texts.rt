@@ -1,10 +1,22 @@
-// How what is given is compared with what is wanted.
+// Texts, and how what is given is compared with what is wanted. A test ends where there is no memory for what it makes.
 
+use just_syntax::out_of_memory::OutOfMemory;
+use std::alloc::Global;
 use std::process::Abort;
 
 /// A text is the one that is wanted.
 pub fn same(rt: &impl Abort, given: &str, wanted: &str) {
     assert_eq!(rt; given, wanted);
+}
+
+/// What is given of a name is the text that is wanted.
+pub fn same_of(rt: &impl Abort, name: &str, given: &str, wanted: &str) {
+    assert_eq!(rt; given, wanted, "{name}");
+}
+
+/// A text that was made is the one that is wanted.
+pub fn gives(rt: &impl Abort, made: Result<String, OutOfMemory>, wanted: &str) {
+    same(rt, &text_of(rt, made), wanted);
 }
 
 /// A text is the one that is wanted, or there is none where none is wanted.
@@ -15,4 +27,26 @@ pub fn same_if_any(rt: &impl Abort, given: Option<&str>, wanted: Option<&str>) {
 /// Something is true, or false, of a name.
 pub fn is_either(rt: &impl Abort, name: &str, given: bool, wanted: bool) {
     assert_eq!(rt; given, wanted, "{name}");
+}
+
+/// A text that was made.
+pub fn text_of(rt: &impl Abort, made: Result<String, OutOfMemory>) -> String {
+    match made {
+        Ok(text) => text,
+        Err(OutOfMemory) => panic!(rt; "no memory"),
+    }
+}
+
+/// A text once more.
+pub fn owned(rt: &impl Abort, alloc: Global, text: &str) -> String {
+    String::from_str(alloc, text).expect(rt, "no memory")
+}
+
+/// Texts once more.
+pub fn all_owned(rt: &impl Abort, alloc: Global, texts: &[&str]) -> Vec<String> {
+    let mut all = Vec::new(alloc);
+    for text in texts {
+        all.push(owned(rt, alloc, text)).expect(rt, "no memory");
+    }
+    all
 }

@@ -1,254 +1,249 @@
 // What a built-in function is called in.
 
-ghost use Rattle.std.specs.Prelude.{◌≡◌, true};
-ghost use Rattle.just_builtins.specs.Argument.{HasTexts};
+ghost use Rattle.std.specs.Prelude.{◌≡◌, true, IfSome, length};
+ghost use Rattle.just_builtins.specs.Argument.{HasTexts, IsExpected};
 
-use crate::builtins::scripted::{Given, Scripted};
+use crate::around::{self, config, module_at, search};
+use crate::builtins::scripted::Scripted;
+use crate::texts::owned;
 use just_builtins::call_fault::CallFault;
 use just_builtins::function::{Function, get};
-use just_host::config::Config;
 use just_host::execution_context::ExecutionContext;
 use just_host::function::Context;
-use just_host::host::Host;
 use just_host::justfile::Justfile;
-use just_host::no_host::NoHost;
-use just_host::recorder::Recorder;
-use just_host::search::Search;
 use just_syntax::name::Name;
-use just_syntax::number::Number;
-use just_syntax::out_of_memory::OutOfMemory;
 use just_syntax::token::Token;
-use just_value::scope::Scope;
 use just_value::value::Value;
-use std::alloc::Global;
-use std::collections::{BTreeMap, HashMap};
+use std::alloc::{AllocError, Global};
+use std::collections::BTreeMap;
+use std::process::Abort;
 
 // The file that functions are called in, where no test says otherwise.
 const CALLER: &str = "shared/é.just";
 
 /// What a built-in function is called in, but for its name.
 #[derive(Drop)]
-pub struct Around<'src> {
-    pub config: Config,
-    pub dotenv: BTreeMap<String, String>,
+pub struct Around {
+    /// What its context lends.
+    pub lent: around::Around,
     pub env: BTreeMap<String, String>,
-    pub module: Justfile<'src>,
-    pub overrides: HashMap<Number, String>,
-    pub scope: Scope<'src, 'src>,
-    pub search: Search,
     pub is_dependency: bool,
-    pub recipe: Option<Name<'src>>,
+    pub recipe: Option<Name<'static>>,
     /// The path of the file that calls it.
-    pub caller: &'src str,
+    pub caller: &'static str,
 }
 
-fn token<'src>(lexeme: &'src str, path: &'src str) -> Token<'src> {
-    Token {
-        column: 0,
-        line: 0,
-        offset: 0,
-        lexeme,
-        path,
-    }
-}
-
-/// A name in the justfile.
-pub fn name(lexeme: &str) -> Name<'_> {
+fn name(lexeme: &'static str, path: &'static str) -> Name<'static> {
     Name {
-        token: token(lexeme, "justfile"),
+        token: Token {
+            column: 0,
+            line: 0,
+            offset: 0,
+            lexeme,
+            path,
+        },
     }
 }
 
-impl<'src> Around<'src> {
+impl Around {
     /// Outside a recipe, with the justfile `/work/justfile` and the module's source `/work/sub/mod.just`.
-    pub fn new(alloc: Global, lists: bool) -> Result<Around<'src>, OutOfMemory> {
-        let config = Config::new(alloc, "/called/here")?;
-        let search = Search::new(alloc, "/work/justfile", "/work")?;
-        let module = module(alloc, lists, "sub", "/work/sub/mod.just")?;
-        Around::of(alloc, config, search, module)
+    pub fn new(rt: &impl Abort, alloc: Global, lists: bool) -> Around {
+        let module = module(rt, alloc, lists, "sub", "/work/sub/mod.just");
+        Around::of(alloc, around::Around::new(rt, alloc, module))
     }
 
     // Outside a recipe.
-    fn of(
-        alloc: Global,
-        config: Config,
-        search: Search,
-        module: Justfile<'src>,
-    ) -> Result<Around<'src>, OutOfMemory> {
-        let scope = Scope::root(alloc, &[])?;
-        Ok(Around {
-            config,
-            dotenv: BTreeMap::new(alloc),
+    fn of(alloc: Global, lent: around::Around) -> Around {
+        Around {
+            lent,
             env: BTreeMap::new(alloc),
-            module,
-            overrides: HashMap::new(alloc),
-            scope,
-            search,
             is_dependency: false,
             recipe: None,
             caller: CALLER,
-        })
+        }
     }
 
     /// In the recipe `build`, which runs as a dependency, with paths that have no parent.
-    pub fn at_the_root(alloc: Global) -> Result<Around<'src>, OutOfMemory> {
-        Around::in_a_recipe(alloc, "/", "", CALLER)
+    pub fn at_the_root(rt: &impl Abort, alloc: Global) -> Around {
+        Around::in_a_recipe(rt, alloc, "/", "", CALLER)
     }
 
     /// The same with these paths of the justfile, of the module's source and of the file that calls.
     pub fn in_a_recipe(
+        rt: &impl Abort,
         alloc: Global,
         justfile: &str,
         source: &str,
-        caller: &'src str,
-    ) -> Result<Around<'src>, OutOfMemory> {
-        let mut config = Config::new(alloc, "/called/here")?;
+        caller: &'static str,
+    ) -> Around {
+        let mut config = config(rt, alloc);
         config.jobs = Some(12);
-        let search = Search::new(alloc, justfile, "/work")?;
-        let module = module(alloc, true, "", source)?;
-        let mut around = Around::of(alloc, config, search, module)?;
+        let module = module(rt, alloc, true, "", source);
+        let search = search(rt, alloc, justfile);
+        let lent = around::Around::with(rt, alloc, config, search, module);
+        let mut around = Around::of(alloc, lent);
         around.is_dependency = true;
-        around.recipe = Some(name("build"));
+        around.recipe = Some(name("build", "justfile"));
         around.caller = caller;
-        Ok(around)
+        around
+    }
+
+    // What a function is called in by a name, which stands in the caller's file.
+    fn context<'run>(
+        &'run self,
+        execution_context: &'run ExecutionContext<'static, 'run>,
+        function: &'static str,
+    ) -> Context<'static, 'run> {
+        Context {
+            env: &self.env,
+            execution_context,
+            is_dependency: self.is_dependency,
+            name: name(function, self.caller),
+            recipe: self.recipe,
+            scope: execution_context.scope,
+        }
     }
 }
 
-fn module<'src>(
+fn module(
+    rt: &impl Abort,
     alloc: Global,
     lists: bool,
     path: &str,
     source: &str,
-) -> Result<Justfile<'src>, OutOfMemory> {
-    let mut module = Justfile::new(alloc, source, "/work/sub")?;
-    module.module_path = String::from_str(alloc, path)?;
+) -> Justfile<'static> {
+    let mut module = module_at(rt, alloc, source, "/work/sub");
+    module.module_path = owned(rt, alloc, path);
     module.settings.lists = lists;
     module.submodule = true;
-    Ok(module)
+    module
 }
 
 // A list that is written with `|` between its elements, or as `[]`.
-fn value(alloc: Global, written: &str) -> Result<Value, OutOfMemory> {
+fn value(rt: &impl Abort, alloc: Global, written: &str) -> Value {
     let mut value = Value::new(alloc);
     if written != "[]" {
-        for element in written.split("|") {
-            value.push(element)?;
+        for element in written.split('|') {
+            value.push(element).expect(rt, "no memory");
         }
     }
-    Ok(value)
+    value
 }
 
-/// What a function answers that asks nothing, written: its value, or its message behind `! `.
-pub fn answer<'src>(
-    alloc: Global,
-    around: &Around<'src>,
-    name: Name<'src>,
-    arguments: &[&str],
-) -> Result<String, OutOfMemory> {
-    let mut host = Recorder::new(alloc, NoHost);
-    let text = answer_of(alloc, &mut host, around, name, arguments)?;
-    if !host.questions().is_empty() {
-        return Ok(String::from_str(alloc, "asked")?);
-    }
-    Ok(text)
-}
-
-/// What a function asks of a host that gives this answer, and then answers, written.
-pub fn asked_and_answered<'src>(
-    alloc: Global,
-    given: Given,
-    around: &Around<'src>,
-    name: Name<'src>,
-    arguments: &[&str],
-) -> Result<(String, String), OutOfMemory> {
-    let mut host = Scripted {
-        given,
-        asked: String::new(alloc),
-    };
-    let text = answer_of(alloc, &mut host, around, name, arguments)?;
-    let Scripted { given: _, asked } = host;
-    Ok((asked, text))
-}
-
-// What a function answers, written.
-fn answer_of<'src, H: Host>(
-    alloc: Global,
-    host: &mut H,
-    around: &Around<'src>,
-    name: Name<'src>,
-    arguments: &[&str],
-) -> Result<String, OutOfMemory> {
-    let values = values(alloc, arguments)?;
-    match called(alloc, host, around, name, &values) {
-        Some(answer) => written(alloc, &answer),
-        None => Ok(String::from_str(alloc, "not called")?),
-    }
-}
-
-fn values(alloc: Global, arguments: &[&str]) -> Result<Vec<Value>, OutOfMemory> {
+fn values(rt: &impl Abort, alloc: Global, arguments: &[&str]) -> Vec<Value> {
     let mut values = Vec::new(alloc);
     for argument in arguments {
-        values.push(value(alloc, argument)?)?;
+        values
+            .push(value(rt, alloc, argument))
+            .expect(rt, "no memory");
     }
-    Ok(values)
+    values
 }
 
-fn written(alloc: Global, answer: &Result<Value, CallFault>) -> Result<String, OutOfMemory> {
+/// What a function answers, written: its value, or its message behind `! `.
+pub fn answer(
+    rt: &impl Abort,
+    alloc: Global,
+    host: &mut Scripted,
+    around: &Around,
+    function: &'static str,
+    arguments: &[&str],
+) -> String {
+    let arguments = values(rt, alloc, arguments);
+    answer_to(alloc, host, around, function, &arguments).expect(rt, "no memory")
+}
+
+fn answer_to(
+    alloc: Global,
+    host: &mut Scripted,
+    around: &Around,
+    name: &'static str,
+    arguments: &[Value],
+) -> Result<String, AllocError> {
+    match callable(name, arguments) {
+        Some(function) => written(
+            alloc,
+            &called(alloc, host, around, name, function, arguments),
+        ),
+        None => String::from_str(alloc, "not called"),
+    }
+}
+
+fn written(alloc: Global, answer: &Result<Value, CallFault>) -> Result<String, AllocError> {
     match answer {
-        Ok(value) if value.is_empty() => Ok(String::from_str(alloc, "[]")?),
-        Ok(value) => Ok(value.elements().join(alloc, "|")?),
-        Err(CallFault::Message(message)) => Ok(format!(in alloc; "! {message}")?),
-        Err(fault) => Ok(format!(in alloc; "{fault:?}")?),
+        Ok(value) if value.is_empty() => String::from_str(alloc, "[]"),
+        Ok(value) => value.elements().join(alloc, "|"),
+        Err(CallFault::Message(message)) => format!(in alloc; "! {message}"),
+        Err(fault) => format!(in alloc; "{fault:?}"),
     }
 }
 
-// A call by a name, if it may be made.
-fn called<'src, H: Host>(
+// A call of a function by a name.
+fn called(
     alloc: Global,
-    host: &mut H,
-    around: &Around<'src>,
-    name: Name<'src>,
+    host: &mut Scripted,
+    around: &Around,
+    name: &'static str,
+    function: Function,
     arguments: &[Value],
-) -> Option<Result<Value, CallFault>> {
-    let execution_context = ExecutionContext {
-        config: &around.config,
-        dotenv: &around.dotenv,
-        module: &around.module,
-        overrides: &around.overrides,
-        recursion_limit: 1,
-        scope: &around.scope,
-        search: &around.search,
-    };
-    called_in(alloc, host, around, &execution_context, name, arguments)
+) -> Result<Value, CallFault>
+    requires count { IsExpected function (length arguments.now) }
+    requires texts { HasTexts function arguments.now }
+{
+    let execution_context = around.lent.context();
+    called_in(
+        alloc,
+        host,
+        around,
+        &execution_context,
+        name,
+        function,
+        arguments,
+    )
 }
 
-// The same, in a context. The name stands in the caller's file.
-fn called_in<'src, 'run, H: Host>(
+// The same, in a context.
+fn called_in<'run>(
     alloc: Global,
-    host: &mut H,
-    around: &'run Around<'src>,
-    execution_context: &'run ExecutionContext<'src, 'run>,
-    name: Name<'src>,
+    host: &mut Scripted,
+    around: &'run Around,
+    execution_context: &'run ExecutionContext<'static, 'run>,
+    name: &'static str,
+    function: Function,
     arguments: &[Value],
-) -> Option<Result<Value, CallFault>> {
-    let function = get(name.lexeme())?;
-    if !function.expected_arguments().contains(&arguments.len()) {
-        return None;
+) -> Result<Value, CallFault>
+    requires count { IsExpected function (length arguments.now) }
+    requires texts { HasTexts function arguments.now }
+{
+    let context = around.context(execution_context, name);
+    call(alloc, host, &context, function, arguments)
+}
+
+fn call(
+    alloc: Global,
+    host: &mut Scripted,
+    context: &Context,
+    function: Function,
+    arguments: &[Value],
+) -> Result<Value, CallFault>
+    requires count { IsExpected function (length arguments.now) }
+    requires texts { HasTexts function arguments.now }
+{
+    function.call(alloc, host, context, arguments)
+}
+
+// What a name stands for, if it may be called with these arguments.
+fn callable(name: &str, arguments: &[Value]) -> Option<Function>
+    ensures count { IfSome result (λ function. IsExpected function (length arguments.now)) }
+    ensures texts { IfSome result (λ function. HasTexts function arguments.now) }
+{
+    let function = get(name)?;
+    let counts = function.expected_arguments();
+    if counts.contains(&arguments.len()) && has_texts(function, arguments) {
+        Some(function)
+    } else {
+        None
     }
-    if !has_texts(function, arguments) {
-        return None;
-    }
-    let context = Context {
-        env: &around.env,
-        execution_context,
-        is_dependency: around.is_dependency,
-        name: Name {
-            token: token(name.lexeme(), around.caller),
-        },
-        recipe: around.recipe,
-        scope: execution_context.scope,
-    };
-    Some(function.call(alloc, host, &context, arguments))
 }
 
 // Whether each argument at a text position has one element.

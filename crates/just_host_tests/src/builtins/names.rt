@@ -3,9 +3,11 @@
 use just_builtins::builtin::Builtin;
 use just_builtins::function::Function;
 
-/// A function or none, whether it is one of those that are left out, and all names of that kind, a function's shorter
-/// one behind its whole one; last some that stand for nothing.
-pub const NAMES: &[(Option<Function>, bool, &[&str])] = &[
+/// A function or none, whether it is one of those that are left out, and all names of that kind.
+pub type Names = (Option<Function>, bool, &'static [&'static str]);
+
+/// Each function, its shorter name behind its whole one; last what is left out, and some that stand for nothing.
+pub const NAMES: &[Names] = &[
     (
         Some(Function::BinaryStrValue(Builtin::Append)),
         false,

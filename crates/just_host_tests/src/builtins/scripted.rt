@@ -7,10 +7,10 @@ use just_host::text_answer::TextAnswer;
 use just_host::text_question::TextQuestion;
 use just_syntax::out_of_memory::OutOfMemory;
 use just_value::error::CommandFault;
-use std::alloc::Global;
+use std::alloc::{AllocError, Global};
 
 /// What it answers; a question of another kind it answers with want of memory.
-#[derive(Clone, Copy, Debug)]
+#[derive(Clone, Copy)]
 pub enum Given {
     Text(&'static str),
     Absent,
@@ -22,6 +22,22 @@ pub enum Given {
     OutOfMemory,
 }
 
+impl Given {
+    /// The name of its kind.
+    pub fn kind(self) -> &'static str {
+        match self {
+            Given::Text(_) => "Text",
+            Given::Absent => "Absent",
+            Given::NotText(_) => "NotText",
+            Given::Fault(_) => "Fault",
+            Given::Code(_) => "Code",
+            Given::Found(_) => "Found",
+            Given::Number(_) => "Number",
+            Given::OutOfMemory => "OutOfMemory",
+        }
+    }
+}
+
 /// Gives one answer, and keeps what it was asked, each question with `;` behind it.
 #[derive(Drop)]
 pub struct Scripted {
@@ -30,36 +46,50 @@ pub struct Scripted {
 }
 
 impl Scripted {
-    fn keep(&mut self, question: &str) -> Result<(), OutOfMemory> {
-        self.asked.push_str(question)?;
-        self.asked.push_str(";")?;
-        Ok(())
+    pub fn new(alloc: Global, given: Given) -> Scripted {
+        Scripted {
+            given,
+            asked: String::new(alloc),
+        }
     }
 
-    fn written(&mut self, alloc: Global, question: &CommandQuestion) -> Result<Given, OutOfMemory> {
-        let arguments = match question.arguments {
-            Some(words) => words.join(alloc, "|")?,
-            None => String::from_str(alloc, "none")?,
-        };
-        let command = question.command;
-        self.keep(&format!(in alloc; "{command}({arguments})")?)?;
-        Ok(self.given)
-    }
-
-    fn text_answer(
+    fn keep_command(
         &mut self,
         alloc: Global,
-        question: TextQuestion,
-    ) -> Result<TextAnswer, OutOfMemory> {
-        self.keep(&format!(in alloc; "{question:?}")?)?;
-        Ok(match self.given {
-            Given::Text(text) => TextAnswer::Text(String::from_str(alloc, text)?),
-            Given::Absent => TextAnswer::Absent,
-            Given::NotText(text) => TextAnswer::NotText(String::from_str(alloc, text)?),
-            Given::Fault(text) => TextAnswer::Fault(String::from_str(alloc, text)?),
-            _ => TextAnswer::OutOfMemory,
-        })
+        command: &str,
+        arguments: Option<&[String]>,
+    ) -> Result<(), AllocError> {
+        let arguments = arguments_of(alloc, arguments)?;
+        write!(self.asked, "{command}({arguments});")
     }
+}
+
+fn arguments_of(alloc: Global, arguments: Option<&[String]>) -> Result<String, AllocError> {
+    match arguments {
+        Some(words) => words.join(alloc, "|"),
+        None => String::from_str(alloc, "none"),
+    }
+}
+
+// What a command is answered.
+fn command_answer(alloc: Global, given: Given) -> Result<String, CommandFault> {
+    match given {
+        Given::Text(text) => Ok(String::from_str(alloc, text)?),
+        Given::Fault(text) => Err(CommandFault::Fault(String::from_str(alloc, text)?)),
+        Given::Code(code) => Err(CommandFault::Code(code)),
+        _ => Err(CommandFault::OutOfMemory),
+    }
+}
+
+// What a question for a text is answered.
+fn text_answer(alloc: Global, given: Given) -> Result<TextAnswer, AllocError> {
+    Ok(match given {
+        Given::Text(text) => TextAnswer::Text(String::from_str(alloc, text)?),
+        Given::Absent => TextAnswer::Absent,
+        Given::NotText(text) => TextAnswer::NotText(String::from_str(alloc, text)?),
+        Given::Fault(text) => TextAnswer::Fault(String::from_str(alloc, text)?),
+        _ => TextAnswer::OutOfMemory,
+    })
 }
 
 impl Host for Scripted {
@@ -73,40 +103,29 @@ impl Host for Scripted {
         alloc: Global,
         question: &CommandQuestion,
     ) -> Result<String, CommandFault> {
-        let Ok(given) = self.written(alloc, question) else {
-            return Err(CommandFault::OutOfMemory);
-        };
-        let text = match given {
-            Given::Text(text) | Given::Fault(text) => text,
-            Given::Code(code) => return Err(CommandFault::Code(code)),
-            _ => return Err(CommandFault::OutOfMemory),
-        };
-        match (given, String::from_str(alloc, text)) {
-            (Given::Fault(_), Ok(text)) => Err(CommandFault::Fault(text)),
-            (_, Ok(text)) => Ok(text),
-            (_, Err(_)) => Err(CommandFault::OutOfMemory),
+        match self.keep_command(alloc, question.command, question.arguments) {
+            Ok(()) => command_answer(alloc, self.given),
+            Err(AllocError) => Err(CommandFault::OutOfMemory),
         }
     }
 
     fn text(&mut self, alloc: Global, question: TextQuestion) -> TextAnswer {
-        match self.text_answer(alloc, question) {
-            Ok(answer) => answer,
-            Err(_) => TextAnswer::OutOfMemory,
+        match write!(self.asked, "{question:?};") {
+            Ok(()) => text_answer(alloc, self.given).unwrap_or(TextAnswer::OutOfMemory),
+            Err(AllocError) => TextAnswer::OutOfMemory,
         }
     }
 
     fn exists(&mut self, _alloc: Global, path: &str) -> Result<bool, OutOfMemory> {
-        self.keep(path)?;
-        match self.given {
-            Given::Found(there) => Ok(there),
+        match (write!(self.asked, "{path};"), self.given) {
+            (Ok(()), Given::Found(there)) => Ok(there),
             _ => Err(OutOfMemory),
         }
     }
 
-    fn number(&mut self, alloc: Global, question: NumberQuestion) -> Result<u64, OutOfMemory> {
-        self.keep(&format!(in alloc; "{question:?}")?)?;
-        match self.given {
-            Given::Number(number) => Ok(number),
+    fn number(&mut self, _alloc: Global, question: NumberQuestion) -> Result<u64, OutOfMemory> {
+        match (write!(self.asked, "{question:?};"), self.given) {
+            (Ok(()), Given::Number(number)) => Ok(number),
             _ => Err(OutOfMemory),
         }
     }

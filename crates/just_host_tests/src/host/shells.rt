@@ -1,13 +1,11 @@
 // Which shell commands are given to.
 
-use crate::host::owned;
+use crate::texts::{all_owned, is_either, owned, same};
 use just_host::config::Config;
 use just_host::settings::Settings;
 use just_syntax::interpreter::Interpreter;
-use just_syntax::out_of_memory::OutOfMemory;
 use std::alloc::Global;
 use std::process::Abort;
-use std::test::Fail;
 
 // What the program was called with, what the module sets, and the shell and the one argument that come of it.
 struct Choice {
@@ -80,62 +78,58 @@ const CHOICES: &[Choice] = &[
 ];
 
 #[test]
-fn shells(rt: HostRuntime) -> Result<(), Fail> {
+fn shells(rt: HostRuntime) {
     for choice in CHOICES {
-        chooses(&rt, rt.alloc(), choice)?;
+        chooses(&rt, rt.alloc(), choice);
     }
-    Ok(())
 }
 
-fn chooses(rt: &impl Abort, alloc: Global, choice: &Choice) -> Result<(), OutOfMemory> {
-    let config = called_with(alloc, choice)?;
-    let settings = set_by(alloc, choice)?;
-    let (command, arguments) = settings.shell(alloc, &config)?;
+fn chooses(rt: &impl Abort, alloc: Global, choice: &Choice) {
+    let config = called_with(rt, alloc, choice);
+    let settings = set_by(rt, alloc, choice);
+    let (command, arguments) = settings.shell(alloc, &config).expect(rt, "no memory");
     is_chosen(rt, command, &arguments, choice.chosen);
-    Ok(())
 }
 
 // This is the command, and this its one argument.
 fn is_chosen(rt: &impl Abort, command: &str, arguments: &[&str], chosen: (&str, &str)) {
-    assert_eq!(rt; command, chosen.0);
-    assert_eq!(rt; arguments.len(), 1);
-    assert_eq!(rt; arguments[0], chosen.1);
+    same(rt, command, chosen.0);
+    match arguments {
+        [argument] => same(rt, argument, chosen.1),
+        _ => panic!(rt; "{command} has not one argument"),
+    }
 }
 
-fn called_with(alloc: Global, choice: &Choice) -> Result<Config, OutOfMemory> {
-    let mut config = Config::new(alloc, "")?;
-    if let Some(text) = choice.shell {
-        config.shell = Some(String::from_str(alloc, text)?);
-    }
-    if let Some(texts) = choice.shell_args {
-        config.shell_args = Some(owned(alloc, texts)?);
-    }
-    Ok(config)
+fn called_with(rt: &impl Abort, alloc: Global, choice: &Choice) -> Config {
+    let mut config = Config::new(alloc, "").expect(rt, "no memory");
+    config.shell = choice.shell.map(|text| owned(rt, alloc, text));
+    config.shell_args = choice.shell_args.map(|texts| all_owned(rt, alloc, texts));
+    config
 }
 
-fn set_by(alloc: Global, choice: &Choice) -> Result<Settings, OutOfMemory> {
+fn set_by(rt: &impl Abort, alloc: Global, choice: &Choice) -> Settings {
     let mut settings = Settings::new(alloc);
-    settings.shell = interpreter(alloc, choice.setting)?;
+    settings.shell = interpreter(rt, alloc, choice.setting);
     settings.windows_powershell = choice.windows_powershell;
-    Ok(settings)
+    settings
 }
 
-fn interpreter(alloc: Global, line: &[&str]) -> Result<Option<Interpreter<String>>, OutOfMemory> {
+fn interpreter(rt: &impl Abort, alloc: Global, line: &[&str]) -> Option<Interpreter<String>> {
     let [command, arguments @ ..] = line else {
-        return Ok(None);
+        return None;
     };
-    Ok(Some(Interpreter {
-        arguments: owned(alloc, arguments)?,
-        command: String::from_str(alloc, command)?,
-    }))
+    Some(Interpreter {
+        arguments: all_owned(rt, alloc, arguments),
+        command: owned(rt, alloc, command),
+    })
 }
 
 #[test]
-fn settings_are_compared(rt: HostRuntime) -> Result<(), Fail> {
+fn settings_are_compared(rt: HostRuntime) {
     let alloc = rt.alloc();
     let mut settings = Settings::new(alloc);
-    assert!(rt; settings == Settings::new(alloc));
-    settings.shell = interpreter(alloc, &["sh", "-cu"])?;
-    assert!(rt; settings != Settings::new(alloc));
-    Ok(())
+    let unset = Settings::new(alloc);
+    is_either(&rt, "equal", settings == unset, true);
+    settings.shell = interpreter(&rt, alloc, &["sh", "-cu"]);
+    is_either(&rt, "equal", settings == unset, false);
 }
