@@ -152,12 +152,12 @@ dynamic_is_lexical c k s e apart =
 -- ---- a run
 
 -- each assignment that is taken reads no parameter through a body of another function
-abbrev AreApart : List Function → Assignments → List Token → Type 0
+abbrev pub AreApart : List Function → Assignments → List Token → Type 0
 AreApart functions assignments [] = Unit {0}
 AreApart functions assignments (t ∷ left) = ((a : Assignment) → assignment_at assignments t.lexeme ≡ Some a → assignments.referenced a.number ≡ true → IsApart functions a.value) × AreApart functions assignments left
 
 module _ (functions : List Function) (assignments : Assignments) (outer : Frames) (resolved : IsResolved functions assignments outer) where
-  are_apart : (taken : List ℕ) (left : List Token) → ((n : ℕ) → IsOneOf taken n → IsOneOf (map (λ a. a.number) assignments.all) n) → AreInOrder functions assignments outer taken left → AreApart functions assignments left
+  pub are_apart : (taken : List ℕ) (left : List Token) → ((n : ℕ) → IsOneOf taken n → IsOneOf (map (λ a. a.number) assignments.all) n) → AreInOrder functions assignments outer taken left → AreApart functions assignments left
   are_apart taken [] assigned h = tt
   are_apart taken (t ∷ left) assigned h = (
     λ a found referenced n beyond parameter. ⊎_elim (λ one. apart_numbers _ _ n resolved.distinct (assigned n one) parameter) (λ bound. resolved.unbound n parameter bound) (h.0 a found referenced n (inr beyond)),
@@ -168,7 +168,7 @@ module _ (m : Module) where
   assigned_same : (frames : Frames) (a : Assignment) → IsApart m.program.functions a.value → assigned dynamically m frames a ≡ assigned lexically m frames a
   assigned_same frames a apart = ap (or_override (m.overrides a.number)) (dynamic_is_lexical m.program _ (situation_at m.program.fixed.settings.lists frames) a.value apart)
 
-  run_lexical : {frames : Frames} {left : List Token} {bs : List Block} {o : Outcome Frames} → AreApart m.program.functions m.assignments left → Run dynamically m frames left bs o → Run lexically m frames left bs o
+  pub run_lexical : {frames : Frames} {left : List Token} {bs : List Block} {o : Outcome Frames} → AreApart m.program.functions m.assignments left → Run dynamically m frames left bs o → Run lexically m frames left bs o
   run_lexical h Finished = Finished
   run_lexical h Stops = Stops
   run_lexical h (Unknown f) = Unknown f
