@@ -14,12 +14,15 @@ mod sizes;
 ghost use Rattle.std.specs.Prelude.{◌≡◌};
 
 use just_case_lines::case::Case;
+use just_case_lines::token::name;
 use just_host::config::Config;
 use just_host::execution_context::ExecutionContext;
 use just_host::justfile::Justfile;
 use just_host::search::Search;
 use just_host::settings::Settings;
 use just_syntax::assignment::Assignment;
+use just_syntax::attribute::Attribute;
+use just_syntax::attribute_set::AttributeSet;
 use just_syntax::expression::Expression;
 use just_syntax::function_definition::FunctionDefinition;
 use just_syntax::name::Name;
@@ -93,6 +96,15 @@ pub(crate) fn expressions_of<'src>(
         expressions.push(assignment.value)?;
     }
     Ok(expressions)
+}
+
+/// Adds the attribute that sets an environment variable: its key and its value.
+pub(crate) fn push_env<'src>(
+    attributes: &mut AttributeSet<'src>,
+    key: Expression<'src>,
+    value: Expression<'src>,
+) -> Result<(), OutOfMemory> {
+    attributes.push(Attribute::Env(key, value), name("env"))
 }
 
 /// What a context lends, but for its module and scope.

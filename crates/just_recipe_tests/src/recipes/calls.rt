@@ -131,12 +131,22 @@ fn evaluate<'src>(
 ) -> Result<(), Fail>
     requires room { 0 < context.now.recursion_limit }
 {
-    let command = command(alloc)?;
-    let recipe = Some(name(RECIPE));
-    let evaluator = Evaluator::new(alloc, context, env(alloc)?, false, recipe, scope)?;
-    evaluate_value(alloc, host, &evaluator, &command)?;
-    evaluate_text(alloc, host, &evaluator, &command)?;
+    let env = env(alloc)?;
+    let evaluator = Evaluator::new(alloc, context, env, false, Some(name(RECIPE)), scope)?;
+    evaluate_command(alloc, host, &evaluator)?;
     Ok(())
+}
+
+fn evaluate_command<'src>(
+    alloc: Global,
+    host: &mut TellingHost,
+    evaluator: &Evaluator<'src, '_>,
+) -> Result<(), OutOfMemory>
+    requires room { HasRoom evaluator.now }
+{
+    let command = command(alloc)?;
+    evaluate_value(alloc, host, evaluator, &command)?;
+    evaluate_text(alloc, host, evaluator, &command)
 }
 
 fn command<'src>(alloc: Global) -> Result<Expression<'src>, OutOfMemory> {

@@ -1,17 +1,17 @@
 // In which environment the commands of a function's body are run.
 
+ghost use Rattle.just_eval.specs.View.{HasRoom};
 ghost use Rattle.std.specs.Prelude.{◌<◌};
 
 use crate::recipes::failing::{Failing, NEVER, each_way, told_failing};
 use crate::recipes::hosts::{TellingHost, refusal};
-use crate::recipes::{Around, RECIPE, expressions_of, module_of_case};
+use crate::recipes::{Around, RECIPE, expressions_of, module_of_case, push_env};
 use just_case_lines::case::{Case, build};
 use just_case_lines::line::parse_lines;
 use just_case_lines::token::name;
 use just_eval::evaluator::Evaluator;
 use just_host::execution_context::ExecutionContext;
 use just_host::justfile::Justfile;
-use just_syntax::attribute::Attribute;
 use just_syntax::attribute_set::AttributeSet;
 use just_syntax::expression::Expression;
 use just_syntax::fragment::Fragment;
@@ -86,7 +86,7 @@ fn attributes_of<'src>(
 ) -> Result<AttributeSet<'src>, OutOfMemory> {
     let mut attributes = AttributeSet::new(alloc);
     if let (Some(value), Some(key)) = (value, key) {
-        attributes.push(Attribute::Env(key, value), name("env"))?;
+        push_env(&mut attributes, key, value)?;
     }
     Ok(attributes)
 }
@@ -140,10 +140,24 @@ fn told_in<'src>(
     requires room { 0 < context.now.recursion_limit }
 {
     let mut host = TellingHost::new(alloc, failing);
+    tell_recipe(alloc, &mut host, context, scope, recipe, line)?;
+    Ok(host.into_told())
+}
+
+fn tell_recipe<'src>(
+    alloc: Global,
+    host: &mut TellingHost,
+    context: &ExecutionContext<'src, '_>,
+    scope: &Scope<'src, '_>,
+    recipe: &Recipe<'src>,
+    line: &Line<'src>,
+) -> Result<(), Fail>
+    requires room { 0 < context.now.recursion_limit }
+{
     let check = |_: &Recipe, _: &Parameter, _: &Value| -> Result<(), CheckFault> { Ok(()) };
     let outcome = Evaluator::evaluate_parameters(
         alloc,
-        &mut host,
+        host,
         &check,
         &[],
         context,
@@ -153,12 +167,10 @@ fn told_in<'src>(
         scope,
     );
     match outcome {
-        Ok((scope, _words, env)) => {
-            tell_line(alloc, &mut host, context, &scope, recipe, line, env)?
-        }
+        Ok((scope, _words, env)) => tell_line(alloc, host, context, &scope, recipe, line, env)?,
         Err(error) => host.told.push_str(refusal(&error))?,
     }
-    Ok(host.into_told())
+    Ok(())
 }
 
 fn tell_line<'src>(
@@ -174,9 +186,20 @@ fn tell_line<'src>(
 {
     let name = Some(recipe.name);
     let evaluator = Evaluator::new(alloc, context, env, false, name, scope)?;
-    let outcome = evaluator.evaluate_line(alloc, host, line, false);
-    host.tell(outcome)?;
+    tell_text(alloc, host, &evaluator, line)?;
     Ok(())
+}
+
+fn tell_text<'src>(
+    alloc: Global,
+    host: &mut TellingHost,
+    evaluator: &Evaluator<'src, '_>,
+    line: &Line<'src>,
+) -> Result<(), OutOfMemory>
+    requires room { HasRoom evaluator.now }
+{
+    let outcome = evaluator.evaluate_line(alloc, host, line, false);
+    host.tell(outcome)
 }
 
 // A module's assignments have no environment, and so none has a body that they call.

@@ -238,12 +238,25 @@ fn told_in<'src>(
     if !is_resolved(alloc, context, scope, line)? {
         host.told.push_str("unresolved;")?;
     }
+    tell_line(alloc, &mut host, context, scope, line, continued)?;
+    Ok(host.into_told())
+}
+
+fn tell_line<'src>(
+    alloc: Global,
+    host: &mut TellingHost,
+    context: &ExecutionContext<'src, '_>,
+    scope: &Scope<'src, '_>,
+    line: &Line<'src>,
+    continued: bool,
+) -> Result<(), OutOfMemory>
+    requires room { 0 < context.now.recursion_limit }
+{
     let env = BTreeMap::new(alloc);
     let recipe = Some(name(RECIPE));
     let evaluator = Evaluator::new(alloc, context, env, false, recipe, scope)?;
-    let outcome = evaluator.evaluate_line(alloc, &mut host, line, continued);
-    host.tell(outcome)?;
-    Ok(host.into_told())
+    let outcome = evaluator.evaluate_line(alloc, host, line, continued);
+    host.tell(outcome)
 }
 
 fn is_resolved<'src>(

@@ -6,7 +6,7 @@ use crate::recipes::conditions::{Check, Conditions};
 use crate::recipes::failing::{Failing, NEVER, each_way, told_failing};
 use crate::recipes::hosts::{TellingHost, refusal, tell_environment, tell_frame};
 use crate::recipes::parameter_rows::{BODY_ENVIRONMENT, ROWS, Row};
-use crate::recipes::{Around, RECIPE, empty_module, module_of_case};
+use crate::recipes::{Around, RECIPE, empty_module, module_of_case, push_env};
 use just_case_lines::case::{Case, build};
 use just_case_lines::line::parse_lines;
 use just_case_lines::token::name;
@@ -238,11 +238,19 @@ fn attributes_of<'src>(
     let mut left = values.into_iter();
     for key in keys {
         if let Some(value) = left.next() {
-            attributes.push(Attribute::Other, name("other"))?;
-            attributes.push(Attribute::Env(key, value), name("env"))?;
+            push_pair(&mut attributes, key, value)?;
         }
     }
     Ok(attributes)
+}
+
+fn push_pair<'src>(
+    attributes: &mut AttributeSet<'src>,
+    key: Expression<'src>,
+    value: Expression<'src>,
+) -> Result<(), OutOfMemory> {
+    attributes.push(Attribute::Other, name("other"))?;
+    push_env(attributes, key, value)
 }
 
 // Puts a default or a value in its parameter.
@@ -278,11 +286,29 @@ fn told_in<'src>(
     if !is_resolved(alloc, context, scope, parameters, recipe)? {
         host.told.push_str("unresolved;")?;
     }
+    tell_parameters(
+        alloc, &mut host, context, scope, parameters, recipe, arguments, conditions,
+    )?;
+    Ok(host.into_told())
+}
+
+fn tell_parameters<'src>(
+    alloc: Global,
+    host: &mut TellingHost,
+    context: &ExecutionContext<'src, '_>,
+    scope: &Scope<'src, '_>,
+    parameters: &[Parameter<'src>],
+    recipe: &Recipe<'src>,
+    arguments: &[Value],
+    conditions: Conditions,
+) -> Result<(), OutOfMemory>
+    requires room { 0 < context.now.recursion_limit }
+{
     let way = conditions.check;
     let check = |_: &Recipe, _: &Parameter, value: &Value| way.check(alloc, value);
     let outcome = Evaluator::evaluate_parameters(
         alloc,
-        &mut host,
+        host,
         &check,
         arguments,
         context,
@@ -292,10 +318,9 @@ fn told_in<'src>(
         scope,
     );
     match outcome {
-        Ok((scope, words, env)) => tell(&mut host.told, &scope, &words, &env)?,
-        Err(error) => tell_refusal(&mut host.told, &error)?,
+        Ok((scope, words, env)) => tell(&mut host.told, &scope, &words, &env),
+        Err(error) => tell_refusal(&mut host.told, &error),
     }
-    Ok(host.into_told())
 }
 
 fn is_resolved<'src>(
