@@ -1,11 +1,27 @@
 // Two runs of a case in two orders, and what each asks for each variable.
 
-ghost use Rattle.std.specs.Prelude.{◌≡◌, ◌≤◌, [], IfOk, drop, map};
-ghost use Rattle.just_host.specs.View.{recorded_view, records_view};
+ghost use Rattle.std.specs.Prelude.{◌≡◌, ◌++◌, ◌∷◌, ◌↔◌, ◌<◌, ◌≤◌, [], IfOk, IfSome, IsTrue, OnOk, codes, drop, length, map, string_bytes};
+ghost use Rattle.std.specs.List.{flat_map};
+ghost use Rattle.std.specs.Option.{option_map};
+ghost use Rattle.just_syntax.specs.View.{name_view};
+ghost use Rattle.just_value.specs.Frames.{bound_at, own_frame};
+ghost use Rattle.just_value.specs.View.{bound_view, ended, frames_view};
+ghost use Rattle.just_host.specs.View.{inner_host, recorded_view, records_view};
+ghost use Rattle.just_case_lines.specs.View.{case_view, texts_view};
+ghost use Rattle.just_meaning.specs.Module.{dynamically};
+ghost use Rattle.just_meaning.specs.Resolved.{IsResolved};
+ghost use Rattle.just_answer.specs.Answer as answer;
+ghost use Rattle.just_bench.specs.Hosts.{MadeOf};
+ghost use Rattle.just_bench.specs.Run.{recording};
+ghost use Rattle.just_bench.specs.Written.{Added};
+ghost use Rattle.just_bench.specs.Blocks as plain;
+ghost use Rattle.just_bench.specs.Blocks.{BlocksPrints, BothResolvedPrint, Extends, OrderPrints, Walks, agreement_line, block_lines, block_of, in_order, still_coming, turn, with_block, with_blocks};
+ghost use Rattle.just_bench.specs.Taken.{taken_view};
+ghost use Rattle.just_bench.specs.View.{found_view, run_view, seen};
 
 use crate::around::Around;
-use crate::context::{case_config, case_module, case_search};
 use crate::module_run::ModuleRun;
+use crate::run::print_resolved;
 use crate::script::{case_script, script_copy};
 use crate::taken::taken_variables;
 use just_answer::print::{print_order, print_questions, print_refusal};
@@ -16,6 +32,8 @@ use just_host::recorder::Recorder;
 use just_syntax::name::Name;
 use just_syntax::number::Number;
 use just_syntax::out_of_memory::OutOfMemory;
+use just_value::binding::Binding;
+use just_value::error::Error;
 use just_value::scope::Scope;
 use std::alloc::Global;
 use std::collections::HashMap;
@@ -32,45 +50,99 @@ struct Blocks<'src, 'run> {
 pub(crate) fn evaluate_blocks<'src, A: Around>(
     alloc: Global,
     text: &mut String,
-    case: Case<'src>,
+    mut case: Case<'src>,
     second: Vec<Name<'src>>,
     parent: &Scope<'src, '_>,
     around: &A,
 ) -> Result<u8, OutOfMemory>
-    ensures { IfOk result (λ status. status ≤ 2) }
+    ensures status { IfOk result (λ status. status ≤ 2) }
+    ensures answer { IfOk result (λ status. Added (string_bytes text.old) (string_bytes text.new) (λ printed.
+        BlocksPrints A.Made.step (MadeOf (A.gives around.now)) (case_view case.entry) (map name_view second.entry.items) (frames_view parent.now) printed status)) }
 {
-    let script = script_copy(alloc, &case.always, &case.replies)?;
-    let mut first_host = Recorder::new(alloc, around.around(script));
-    let script = case_script(alloc, case.always, case.replies);
-    let mut second_host = Recorder::new(alloc, around.around(script));
-    let order = case.evaluation_order;
-    let mut run = ModuleRun {
-        config: case_config(alloc, case.dry_run)?,
-        dotenv: case.dotenv,
-        module: case_module(alloc, case.assignments, order, case.functions, case.lists)?,
-        overrides: case.overrides,
-        recursion_limit: case.recursion_limit,
-        references: case.references,
-        search: case_search(alloc)?,
-    };
-    let first_resolved = run.is_resolved(alloc, parent)?;
-    let first = run.replace_order(second);
-    if !first_resolved || !run.is_resolved(alloc, parent)? {
-        text.push_str("unresolved\n")?;
+    let mut one_host = Recorder::new(alloc, around.around(script_copy(alloc, &case)?));
+    let mut other_host = Recorder::new(alloc, around.around(case_script(alloc, &mut case)));
+    let mut run = ModuleRun::of_case(alloc, case)?;
+    print_runs(
+        alloc,
+        text,
+        &mut run,
+        &mut one_host,
+        &mut other_host,
+        second,
+        parent,
+    )
+}
+
+// Runs a module in its order and in another, with hosts that were asked nothing. Adds `unresolved` where it is that in one of
+// them, what both runs ask and whether they agree, and gives the exit status.
+fn print_runs<'src, H: Host>(
+    alloc: Global,
+    text: &mut String,
+    run: &mut ModuleRun<'src>,
+    one_host: &mut Recorder<H>,
+    other_host: &mut Recorder<H>,
+    mut second: Vec<Name<'src>>,
+    parent: &Scope<'src, '_>,
+) -> Result<u8, OutOfMemory>
+    requires one_fresh { records_view one_host.old ≡ [] }
+    requires other_fresh { records_view other_host.old ≡ [] }
+    ensures status { IfOk result (λ status. status ≤ 2) }
+    ensures answer { IfOk result (λ status. Added (string_bytes text.old) (string_bytes text.new) (λ printed.
+        BothResolvedPrint H.step (inner_host one_host.old) (inner_host other_host.old) (run_view run.old) (in_order (run_view run.old) (map name_view second.entry.items)) (frames_view parent.now) printed status)) }
+{
+    let resolved = are_resolved(alloc, run, &mut second, parent)?;
+    print_resolved(text, resolved)?;
+    let first = run.replace_order(Vec::new(alloc));
+    print_both(
+        alloc, text, run, one_host, other_host, &first, &second, parent,
+    )
+}
+
+// Whether a module is resolved in its order and in another. The order and the module stay as they were.
+fn are_resolved<'src>(
+    alloc: Global,
+    run: &mut ModuleRun<'src>,
+    second: &mut Vec<Name<'src>>,
+    parent: &Scope<'src, '_>,
+) -> Result<bool, OutOfMemory>
+    ensures answer { let m = run_view run.old in let other = in_order m (map name_view second.old.items) in let outer = frames_view parent.now in
+        IfOk result (λ answer. IsTrue answer ↔ IsResolved m.program.functions m.assignments outer × IsResolved other.program.functions other.assignments outer) }
+    ensures run { OnOk result (run_view run.new ≡ run_view run.old) }
+    ensures order { OnOk result (map name_view second.new.items ≡ map name_view second.old.items) }
+{
+    if !run.is_resolved(alloc, parent)? {
+        return Ok(false);
     }
-    let second = run.replace_order(Vec::new(alloc));
-    let Some(one) = print_run(alloc, text, &mut run, &mut first_host, &first, parent)? else {
+    run.is_resolved_in(alloc, second, parent)
+}
+
+// Runs a module in two orders. Adds what each run asks, the second where the first is not refused, and whether they agree.
+fn print_both<'src, H: Host>(
+    alloc: Global,
+    text: &mut String,
+    run: &mut ModuleRun<'src>,
+    one_host: &mut Recorder<H>,
+    other_host: &mut Recorder<H>,
+    first: &[Name<'src>],
+    second: &[Name<'src>],
+    parent: &Scope<'src, '_>,
+) -> Result<u8, OutOfMemory>
+    requires one_fresh { records_view one_host.old ≡ [] }
+    requires other_fresh { records_view other_host.old ≡ [] }
+    ensures status { IfOk result (λ status. status ≤ 2) }
+    ensures answer { IfOk result (λ status. Added (string_bytes text.old) (string_bytes text.new) (λ printed.
+        plain.BothPrint H.step (inner_host one_host.old) (inner_host other_host.old) (in_order (run_view run.old) (map name_view first.now)) (in_order (run_view run.old) (map name_view second.now)) (frames_view parent.now) printed status)) }
+{
+    let Some(one) = print_run(alloc, text, run, one_host, first, parent)? else {
         return Ok(2);
     };
-    let Some(other) = print_run(alloc, text, &mut run, &mut second_host, &second, parent)? else {
-        return Ok(2);
-    };
-    text.push_str(if agree(&one, &other) {
-        "same\n"
-    } else {
-        "different\n"
-    })?;
-    Ok(0)
+    match print_run(alloc, text, run, other_host, second, parent)? {
+        Some(other) => {
+            print_agreement(text, agree(&one, &other))?;
+            Ok(0)
+        }
+        None => Ok(2),
+    }
 }
 
 // Runs a module in an order, with a host that was asked nothing. Adds the variables that are taken, and behind each what is
@@ -84,48 +156,152 @@ fn print_run<'src, 'run, H: Host>(
     parent: &'run Scope<'src, '_>,
 ) -> Result<Option<Blocks<'src, 'run>>, OutOfMemory>
     requires fresh { records_view host.old ≡ [] }
+    ensures prints { IfOk result (λ found. Added (string_bytes text.old) (string_bytes text.new) (λ printed.
+        OrderPrints H.step (inner_host host.old) (in_order (run_view run.old) (map name_view order.now)) (frames_view parent.entry.now) printed (option_map found_view found))) }
+    ensures run { OnOk result (in_order (run_view run.new) [] ≡ in_order (run_view run.old) []) }
 {
-    let assignments = &run.module.assignments;
-    let taken = taken_variables(alloc, assignments, order, run.references.as_ref())?;
+    let references = run.references.as_ref();
+    let taken = taken_variables(alloc, &run.module.assignments, order, references)?;
     print_order(text, &taken)?;
+    let blocks = Blocks {
+        questions: HashMap::new(alloc),
+        scope: parent.child(alloc)?,
+    };
+    print_turns(alloc, text, run, host, order, &taken, blocks)
+}
+
+// Evaluates the names of an order, one after another, behind what came of those before. Adds the blocks of the variables that
+// come, and a refusal where it ends this.
+fn print_turns<'src, 'run, H: Host>(
+    alloc: Global,
+    text: &mut String,
+    run: &mut ModuleRun<'src>,
+    host: &mut Recorder<H>,
+    order: &[Name<'src>],
+    taken: &[(Name<'src>, Number)],
+    mut blocks: Blocks<'src, 'run>,
+) -> Result<Option<Blocks<'src, 'run>>, OutOfMemory>
+    ensures walks { IfOk result (λ found. Added (string_bytes text.old) (string_bytes text.new) (λ printed.
+        Walks H.step (in_order (run_view run.old) (map name_view order.now)) (seen host.old) (frames_view blocks.entry.scope) (map name_view order.now) (map taken_view taken.now) (texts_view blocks.entry.questions) printed (option_map found_view found))) }
+    ensures run { OnOk result (in_order (run_view run.new) [] ≡ in_order (run_view run.old) []) }
+{
     let mut at: usize = 0;
-    let mut questions = HashMap::new(alloc);
-    let mut scope = parent.child(alloc)?;
     for name in order {
-        let before = host.questions().len();
-        let refusal = run.extend(alloc, host, *name, &mut scope)?;
-        if let Some(number) = number_at(&taken, at, name) {
-            let lines = question_lines(alloc, asked_behind(host, before))?;
-            print_block(text, name, number, lines, &mut questions)?;
-            at = at.saturating_add(1);
-        }
-        if let Some(error) = refusal {
-            print_refusal(alloc, text, &error)?;
-            return Ok(None);
+        match print_turn(alloc, text, run, host, *name, taken, at, &mut blocks)? {
+            Ok(next) => at = next,
+            Err(error) => {
+                print_refusal(alloc, text, &error)?;
+                return Ok(None);
+            }
         }
     }
-    Ok(Some(Blocks { questions, scope }))
+    Ok(Some(blocks))
+}
+
+// Evaluates a name, where the variables from a place on still come. Adds its block, if the next of them has this name, and
+// gives the place behind that, or the refusal.
+fn print_turn<'src, H: Host>(
+    alloc: Global,
+    text: &mut String,
+    run: &mut ModuleRun<'src>,
+    host: &mut Recorder<H>,
+    name: Name<'src>,
+    taken: &[(Name, Number)],
+    at: usize,
+    blocks: &mut Blocks<'src, '_>,
+) -> Result<Result<usize, Error<'src>>, OutOfMemory>
+    ensures run { OnOk result (run_view run.new ≡ in_order (run_view run.old) (name_view name.entry ∷ [])) }
+    ensures extends { IfOk result (λ next. Extends dynamically (recording H.step) (seen host.old) (in_order (run_view run.old) (name_view name.entry ∷ [])) (frames_view blocks.old.scope) (ended (λ _. frames_view blocks.new.scope) next) (seen host.new)) }
+    ensures rest { let coming = drop at (map taken_view taken.now) in
+        IfOk result (λ next. IfOk next (λ next. drop next (map taken_view taken.now) ≡ still_coming coming (plain.next_number coming (name_view name.entry)))) }
+    ensures text { let coming = drop at (map taken_view taken.now) in
+        OnOk result (string_bytes text.new ≡ string_bytes text.old ++ flat_map block_lines (block_of (turn (name_view name.entry) (seen host.old) (seen host.new)) (plain.next_number coming (name_view name.entry)))) }
+    ensures asked { let coming = drop at (map taken_view taken.now) in
+        OnOk result (texts_view blocks.new.questions ≡ with_blocks (texts_view blocks.old.questions) (block_of (turn (name_view name.entry) (seen host.old) (seen host.new)) (plain.next_number coming (name_view name.entry)))) }
+{
+    let before = count(host);
+    let bound = run.extend(alloc, host, name, &mut blocks.scope)?;
+    let asked = asked_behind(host, before);
+    let next = add_block(alloc, text, &name, asked, taken, at, &mut blocks.questions)?;
+    match bound {
+        Ok(()) => Ok(Ok(next)),
+        Err(error) => Ok(Err(error)),
+    }
+}
+
+// Adds the block of a name, if the next variable has this name, and gives the place behind that.
+fn add_block(
+    alloc: Global,
+    text: &mut String,
+    name: &Name,
+    asked: &[Recorded],
+    taken: &[(Name, Number)],
+    at: usize,
+    questions: &mut HashMap<Number, String>,
+) -> Result<usize, OutOfMemory>
+    ensures rest { let coming = drop at (map taken_view taken.now) in
+        IfOk result (λ next. drop next (map taken_view taken.now) ≡ still_coming coming (plain.next_number coming (name_view name.now))) }
+    ensures text { let coming = drop at (map taken_view taken.now) in
+        OnOk result (string_bytes text.new ≡ string_bytes text.old ++ flat_map block_lines (block_of (record { name = name_view name.now; asked = map recorded_view asked.now }) (plain.next_number coming (name_view name.now)))) }
+    ensures asked { let coming = drop at (map taken_view taken.now) in
+        OnOk result (texts_view questions.new ≡ with_blocks (texts_view questions.old) (block_of (record { name = name_view name.now; asked = map recorded_view asked.now }) (plain.next_number coming (name_view name.now)))) }
+{
+    match number_at(taken, at, name) {
+        Some(number) => {
+            print_block(alloc, text, name, number, asked, questions)?;
+            Ok(at + 1)
+        }
+        None => Ok(at),
+    }
+}
+
+// The number of the variable at a place, if it has this name.
+fn number_at(taken: &[(Name, Number)], at: usize, name: &Name) -> Option<Number>
+    ensures number { result ≡ plain.next_number (drop at (map taken_view taken.now)) (name_view name.now) }
+    ensures within { IfSome result (λ _. at < length taken.now) }
+{
+    if at <= taken.len() {
+        next_number(&taken[at..], name)
+    } else {
+        None
+    }
+}
+
+// The number of the next variable, if it has this name.
+fn next_number(coming: &[(Name, Number)], name: &Name) -> Option<Number>
+    ensures number { result ≡ plain.next_number (map taken_view coming.now) (name_view name.now) }
+    ensures one { IfSome result (λ _. 0 < length coming.now) }
+{
+    match coming.first() {
+        Some((next, number)) if next.lexeme() == name.lexeme() => Some(*number),
+        _ => None,
+    }
 }
 
 // Adds a variable's name and the lines of its questions, and keeps these.
 fn print_block(
+    alloc: Global,
     text: &mut String,
     name: &Name,
     number: Number,
-    lines: String,
+    asked: &[Recorded],
     questions: &mut HashMap<Number, String>,
-) -> Result<(), OutOfMemory> {
-    write!(text, "block {name}\n{lines}")?;
+) -> Result<(), OutOfMemory>
+    ensures text { OnOk result (string_bytes text.new ≡ string_bytes text.old ++ block_lines (record { number = number; name = name_view name.now; asked = map recorded_view asked.now })) }
+    ensures asked { OnOk result (texts_view questions.new ≡ with_block (texts_view questions.old) (record { number = number; name = name_view name.now; asked = map recorded_view asked.now })) }
+{
+    let lines = question_lines(alloc, asked)?;
+    writeln!(text, "block {name}")?;
+    text.push_str(&lines)?;
     questions.insert(number, lines)?;
     Ok(())
 }
 
-// The number of the variable at this place, if it has this name.
-fn number_at(taken: &[(Name, Number)], at: usize, name: &Name) -> Option<Number> {
-    match taken.get(at) {
-        Some((next, number)) if next.lexeme() == name.lexeme() => Some(*number),
-        _ => None,
-    }
+// How many questions a host was asked.
+fn count<H>(host: &Recorder<H>) -> usize
+    ensures { result ≡ length (records_view host.now) }
+{
+    host.questions().len()
 }
 
 // The questions that a host was asked behind so many.
@@ -141,22 +317,44 @@ fn asked_behind<H>(host: &Recorder<H>, before: usize) -> &[Recorded]
 }
 
 // Questions, each on a line.
-fn question_lines(alloc: Global, questions: &[Recorded]) -> Result<String, OutOfMemory> {
+fn question_lines(alloc: Global, questions: &[Recorded]) -> Result<String, OutOfMemory>
+    ensures { IfOk result (λ lines. string_bytes lines ≡ answer.question_lines (map recorded_view questions.now)) }
+{
     let mut lines = String::new(alloc);
     print_questions(&mut lines, questions)?;
     Ok(lines)
 }
 
+// Adds whether two runs agree.
+fn print_agreement(text: &mut String, agree: bool) -> Result<(), OutOfMemory>
+    ensures { OnOk result (string_bytes text.new ≡ string_bytes text.old ++ agreement_line agree) }
+{
+    text.push_str(if agree { "same\n" } else { "different\n" })?;
+    Ok(())
+}
+
 // Whether each variable that two runs bind has the same questions and the same value in both.
-fn agree(one: &Blocks, other: &Blocks) -> bool {
+fn agree(one: &Blocks, other: &Blocks) -> bool
+    ensures { result ≡ plain.agree (found_view one.now) (found_view other.now) }
+{
     for binding in one.scope.bindings() {
-        let number = binding.number;
-        if let Some(bound) = other.scope.frame().binding(number)
-            && (bound.value != binding.value
-                || one.questions.get(&number) != other.questions.get(&number))
-        {
+        if !is_alike(one, other, binding) {
             return false;
         }
     }
     true
+}
+
+// Whether a variable has in another run, if that binds it, the same questions and the same value as in one that binds it so.
+fn is_alike(one: &Blocks, other: &Blocks, binding: &Binding) -> bool
+    ensures { let number = binding.now.number in
+        result ≡ plain.is_alike (texts_view one.now.questions number) (texts_view other.now.questions number) (bound_view binding.now) (bound_at number (own_frame (frames_view other.now.scope))) }
+{
+    match other.scope.frame().binding(binding.number) {
+        Some(bound) => {
+            bound.value == binding.value
+                && one.questions.get(&binding.number) == other.questions.get(&binding.number)
+        }
+        None => true,
+    }
 }

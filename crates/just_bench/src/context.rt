@@ -1,5 +1,10 @@
 // What a case is evaluated in.
 
+ghost use Rattle.std.specs.Prelude.{◌≡◌, [], IfOk, codes, false, map};
+ghost use Rattle.just_syntax.specs.View.{assignment_view, function_view, name_view};
+ghost use Rattle.just_host.specs.View.{config_view, justfile_view, search_view};
+ghost use Rattle.just_bench.specs.Module as cases;
+
 use just_host::config::Config;
 use just_host::justfile::Justfile;
 use just_host::search::Search;
@@ -23,7 +28,19 @@ pub(crate) fn case_module<'src>(
     evaluation_order: Vec<Name<'src>>,
     functions: Table<FunctionDefinition<'src>>,
     lists: bool,
-) -> Result<Justfile<'src>, OutOfMemory> {
+) -> Result<Justfile<'src>, OutOfMemory>
+    ensures { IfOk result (λ justfile. justfile_view justfile ≡ record {
+      assignments = map assignment_view assignments.entry;
+      evaluation_order = map name_view evaluation_order.entry.items;
+      functions = map function_view functions.entry;
+      module_path = codes "";
+      settings = cases.case_settings lists;
+      source = codes "/work/justfile";
+      submodule = false;
+      unexports = [];
+      working_directory = codes "/work";
+    }) }
+{
     let mut settings = Settings::new(alloc);
     settings.lists = lists;
     Ok(Justfile {
@@ -40,13 +57,17 @@ pub(crate) fn case_module<'src>(
 }
 
 /// How the program counts as called.
-pub(crate) fn case_config(alloc: Global, dry_run: bool) -> Result<Config, OutOfMemory> {
+pub(crate) fn case_config(alloc: Global, dry_run: bool) -> Result<Config, OutOfMemory>
+    ensures { IfOk result (λ config. config_view config ≡ cases.case_config dry_run) }
+{
     let mut config = Config::new(alloc, DIRECTORY)?;
     config.dry_run = dry_run;
     Ok(config)
 }
 
 /// What counts as found before.
-pub(crate) fn case_search(alloc: Global) -> Result<Search, OutOfMemory> {
+pub(crate) fn case_search(alloc: Global) -> Result<Search, OutOfMemory>
+    ensures { IfOk result (λ search. search_view search ≡ record { justfile = codes "/work/justfile"; working_directory = codes "/work" }) }
+{
     Search::new(alloc, JUSTFILE, DIRECTORY)
 }

@@ -1,5 +1,22 @@
 // Runs of a case's module.
 
+ghost use Rattle.std.specs.Prelude.{◌≡◌, ◌∷◌, [], ◌↔◌, IfOk, OnOk, IsTrue, map};
+ghost use Rattle.std.specs.Option.{option_map};
+ghost use Rattle.just_syntax.specs.View.{name_view};
+ghost use Rattle.std.specs.Map.{values_of};
+ghost use Rattle.just_value.specs.Frames.{own_frame};
+ghost use Rattle.just_value.specs.Outcome.{Outcome};
+ghost use Rattle.just_value.specs.View.{bound_view, ended, frames_view};
+ghost use Rattle.just_meaning.specs.Module.{Ran, dynamically, lexically};
+ghost use Rattle.just_meaning.specs.Resolved.{IsResolved};
+ghost use Rattle.just_case_lines.specs.View.{case_view};
+ghost use Rattle.just_bench.specs.Blocks.{Extends, in_order};
+ghost use Rattle.just_bench.specs.FirstBinding.{first_bound, first_given, without_attributes};
+ghost use Rattle.just_bench.specs.Module.{case_module};
+ghost use Rattle.just_bench.specs.View.{run_view};
+
+use crate::context::{case_config, case_module, case_search};
+use just_case_lines::case::Case;
 use just_eval::evaluator::Evaluator;
 use just_eval::resolved;
 use just_host::config::Config;
@@ -32,17 +49,56 @@ pub(crate) struct ModuleRun<'src> {
 }
 
 impl<'src> ModuleRun<'src> {
+    /// The run of a case's module, in the order of the case.
+    pub(crate) fn of_case(alloc: Global, case: Case<'src>) -> Result<ModuleRun<'src>, OutOfMemory>
+        ensures { IfOk result (λ run. run_view run ≡ case_module (case_view case.entry)) }
+    {
+        let order = case.evaluation_order;
+        Ok(ModuleRun {
+            config: case_config(alloc, case.dry_run)?,
+            dotenv: case.dotenv,
+            module: case_module(alloc, case.assignments, order, case.functions, case.lists)?,
+            overrides: case.overrides,
+            recursion_limit: case.recursion_limit,
+            references: case.references,
+            search: case_search(alloc)?,
+        })
+    }
+
     /// Whether the module is resolved in a scope.
     pub(crate) fn is_resolved(
         &self,
         alloc: Global,
         parent: &Scope<'src, '_>,
-    ) -> Result<bool, OutOfMemory> {
+    ) -> Result<bool, OutOfMemory>
+        ensures { IfOk result (λ answer. IsTrue answer ↔ IsResolved (run_view self.now).program.functions (run_view self.now).assignments (frames_view parent.now)) }
+    {
         resolved(alloc, &self.module, parent, self.references.as_ref())
     }
 
+    /// Whether the module is resolved in a scope, were it in this order. The order and the module stay as they were.
+    pub(crate) fn is_resolved_in(
+        &mut self,
+        alloc: Global,
+        order: &mut Vec<Name<'src>>,
+        parent: &Scope<'src, '_>,
+    ) -> Result<bool, OutOfMemory>
+        ensures answer { let m = in_order (run_view self.old) (map name_view order.old.items) in
+            IfOk result (λ answer. IsTrue answer ↔ IsResolved m.program.functions m.assignments (frames_view parent.now)) }
+        ensures run { OnOk result (run_view self.new ≡ run_view self.old) }
+        ensures order { OnOk result (map name_view order.new.items ≡ map name_view order.old.items) }
+    {
+        mem::swap(&mut self.module.evaluation_order, order);
+        let resolved = self.is_resolved(alloc, parent)?;
+        mem::swap(&mut self.module.evaluation_order, order);
+        Ok(resolved)
+    }
+
     /// Puts another order in place of the module's, and gives that. It takes no memory.
-    pub(crate) fn replace_order(&mut self, order: Vec<Name<'src>>) -> Vec<Name<'src>> {
+    pub(crate) fn replace_order(&mut self, order: Vec<Name<'src>>) -> Vec<Name<'src>>
+        ensures run { run_view self.new ≡ in_order (run_view self.old) (map name_view order.entry.items) }
+        ensures order { map name_view result.items ≡ (run_view self.old).assignments.order }
+    {
         mem::replace(&mut self.module.evaluation_order, order)
     }
 
@@ -52,7 +108,12 @@ impl<'src> ModuleRun<'src> {
         alloc: Global,
         host: &mut H,
         parent: &'run Scope<'src, 'run>,
-    ) -> Result<Scope<'src, 'run>, Error<'src>> {
+    ) -> Result<Scope<'src, 'run>, Error<'src>>
+        ensures headline { let m = run_view self.entry.now in let outer = frames_view parent.entry.now in
+            IsResolved m.program.functions m.assignments outer → Ran H.step host.old lexically m ([] ∷ outer) m.assignments.order (ended frames_view result) host.new }
+        ensures dynamic { let m = run_view self.entry.now in
+            Ran H.step host.old dynamically m ([] ∷ frames_view parent.entry.now) m.assignments.order (ended frames_view result) host.new }
+    {
         Evaluator::evaluate_assignments(
             alloc,
             host,
@@ -68,22 +129,25 @@ impl<'src> ModuleRun<'src> {
     }
 
     /// Evaluates the assignment of this name, as the next of a run whose bindings so far are a scope's, and binds its value
-    /// there. It gives the refusal, if it is refused: then the scope stays as it was.
+    /// there, unless it is refused.
     pub(crate) fn extend<H: Host>(
         &mut self,
         alloc: Global,
         host: &mut H,
         name: Name<'src>,
         scope: &mut Scope<'src, '_>,
-    ) -> Result<Option<Error<'src>>, OutOfMemory> {
+    ) -> Result<Result<(), Error<'src>>, OutOfMemory>
+        ensures run { OnOk result (run_view self.new ≡ in_order (run_view self.old) (name_view name.entry ∷ [])) }
+        ensures extends { IfOk result (λ bound. Extends dynamically H.step host.old (in_order (run_view self.old) (name_view name.entry ∷ [])) (frames_view scope.old) (ended (λ _. frames_view scope.new) bound) host.new) }
+    {
         self.module.evaluation_order = vec![in alloc; name]?;
         match self.next_binding(alloc, host, scope)? {
             Ok(Some(binding)) => {
                 scope.bind(binding)?;
-                Ok(None)
+                Ok(Ok(()))
             }
-            Ok(None) => Ok(None),
-            Err(error) => Ok(Some(error)),
+            Ok(None) => Ok(Ok(())),
+            Err(error) => Ok(Err(error)),
         }
     }
 
@@ -93,19 +157,33 @@ impl<'src> ModuleRun<'src> {
         alloc: Global,
         host: &mut H,
         scope: &Scope<'src, '_>,
-    ) -> Result<Result<Option<Binding<'src>>, Error<'src>>, OutOfMemory> {
+    ) -> Result<Result<Option<Binding<'src>>, Error<'src>>, OutOfMemory>
+        ensures { IfOk result (λ found. (given : Outcome _) × Ran H.step host.old dynamically (run_view self.now) ([] ∷ frames_view scope.now) (run_view self.now).assignments.order given host.new × (ended (option_map bound_view) found ≡ first_given given)) }
+    {
         match self.evaluate(alloc, host, scope) {
-            Ok(bound) => match bound.bindings().next() {
-                Some(binding) => Ok(Ok(Some(copied(alloc, binding)?))),
-                None => Ok(Ok(None)),
-            },
+            Ok(bound) => Ok(Ok(first_binding(alloc, &bound)?)),
             Err(error) => Ok(Err(error)),
         }
     }
 }
 
-// What an assignment binds, once more. It has no attributes.
-fn copied<'src>(alloc: Global, binding: &Binding<'src>) -> Result<Binding<'src>, OutOfMemory> {
+// What a scope binds first, once more but for attributes.
+fn first_binding<'src>(
+    alloc: Global,
+    scope: &Scope<'src, '_>,
+) -> Result<Option<Binding<'src>>, OutOfMemory>
+    ensures { IfOk result (λ found. option_map bound_view found ≡ option_map without_attributes (first_bound (values_of (own_frame (frames_view scope.now))))) }
+{
+    match scope.bindings().next() {
+        Some(binding) => Ok(Some(copied(alloc, binding)?)),
+        None => Ok(None),
+    }
+}
+
+// A binding once more but for attributes, which an assignment has none of.
+fn copied<'src>(alloc: Global, binding: &Binding<'src>) -> Result<Binding<'src>, OutOfMemory>
+    ensures { IfOk result (λ copy. bound_view copy ≡ without_attributes (bound_view binding.now)) }
+{
     Ok(Binding {
         attributes: AttributeSet::new(alloc),
         eager: binding.eager,

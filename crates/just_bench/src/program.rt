@@ -1,32 +1,27 @@
 // The program: a case from a reader, its answer to a writer.
 
-ghost use Rattle.std.specs.Prelude.{◌≡◌, ◌<◌, ◌≤◌, IfOk, IfSome, IsErr, length};
+ghost use Rattle.std.specs.Prelude.{◌≡◌, ◌∷◌, ◌<◌, ◌≤◌, [], IfOk, IfSome, IsErr, length, string_bytes};
+ghost use Rattle.just_value.specs.View.{frames_view};
+ghost use Rattle.just_case_lines.specs.View.{case_view};
+ghost use Rattle.just_script.specs.Failing.{PassesOrFails};
+ghost use Rattle.just_bench.specs.Answer.{Answers, Evaluated};
+ghost use Rattle.just_bench.specs.Hosts.{MadeOf};
+ghost use Rattle.just_bench.specs.Run.{by_script};
+ghost use Rattle.just_bench.specs.Written.{Added, Written, or_one};
 ghost use Rattle.just_bench.specs.declared.stream.TheConstants.{LIMIT};
 
 use crate::around::{Around, Bare, Failing};
 use crate::blocks::evaluate_blocks;
-use crate::context::{case_config, case_module, case_search};
-use crate::module_run::ModuleRun;
-use crate::script::case_script;
-use crate::settled::print_settled;
+use crate::run::evaluate_run;
+use crate::settled::evaluate_const;
 use crate::stream::{StreamError, read_case, write_text};
-use just_answer::print::{print_bindings, print_const_refusal, print_questions, print_refusal};
 use just_case_lines::case::{Case, CaseError, build};
 use just_case_lines::evaluation::Evaluation;
 use just_case_lines::line::parse_lines;
-use just_eval::evaluator::Evaluator;
-use just_eval::resolved_const;
-use just_host::host::Host;
-use just_host::recorder::Recorder;
 use just_script::fail_at::How;
-use just_syntax::assignment::Assignment;
-use just_syntax::number::Number;
 use just_syntax::out_of_memory::OutOfMemory;
-use just_syntax::table::Table;
-use just_value::error::Error;
 use just_value::scope::Scope;
 use std::alloc::Global;
-use std::collections::HashSet;
 use std::io::{Read, Write};
 use std::mem;
 
@@ -34,39 +29,56 @@ use std::mem;
 /// the evaluation among these, 1 for a case that is bad or longer than `LIMIT` bytes, a read or a write that failed, or want of
 /// memory outside the evaluation. The answer is written once it is whole, so nothing is written where a read fails, the case is
 /// too long, or memory outside the evaluation is refused.
-pub fn run<R: Read + Drop, W: Write + Drop>(alloc: Global, reader: R, writer: W) -> u8
+pub fn run<R: Read, W: Write>(alloc: Global, reader: &mut R, writer: &mut W) -> u8
+    ensures answer { IfSome (R.remaining reader.old) (λ case. Written (W.contents writer.old) (W.contents writer.new) result (
+        Answers by_script (λ script state. state ≡ script) case)) }
+    ensures too_long { IfSome (R.remaining reader.old) (λ case. LIMIT < length case → result ≡ 1) }
     ensures status { result ≤ 2 }
-    ensures too_long { IfSome (R.remaining reader) (λ case. LIMIT < length case → result ≡ 1) }
 {
-    run_around(alloc, reader, writer, &Bare {})
+    exit_status(answer(alloc, reader, writer, &Bare {}))
 }
 
 /// [`run`], where the host passes the first `passed` questions of a run on, and fails at each later one, as `how` says. The
 /// status, and what want of memory leaves, are as there.
-pub fn run_failing<R: Read + Drop, W: Write + Drop>(
+pub fn run_failing<R: Read, W: Write>(
     alloc: Global,
-    reader: R,
-    writer: W,
+    reader: &mut R,
+    writer: &mut W,
     passed: usize,
     how: How,
 ) -> u8
+    ensures answer { IfSome (R.remaining reader.old) (λ case. Written (W.contents writer.old) (W.contents writer.new) result (
+        Answers (PassesOrFails by_script) (λ script state. state ≡ record { host = script; left = passed; how = how }) case)) }
+    ensures too_long { IfSome (R.remaining reader.old) (λ case. LIMIT < length case → result ≡ 1) }
     ensures status { result ≤ 2 }
-    ensures too_long { IfSome (R.remaining reader) (λ case. LIMIT < length case → result ≡ 1) }
 {
-    run_around(alloc, reader, writer, &Failing { passed, how })
+    exit_status(answer(alloc, reader, writer, &Failing { passed, how }))
 }
 
-// The same around the hosts of the case.
-fn run_around<R: Read + Drop, W: Write + Drop, A: Around>(
+/// Evaluates a case that is built already, in a scope whose bindings it sees. Adds what [`run`] would write of it, and gives the
+/// exit status: 0 or 2, as there.
+///
+/// # Errors
+///
+/// `OutOfMemory`, where memory outside the evaluation was refused. What was added by then stands.
+pub fn evaluate_in_scope<'src>(
     alloc: Global,
-    mut reader: R,
-    mut writer: W,
-    around: &A,
-) -> u8
-    ensures status { result ≤ 2 }
-    ensures too_long { IfSome (R.remaining reader) (λ case. LIMIT < length case → result ≡ 1) }
+    text: &mut String,
+    case: Case<'src>,
+    parent: &Scope<'src, '_>,
+) -> Result<u8, OutOfMemory>
+    ensures status { IfOk result (λ status. status ≤ 2) }
+    ensures answer { let c = case_view case.entry in IfOk result (λ status. Added (string_bytes text.old) (string_bytes text.new) (λ printed.
+        Evaluated by_script (λ script state. state ≡ script) c c.evaluation (frames_view parent.entry.now) printed status)) }
 {
-    match answer(alloc, &mut reader, &mut writer, around) {
+    evaluate_in(alloc, text, case, parent, &Bare {})
+}
+
+// The exit status, which is 1 where there is no answer.
+fn exit_status(answered: Result<u8, StreamError>) -> u8
+    ensures { result ≡ or_one answered }
+{
+    match answered {
         Ok(status) => status,
         Err(_) => 1,
     }
@@ -80,22 +92,38 @@ fn answer<R: Read, W: Write, A: Around>(
     around: &A,
 ) -> Result<u8, StreamError>
     ensures status { IfOk result (λ status. status ≤ 2) }
+    ensures written { IfSome (R.remaining reader.old) (λ case. Written (W.contents writer.old) (W.contents writer.new) (or_one result) (
+        Answers A.Made.step (MadeOf (A.gives around.now)) case)) }
     ensures too_long { IfSome (R.remaining reader.old) (λ case. LIMIT < length case → IsErr result) }
     ensures unwritten { IfSome (R.remaining reader.old) (λ case. LIMIT < length case → writer.new ≡ writer.old) }
 {
     let bytes = read_case(alloc, reader)?;
-    let lines = parse_lines(alloc, &bytes)?;
     let mut text = String::new(alloc);
-    let status = match build(alloc, &lines) {
-        Ok(case) => evaluate(alloc, &mut text, case, around)?,
-        Err(CaseError::BadLine(place)) => {
-            writeln!(text, "bad line {place}")?;
-            1
-        }
-        Err(CaseError::OutOfMemory) => return Err(StreamError::OutOfMemory),
-    };
+    let status = print_answer(alloc, &mut text, &bytes, around)?;
     write_text(writer, &text)?;
     Ok(status)
+}
+
+// Adds what a case is answered with, and gives the exit status.
+fn print_answer<A: Around>(
+    alloc: Global,
+    text: &mut String,
+    bytes: &[u8],
+    around: &A,
+) -> Result<u8, OutOfMemory>
+    ensures status { IfOk result (λ status. status ≤ 2) }
+    ensures answer { IfOk result (λ status. Added (string_bytes text.old) (string_bytes text.new) (λ printed.
+        Answers A.Made.step (MadeOf (A.gives around.now)) bytes.now printed status)) }
+{
+    let lines = parse_lines(alloc, bytes)?;
+    match build(alloc, &lines) {
+        Ok(case) => evaluate(alloc, text, case, around),
+        Err(CaseError::BadLine(place)) => {
+            writeln!(text, "bad line {place}")?;
+            Ok(1)
+        }
+        Err(CaseError::OutOfMemory) => Err(OutOfMemory),
+    }
 }
 
 // Evaluates a case in a scope that binds nothing, adds what is printed of it, and gives the exit status.
@@ -105,141 +133,29 @@ fn evaluate<A: Around>(
     case: Case,
     around: &A,
 ) -> Result<u8, OutOfMemory>
-    ensures { IfOk result (λ status. status ≤ 2) }
+    ensures status { IfOk result (λ status. status ≤ 2) }
+    ensures answer { let c = case_view case.entry in IfOk result (λ status. Added (string_bytes text.old) (string_bytes text.new) (λ printed.
+        Evaluated A.Made.step (MadeOf (A.gives around.now)) c c.evaluation ([] ∷ []) printed status)) }
 {
     let parent = Scope::root(alloc, &[])?;
     evaluate_in(alloc, text, case, &parent, around)
 }
 
 // The same in a scope, whose bindings the case sees.
-pub(crate) fn evaluate_in<'src, A: Around>(
+fn evaluate_in<'src, A: Around>(
     alloc: Global,
     text: &mut String,
     mut case: Case<'src>,
     parent: &Scope<'src, '_>,
     around: &A,
 ) -> Result<u8, OutOfMemory>
-    ensures { IfOk result (λ status. status ≤ 2) }
+    ensures status { IfOk result (λ status. status ≤ 2) }
+    ensures answer { let c = case_view case.entry in IfOk result (λ status. Added (string_bytes text.old) (string_bytes text.new) (λ printed.
+        Evaluated A.Made.step (MadeOf (A.gives around.now)) c c.evaluation (frames_view parent.entry.now) printed status)) }
 {
     match mem::replace(&mut case.evaluation, Evaluation::Run) {
         Evaluation::Run => evaluate_run(alloc, text, case, parent, around),
         Evaluation::Const => evaluate_const(alloc, text, case, parent),
         Evaluation::Blocks { order } => evaluate_blocks(alloc, text, case, order, parent, around),
-    }
-}
-
-// Evaluates a case in a run.
-fn evaluate_run<'src, A: Around>(
-    alloc: Global,
-    text: &mut String,
-    case: Case<'src>,
-    parent: &Scope<'src, '_>,
-    around: &A,
-) -> Result<u8, OutOfMemory>
-    ensures { IfOk result (λ status. status ≤ 2) }
-{
-    let order = case.evaluation_order;
-    let run = ModuleRun {
-        config: case_config(alloc, case.dry_run)?,
-        dotenv: case.dotenv,
-        module: case_module(alloc, case.assignments, order, case.functions, case.lists)?,
-        overrides: case.overrides,
-        recursion_limit: case.recursion_limit,
-        references: case.references,
-        search: case_search(alloc)?,
-    };
-    let script = case_script(alloc, case.always, case.replies);
-    let mut host = Recorder::new(alloc, around.around(script));
-    print_evaluation(alloc, text, &run, &mut host, parent)
-}
-
-// Runs a module with a host that was asked nothing. Adds `unresolved` where it is that, the questions that the host was
-// asked, and the bindings or the refusal, and gives the exit status.
-fn print_evaluation<'src, H: Host>(
-    alloc: Global,
-    text: &mut String,
-    run: &ModuleRun<'src>,
-    host: &mut Recorder<H>,
-    parent: &Scope<'src, '_>,
-) -> Result<u8, OutOfMemory>
-    ensures { IfOk result (λ status. status ≤ 2) }
-{
-    if !run.is_resolved(alloc, parent)? {
-        text.push_str("unresolved\n")?;
-    }
-    let outcome = run.evaluate(alloc, host, parent);
-    print_questions(text, host.questions())?;
-    print_outcome(alloc, text, &outcome)
-}
-
-// Evaluates a case before any run, by the const rules. No host is there, and so nothing is asked.
-fn evaluate_const<'src>(
-    alloc: Global,
-    text: &mut String,
-    case: Case<'src>,
-    parent: &Scope<'src, '_>,
-) -> Result<u8, OutOfMemory>
-    ensures { IfOk result (λ status. status ≤ 2) }
-{
-    let assignments = case.assignments;
-    let order = case.evaluation_order;
-    let references = case_references(alloc, case.references, &assignments)?;
-    if !resolved_const(alloc, &assignments, &order, parent, &references)? {
-        text.push_str("unresolved\n")?;
-    }
-    let outcome = Evaluator::evaluate_const_assignments(
-        alloc,
-        &assignments,
-        &order,
-        &case.overrides,
-        parent,
-        &references,
-        case.lists,
-    );
-    match outcome {
-        Ok(evaluator) => {
-            print_settled(alloc, text, &assignments, &order, &references, &evaluator)?;
-            Ok(0)
-        }
-        Err(refusal) => {
-            print_const_refusal(text, &refusal)?;
-            Ok(2)
-        }
-    }
-}
-
-// The variables that a case references: those that it tells, or else all that it assigns.
-fn case_references(
-    alloc: Global,
-    told: Option<HashSet<Number>>,
-    assignments: &Table<Assignment>,
-) -> Result<HashSet<Number>, OutOfMemory> {
-    if let Some(references) = told {
-        return Ok(references);
-    }
-    let mut references = HashSet::new(alloc);
-    for assignment in assignments {
-        references.insert(assignment.number)?;
-    }
-    Ok(references)
-}
-
-// Adds the bindings or the refusal, and gives the exit status.
-fn print_outcome<'src>(
-    alloc: Global,
-    text: &mut String,
-    outcome: &Result<Scope<'src, '_>, Error<'src>>,
-) -> Result<u8, OutOfMemory>
-    ensures { IfOk result (λ status. status ≤ 2) }
-{
-    match outcome {
-        Ok(scope) => {
-            print_bindings(text, scope)?;
-            Ok(0)
-        }
-        Err(error) => {
-            print_refusal(alloc, text, error)?;
-            Ok(2)
-        }
     }
 }

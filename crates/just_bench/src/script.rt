@@ -1,22 +1,45 @@
 // The hosts of a case.
 
 ghost use Rattle.std.specs.Prelude.{◌≡◌, IfOk, map};
-ghost use Rattle.just_host.specs.View.{replied};
-ghost use Rattle.just_script.specs.View.{pair_view, script_view};
+ghost use Rattle.just_case_lines.specs.View.{case_view, pair_view, reply_view};
+ghost use Rattle.just_script.specs.View.{script_view};
+ghost use Rattle.just_bench.specs.Hosts as cases;
+ghost use Rattle.just_bench.specs.Hosts.{script_of, without_answers};
 
+use just_case_lines::case::Case;
 use just_script::scripted_host::ScriptedHost;
 use just_syntax::out_of_memory::OutOfMemory;
 use just_value::error::CommandFault;
 use std::alloc::Global;
+use std::mem;
 
-/// A host that answers commands as a case says, and has no answer to any other question.
-pub(crate) fn case_script(
+/// A host that answers commands as a case says, and has no answer to any other question. The answers are taken out of the
+/// case.
+pub(crate) fn case_script(alloc: Global, case: &mut Case) -> ScriptedHost
+    ensures host { script_view result ≡ cases.case_script (case_view case.old) }
+    ensures rest { case_view case.new ≡ without_answers (case_view case.old) }
+{
+    let always = mem::replace(&mut case.always, Vec::new(alloc));
+    let replies = mem::replace(&mut case.replies, Vec::new(alloc));
+    scripted(alloc, always, replies)
+}
+
+/// The same host, made without taking what the case says.
+pub(crate) fn script_copy(alloc: Global, case: &Case) -> Result<ScriptedHost, OutOfMemory>
+    ensures { IfOk result (λ host. script_view host ≡ cases.case_script (case_view case.now)) }
+{
+    let always = pairs_copy(alloc, &case.always)?;
+    let replies = replies_copy(alloc, &case.replies)?;
+    Ok(scripted(alloc, always, replies))
+}
+
+// A host that answers commands by these.
+fn scripted(
     alloc: Global,
     always: Vec<(String, String)>,
     replies: Vec<Result<String, CommandFault>>,
 ) -> ScriptedHost
-    ensures always { (script_view result).always ≡ map pair_view always.items }
-    ensures replies { (script_view result).replies ≡ map replied replies.items }
+    ensures { script_view result ≡ script_of (map pair_view always.items) (map reply_view replies.items) }
 {
     ScriptedHost::new(
         always,
@@ -25,20 +48,6 @@ pub(crate) fn case_script(
         Vec::new(alloc),
         Vec::new(alloc),
     )
-}
-
-/// The same host, made without taking what the case says.
-pub(crate) fn script_copy(
-    alloc: Global,
-    always: &[(String, String)],
-    replies: &[Result<String, CommandFault>],
-) -> Result<ScriptedHost, OutOfMemory>
-    ensures always { IfOk result (λ host. (script_view host).always ≡ map pair_view always.now) }
-    ensures replies { IfOk result (λ host. (script_view host).replies ≡ map replied replies.now) }
-{
-    let always = pairs_copy(alloc, always)?;
-    let replies = replies_copy(alloc, replies)?;
-    Ok(case_script(alloc, always, replies))
 }
 
 // The pairs once more.
@@ -61,7 +70,7 @@ fn replies_copy(
     alloc: Global,
     replies: &[Result<String, CommandFault>],
 ) -> Result<Vec<Result<String, CommandFault>>, OutOfMemory>
-    ensures { IfOk result (λ copies. map replied copies.items ≡ map replied replies.now) }
+    ensures { IfOk result (λ copies. map reply_view copies.items ≡ map reply_view replies.now) }
 {
     let mut copies = Vec::with_capacity(alloc, replies.len())?;
     for reply in replies {
@@ -75,7 +84,7 @@ fn reply_copy(
     alloc: Global,
     reply: &Result<String, CommandFault>,
 ) -> Result<Result<String, CommandFault>, OutOfMemory>
-    ensures { IfOk result (λ copy. replied copy ≡ replied reply.now) }
+    ensures { IfOk result (λ copy. reply_view copy ≡ reply_view reply.now) }
 {
     Ok(match reply {
         Ok(text) => Ok(String::from_str(alloc, text)?),

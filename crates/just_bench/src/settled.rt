@@ -1,27 +1,178 @@
 // What is printed of a stage before any run.
 
+ghost use Rattle.std.specs.Prelude.{◌≡◌, ◌↔◌, ◌++◌, ◌≤◌, IfOk, IsTrue, OnOk, map, string_bytes};
+ghost use Rattle.std.specs.List.{flat_map};
+ghost use Rattle.std.specs.Option.{option_map};
+ghost use Rattle.just_syntax.specs.View.{assignment_view, name_view};
+ghost use Rattle.just_value.specs.View.{const_ended, frames_view};
+ghost use Rattle.just_meaning.specs.Resolved.{IsResolvedConst};
+ghost use Rattle.just_meaning.specs.Stage.{Staged, at_start};
+ghost use Rattle.just_eval.specs.View.{standing_of};
+ghost use Rattle.just_case_lines.specs.View.{case_view, set_view};
+ghost use Rattle.just_bench.specs.Run.{status_of};
+ghost use Rattle.just_bench.specs.Written.{Added};
+ghost use Rattle.just_bench.specs.Settled.{ConstPrints, assigned_in, case_constants, const_references, stage_lines, standing_line};
+ghost use Rattle.just_bench.specs.Taken.{taken_view};
+ghost use Rattle.just_bench.specs.View.{stage_view};
+
+use crate::run::print_resolved;
 use crate::taken::taken_variables;
-use just_answer::print::{print_open, print_value};
+use just_answer::print::{print_const_refusal, print_open, print_value};
+use just_case_lines::case::Case;
 use just_eval::evaluator::Evaluator;
+use just_eval::resolved_const;
 use just_syntax::assignment::Assignment;
 use just_syntax::name::Name;
 use just_syntax::number::Number;
 use just_syntax::out_of_memory::OutOfMemory;
 use just_syntax::table::Table;
+use just_value::compile_error::CompileError;
+use just_value::scope::Scope;
 use std::alloc::Global;
-use std::collections::HashSet;
+use std::collections::{HashMap, HashSet};
 
-/// Adds the names of an order whose assignments are referenced, each on a line at its first place: the name, and its
-/// value or that it is open.
-pub(crate) fn print_settled(
+// What a stage before any run is given, beside a scope.
+#[derive(Drop)]
+struct Stage<'src> {
+    assignments: Table<Assignment<'src>>,
+    evaluation_order: Vec<Name<'src>>,
+    lists: bool,
+    overrides: HashMap<Number, String>,
+    references: HashSet<Number>,
+}
+
+/// Evaluates a case before any run, by the const rules, in a scope whose bindings it sees. Adds what is printed of it, and
+/// gives the exit status. No host is there, and so nothing is asked.
+pub(crate) fn evaluate_const<'src>(
     alloc: Global,
     text: &mut String,
+    case: Case<'src>,
+    parent: &Scope<'src, '_>,
+) -> Result<u8, OutOfMemory>
+    ensures status { IfOk result (λ status. status ≤ 2) }
+    ensures answer { IfOk result (λ status. Added (string_bytes text.old) (string_bytes text.new) (λ printed.
+        ConstPrints (case_view case.entry) (frames_view parent.entry.now) printed status)) }
+{
+    let stage = Stage::of_case(alloc, case)?;
+    let resolved = stage.is_resolved(alloc, parent)?;
+    print_resolved(text, resolved)?;
+    let outcome = stage.evaluate(alloc, parent);
+    stage.print_outcome(alloc, text, &outcome)
+}
+
+impl<'src> Stage<'src> {
+    // The stage of a case, in its order.
+    fn of_case(alloc: Global, case: Case<'src>) -> Result<Stage<'src>, OutOfMemory>
+        ensures constants { IfOk result (λ stage. stage_view stage ≡ case_constants (case_view case.entry)) }
+        ensures lists { IfOk result (λ stage. stage.lists ≡ case.entry.lists) }
+    {
+        let references = case_references(alloc, case.references, &case.assignments)?;
+        Ok(Stage {
+            assignments: case.assignments,
+            evaluation_order: case.evaluation_order,
+            lists: case.lists,
+            overrides: case.overrides,
+            references,
+        })
+    }
+
+    // Whether it is resolved in a scope.
+    fn is_resolved(&self, alloc: Global, parent: &Scope<'src, '_>) -> Result<bool, OutOfMemory>
+        ensures { IfOk result (λ answer. IsTrue answer ↔ IsResolvedConst (stage_view self.now).assignments (frames_view parent.now)) }
+    {
+        resolved_const(
+            alloc,
+            &self.assignments,
+            &self.evaluation_order,
+            parent,
+            &self.references,
+        )
+    }
+
+    // Evaluates it in a scope whose bindings it sees.
+    fn evaluate<'run>(
+        &'run self,
+        alloc: Global,
+        parent: &'run Scope<'src, 'run>,
+    ) -> Result<Evaluator<'src, 'run>, CompileError<'src>>
+        ensures { let m = stage_view self.now in
+            Staged m (at_start self.now.lists (frames_view parent.entry.now)) m.assignments.order (const_ended standing_of result) }
+    {
+        Evaluator::evaluate_const_assignments(
+            alloc,
+            &self.assignments,
+            &self.evaluation_order,
+            &self.overrides,
+            parent,
+            &self.references,
+            self.lists,
+        )
+    }
+
+    // Adds the variables that are taken, or the refusal, and gives the exit status.
+    fn print_outcome(
+        &self,
+        alloc: Global,
+        text: &mut String,
+        outcome: &Result<Evaluator<'src, '_>, CompileError<'src>>,
+    ) -> Result<u8, OutOfMemory>
+        ensures printed { OnOk result (string_bytes text.new ≡ string_bytes text.old ++ stage_lines (stage_view self.now) (const_ended standing_of outcome.now)) }
+        ensures status { IfOk result (λ status. status ≤ 2) }
+        ensures ends { IfOk result (λ status. status ≡ status_of (const_ended standing_of outcome.now)) }
+    {
+        match outcome {
+            Ok(evaluator) => {
+                let references = Some(&self.references);
+                let order = &self.evaluation_order;
+                let taken = taken_variables(alloc, &self.assignments, order, references)?;
+                print_settled(text, &taken, evaluator)?;
+                Ok(0)
+            }
+            Err(refusal) => {
+                print_const_refusal(text, refusal)?;
+                Ok(2)
+            }
+        }
+    }
+}
+
+// The variables that a case references: those that it tells, or else all that it assigns.
+fn case_references(
+    alloc: Global,
+    told: Option<HashSet<Number>>,
     assignments: &Table<Assignment>,
-    order: &[Name],
-    references: &HashSet<Number>,
+) -> Result<HashSet<Number>, OutOfMemory>
+    ensures { IfOk result (λ references. set_view references ≡ const_references (option_map set_view told) (map assignment_view assignments.now)) }
+{
+    match told {
+        Some(references) => Ok(references),
+        None => assigned_numbers(alloc, assignments),
+    }
+}
+
+// The numbers of assignments.
+fn assigned_numbers(
+    alloc: Global,
+    assignments: &Table<Assignment>,
+) -> Result<HashSet<Number>, OutOfMemory>
+    ensures { IfOk result (λ numbers. set_view numbers ≡ assigned_in (map assignment_view assignments.now)) }
+{
+    let mut numbers = HashSet::new(alloc);
+    for assignment in assignments {
+        numbers.insert(assignment.number)?;
+    }
+    Ok(numbers)
+}
+
+// Adds a line on each of these variables.
+fn print_settled(
+    text: &mut String,
+    taken: &[(Name, Number)],
     evaluator: &Evaluator,
-) -> Result<(), OutOfMemory> {
-    for (name, number) in &taken_variables(alloc, assignments, order, Some(references))? {
+) -> Result<(), OutOfMemory>
+    ensures { OnOk result (string_bytes text.new ≡ string_bytes text.old ++ flat_map (standing_line (standing_of evaluator.now)) (map taken_view taken.now)) }
+{
+    for (name, number) in taken {
         print_standing(text, name, *number, evaluator)?;
     }
     Ok(())
@@ -33,7 +184,9 @@ fn print_standing(
     name: &Name,
     number: Number,
     evaluator: &Evaluator,
-) -> Result<(), OutOfMemory> {
+) -> Result<(), OutOfMemory>
+    ensures { OnOk result (string_bytes text.new ≡ string_bytes text.old ++ standing_line (standing_of evaluator.now) (name_view name.now, number)) }
+{
     if evaluator.is_open(number) {
         print_open(text, name)?;
     } else if let Some(value) = evaluator.scope().value(number) {

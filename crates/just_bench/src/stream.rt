@@ -1,7 +1,8 @@
 // Reads a case, and writes what is printed of it.
 
-ghost use Rattle.std.specs.Prelude.{◌≡◌, ◌<◌, ◌≤◌, IfOk, OnOk, IfSome, length, vec_len};
+ghost use Rattle.std.specs.Prelude.{◌≡◌, ◌<◌, ◌≤◌, IfOk, OnErr, OnOk, IfSome, length, vec_len};
 ghost use Rattle.std.specs.Io.KnownBytes.{Appends};
+ghost use Rattle.just_bench.specs.Written.{AppendsFront};
 ghost use Rattle.just_bench.specs.declared.stream.StreamError.TheVariants.{Failed, OutOfMemory as Wanted};
 
 use just_syntax::out_of_memory::OutOfMemory;
@@ -74,9 +75,10 @@ pub fn read_case<R: Read>(alloc: Global, reader: &mut R) -> Result<Vec<u8>, Stre
 ///
 /// # Errors
 ///
-/// `Failed` where a write fails or takes no byte, or the flush fails. What was written stands.
+/// `Failed` where a write fails or takes no byte, or the flush fails. What was written stands: the front of the text.
 pub fn write_text<W: Write>(writer: &mut W, text: &str) -> Result<(), StreamError>
-    ensures { OnOk result (Appends (W.contents writer.old) (W.contents writer.new) text.now) }
+    ensures whole { OnOk result (Appends (W.contents writer.old) (W.contents writer.new) text.now) }
+    ensures part { OnErr result (AppendsFront (W.contents writer.old) (W.contents writer.new) text.now) }
 {
     let mut rest = text.as_bytes();
     while !rest.is_empty() {

@@ -1,5 +1,11 @@
 // Which variables of an order are taken.
 
+ghost use Rattle.std.specs.Prelude.{◌≡◌, ◌∷◌, ◌++◌, ℕ, [], IfOk, List, OnOk, map};
+ghost use Rattle.just_syntax.specs.Plain.{Token};
+ghost use Rattle.just_syntax.specs.View.{name_view};
+ghost use Rattle.just_meaning.specs.View.{ordered_view};
+ghost use Rattle.just_bench.specs.Taken.{first_places, referenced_number, taken_in, taken_view};
+
 use just_resolution::references::is_referenced;
 use just_syntax::assignment::Assignment;
 use just_syntax::name::Name;
@@ -16,22 +22,51 @@ pub(crate) fn taken_variables<'src>(
     assignments: &Table<Assignment>,
     order: &[Name<'src>],
     references: Option<&HashSet<Number>>,
-) -> Result<Vec<(Name<'src>, Number)>, OutOfMemory> {
+) -> Result<Vec<(Name<'src>, Number)>, OutOfMemory>
+    ensures { IfOk result (λ taken. map taken_view taken.items ≡ taken_in (ordered_view assignments.now order.now references.entry) (map name_view order.now)) }
+{
     let mut seen = HashSet::new(alloc);
     let mut taken = Vec::new(alloc);
     for name in order {
-        let Some(assignment) = assignments.get(name.lexeme()) else {
-            continue;
-        };
-        let number = assignment.number;
-        if is_referenced(references, number) && seen.insert(number)? {
-            taken.extend_from_slice(&[variable(*name, number)])?;
+        if let Some(number) = number_of(assignments, references, name) {
+            take_once(&mut seen, &mut taken, *name, number)?;
         }
     }
     Ok(taken)
 }
 
-// A variable: its name and its number.
-fn variable<'src>(name: Name<'src>, number: Number) -> (Name<'src>, Number) {
-    (name, number)
+// The number of a name's assignment, if that is referenced.
+fn number_of(
+    assignments: &Table<Assignment>,
+    references: Option<&HashSet<Number>>,
+    name: &Name,
+) -> Option<Number>
+    ensures { result ≡ referenced_number (ordered_view assignments.now [] references.entry) (name_view name.now) }
+{
+    let Some(assignment) = assignments.get(name.lexeme()) else {
+        return None;
+    };
+    if !is_referenced(references, assignment.number) {
+        return None;
+    }
+    Some(assignment.number)
+}
+
+// Takes a variable, unless its number was seen before.
+fn take_once<'src>(
+    seen: &mut HashSet<Number>,
+    taken: &mut Vec<(Name<'src>, Number)>,
+    name: Name<'src>,
+    number: Number,
+) -> Result<(), OutOfMemory>
+    // What is taken of those behind it too.
+    ensures { OnOk result ((rest : List (Token × ℕ)) → map taken_view taken.new.items ++ first_places seen.new.keys rest ≡ map taken_view taken.old.items ++ first_places seen.old.keys ((name_view name.entry, number) ∷ rest)) }
+{
+    if !seen.insert(number)? {
+        return Ok(());
+    }
+    match taken.push((name, number)) {
+        Ok(()) => Ok(()),
+        Err(_) => Err(OutOfMemory),
+    }
 }

@@ -6,5 +6,7 @@ use std::io;
 use std::process::ExitCode;
 
 fn main(rt: HostRuntime) -> ExitCode {
-    ExitCode::from(run(rt.alloc(), rt.reader(), io::writer(&rt)))
+    let mut reader = rt.reader();
+    let mut writer = io::writer(&rt);
+    ExitCode::from(run(rt.alloc(), &mut reader, &mut writer))
 }

@@ -23,7 +23,7 @@ pub(crate) fn check_agreement(
 ) -> Result<Outcome, OutOfMemory> {
     let case = format!(in alloc; "{described}\nconst")?;
     let mut constants = Vec::new(alloc);
-    run(alloc, case.as_bytes(), &mut constants);
+    run(alloc, &mut case.as_bytes(), &mut constants);
     let Ok(constants) = str::from_utf8(&constants) else {
         return Ok(Outcome::Same);
     };

@@ -110,8 +110,9 @@ fn check_file(
     let Some(stored) = cut(file) else {
         return Ok(Some(Difference::NoStatus));
     };
+    let mut case = stored.case;
     let mut answer = Vec::new(alloc);
-    let status = run(alloc, stored.case, &mut answer);
+    let status = run(alloc, &mut case, &mut answer);
     let difference = Difference::between(&stored, status, &answer);
     if difference.is_some() {
         return Ok(difference);

@@ -33,8 +33,9 @@ pub(crate) fn check_cuts(
 
 // Whether what is left of a case where it is cut has an answer that the case's own allows.
 fn is_cut_told(alloc: Global, stored: &StoredCase, left: &[u8]) -> Result<bool, OutOfMemory> {
+    let mut case = left;
     let mut answer = Vec::new(alloc);
-    let status = run(alloc, left, &mut answer);
+    let status = run(alloc, &mut case, &mut answer);
     if status != 1 {
         return is_whole(alloc, stored, left, status, &answer);
     }
@@ -74,7 +75,7 @@ fn is_whole(
     whole.extend_from_slice(left)?;
     whole.push(b'\n')?;
     let mut again = Vec::new(alloc);
-    let status_again = run(alloc, whole.as_slice(), &mut again);
+    let status_again = run(alloc, &mut whole.as_slice(), &mut again);
     if status_again != status || again.as_slice() != answer {
         return Ok(false);
     }

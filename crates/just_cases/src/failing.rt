@@ -68,8 +68,9 @@ fn check_failing_from(
     passed: usize,
 ) -> Result<Option<Difference>, OutOfMemory> {
     for how in [How::Fault, How::Memory] {
+        let mut case = stored.case;
         let mut given = Vec::new(alloc);
-        let status = run_failing(alloc, stored.case, &mut given, passed, how);
+        let status = run_failing(alloc, &mut case, &mut given, passed, how);
         let is_told = match failed_question(alloc, answer, passed, how)? {
             None => status == stored.status && given.as_slice() == stored.answer,
             Some(failed) => status == 2 && failed.ends(alloc, &given, stored.case, how)?,

@@ -104,23 +104,24 @@ fn pieces(text: &[u8], piece: usize) -> usize {
 // Whether a case that is read so far ends with status 1, and nothing is written.
 fn ends_at_read(alloc: Global, stored: &StoredCase, piece: usize, reads: usize) -> bool {
     let mut answer = Vec::new(alloc);
-    let reader = FailingReader {
+    let mut reader = FailingReader {
         text: stored.case,
         piece,
         good_reads: reads,
     };
-    let status = run(alloc, reader, &mut answer);
+    let status = run(alloc, &mut reader, &mut answer);
     status == 1 && answer.is_empty()
 }
 
 // Whether a case whose answer is written so far ends with status 1, and that much of its answer is written.
 fn ends_at_write(alloc: Global, stored: &StoredCase, piece: usize, writes: usize) -> bool {
+    let mut case = stored.case;
     let mut writer = FailingWriter {
         written: Vec::new(alloc),
         piece,
         good_writes: writes,
     };
-    let status = run(alloc, stored.case, &mut writer);
+    let status = run(alloc, &mut case, &mut writer);
     let length = piece.saturating_mul(writes).min(stored.answer.len());
     status == 1 && writer.written.len() == length && stored.answer.starts_with(&writer.written)
 }

@@ -68,7 +68,11 @@ pub(crate) fn tower(
 // A case has this answer and this status.
 fn answers(rt: &impl Abort, alloc: Global, case: &str, answer: &str, status: u8, name: &str) {
     let mut out = Vec::new(alloc);
-    assert_eq!(rt; run(alloc, case.as_bytes(), &mut out), status, "{name}");
+    assert_eq!(rt;
+        run(alloc, &mut case.as_bytes(), &mut out),
+        status,
+        "{name}"
+    );
     assert_eq!(rt; out.as_slice(), answer.as_bytes(), "{name}");
 }
 

@@ -1,0 +1,46 @@
+-- What a run binds has no attributes.
+use Rattle.std.proofs.Common.{◌≡◌, List, [], ◌∷◌, Some, refl, sym, ap}
+use Rattle.std.proofs.lemmas.List.Elements.{All-head, All-nil}
+use Rattle.std.proofs.lemmas.Map.Views.{All-values-insert_entry}
+use Rattle.std.specs.List.{All}
+use Rattle.std.specs.Map.{values_of}
+use Rattle.std.specs.Option.{option_map}
+use Rattle.std.specs.Ordering.{nat_cmp}
+use Rattle.just_syntax.specs.Plain.{Token}
+use Rattle.just_value.specs.Frames.{Bound, Frames, bound_in_front, own_frame}
+use Rattle.just_value.specs.Outcome.{Outcome, Gave, Refused, Stopped}
+use Rattle.just_meaning.specs.Module.{Block, Closing, Module, Run, Finished, Stops, Unknown, Passes, Skips, Binds, Breaks, Halts, bound_of}
+use Rattle.just_bench.specs.FirstBinding.{first_bound, without_attributes}
+
+abbrev HasNone : Bound → Type 0
+HasNone b = b.attributes ≡ []
+
+abbrev HaveNone : Frames → Type 0
+HaveNone frames = All HasNone (values_of (own_frame frames))
+
+abbrev GivenNone : Outcome Frames → Type 0
+GivenNone (Gave frames) = HaveNone frames
+GivenNone (Refused r) = Unit {0}
+GivenNone Stopped = Unit {0}
+
+one_more : (frames : Frames) (b : Bound) → HasNone b → HaveNone frames → HaveNone (bound_in_front frames b)
+one_more [] b e h = h
+one_more (frame ∷ outer) b e h = All-values-insert_entry nat_cmp b.number b HasNone frame h e
+
+given_none : {closing : Closing} {m : Module} {frames : Frames} {left : List Token} {bs : List Block} {o : Outcome Frames} → HaveNone frames → Run closing m frames left bs o → GivenNone o
+given_none h Finished = h
+given_none h Stops = tt
+given_none h (Unknown f) = tt
+given_none h (Passes a f e r) = given_none h r
+given_none h (Skips a b f e g r) = given_none h r
+given_none {m = m} {frames = frames} h (Binds a es v k p r) = given_none (one_more frames (bound_of m.program.fixed.settings.export a v) refl h) r
+given_none h (Breaks a es r k p) = tt
+given_none h (Halts a es k p) = tt
+
+first_none : (bs : List Bound) → All HasNone bs → option_map without_attributes (first_bound bs) ≡ first_bound bs
+first_none [] h = refl
+first_none (b ∷ bs) h = ap (λ attributes. Some (record b { attributes = attributes })) (sym (All-head HasNone b bs h))
+
+-- what a run in a scope that binds nothing binds first is the same without attributes
+pub first_given : {closing : Closing} {m : Module} (outer : Frames) {left : List Token} {bs : List Block} (given : Frames) → Run closing m ([] ∷ outer) left bs (Gave given) → option_map without_attributes (first_bound (values_of (own_frame given))) ≡ first_bound (values_of (own_frame given))
+first_given outer given r = first_none (values_of (own_frame given)) (given_none (All-nil HasNone) r)

@@ -1,0 +1,69 @@
+-- A stage before any run comes to one outcome, unless it is stopped.
+use Rattle.std.proofs.Common.{◌≡◌, ◌≢◌, false, Option, Some, None, List, [], ◌∷◌, refl, sym, ◌∙◌, if◌then◌else◌}
+use Rattle.just_syntax.specs.Plain.{Token, Assignment}
+use Rattle.just_value.specs.Frames.{Bound, innermost}
+use Rattle.just_value.specs.Refusal.{Refusal, Assert, Backtick, Check, Const, EmptyInterpreter, EmptyListArgument, FunctionCall, Internal, LeftOut, LeftOutRegex, ListInStringContext, ListOperation, RecursionLimit}
+use Rattle.just_value.specs.Outcome.{Outcome, Gave, Refused, Stopped}
+use Rattle.just_value.specs.Value.{Value}
+use Rattle.just_meaning.specs.Assignments.{assignment_at}
+use Rattle.just_meaning.specs.Internal.{IsFinal}
+use Rattle.just_meaning.specs.Messages.{unknown_assignment_text}
+use Rattle.just_meaning.specs.Module.{bound_of}
+use Rattle.just_meaning.specs.Stage.{Constants, Standing, Stage, Staged, Found, Finished, Stops, Unknown, Passes, Skips, StaysOpen, Settles, Opens, Breaks, const_assigned, with_open, with_settled}
+
+-- it goes on where a run alone tells the value
+abbrev refused_on : (Standing → Outcome Standing) → Standing → Assignment → Refusal → Outcome Standing
+refused_on on s a (Const c) = on (with_open s a.number)
+refused_on on s a r = Refused r
+
+abbrev assigned_on : (Standing → Outcome Standing) → Standing → Assignment → Outcome Value → Outcome Standing
+assigned_on on s a (Gave v) = on (with_settled s (bound_of false a v))
+assigned_on on s a (Refused r) = refused_on on s a r
+assigned_on on s a Stopped = Stopped
+
+abbrev unless_bound : Option Bound → Outcome Standing → Outcome Standing → Outcome Standing
+unless_bound (Some b) passed else' = passed
+unless_bound None passed else' = else'
+
+abbrev named_on : Constants → (Standing → Outcome Standing) → Standing → Token → Option Assignment → Outcome Standing
+named_on m on s t None = Refused (Internal (unknown_assignment_text t.lexeme) t)
+named_on m on s t (Some a) = if m.assignments.referenced a.number then unless_bound (innermost a.number s.frames) (on s) (if s.is_open a.number then on s else assigned_on on s a (const_assigned m s a)) else on s
+
+either : (bound : Option Bound) (o : Outcome Standing) → unless_bound bound o o ≡ o
+either (Some b) o = refl
+either None o = refl
+
+-- what a stage comes to
+abbrev comes_to : Constants → Standing → List Token → Outcome Standing
+comes_to m s [] = Gave s
+comes_to m s (t ∷ left) = named_on m (λ s. comes_to m s left) s t (assignment_at m.assignments t.lexeme)
+
+final_on : (on : Standing → Outcome Standing) (s : Standing) (a : Assignment) (r : Refusal) → IsFinal r → refused_on on s a r ≡ Refused r
+final_on on s a (Assert message t) f = refl
+final_on on s a (Backtick t fault) f = refl
+final_on on s a (Check parameter message) f = refl
+final_on on s a (Const c) f = absurd f
+final_on on s a (EmptyInterpreter t) f = refl
+final_on on s a (EmptyListArgument parameter recipe) f = refl
+final_on on s a (FunctionCall t message) f = refl
+final_on on s a (Internal message t) f = refl
+final_on on s a (LeftOut t) f = refl
+final_on on s a (LeftOutRegex t) f = refl
+final_on on s a (ListInStringContext context v) f = refl
+final_on on s a (ListOperation v o w t) f = refl
+final_on on s a (RecursionLimit t) f = refl
+
+comes : {m : Constants} {s : Standing} {names : List Token} {fs : List Found} {o : Outcome Standing} → Stage m s names fs o → o ≢ Stopped → o ≡ comes_to m s names
+comes Finished some = refl
+comes Stops some = absurd (some refl)
+comes (Unknown none) some = rw none refl
+comes (Passes a found unreferenced on) some = rw (found, unreferenced) (comes on some)
+comes (Skips a b found referenced bound on) some = rw (found, referenced, bound) (comes on some)
+comes {m = m} {s = s} {names = t ∷ left} (StaysOpen a found referenced stays on) some = rw (found, referenced, stays) (comes on some ∙ sym (either (innermost a.number s.frames) (comes_to m s left)))
+comes (Settles a v new is on) some = rw (new.found, new.referenced, new.unbound, new.unopened, is) (comes on some)
+comes (Opens a c new is on) some = rw (new.found, new.referenced, new.unbound, new.unopened, is) (comes on some)
+comes {m = m} {s = s} {names = t ∷ left} (Breaks a r final new is) some = rw (new.found, new.referenced, new.unbound, new.unopened, is) (sym (final_on (λ s. comes_to m s left) s a r final))
+
+-- two outcomes of one stage are one
+pub stage_one : {m : Constants} {s : Standing} {names : List Token} (o p : Outcome Standing) → Staged m s names o → Staged m s names p → o ≢ Stopped → p ≢ Stopped → o ≡ p
+stage_one o p (fs, one) (gs, other) here there = comes one here ∙ sym (comes other there)

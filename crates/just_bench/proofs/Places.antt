@@ -1,0 +1,44 @@
+-- Numbers at their first places, and sets with one number more.
+use Rattle.std.proofs.Common.{◌≡◌, ℕ, Bool, true, false, cond, ◌||◌, nat_eq, List, [], ◌∷◌, ◌++◌, append_assoc, refl, sym, ap, ◌∙◌, arith}
+use Rattle.std.specs.List.{list_any}
+use Rattle.std.proofs.lemmas.Bool.Decides.{nat_tests}
+use Rattle.just_syntax.specs.Plain.{Token}
+use Rattle.just_bench.specs.Taken.{first_places}
+
+either : (k n : ℕ) (b : Bool) → cond (nat_eq k n) true b ≡ (nat_eq n k || b)
+either k n b = by (nat_eq k n) refl
+  where
+    by : (x : Bool) → nat_eq k n ≡ x → cond x true b ≡ (nat_eq n k || b)
+    by true e = let other : nat_eq n k ≡ true = grind (arith, nat_tests) in rw other refl
+    by false e = let other : nat_eq n k ≡ false = grind (arith, nat_tests) in rw other refl
+
+-- one number more was put in
+pub one_more : (old new : List ℕ) (k : ℕ) → ((n : ℕ) → list_any (nat_eq n) new ≡ cond (nat_eq k n) true (list_any (nat_eq n) old)) → (n : ℕ) → list_any (nat_eq n) new ≡ list_any (nat_eq n) (k ∷ old)
+one_more old new k put n = put n ∙ either k n (list_any (nat_eq n) old)
+
+-- where the same numbers came before
+places_same : (a b : List ℕ) (xs : List (Token × ℕ)) → ((n : ℕ) → list_any (nat_eq n) a ≡ list_any (nat_eq n) b) → first_places a xs ≡ first_places b xs
+places_same a b [] same = refl
+places_same a b (x ∷ xs) same =
+    rw (same x.1, places_same a b xs same, places_same (x.1 ∷ a) (x.1 ∷ b) xs (λ n. ap (λ t. nat_eq n x.1 || t) (same n))) refl
+
+-- a number that did not come before
+pub new_place : (before rest : List (Token × ℕ)) (x : Token × ℕ) (old new : List ℕ) → list_any (nat_eq x.1) old ≡ false → ((n : ℕ) → list_any (nat_eq n) new ≡ cond (nat_eq x.1 n) true (list_any (nat_eq n) old)) →
+    (before ++ x ∷ []) ++ first_places new rest ≡ before ++ first_places old (x ∷ rest)
+new_place before rest x old new fresh put =
+    append_assoc before (x ∷ []) (first_places new rest)
+    ∙ ap (λ xs. before ++ x ∷ xs) (places_same new (x.1 ∷ old) rest (one_more old new x.1 put))
+    ∙ ap (λ t. before ++ cond t (first_places old rest) (x ∷ first_places (x.1 ∷ old) rest)) (sym fresh)
+
+-- one that did
+pub old_place : (before rest : List (Token × ℕ)) (x : Token × ℕ) (old new : List ℕ) → list_any (nat_eq x.1) old ≡ true → new ≡ old → before ++ first_places new rest ≡ before ++ first_places old (x ∷ rest)
+old_place before rest x old new known same = rw (same, known) refl
+
+-- a number that was put in was left before
+pub one_fewer : (old new : List ℕ) (k n : ℕ) (rest all : Bool) → list_any (nat_eq n) new ≡ cond (nat_eq k n) true (list_any (nat_eq n) old) → (list_any (nat_eq n) old || (nat_eq n k || rest)) ≡ all → (list_any (nat_eq n) new || rest) ≡ all
+one_fewer old new k n rest all put is = rw (put, either k n (list_any (nat_eq n) old)) (swapped (nat_eq n k) (list_any (nat_eq n) old) rest ∙ is)
+  where
+    swapped : (x y z : Bool) → ((x || y) || z) ≡ (y || (x || z))
+    swapped true true z = refl
+    swapped true false z = refl
+    swapped false y z = refl

@@ -1,0 +1,11 @@
+use Rattle.just_bench.proofs.Printed.{run_printed}
+use Rattle.just_bench.proofs.Seen.{recorder_seen}
+use Rattle.just_bench.proofs.run.print_evaluation.Goals as goal
+
+pub returns-clause-answer : goal.returns-clause-answer
+returns-clause-answer g c =
+    run_printed _ _ _ _ c.in_ok-resolved.resolved _ _ _ _ _ _ _ _ c.print_outcome.result
+    c.in_ok-resolved.ensures
+    (λ resolved. recorder_seen _ _ _ c.requires.fresh (c.evaluate-outcome.ensures.headline resolved))
+    (recorder_seen _ _ _ c.requires.fresh c.evaluate-outcome.ensures.dynamic)
+    c.in_ok-print_resolved.ensures c.in_ok-print_questions.ensures c.questions.ensures c.print_outcome.ensures.printed c.print_outcome.ensures.ends

@@ -1,0 +1,11 @@
+use Rattle.std.proofs.Common.{◌≡◌, ◌++◌, drop, map}
+use Rattle.just_syntax.specs.View.{name_view}
+use Rattle.just_meaning.specs.View.{ordered_view}
+use Rattle.just_bench.specs.Taken.{first_places, referenced_names, taken_in, taken_view}
+use Rattle.just_bench.proofs.taken.taken_variables.Given as goal
+
+-- what was taken, and what is taken of the names that are left
+abbrev pub invariant-loop-name : goal.invariant-loop-name
+invariant-loop-name l =
+    let m = ordered_view l.assignments l.order l.references in
+    map taken_view l.taken.items ++ first_places l.seen.keys (referenced_names m (map name_view (drop l.name-index l.order))) ≡ taken_in m (map name_view l.order)

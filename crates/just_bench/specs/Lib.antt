@@ -1,0 +1,11 @@
+pub mod Answer
+pub mod Blocks
+pub mod FirstBinding
+pub mod Hosts
+pub mod Laws
+pub mod Module
+pub mod Run
+pub mod Settled
+pub mod Taken
+pub mod View
+pub mod Written

@@ -1,0 +1,92 @@
+// A case that is evaluated in a run.
+
+ghost use Rattle.std.specs.Prelude.{◌≡◌, ◌≤◌, ◌++◌, [], IfOk, OnOk, string_bytes};
+ghost use Rattle.just_value.specs.View.{ended, frames_view};
+ghost use Rattle.just_host.specs.View.{inner_host, records_view};
+ghost use Rattle.just_case_lines.specs.View.{case_view};
+ghost use Rattle.just_bench.specs.Hosts.{MadeOf};
+ghost use Rattle.just_bench.specs.Run.{CaseRuns, RunPrints, outcome_lines, status_of, unresolved_line};
+ghost use Rattle.just_bench.specs.Written.{Added};
+ghost use Rattle.just_bench.specs.View.{run_view};
+
+use crate::around::Around;
+use crate::module_run::ModuleRun;
+use crate::script::case_script;
+use just_answer::print::{print_bindings, print_questions, print_refusal};
+use just_case_lines::case::Case;
+use just_host::host::Host;
+use just_host::recorder::Recorder;
+use just_syntax::out_of_memory::OutOfMemory;
+use just_value::error::Error;
+use just_value::scope::Scope;
+use std::alloc::Global;
+
+/// Evaluates a case in a run, in a scope whose bindings it sees. Adds what is printed of it, and gives the exit status.
+pub(crate) fn evaluate_run<'src, A: Around>(
+    alloc: Global,
+    text: &mut String,
+    mut case: Case<'src>,
+    parent: &Scope<'src, '_>,
+    around: &A,
+) -> Result<u8, OutOfMemory>
+    ensures status { IfOk result (λ status. status ≤ 2) }
+    ensures answer { IfOk result (λ status. Added (string_bytes text.old) (string_bytes text.new) (λ printed.
+        CaseRuns A.Made.step (MadeOf (A.gives around.now)) (case_view case.entry) (frames_view parent.now) printed status)) }
+{
+    let mut host = Recorder::new(alloc, around.around(case_script(alloc, &mut case)));
+    let run = ModuleRun::of_case(alloc, case)?;
+    print_evaluation(alloc, text, &run, &mut host, parent)
+}
+
+// Runs a module with a host that was asked nothing. Adds `unresolved` where it is that, the questions that the host was
+// asked, and the bindings or the refusal, and gives the exit status.
+fn print_evaluation<'src, H: Host>(
+    alloc: Global,
+    text: &mut String,
+    run: &ModuleRun<'src>,
+    host: &mut Recorder<H>,
+    parent: &Scope<'src, '_>,
+) -> Result<u8, OutOfMemory>
+    requires fresh { records_view host.old ≡ [] }
+    ensures status { IfOk result (λ status. status ≤ 2) }
+    ensures answer { IfOk result (λ status. Added (string_bytes text.old) (string_bytes text.new) (λ printed.
+        RunPrints H.step (inner_host host.old) (run_view run.now) (frames_view parent.now) printed status)) }
+{
+    let resolved = run.is_resolved(alloc, parent)?;
+    print_resolved(text, resolved)?;
+    let outcome = run.evaluate(alloc, host, parent);
+    print_questions(text, host.questions())?;
+    print_outcome(alloc, text, &outcome)
+}
+
+/// Adds `unresolved`, unless all is resolved.
+pub(crate) fn print_resolved(text: &mut String, resolved: bool) -> Result<(), OutOfMemory>
+    ensures { OnOk result (string_bytes text.new ≡ string_bytes text.old ++ unresolved_line resolved) }
+{
+    if !resolved {
+        text.push_str("unresolved\n")?;
+    }
+    Ok(())
+}
+
+// Adds the bindings or the refusal, and gives the exit status.
+fn print_outcome<'src>(
+    alloc: Global,
+    text: &mut String,
+    outcome: &Result<Scope<'src, '_>, Error<'src>>,
+) -> Result<u8, OutOfMemory>
+    ensures printed { OnOk result (string_bytes text.new ≡ string_bytes text.old ++ outcome_lines (ended frames_view outcome.now)) }
+    ensures status { IfOk result (λ status. status ≤ 2) }
+    ensures ends { IfOk result (λ status. status ≡ status_of (ended frames_view outcome.now)) }
+{
+    match outcome {
+        Ok(scope) => {
+            print_bindings(text, scope)?;
+            Ok(0)
+        }
+        Err(error) => {
+            print_refusal(alloc, text, error)?;
+            Ok(2)
+        }
+    }
+}

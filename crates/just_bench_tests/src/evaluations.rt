@@ -1,0 +1,283 @@
+// Evaluations in a scope that binds something, and of what no lines describe.
+
+use crate::case_run::CaseRun;
+use crate::texts::{ends, is_so, same};
+use just_bench::program::evaluate_in_scope;
+use just_case_lines::case::{Case, build};
+use just_case_lines::evaluation::Evaluation;
+use just_case_lines::line::parse_lines;
+use just_case_lines::token::{name, token};
+use just_host::no_host::NoHost;
+use just_host::recorder::Recorder;
+use just_syntax::assignment::Assignment;
+use just_syntax::attribute_set::AttributeSet;
+use just_syntax::expression::Expression;
+use just_syntax::number::Number;
+use just_syntax::string_literal::StringLiteral;
+use just_syntax::table::Table;
+use just_value::binding::Binding;
+use just_value::error::CommandFault;
+use just_value::scope::Scope;
+use just_value::value::Value;
+use std::alloc::Global;
+use std::collections::{BTreeMap, HashMap};
+use std::process::Abort;
+
+/// A scope that binds the first name of a case, `o`, to a value.
+pub(crate) fn outer<'src, 'run>(rt: &impl Abort, alloc: Global, value: Value) -> Scope<'src, 'run> {
+    let mut scope = Scope::root(alloc, &[]).expect(rt, "no memory");
+    let bound = scope.bind(binding(alloc, value));
+    bound.expect(rt, "no memory");
+    scope
+}
+
+// What binds `o`, whose number is 0, to a value.
+fn binding<'src>(alloc: Global, value: Value) -> Binding<'src> {
+    Binding {
+        attributes: AttributeSet::new(alloc),
+        eager: false,
+        export: false,
+        file_depth: 0,
+        name: name("o"),
+        number: Number::new(0),
+        prelude: false,
+        private: false,
+        value,
+    }
+}
+
+// In a scope a case has this answer and this status.
+fn answers_in<'src>(
+    rt: &impl Abort,
+    alloc: Global,
+    case: Case<'src>,
+    parent: &Scope<'src, '_>,
+    answer: &str,
+    status: u8,
+) {
+    let mut text = String::new(alloc);
+    let answered = evaluate_in_scope(alloc, &mut text, case, parent).expect(rt, "no memory");
+    ends(rt, answer, answered, status);
+    same(rt, "answer", &text, answer);
+}
+
+/// In a scope that binds `o` to no element, a case has this answer and this status.
+pub(crate) fn answers_outside_nothing(
+    rt: &impl Abort,
+    alloc: Global,
+    case: &str,
+    answer: &str,
+    status: u8,
+) {
+    let lines = parse_lines(alloc, case.as_bytes()).expect(rt, "no memory");
+    let case = build(alloc, &lines).expect(rt, "no case");
+    let parent = outer(rt, alloc, Value::new(alloc));
+    answers_in(rt, alloc, case, &parent, answer, status);
+}
+
+// A case of an operator on a list of no element, its answer and its status.
+const OPERATORS: &[(&str, &str, u8)] = &[
+    (
+        "var o\nstr d\nadd\nassign a\nrun",
+        "refused 10 ListOperation [] + \"d\"\n",
+        2,
+    ),
+    ("var o\nvar o\nadd\nassign a\nrun", "a = []\n", 0),
+    ("var o\ncmd c\nand\nassign a\nrun", "a = []\n", 0),
+    ("var o\nstr d\nor\nassign a\nrun", "a = \"d\"\n", 0),
+];
+
+#[test]
+fn operators_on_lists(rt: HostRuntime) {
+    for (case, answer, status) in OPERATORS {
+        answers_outside_nothing(&rt, rt.alloc(), case, answer, *status);
+    }
+}
+
+// Where the host has no memory for an answer, the questions are printed all the same.
+#[test]
+fn host_out_of_memory(rt: HostRuntime) {
+    let alloc = rt.alloc();
+    let case = b"cmd one\ncmd two\nand\nassign a\nreply x\nrun";
+    let lines = parse_lines(alloc, case).expect(&rt, "no memory");
+    let case = build(alloc, &lines).expect(&rt, "no case");
+    answers_without_memory(
+        &rt,
+        alloc,
+        case,
+        "? command \"one\"\n? command \"two\"\nrefused 12 OutOfMemory\n",
+    );
+}
+
+// A case is refused so where the host has no memory behind the case's replies.
+fn answers_without_memory(rt: &impl Abort, alloc: Global, mut case: Case, answer: &str) {
+    let pushed = case.replies.push(Err(CommandFault::OutOfMemory));
+    pushed.expect(rt, "no memory");
+    answers_outside(rt, alloc, case, answer, 2);
+}
+
+// In a scope that binds nothing a case has this answer and this status.
+fn answers_outside(rt: &impl Abort, alloc: Global, case: Case, answer: &str, status: u8) {
+    let parent = Scope::root(alloc, &[]).expect(rt, "no memory");
+    answers_in(rt, alloc, case, &parent, answer, status);
+}
+
+// A number that is bound outside is neither evaluated nor overridden.
+#[test]
+fn bound_outside(rt: HostRuntime) {
+    let alloc = rt.alloc();
+    let case = b"cmd c\nassign o\noverride o 5\nrun";
+    let lines = parse_lines(alloc, case).expect(&rt, "no memory");
+    let case = build(alloc, &lines).expect(&rt, "no case");
+    let value = Value::from_text(alloc, "o").expect(&rt, "no memory");
+    keeps_the_outer_value(&rt, alloc, case, &outer(&rt, alloc, value));
+}
+
+// The same before any run, where a number that is bound outside has the value from there.
+#[test]
+fn bound_outside_before_a_run(rt: HostRuntime) {
+    answers_outside_nothing(
+        &rt,
+        rt.alloc(),
+        "cmd c\nassign o\noverride o 5\nconst",
+        "o = []\n",
+        0,
+    );
+}
+
+// A case's assignments ask nothing and bind nothing, and the first number still has the value `o`.
+fn keeps_the_outer_value<'src>(
+    rt: &impl Abort,
+    alloc: Global,
+    case: Case<'src>,
+    parent: &Scope<'src, '_>,
+) {
+    let run = CaseRun::new(rt, alloc, case);
+    let mut host = Recorder::new(alloc, NoHost);
+    match run.evaluate(alloc, &mut host, parent) {
+        Ok(scope) => has_the_outer_value_alone(rt, alloc, &scope),
+        Err(_) => panic!(rt; "a refusal"),
+    }
+    is_so(rt, "asks nothing", host.questions().is_empty());
+}
+
+// A scope binds nothing of its own, and the first number has the value `o`.
+fn has_the_outer_value_alone(rt: &impl Abort, alloc: Global, scope: &Scope) {
+    assert_eq!(rt; scope.bindings().count(), 0);
+    match scope.value(Number::new(0)) {
+        Some(value) => prints(rt, alloc, value, "\"o\""),
+        None => panic!(rt; "no value"),
+    }
+}
+
+// A value prints so.
+fn prints(rt: &impl Abort, alloc: Global, value: &Value, printed: &str) {
+    let text = format!(in alloc; "{value}").expect(rt, "no memory");
+    same(rt, "value", &text, printed);
+}
+
+// A literal, as it is written between apostrophes.
+fn literal(
+    rt: &impl Abort,
+    alloc: Global,
+    text: &str,
+    lexeme: &'static str,
+) -> StringLiteral<'static> {
+    StringLiteral::new(alloc, text, lexeme).expect(rt, "no memory")
+}
+
+// The format string of start `<`, the list of `a` and `b`, and the text `>` behind it.
+fn format_string(rt: &impl Abort, alloc: Global) -> Expression<'static> {
+    let mut expressions = Vec::new(alloc);
+    let behind = literal(rt, alloc, ">", "}}>'");
+    let pushed = expressions.push((list(rt, alloc), behind));
+    pushed.expect(rt, "no memory");
+    Expression::FormatString {
+        start: literal(rt, alloc, "<", "f'<{{"),
+        expressions,
+    }
+}
+
+// The list of `a` and `b`.
+fn list(rt: &impl Abort, alloc: Global) -> Expression<'static> {
+    let mut elements = Vec::new(alloc);
+    for (text, lexeme) in ELEMENTS {
+        let string_literal = literal(rt, alloc, text, lexeme);
+        let pushed = elements.push(Expression::StringLiteral { string_literal });
+        pushed.expect(rt, "no memory");
+    }
+    Expression::List {
+        elements,
+        token: token("["),
+    }
+}
+
+const ELEMENTS: &[(&str, &str)] = &[("a", "'a'"), ("b", "'b'")];
+
+#[test]
+fn format_strings(rt: HostRuntime) {
+    let alloc = rt.alloc();
+    let value = format_string(&rt, alloc);
+    answers_assigned(&rt, alloc, value, "x = \"<a b>\"\n", 0);
+}
+
+#[test]
+fn variable_without_a_number(rt: HostRuntime) {
+    let variable = Expression::Variable {
+        name: name("y"),
+        number: None,
+    };
+    answers_assigned(
+        &rt,
+        rt.alloc(),
+        variable,
+        "unresolved\nrefused 6 Internal \"attempted to evaluate unresolved variable `y`\"\n",
+        2,
+    );
+}
+
+// A case that assigns an expression to `x`, and nothing else, has this answer and this status.
+fn answers_assigned(
+    rt: &impl Abort,
+    alloc: Global,
+    value: Expression<'static>,
+    answer: &str,
+    status: u8,
+) {
+    let case = case_of(rt, alloc, assignments_of(rt, alloc, value));
+    answers_outside(rt, alloc, case, answer, status);
+}
+
+// A table of `x`, whose number is 1, with an expression.
+fn assignments_of(
+    rt: &impl Abort,
+    alloc: Global,
+    value: Expression<'static>,
+) -> Table<Assignment<'static>> {
+    let mut assignments = Table::new(alloc);
+    let inserted = assignments.insert(Assignment::new(name("x"), Number::new(1), value));
+    inserted.expect(rt, "no memory");
+    assignments
+}
+
+// A run of `x`, with these assignments and nothing else.
+fn case_of(
+    rt: &impl Abort,
+    alloc: Global,
+    assignments: Table<Assignment<'static>>,
+) -> Case<'static> {
+    Case {
+        assignments,
+        evaluation_order: vec![in alloc; name("x")].expect(rt, "no memory"),
+        functions: Table::new(alloc),
+        overrides: HashMap::new(alloc),
+        references: None,
+        dotenv: BTreeMap::new(alloc),
+        always: Vec::new(alloc),
+        replies: Vec::new(alloc),
+        lists: false,
+        dry_run: false,
+        recursion_limit: 100,
+        evaluation: Evaluation::Run,
+    }
+}

@@ -1,0 +1,54 @@
+// Functions that a case defines, where something is bound outside, and the frames that their commands are shown.
+
+use crate::case_run::told_by_run;
+use crate::evaluations::{answers_outside_nothing, outer};
+use crate::frame_host::FrameHost;
+use crate::texts::same;
+use just_case_lines::case::build;
+use just_case_lines::line::parse_lines;
+use just_value::value::Value;
+use std::alloc::Global;
+use std::process::Abort;
+
+// A parameter that is bound outside is not resolved.
+#[test]
+fn parameter_bound_outside(rt: HostRuntime) {
+    answers_outside_nothing(
+        &rt,
+        rt.alloc(),
+        "var o\nfun f o\nstr x\ncall f 1\nassign a\nrun",
+        "unresolved\na = \"x\"\n",
+        0,
+    );
+}
+
+// A case's commands are shown frames that bind this, where `o` is bound outside to no element.
+fn shows_frames(rt: &impl Abort, alloc: Global, case: &str, shown: &str) {
+    let lines = parse_lines(alloc, case.as_bytes()).expect(rt, "no memory");
+    let described = build(alloc, &lines).expect(rt, "no case");
+    let parent = outer(rt, alloc, Value::new(alloc));
+    let mut host = FrameHost::new(alloc);
+    told_by_run(rt, alloc, &mut host, described, &parent);
+    same(rt, case, host.shown(), shown);
+}
+
+// A case whose command is asked where a call is pending, and the frames that it is shown.
+const PENDING: &[(&str, &str)] = &[
+    // The frame of the called body, of its caller, of the module, and the one outside.
+    (
+        "var o\nassign p\ncmd who\nfun g\ncall g 0\nfun f n\nstr z\ncall f 1\nassign a\nonly a\nrun",
+        "()(n = \"z\")()(o = [])",
+    ),
+    // An argument is evaluated in the frames of the caller.
+    (
+        "var o\nassign p\nvar n\nfun f n\ncmd who\ncall f 1\nassign a\nrun",
+        "(p = [])(o = [])",
+    ),
+];
+
+#[test]
+fn frames_of_pending_calls(rt: HostRuntime) {
+    for (case, shown) in PENDING {
+        shows_frames(&rt, rt.alloc(), case, shown);
+    }
+}

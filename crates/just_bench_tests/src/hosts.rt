@@ -1,0 +1,271 @@
+// Hosts that answer by a script, that record, and that fail.
+
+use crate::case_run::{DIRECTORY, config};
+use crate::texts::{owned, questions_of, same};
+use just_host::command_question::CommandQuestion;
+use just_host::config::Config;
+use just_host::host::Host;
+use just_host::number_question::NumberQuestion;
+use just_host::recorder::Recorder;
+use just_host::settings::Settings;
+use just_host::text_answer::TextAnswer;
+use just_host::text_question::TextQuestion;
+use just_script::fail_at::{FailAt, How};
+use just_script::scripted_host::ScriptedHost;
+use just_value::error::CommandFault;
+use just_value::scope::Scope;
+use std::alloc::Global;
+use std::collections::BTreeMap;
+use std::process::Abort;
+
+// What commands are asked with here.
+#[derive(Drop)]
+struct Asking {
+    config: Config,
+    env: BTreeMap<String, String>,
+    scope: Scope<'static, 'static>,
+    settings: Settings,
+}
+
+impl Asking {
+    fn new(rt: &impl Abort, alloc: Global) -> Asking {
+        Asking {
+            config: config(rt, alloc, false),
+            env: BTreeMap::new(alloc),
+            scope: Scope::root(alloc, &[]).expect(rt, "no memory"),
+            settings: Settings::new(alloc),
+        }
+    }
+
+    // Asks a host for a command.
+    fn ask<H: Host>(
+        &self,
+        alloc: Global,
+        host: &mut H,
+        command: &str,
+        arguments: Option<&[String]>,
+    ) -> Result<String, CommandFault> {
+        let question = CommandQuestion {
+            command,
+            arguments,
+            env: &self.env,
+            scope: &self.scope,
+            config: &self.config,
+            dotenv: &self.env,
+            settings: &self.settings,
+            unexports: &[],
+            working_directory: DIRECTORY,
+        };
+        host.command(alloc, &question)
+    }
+
+    // The same, with the answer as a text.
+    fn told<H: Host>(
+        &self,
+        rt: &impl Abort,
+        alloc: Global,
+        host: &mut H,
+        command: &str,
+        arguments: Option<&[String]>,
+    ) -> String {
+        let answer = self.ask(alloc, host, command, arguments);
+        format!(in alloc; "{answer:?}").expect(rt, "no memory")
+    }
+}
+
+// A script of a text and a status, two commands that are always answered, and some other answers.
+fn script(rt: &impl Abort, alloc: Global) -> ScriptedHost {
+    ScriptedHost::new(
+        always(rt, alloc),
+        replies(rt, alloc),
+        texts(rt, alloc),
+        vec![in alloc; true].expect(rt, "no memory"),
+        vec![in alloc; 7u64].expect(rt, "no memory"),
+    )
+}
+
+// The commands that are always answered, with their answers: of one command the last counts.
+const ALWAYS: &[(&str, &str)] = &[("ls", "old"), ("pwd", "/work"), ("ls", "new")];
+
+fn always(rt: &impl Abort, alloc: Global) -> Vec<(String, String)> {
+    let mut always = Vec::new(alloc);
+    for (command, answer) in ALWAYS {
+        let pushed = always.push((owned(rt, alloc, command), owned(rt, alloc, answer)));
+        pushed.expect(rt, "no memory");
+    }
+    always
+}
+
+fn replies(rt: &impl Abort, alloc: Global) -> Vec<Result<String, CommandFault>> {
+    vec![in alloc; Ok(owned(rt, alloc, "x")), Err(CommandFault::Code(3))].expect(rt, "no memory")
+}
+
+fn texts(rt: &impl Abort, alloc: Global) -> Vec<TextAnswer> {
+    let text = TextAnswer::Text(owned(rt, alloc, "t"));
+    vec![in alloc; text, TextAnswer::OutOfMemory].expect(rt, "no memory")
+}
+
+// Commands in the order that they are asked in, and their answers.
+const COMMANDS: &[(&str, &str)] = &[
+    ("c", "Ok(\"x\")"),
+    ("ls", "Ok(\"new\")"),
+    ("c", "Err(Code(3))"),
+    ("pwd", "Ok(\"/work\")"),
+    ("c", "Err(Fault(\"no reply\"))"),
+    ("c", "Err(Fault(\"no reply\"))"),
+    ("ls", "Ok(\"new\")"),
+];
+
+#[test]
+fn script_in_order(rt: HostRuntime) {
+    let alloc = rt.alloc();
+    let asking = Asking::new(&rt, alloc);
+    let mut host = script(&rt, alloc);
+    for (command, expected) in COMMANDS {
+        let told = asking.told(&rt, alloc, &mut host, command, None);
+        same(&rt, command, &told, expected);
+    }
+}
+
+// The answers of the other kinds, in their order.
+const TEXTS: &[&str] = &["Text(\"t\")", "OutOfMemory", "Absent", "Absent"];
+
+const EXISTS: &[bool] = &[true, false, false];
+
+const NUMBERS: &[u64] = &[7, 0, 0];
+
+#[test]
+fn other_answers_in_order(rt: HostRuntime) {
+    let alloc = rt.alloc();
+    let mut host = script(&rt, alloc);
+    for expected in TEXTS {
+        same(&rt, "os", &text_told(&rt, alloc, &mut host), expected);
+    }
+    for expected in EXISTS {
+        exists(&rt, alloc, &mut host, *expected);
+    }
+    for expected in NUMBERS {
+        numbers(&rt, alloc, &mut host, *expected);
+    }
+}
+
+// A host says that something stands at a path, or not.
+fn exists(rt: &impl Abort, alloc: Global, host: &mut ScriptedHost, expected: bool) {
+    let answer = host.exists(alloc, "p").expect(rt, "no memory");
+    assert_eq!(rt; answer, expected);
+}
+
+// A host tells how many processors there are.
+fn numbers(rt: &impl Abort, alloc: Global, host: &mut ScriptedHost, expected: u64) {
+    let answer = host.number(alloc, NumberQuestion::Cpus);
+    assert_eq!(rt; answer.expect(rt, "no memory"), expected);
+}
+
+fn text_told<H: Host>(rt: &impl Abort, alloc: Global, host: &mut H) -> String {
+    let answer = host.text(alloc, TextQuestion::Os);
+    format!(in alloc; "{answer:?}").expect(rt, "no memory")
+}
+
+// How many questions are passed on, how the others fail, and the answers.
+const FAILING: &[(usize, How, &str)] = &[
+    (
+        5,
+        How::Fault,
+        "Ok(\"x\") Err(Code(3)) Text(\"t\") Ok(true) Ok(7)",
+    ),
+    (
+        1,
+        How::Fault,
+        "Ok(\"x\") Err(Fault(\"broken\")) Fault(\"broken\") Ok(true) Ok(7)",
+    ),
+    (
+        4,
+        How::Memory,
+        "Ok(\"x\") Err(Code(3)) Text(\"t\") Ok(true) Err(OutOfMemory)",
+    ),
+    (
+        0,
+        How::Memory,
+        "Err(OutOfMemory) Err(OutOfMemory) OutOfMemory Err(OutOfMemory) Err(OutOfMemory)",
+    ),
+];
+
+// Two commands, a text, an existence and a number, of which the first ones are passed on.
+#[test]
+fn fails_from_a_question_on(rt: HostRuntime) {
+    for (passed, how, expected) in FAILING {
+        fails(&rt, rt.alloc(), *passed, *how, expected);
+    }
+}
+
+// A host that fails behind so many questions, in such a way, answers them so.
+fn fails(rt: &impl Abort, alloc: Global, passed: usize, how: How, expected: &str) {
+    let mut host = FailAt::new(script(rt, alloc), passed, how);
+    let told = all_kinds_told(rt, alloc, &mut host);
+    assert_eq!(rt; told.as_str(), expected, "{passed}");
+}
+
+// What comes of two commands, a text, an existence and a number.
+fn all_kinds_told<H: Host>(rt: &impl Abort, alloc: Global, host: &mut H) -> String {
+    let commands = two_commands_told(rt, alloc, host);
+    let text = text_told(rt, alloc, host);
+    let exists = host.exists(alloc, "p");
+    let number = host.number(alloc, NumberQuestion::Cpus);
+    format!(in alloc; "{commands} {text} {exists:?} {number:?}").expect(rt, "no memory")
+}
+
+fn two_commands_told<H: Host>(rt: &impl Abort, alloc: Global, host: &mut H) -> String {
+    let asking = Asking::new(rt, alloc);
+    let one = asking.told(rt, alloc, host, "c", None);
+    let other = asking.told(rt, alloc, host, "c", None);
+    format!(in alloc; "{one} {other}").expect(rt, "no memory")
+}
+
+// The arguments that a command is asked with, and its answer.
+const RECORDED: &[(Option<&[&str]>, &str)] = &[
+    (Some(&["a b", "\""]), "Ok(\"x\")"),
+    (Some(&[]), "Err(Code(3))"),
+    (None, "Err(Fault(\"no reply\"))"),
+];
+
+#[test]
+fn records_each_question(rt: HostRuntime) {
+    let alloc = rt.alloc();
+    let asking = Asking::new(&rt, alloc);
+    let mut host = Recorder::new(alloc, script(&rt, alloc));
+    for (arguments, expected) in RECORDED {
+        let told = told_with(&rt, alloc, &asking, &mut host, *arguments);
+        same(&rt, "answer", &told, expected);
+    }
+    same(
+        &rt,
+        "questions",
+        &questions_of(&rt, alloc, &host),
+        "? command \"c\\t\" \"a b\" \"\\\"\"\n? command \"c\\t\"\n? command \"c\\t\"\n",
+    );
+}
+
+// What a host answers a command with these arguments.
+fn told_with<H: Host>(
+    rt: &impl Abort,
+    alloc: Global,
+    asking: &Asking,
+    host: &mut H,
+    arguments: Option<&[&str]>,
+) -> String {
+    let Some(words) = arguments else {
+        return asking.told(rt, alloc, host, "c\t", None);
+    };
+    let words = all_owned(rt, alloc, words);
+    asking.told(rt, alloc, host, "c\t", Some(&words))
+}
+
+// Texts once more.
+fn all_owned(rt: &impl Abort, alloc: Global, texts: &[&str]) -> Vec<String> {
+    let mut all = Vec::new(alloc);
+    for text in texts {
+        let pushed = all.push(owned(rt, alloc, text));
+        pushed.expect(rt, "no memory");
+    }
+    all
+}

@@ -1,0 +1,28 @@
+// Tests of what no stored case can say: a case that is cut, streams that fail, hosts, and evaluations in a scope that binds
+// something. They stand in a crate of their own since a crate with tests is proved twice.
+#![tactic(auto)]
+
+#[cfg(test)]
+mod blocks;
+#[cfg(test)]
+mod case_run;
+#[cfg(test)]
+mod evaluations;
+#[cfg(test)]
+mod failing;
+#[cfg(test)]
+mod fakes;
+#[cfg(test)]
+mod frame_host;
+#[cfg(test)]
+mod functions;
+#[cfg(test)]
+mod hosts;
+#[cfg(test)]
+mod orders;
+#[cfg(test)]
+mod stored_case;
+#[cfg(test)]
+mod streams;
+#[cfg(test)]
+mod texts;

@@ -1,0 +1,96 @@
+// Runs of one module in two orders.
+
+use crate::case_run::told_by_run;
+use crate::frame_host::FrameHost;
+use crate::texts::{owned, questions_of, same};
+use just_case_lines::case::build;
+use just_case_lines::line::parse_lines;
+use just_host::host::Host;
+use just_host::recorder::Recorder;
+use just_script::scripted_host::ScriptedHost;
+use just_value::scope::Scope;
+use std::alloc::Global;
+use std::process::Abort;
+
+// The case asks this, where `c` is always answered `y`, and binds this.
+fn asks_and_binds(rt: &impl Abort, alloc: Global, case: &str, asked: &str, bound: &str) {
+    let mut host = Recorder::new(alloc, always_y(rt, alloc));
+    binds(rt, alloc, &mut host, case, bound);
+    same(rt, case, &questions_of(rt, alloc, &host), asked);
+}
+
+// A host that answers `c` with `y`.
+fn always_y(rt: &impl Abort, alloc: Global) -> ScriptedHost {
+    let mut always = Vec::new(alloc);
+    let pushed = always.push((owned(rt, alloc, "c"), owned(rt, alloc, "y")));
+    pushed.expect(rt, "no memory");
+    ScriptedHost::new(
+        always,
+        Vec::new(alloc),
+        Vec::new(alloc),
+        Vec::new(alloc),
+        Vec::new(alloc),
+    )
+}
+
+// The case binds this with a host.
+fn binds<H: Host>(rt: &impl Abort, alloc: Global, host: &mut H, case: &str, bound: &str) {
+    let lines = parse_lines(alloc, case.as_bytes()).expect(rt, "no memory");
+    let described = build(alloc, &lines).expect(rt, "no case");
+    let parent = Scope::root(alloc, &[]).expect(rt, "no memory");
+    let told = told_by_run(rt, alloc, host, described, &parent);
+    same(rt, case, &told, bound);
+}
+
+// The last line but one of a case, what it asks, and what it binds.
+const ORDERS: &[(&str, &str, &str)] = &[
+    (
+        "order a b d",
+        "? command \"c\"\n",
+        "a = \"x\"\nb = \"y\"\nd = \"xy\"\n",
+    ),
+    (
+        "order b a d",
+        "? command \"c\"\n",
+        "a = \"x\"\nb = \"y\"\nd = \"xy\"\n",
+    ),
+    ("only a", "", "a = \"x\"\n"),
+];
+
+#[test]
+fn two_orders(rt: HostRuntime) {
+    for (order, asked, bound) in ORDERS {
+        sum_asks_and_binds(&rt, rt.alloc(), order, asked, bound);
+    }
+}
+
+// A text, a command and their sum, with this last line but one, ask this and bind this.
+fn sum_asks_and_binds(rt: &impl Abort, alloc: Global, order: &str, asked: &str, bound: &str) {
+    let case = format!(in alloc;
+        "str x\nassign a\ncmd c\nassign b\nvar a\nvar b\nadd\nassign d\n{order}\nrun"
+    ).expect(rt, "no memory");
+    asks_and_binds(rt, alloc, &case, asked, bound);
+}
+
+// The last line but one of a case, and what it binds where commands are answered by the frames.
+const FRAMES: &[(&str, &str)] = &[
+    ("order a b", "a = \"x\"\nb = \"1\"\n"),
+    ("order b a", "a = \"x\"\nb = \"0\"\n"),
+];
+
+// A host that looks at the frames may answer otherwise in another order.
+#[test]
+fn frames_that_matter(rt: HostRuntime) {
+    for (order, bound) in FRAMES {
+        binds_by_frames(&rt, rt.alloc(), order, bound);
+    }
+}
+
+// A text and a command, with this last line but one, bind this where each command tells how many bindings it is shown.
+fn binds_by_frames(rt: &impl Abort, alloc: Global, order: &str, bound: &str) {
+    let case = format!(in alloc; "str x\nassign a\ncmd c\nassign b\n{order}\nrun").expect(
+        rt,
+        "no memory",
+    );
+    binds(rt, alloc, &mut FrameHost::new(alloc), &case, bound);
+}

@@ -1,0 +1,44 @@
+// The stored case, and what is left of it where it is cut.
+
+use crate::fakes::{whole_reader, whole_writer};
+use crate::texts::{ends, is_so, same_bytes};
+use just_bench::program::run;
+use std::alloc::Global;
+use std::process::Abort;
+
+// The case that the program is stored with, and its answer.
+pub(crate) const STORED_CASE: &str = "cmd one\ncmd two\nand\nassign a\nreply\nreply x\nrun\n";
+
+pub(crate) const STORED_ANSWER: &str = "? command \"one\"\n? command \"two\"\na = \"x\"\n";
+
+// The same without its last line.
+const ENDLESS: &[u8] = b"cmd one\ncmd two\nand\nassign a\nreply\nreply x\n";
+
+// A case has this answer and this status.
+fn answers(rt: &impl Abort, alloc: Global, case: &[u8], answer: &str, status: u8) {
+    let mut out = whole_writer(alloc);
+    let answered = run(alloc, &mut whole_reader(case), &mut out);
+    ends(rt, answer, answered, status);
+    same_bytes(rt, answer, &out.written, answer.as_bytes());
+}
+
+// A case is bad at one of its lines.
+fn is_bad(rt: &impl Abort, alloc: Global, case: &[u8]) {
+    let mut out = whole_writer(alloc);
+    let answered = run(alloc, &mut whole_reader(case), &mut out);
+    assert_eq!(rt; answered, 1, "{}", case.len());
+    is_so(rt, "a bad line", out.written.starts_with(b"bad line "));
+}
+
+// Cut behind any byte the stored case runs as a whole or is bad at the line that was cut.
+#[test]
+fn stored_case_cut(rt: HostRuntime) {
+    let alloc = rt.alloc();
+    let case = STORED_CASE.as_bytes();
+    let whole = case.len().saturating_sub(1);
+    for length in 0..whole {
+        is_bad(&rt, alloc, &case[..length]);
+    }
+    answers(&rt, alloc, &case[..whole], STORED_ANSWER, 0);
+    answers(&rt, alloc, ENDLESS, "bad line 7\n", 1);
+}
