@@ -2,19 +2,17 @@
 
 ghost use Rattle.just_eval.specs.View.{IsConst};
 
+use crate::stage::Stage;
 use crate::{constants, interpreters, settings};
 use just_case_lines::case::{Case, build};
 use just_case_lines::line::{Line, parse_lines};
 use just_eval::evaluator::Evaluator;
 use just_syntax::assignment::Assignment;
-use just_syntax::number::Number;
-use just_syntax::out_of_memory::OutOfMemory;
 use just_syntax::table::Table;
 use just_value::compile_error::CompileError;
 use just_value::scope::Scope;
 use std::alloc::Global;
-use std::collections::HashSet;
-use std::test::Fail;
+use std::process::Abort;
 
 /// What is told of a case.
 #[derive(Clone, Copy)]
@@ -29,92 +27,83 @@ pub(crate) enum Subject {
 
 /// What is told of a case where the outer scope binds the numbers from 0 on, to names and values.
 pub(crate) fn told(
+    rt: &impl Abort,
     alloc: Global,
     case: &str,
     outside: &[(&'static str, &'static str)],
     subject: Subject,
-) -> Result<String, Fail> {
-    let lines = parse_lines(alloc, case.as_bytes())?;
-    let case = build(alloc, &lines)?;
-    told_twice_built(alloc, &case, &lines, outside, subject)
+) -> String {
+    let lines = parse_lines(alloc, case.as_bytes()).expect(rt, "no memory");
+    told_of(rt, alloc, &lines, outside, subject)
 }
 
 // What is told of a case of these lines. It is built once more, since its assignments are taken apart.
-fn told_twice_built<'src>(
+fn told_of<'src>(
+    rt: &impl Abort,
     alloc: Global,
-    case: &Case<'src>,
     lines: &'src [Line<'src>],
     outside: &[(&'static str, &'static str)],
     subject: Subject,
-) -> Result<String, Fail> {
-    let assignments = assignments_of(build(alloc, lines)?);
-    told_of(alloc, case, assignments, outside, subject)
+) -> String {
+    let case = case_of(rt, alloc, lines);
+    let assignments = assignments_of(case_of(rt, alloc, lines));
+    let scope = Scope::root(alloc, outside).expect(rt, "no memory");
+    told_in(rt, alloc, case, assignments, &scope, subject)
+}
+
+fn case_of<'src>(rt: &impl Abort, alloc: Global, lines: &'src [Line<'src>]) -> Case<'src> {
+    build(alloc, lines).expect(rt, "no case")
 }
 
 fn assignments_of<'src>(case: Case<'src>) -> Table<Assignment<'src>> {
     case.assignments
 }
 
-// What is told of a case, which has these assignments.
-fn told_of<'src>(
-    alloc: Global,
-    case: &Case<'src>,
-    assignments: Table<Assignment<'src>>,
-    outside: &[(&'static str, &'static str)],
-    subject: Subject,
-) -> Result<String, Fail> {
-    let scope = Scope::root(alloc, outside)?;
-    match &case.references {
-        Some(references) => told_in(alloc, case, references, assignments, &scope, subject),
-        None => {
-            let none = HashSet::new(alloc);
-            told_in(alloc, case, &none, assignments, &scope, subject)
-        }
-    }
-}
-
+// What is told in a scope of a case, which has these assignments.
 fn told_in<'src>(
+    rt: &impl Abort,
     alloc: Global,
-    case: &Case<'src>,
-    references: &HashSet<Number>,
+    case: Case<'src>,
     assignments: Table<Assignment<'src>>,
     scope: &Scope<'src, '_>,
     subject: Subject,
-) -> Result<String, Fail> {
-    let outcome = Evaluator::evaluate_const_assignments(
-        alloc,
-        &case.assignments,
-        &case.evaluation_order,
-        &case.overrides,
-        scope,
-        references,
-        case.lists,
-    );
-    match outcome {
-        Ok(evaluator) => told_by(alloc, &evaluator, assignments, subject),
-        Err(error) => Ok(said(alloc, &error)?),
+) -> String {
+    let stage = Stage::of_case(alloc, case);
+    match stage.evaluate(alloc, scope) {
+        Ok(evaluator) => told_by(rt, alloc, &evaluator, assignments, subject),
+        Err(error) => said(rt, alloc, &error),
     }
 }
 
 fn told_by<'src>(
+    rt: &impl Abort,
     alloc: Global,
     evaluator: &Evaluator<'src, '_>,
     assignments: Table<Assignment<'src>>,
     subject: Subject,
-) -> Result<String, Fail>
+) -> String
     requires before_runs { IsConst evaluator.now }
 {
     match subject {
-        Subject::Expression => Ok(constants::told_by(alloc, evaluator, &assignments)?),
-        Subject::Interpreter => Ok(interpreters::told_by(alloc, evaluator, assignments)?),
-        Subject::Settings => Ok(settings::told_by(alloc, evaluator, assignments)?),
+        Subject::Expression => constants::told_by(rt, alloc, evaluator, assignments),
+        Subject::Interpreter => interpreters::told_by(rt, alloc, evaluator, assignments),
+        Subject::Settings => settings::told_by(rt, alloc, evaluator, assignments),
     }
 }
 
 /// What a refusal says.
-pub(crate) fn said(alloc: Global, error: &CompileError) -> Result<String, OutOfMemory> {
+pub(crate) fn said(rt: &impl Abort, alloc: Global, error: &CompileError) -> String {
+    let mut text = String::new(alloc);
+    add_said(rt, &mut text, error);
+    text
+}
+
+/// Adds what a refusal says.
+pub(crate) fn add_said(rt: &impl Abort, text: &mut String, error: &CompileError) {
     match error {
-        CompileError::ConstEval { error, token: _ } => Ok(format!(in alloc; "{error}")?),
-        CompileError::OutOfMemory => Ok(String::from_str(alloc, "no memory")?),
+        CompileError::ConstEval { error, token: _ } => {
+            write!(text, "{error}").expect(rt, "no memory");
+        }
+        CompileError::OutOfMemory => panic!(rt; "no memory"),
     }
 }

@@ -2,8 +2,8 @@
 
 ghost use Rattle.just_eval.specs.View.{IsConst};
 
-use crate::cases::{Subject, said, told};
-use crate::compared::{same, tells};
+use crate::cases::{Subject, add_said, told};
+use crate::compared::tells;
 use just_case_lines::token::name;
 use just_eval::evaluator::Evaluator;
 use just_host::no_host::NoHost;
@@ -11,15 +11,12 @@ use just_host::recorder::Recorder;
 use just_syntax::assignment::Assignment;
 use just_syntax::expression::Expression;
 use just_syntax::number::Number;
-use just_syntax::out_of_memory::OutOfMemory;
 use just_syntax::string_context::StringContext;
 use just_syntax::table::Table;
 use just_value::compile_error::CompileError;
 use just_value::value::Value;
 use std::alloc::Global;
-use std::fmt::Display;
 use std::process::Abort;
-use std::test::Fail;
 
 // What an expression comes to, as a value, as a text in the setting `set`, and with a host that is not asked.
 const EXPRESSIONS: &[(&str, &str, &str)] = &[
@@ -71,25 +68,23 @@ const STAGE: &str = "str sh\nassign s\ncmd c\nassign o\n";
 const LAST_LINES: &str = "\nassign e\nonly s o\nconst";
 
 #[test]
-fn const_expressions(rt: HostRuntime) -> Result<(), Fail> {
+fn const_expressions(rt: HostRuntime) {
     for (expression, value, text) in EXPRESSIONS {
-        comes_to(&rt, rt.alloc(), expression, value, text)?;
+        comes_to(&rt, rt.alloc(), expression, value, text);
     }
-    Ok(())
 }
 
-fn comes_to(
-    rt: &impl Abort,
-    alloc: Global,
-    expression: &str,
-    value: &str,
-    text: &str,
-) -> Result<(), Fail> {
-    let case = format!(in alloc; "{STAGE}{expression}{LAST_LINES}")?;
-    let told = told(alloc, &case, NOTHING, Subject::Expression)?;
-    let wanted = format!(in alloc; "{value}; {text}; {value}; 0; \"sh\" open - - - 1 own")?;
-    same(rt, expression, &told, &wanted);
-    Ok(())
+// An expression comes to this value, and to this text.
+fn comes_to(rt: &impl Abort, alloc: Global, expression: &str, value: &str, text: &str) {
+    let wanted = format!(in alloc; "{value}; {text}; {value}; 0; \"sh\" open - - - 1 own");
+    let wanted = wanted.expect(rt, "no memory");
+    tells(rt, expression, staged(rt, alloc, expression), &wanted);
+}
+
+// What is told of an expression, where `s` is settled and `o` is open.
+fn staged(rt: &impl Abort, alloc: Global, expression: &str) -> String {
+    let case = format!(in alloc; "{STAGE}{expression}{LAST_LINES}").expect(rt, "no memory");
+    told(rt, alloc, &case, NOTHING, Subject::Expression)
 }
 
 // The assignments `a`, `b`, `d` and `e` have the numbers 0 to 3, and `e` is not referenced.
@@ -103,109 +98,131 @@ const TWO_NUMBERS: &[(&str, &str)] = &[("k", "v"), ("l", "w")];
 
 // What is settled is bound in front of the outer scope, what is open is not, and what is not referenced is neither.
 #[test]
-fn settled_and_open(rt: HostRuntime) -> Result<(), Fail> {
-    let told = told(rt.alloc(), NUMBERED, NOTHING, Subject::Expression)?;
+fn settled_and_open(rt: HostRuntime) {
+    let told = told(&rt, rt.alloc(), NUMBERED, NOTHING, Subject::Expression);
     let wanted = "\"y\"; y; \"y\"; 0; \"x\" open open - - 1 own";
     tells(&rt, NUMBERED, told, wanted);
-    Ok(())
 }
 
 // A number that the outer scope binds is passed over: it keeps its outer value, also where a command stands.
 #[test]
-fn bound_outside(rt: HostRuntime) -> Result<(), Fail> {
-    let told = told(rt.alloc(), NUMBERED, TWO_NUMBERS, Subject::Expression)?;
+fn bound_outside(rt: HostRuntime) {
+    let told = told(&rt, rt.alloc(), NUMBERED, TWO_NUMBERS, Subject::Expression);
     let wanted = "\"y\"; y; \"y\"; 0; \"v\" \"w\" \"w\" - - 1 own";
     tells(&rt, NUMBERED, told, wanted);
-    Ok(())
 }
 
 /// What an expression comes to: as a value, as a text, as a value where a host is handed in; how often that host was asked;
 /// and what the first five numbers are.
 pub(crate) fn told_by<'src>(
+    rt: &impl Abort,
     alloc: Global,
     evaluator: &Evaluator<'src, '_>,
-    assignments: &Table<Assignment<'src>>,
-) -> Result<String, OutOfMemory>
-    requires before_runs { IsConst evaluator.now }
-{
-    match assignments.get("e") {
-        Some(assignment) => expression_told(alloc, evaluator, &assignment.value),
-        None => Ok(String::new(alloc)),
-    }
-}
-
-fn expression_told<'src>(
-    alloc: Global,
-    evaluator: &Evaluator<'src, '_>,
-    expression: &Expression<'src>,
-) -> Result<String, OutOfMemory>
+    assignments: Table<Assignment<'src>>,
+) -> String
     requires before_runs { IsConst evaluator.now }
 {
     let mut text = String::new(alloc);
-    let value = evaluator.evaluate_value_const(alloc, expression);
-    add_outcome(alloc, &mut text, value)?;
-    let setting = StringContext::Setting(name("set"));
-    let string = evaluator.evaluate_string_const(alloc, expression, setting);
-    add_outcome(alloc, &mut text, string)?;
-    let (value, asked) = asked(alloc, evaluator, expression);
-    add_outcome(alloc, &mut text, value)?;
-    write!(text, "{asked}; ")?;
-    add_numbers(&mut text, evaluator)?;
-    Ok(text)
+    match assignments.get("e") {
+        Some(assignment) => add_all(rt, alloc, &mut text, evaluator, &assignment.value),
+        None => panic!(rt; "no expression"),
+    }
+    text
 }
 
-// Adds what an expression comes to, or what is said of its refusal.
-fn add_outcome<T: Display + Drop>(
+// Adds all of it.
+fn add_all<'src>(
+    rt: &impl Abort,
     alloc: Global,
     text: &mut String,
-    outcome: Result<T, CompileError>,
-) -> Result<(), OutOfMemory> {
-    match outcome {
-        Ok(value) => Ok(write!(text, "{value}; ")?),
-        Err(error) => add_refusal(alloc, text, &error),
-    }
-}
-
-fn add_refusal(alloc: Global, text: &mut String, error: &CompileError) -> Result<(), OutOfMemory> {
-    let said = said(alloc, error)?;
-    write!(text, "{said}; ")?;
-    Ok(())
-}
-
-// What an expression comes to as a value where a host is handed in, and how often that host was asked.
-fn asked<'src>(
-    alloc: Global,
     evaluator: &Evaluator<'src, '_>,
     expression: &Expression<'src>,
-) -> (Result<Value, CompileError<'src>>, usize)
+)
+    requires before_runs { IsConst evaluator.now }
+{
+    let value = evaluator.evaluate_value_const(alloc, expression);
+    add_value(rt, text, &value);
+    add_text(rt, alloc, text, evaluator, expression);
+    add_asked(rt, alloc, text, evaluator, expression);
+    add_numbers(rt, text, evaluator);
+}
+
+// Adds a value, or what is said of its refusal.
+fn add_value(rt: &impl Abort, text: &mut String, outcome: &Result<Value, CompileError>) {
+    match outcome {
+        Ok(value) => write!(text, "{value}").expect(rt, "no memory"),
+        Err(error) => add_said(rt, text, error),
+    }
+    text.push_str("; ").expect(rt, "no memory");
+}
+
+// Adds what an expression comes to as a text.
+fn add_text<'src>(
+    rt: &impl Abort,
+    alloc: Global,
+    text: &mut String,
+    evaluator: &Evaluator<'src, '_>,
+    expression: &Expression<'src>,
+)
+    requires before_runs { IsConst evaluator.now }
+{
+    let setting = StringContext::Setting(name("set"));
+    match evaluator.evaluate_string_const(alloc, expression, setting) {
+        Ok(string) => text.push_str(&string).expect(rt, "no memory"),
+        Err(error) => add_said(rt, text, &error),
+    }
+    text.push_str("; ").expect(rt, "no memory");
+}
+
+// Adds what an expression comes to as a value where a host is handed in, and how often that host was asked.
+fn add_asked<'src>(
+    rt: &impl Abort,
+    alloc: Global,
+    text: &mut String,
+    evaluator: &Evaluator<'src, '_>,
+    expression: &Expression<'src>,
+)
     requires before_runs { IsConst evaluator.now }
 {
     let mut host = Recorder::new(alloc, NoHost);
-    let outcome = evaluator.evaluate_value(alloc, &mut host, expression);
+    let value = value_with(alloc, &mut host, evaluator, expression);
+    add_value(rt, text, &value);
     let asked = host.questions().len();
-    match outcome {
-        Ok(value) => (Ok(value), asked),
-        Err(error) => (Err(error.unwrap_const()), asked),
+    write!(text, "{asked}; ").expect(rt, "no memory");
+}
+
+// What an expression comes to as a value where this host is handed in.
+fn value_with<'src>(
+    alloc: Global,
+    host: &mut Recorder<NoHost>,
+    evaluator: &Evaluator<'src, '_>,
+    expression: &Expression<'src>,
+) -> Result<Value, CompileError<'src>>
+    requires before_runs { IsConst evaluator.now }
+{
+    match evaluator.evaluate_value(alloc, host, expression) {
+        Ok(value) => Ok(value),
+        Err(error) => Err(error.unwrap_const()),
     }
 }
 
 // Adds what the first five numbers are, and how many bindings are own.
-fn add_numbers(text: &mut String, evaluator: &Evaluator) -> Result<(), OutOfMemory> {
+fn add_numbers(rt: &impl Abort, text: &mut String, evaluator: &Evaluator) {
     for number in 0..5u64 {
-        add_number(text, evaluator, Number::new(number))?;
+        add_number(rt, text, evaluator, Number::new(number));
     }
     let own = evaluator.scope().bindings().count();
-    write!(text, "{own} own")?;
-    Ok(())
+    write!(text, "{own} own").expect(rt, "no memory");
 }
 
-fn add_number(text: &mut String, evaluator: &Evaluator, number: Number) -> Result<(), OutOfMemory> {
-    if let Some(value) = evaluator.scope().value(number) {
-        write!(text, "{value} ")?;
-    } else if evaluator.is_open(number) {
-        text.push_str("open ")?;
+fn add_number(rt: &impl Abort, text: &mut String, evaluator: &Evaluator, number: Number) {
+    let unsettled = if evaluator.is_open(number) {
+        "open "
     } else {
-        text.push_str("- ")?;
+        "- "
+    };
+    match evaluator.scope().value(number) {
+        Some(value) => write!(text, "{value} ").expect(rt, "no memory"),
+        None => text.push_str(unsettled).expect(rt, "no memory"),
     }
-    Ok(())
 }

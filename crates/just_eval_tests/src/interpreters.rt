@@ -4,7 +4,7 @@
 ghost use Rattle.just_eval.specs.View.{IsConst};
 
 use crate::cases::{Subject, said, told};
-use crate::compared::tells;
+use crate::compared::{same, tells};
 use just_case_lines::token::name;
 use just_eval::evaluator::Evaluator;
 use just_syntax::assignment::Assignment;
@@ -13,25 +13,27 @@ use just_syntax::interpreter::Interpreter;
 use just_syntax::out_of_memory::OutOfMemory;
 use just_syntax::table::Table;
 use std::alloc::Global;
-use std::test::Fail;
+use std::process::Abort;
 
 /// What a list is as an interpreter: its first element is the command, and the others are arguments.
-pub(crate) fn interpreter<'src>(list: Expression<'src>) -> Option<Interpreter<Expression<'src>>> {
-    let Expression::List {
-        mut elements,
-        token: _,
-    } = list
-    else {
-        return None;
-    };
-    if elements.is_empty() {
-        return None;
-    }
+pub(crate) fn interpreter<'src>(
+    rt: &impl Abort,
+    list: Expression<'src>,
+) -> Interpreter<Expression<'src>> {
+    let mut elements = elements_of(rt, list);
+    assert!(rt; !elements.is_empty(), "no command");
     let command = elements.remove(0);
-    Some(Interpreter {
+    Interpreter {
         arguments: elements,
         command,
-    })
+    }
+}
+
+fn elements_of<'src>(rt: &impl Abort, list: Expression<'src>) -> Vec<Expression<'src>> {
+    match list {
+        Expression::List { elements, token: _ } => elements,
+        _ => panic!(rt; "no list"),
+    }
 }
 
 // What the lines of a list push, and what it comes to as an interpreter.
@@ -56,58 +58,53 @@ const INTERPRETERS: &[(&str, &str)] = &[
 ];
 
 #[test]
-fn const_interpreters(rt: HostRuntime) -> Result<(), Fail> {
-    let alloc = rt.alloc();
+fn const_interpreters(rt: HostRuntime) {
     for (list, expected) in INTERPRETERS {
-        let case = format!(in alloc; "str zsh\nassign s\n{list}\nassign e\nonly s\nconst")?;
-        let told = told(alloc, &case, &[], Subject::Interpreter)?;
-        tells(&rt, list, told, expected);
+        tells(&rt, list, staged(&rt, rt.alloc(), list), expected);
     }
-    Ok(())
+}
+
+// What is told of a list, where `s` is settled.
+fn staged(rt: &impl Abort, alloc: Global, list: &str) -> String {
+    let case = format!(in alloc; "str zsh\nassign s\n{list}\nassign e\nonly s\nconst");
+    let case = case.expect(rt, "no memory");
+    told(rt, alloc, &case, &[], Subject::Interpreter)
 }
 
 /// What the interpreter of a case comes to, or what is said of its refusal.
 pub(crate) fn told_by<'src>(
+    rt: &impl Abort,
     alloc: Global,
     evaluator: &Evaluator<'src, '_>,
     assignments: Table<Assignment<'src>>,
-) -> Result<String, OutOfMemory>
+) -> String
     requires before_runs { IsConst evaluator.now }
 {
-    match list_of(assignments) {
-        Some(list) => list_told(alloc, evaluator, &list),
-        None => Ok(String::new(alloc)),
+    let list = interpreter(rt, first_of(rt, assignments));
+    match evaluator.evaluate_interpreter(alloc, &list, name("shell")) {
+        Ok(interpreter) => printed(rt, alloc, &interpreter),
+        Err(error) => said(rt, alloc, &error),
     }
 }
 
-// What the assignment `e` is as an interpreter.
-fn list_of<'src>(assignments: Table<Assignment<'src>>) -> Option<Interpreter<Expression<'src>>> {
-    for assignment in assignments {
-        if assignment.name.lexeme() == "e" {
-            return interpreter(assignment.value);
-        }
-    }
-    None
-}
-
-// What an interpreter comes to, or what is said of its refusal.
-fn list_told<'src>(
-    alloc: Global,
-    evaluator: &Evaluator<'src, '_>,
-    list: &Interpreter<Expression<'src>>,
-) -> Result<String, OutOfMemory>
-    requires before_runs { IsConst evaluator.now }
-{
-    match evaluator.evaluate_interpreter(alloc, list, name("shell")) {
-        Ok(interpreter) => printed(alloc, &interpreter),
-        Err(error) => said(alloc, &error),
+// The expression of the assignment `e`, which is the first by its name.
+fn first_of<'src>(rt: &impl Abort, assignments: Table<Assignment<'src>>) -> Expression<'src> {
+    match assignments.into_iter().next() {
+        Some(assignment) => expression_of(rt, assignment),
+        None => panic!(rt; "no assignment"),
     }
 }
 
-fn printed(alloc: Global, interpreter: &Interpreter<String>) -> Result<String, OutOfMemory> {
+// The expression of an assignment, which is `e`.
+fn expression_of<'src>(rt: &impl Abort, assignment: Assignment<'src>) -> Expression<'src> {
+    same(rt, "name", assignment.name.lexeme(), "e");
+    assignment.value
+}
+
+fn printed(rt: &impl Abort, alloc: Global, interpreter: &Interpreter<String>) -> String {
     let mut text = String::new(alloc);
-    print(&mut text, interpreter)?;
-    Ok(text)
+    print(&mut text, interpreter).expect(rt, "no memory");
+    text
 }
 
 /// Adds a command and its arguments.

@@ -1,22 +1,21 @@
 // Settings that no expression gives: the flags, the indentation and the least version.
 
+ghost use Rattle.just_eval.specs.View.{IsConst};
+
 use crate::compared::{counts, is_so};
+use crate::stage::Stage;
 use just_case_lines::token::{name, token};
 use just_eval::evaluator::Evaluator;
 use just_host::settings::Settings;
-use just_syntax::assignment::Assignment;
 use just_syntax::indentation::Indentation;
-use just_syntax::number::Number;
-use just_syntax::out_of_memory::OutOfMemory;
 use just_syntax::set::Set;
 use just_syntax::setting::Setting;
 use just_syntax::string_literal::StringLiteral;
 use just_syntax::table::Table;
+use just_value::compile_error::CompileError;
 use just_value::scope::Scope;
 use std::alloc::Global;
-use std::collections::{HashMap, HashSet};
 use std::process::Abort;
-use std::test::Fail;
 
 // The flags, each by the name of its setting.
 const FLAGS: &[&str] = &[
@@ -42,8 +41,8 @@ const FLAGS: &[&str] = &[
 ];
 
 // A flag that is on, by its name.
-fn flag(name: &str) -> Option<Setting<'static>> {
-    Some(match name {
+fn flag(rt: &impl Abort, name: &str) -> Setting<'static> {
+    match name {
         "allow-duplicate-recipes" => Setting::AllowDuplicateRecipes(true),
         "allow-duplicate-variables" => Setting::AllowDuplicateVariables(true),
         "default-list" => Setting::DefaultList(true),
@@ -63,80 +62,78 @@ fn flag(name: &str) -> Option<Setting<'static>> {
         "quiet" => Setting::Quiet(true),
         "unstable" => Setting::Unstable(true),
         "windows-powershell" => Setting::WindowsPowerShell(true),
-        _ => return None,
-    })
+        _ => panic!(rt; "no flag"),
+    }
 }
 
 // What these settings come to where nothing is settled and nothing is open.
-fn settings_of<'src>(alloc: Global, sets: Table<Set<'src>>) -> Result<Settings, Fail> {
-    let scope = Scope::root(alloc, &[])?;
-    let assignments = Table::new(alloc);
-    let overrides = HashMap::new(alloc);
-    let references = HashSet::new(alloc);
-    settings_in(alloc, sets, &scope, &assignments, &overrides, &references)
+fn settings_of(rt: &impl Abort, alloc: Global, sets: Table<Set<'static>>) -> Settings {
+    let scope = Scope::root(alloc, &[]).expect(rt, "no memory");
+    settings_in(rt, alloc, sets, &scope)
 }
 
 fn settings_in<'src>(
+    rt: &impl Abort,
     alloc: Global,
     sets: Table<Set<'src>>,
     scope: &Scope<'src, '_>,
-    assignments: &Table<Assignment<'src>>,
-    overrides: &HashMap<Number, String>,
-    references: &HashSet<Number>,
-) -> Result<Settings, Fail> {
-    let outcome = Evaluator::evaluate_const_assignments(
-        alloc,
-        assignments,
-        &[],
-        overrides,
-        scope,
-        references,
-        false,
-    );
-    match outcome {
-        Ok(evaluator) => Ok(evaluator.evaluate_sets(alloc, sets)?),
-        Err(error) => Err(error.into()),
+) -> Settings {
+    let stage = Stage::of_nothing(alloc);
+    match stage.evaluate(alloc, scope) {
+        Ok(evaluator) => settings_by(rt, alloc, &evaluator, sets),
+        Err(error) => no_settings(rt, &error),
     }
+}
+
+fn settings_by<'src>(
+    rt: &impl Abort,
+    alloc: Global,
+    evaluator: &Evaluator<'src, '_>,
+    sets: Table<Set<'src>>,
+) -> Settings
+    requires before_runs { IsConst evaluator.now }
+{
+    match evaluator.evaluate_sets(alloc, sets) {
+        Ok(settings) => settings,
+        Err(error) => no_settings(rt, &error),
+    }
+}
+
+// The test ends where settings are refused.
+fn no_settings(rt: &impl Abort, error: &CompileError) -> Settings {
+    panic!(rt; "{error}")
 }
 
 // Each flag turns its own field on, and no other: with all but one of them on, that one is off.
 #[test]
-fn flags(rt: HostRuntime) -> Result<(), Fail> {
+fn flags(rt: HostRuntime) {
     for left_out in FLAGS {
-        is_off_alone(&rt, rt.alloc(), left_out)?;
+        is_off_alone(&rt, rt.alloc(), left_out);
     }
-    Ok(())
 }
 
-fn is_off_alone(rt: &impl Abort, alloc: Global, left_out: &str) -> Result<(), Fail> {
-    let flags = flags_without(alloc, left_out)?;
+fn is_off_alone(rt: &impl Abort, alloc: Global, left_out: &str) {
+    let flags = flags_without(rt, alloc, left_out);
     for (lexeme, is_on) in FLAGS.iter().zip(&flags) {
         assert_eq!(rt; *is_on, *lexeme != left_out, "{left_out} {lexeme}");
     }
-    Ok(())
 }
 
 // What each flag is where all but one of them are turned on.
-fn flags_without(alloc: Global, left_out: &str) -> Result<[bool; 19], Fail> {
-    let settings = settings_of(alloc, sets_without(alloc, left_out)?)?;
-    Ok(flags_of(&settings))
+fn flags_without(rt: &impl Abort, alloc: Global, left_out: &str) -> [bool; 19] {
+    let sets = sets_without(rt, alloc, left_out);
+    flags_of(&settings_of(rt, alloc, sets))
 }
 
-fn sets_without(alloc: Global, left_out: &str) -> Result<Table<Set<'static>>, OutOfMemory> {
+fn sets_without(rt: &impl Abort, alloc: Global, left_out: &str) -> Table<Set<'static>> {
     let mut sets = Table::new(alloc);
     for lexeme in FLAGS {
-        if *lexeme != left_out
-            && let Some(value) = flag(lexeme)
-        {
-            sets.insert(named(lexeme, value))?;
+        if *lexeme != left_out {
+            sets.insert(named(lexeme, flag(rt, lexeme)))
+                .expect(rt, "no memory");
         }
     }
-    Ok(sets)
-}
-
-fn named(lexeme: &'static str, value: Setting<'static>) -> Set<'static> {
-    let name = name(lexeme);
-    Set { name, value }
+    sets
 }
 
 // Each flag, in the order of `FLAGS`.
@@ -166,12 +163,10 @@ fn flags_of(settings: &Settings) -> [bool; 19] {
 
 // A setting that is set twice has its last value; the least version changes nothing.
 #[test]
-fn kept_settings(rt: HostRuntime) -> Result<(), Fail> {
-    let alloc = rt.alloc();
-    let sets = sets_set_twice(alloc)?;
+fn kept_settings(rt: HostRuntime) {
+    let sets = sets_set_twice(&rt, rt.alloc());
     counts(&rt, "settings", sets.len(), 3);
-    indents_by_two(&rt, alloc, &settings_of(alloc, sets)?);
-    Ok(())
+    indents_by_two(&rt, rt.alloc(), &settings_of(&rt, rt.alloc(), sets));
 }
 
 // Whether nothing is set but the indentation: to two spaces.
@@ -181,27 +176,36 @@ fn indents_by_two(rt: &impl Abort, alloc: Global, settings: &Settings) {
     is_so(rt, "indentation", *settings == wanted);
 }
 
-fn sets_set_twice(alloc: Global) -> Result<Table<Set<'static>>, OutOfMemory> {
-    let version = minimum_version(alloc)?;
+fn sets_set_twice(rt: &impl Abort, alloc: Global) -> Table<Set<'static>> {
+    let version = minimum_version(rt, alloc);
     let mut sets = Table::new(alloc);
-    sets.insert(named("minimum-version", version))?;
-    sets.insert(indentation("tabs", Indentation::Tabs))?;
-    sets.insert(indentation("2", Indentation::Spaces(2)))?;
-    sets.insert(named("quiet", Setting::Quiet(true)))?;
-    sets.insert(named("quiet", Setting::Quiet(false)))?;
-    Ok(sets)
+    sets.insert(version).expect(rt, "no memory");
+    sets.insert(indentation("tabs", Indentation::Tabs))
+        .expect(rt, "no memory");
+    sets.insert(indentation("2", Indentation::Spaces(2)))
+        .expect(rt, "no memory");
+    sets.insert(quiet(true)).expect(rt, "no memory");
+    sets.insert(quiet(false)).expect(rt, "no memory");
+    sets
 }
 
-fn minimum_version(alloc: Global) -> Result<Setting<'static>, OutOfMemory> {
-    Ok(Setting::MinimumVersion(StringLiteral {
-        cooked: String::from_str(alloc, "1.58.0")?,
-        lexeme: "'1.58.0'",
-        indented: false,
-    }))
+fn minimum_version(rt: &impl Abort, alloc: Global) -> Set<'static> {
+    let version = StringLiteral::new(alloc, "1.58.0", "'1.58.0'");
+    let value = Setting::MinimumVersion(version.expect(rt, "no memory"));
+    named("minimum-version", value)
 }
 
 // The indentation, as it is written.
 fn indentation(written: &'static str, indentation: Indentation) -> Set<'static> {
     let value = Setting::Indentation(token(written), indentation);
     named("indentation", value)
+}
+
+fn quiet(is_quiet: bool) -> Set<'static> {
+    named("quiet", Setting::Quiet(is_quiet))
+}
+
+fn named(lexeme: &'static str, value: Setting<'static>) -> Set<'static> {
+    let name = name(lexeme);
+    Set { name, value }
 }

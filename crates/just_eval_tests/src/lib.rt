@@ -13,3 +13,5 @@ mod interpreters;
 mod kept;
 #[cfg(test)]
 mod settings;
+#[cfg(test)]
+mod stage;

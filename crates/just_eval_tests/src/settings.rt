@@ -17,67 +17,90 @@ use just_syntax::table::Table;
 use just_value::compile_error::CompileError;
 use just_value::value::Value;
 use std::alloc::Global;
-use std::test::Fail;
+use std::process::Abort;
 
-// A setting of an expression, by its name. That of an interpreter is a list: the command and its arguments.
-fn setting<'src>(name: &str, value: Expression<'src>) -> Option<Setting<'src>> {
-    Some(match name {
-        "dotenv-command" => Setting::DotenvCommand(value),
-        "dotenv-filename" => Setting::DotenvFilename(value),
-        "dotenv-path" => Setting::DotenvPath(value),
-        "script-interpreter" => Setting::ScriptInterpreter(interpreter(value)?),
-        "shell" => Setting::Shell(interpreter(value)?),
-        "tempdir" => Setting::Tempdir(value),
-        "windows-shell" => Setting::WindowsShell(interpreter(value)?),
-        "working-directory" => Setting::WorkingDirectory(value),
-        _ => return None,
-    })
+// A setting by its name. That of an interpreter is given as a list: the command and its arguments.
+fn setting<'src>(rt: &impl Abort, name: &str, value: Expression<'src>) -> Option<Setting<'src>> {
+    if ["script-interpreter", "shell", "windows-shell"].contains(&name) {
+        return setting_of_list(name, interpreter(rt, value));
+    }
+    setting_of_expression(name, value)
+}
+
+// A setting of an interpreter, by its name.
+fn setting_of_list<'src>(name: &str, list: Interpreter<Expression<'src>>) -> Option<Setting<'src>> {
+    match name {
+        "script-interpreter" => Some(Setting::ScriptInterpreter(list)),
+        "shell" => Some(Setting::Shell(list)),
+        "windows-shell" => Some(Setting::WindowsShell(list)),
+        _ => None,
+    }
+}
+
+// A setting of an expression, by its name.
+fn setting_of_expression<'src>(name: &str, value: Expression<'src>) -> Option<Setting<'src>> {
+    match name {
+        "dotenv-command" => Some(Setting::DotenvCommand(value)),
+        "dotenv-filename" => Some(Setting::DotenvFilename(value)),
+        "dotenv-path" => Some(Setting::DotenvPath(value)),
+        "tempdir" => Some(Setting::Tempdir(value)),
+        "working-directory" => Some(Setting::WorkingDirectory(value)),
+        _ => None,
+    }
 }
 
 // The settings that a case's assignments are, by their names; those with other names are none.
 fn sets_of<'src>(
+    rt: &impl Abort,
     alloc: Global,
     assignments: Table<Assignment<'src>>,
-) -> Result<Table<Set<'src>>, OutOfMemory> {
+) -> Table<Set<'src>> {
     let mut sets = Table::new(alloc);
     for assignment in assignments {
-        let name = assignment.name;
-        if let Some(value) = setting(name.lexeme(), assignment.value) {
-            sets.insert(Set { name, value })?;
-        }
+        add_set(rt, &mut sets, assignment);
     }
-    Ok(sets)
+    sets
+}
+
+// Adds the setting that an assignment is, if it is one.
+fn add_set<'src>(rt: &impl Abort, sets: &mut Table<Set<'src>>, assignment: Assignment<'src>) {
+    let name = assignment.name;
+    if let Some(value) = setting(rt, name.lexeme(), assignment.value) {
+        let inserted = sets.insert(Set { name, value });
+        inserted.expect(rt, "no memory");
+    }
 }
 
 /// What a case's settings come to: a line for each that is set to something, or what they are refused with.
 pub(crate) fn told_by<'src>(
+    rt: &impl Abort,
     alloc: Global,
     evaluator: &Evaluator<'src, '_>,
     assignments: Table<Assignment<'src>>,
-) -> Result<String, OutOfMemory>
+) -> String
     requires before_runs { IsConst evaluator.now }
 {
-    match evaluator.evaluate_sets(alloc, sets_of(alloc, assignments)?) {
-        Ok(settings) => printed(alloc, &settings),
-        Err(error) => refusal_told(alloc, &error),
+    match evaluator.evaluate_sets(alloc, sets_of(rt, alloc, assignments)) {
+        Ok(settings) => printed(rt, alloc, &settings),
+        Err(error) => refusal_told(rt, alloc, &error),
     }
 }
 
 // What a refusal says, behind the place where it stands.
-fn refusal_told(alloc: Global, error: &CompileError) -> Result<String, OutOfMemory> {
+fn refusal_told(rt: &impl Abort, alloc: Global, error: &CompileError) -> String {
     match error {
         CompileError::ConstEval { token, error } => {
             let place = token.lexeme();
-            Ok(format!(in alloc; "{place}: {error}")?)
+            format!(in alloc; "{place}: {error}").expect(rt, "no memory")
         }
-        CompileError::OutOfMemory => Ok(String::from_str(alloc, "no memory")?),
+        CompileError::OutOfMemory => panic!(rt; "no memory"),
     }
 }
 
-fn printed(alloc: Global, settings: &Settings) -> Result<String, OutOfMemory> {
+fn printed(rt: &impl Abort, alloc: Global, settings: &Settings) -> String {
     let mut text = String::new(alloc);
-    print(&mut text, settings)?;
-    Ok(text)
+    print(&mut text, settings).expect(rt, "no memory");
+    text
 }
 
 // What is set to something, each behind its name.
@@ -189,11 +212,9 @@ const SETTINGS: &[(&str, &str)] = &[
 ];
 
 #[test]
-fn const_settings(rt: HostRuntime) -> Result<(), Fail> {
-    let alloc = rt.alloc();
+fn const_settings(rt: HostRuntime) {
     for (case, settings) in SETTINGS {
-        let told = told(alloc, case, &[], Subject::Settings)?;
+        let told = told(&rt, rt.alloc(), case, &[], Subject::Settings);
         tells(&rt, case, told, settings);
     }
-    Ok(())
 }
