@@ -3,38 +3,31 @@
 ghost use Rattle.just_eval.specs.View.{HasRoom};
 ghost use Rattle.std.specs.Prelude.{◌<◌};
 
-use crate::recipes::failing::{Failing, NEVER};
+use crate::recipes::around::{Around, evaluator};
+use crate::recipes::failing::{Failing, NEVER, WAYS};
 use crate::recipes::hosts::{TellingHost, refusal};
-use crate::recipes::{Around, RECIPE, empty_module};
+use crate::recipes::texts::{add, owned, same, same_failing};
 use just_case_lines::token::{name, token};
 use just_eval::evaluator::Evaluator;
 use just_host::execution_context::ExecutionContext;
-use just_host::justfile::Justfile;
 use just_script::fail_at::How;
 use just_syntax::expression::Expression;
-use just_syntax::out_of_memory::OutOfMemory;
 use just_syntax::string_context::StringContext;
 use just_value::error::CommandFault;
-use just_value::scope::Scope;
 use std::alloc::Global;
 use std::collections::BTreeMap;
-use std::test::Fail;
-
-// The environment of each call.
-fn env(alloc: Global) -> Result<BTreeMap<String, String>, Fail> {
-    let mut env = BTreeMap::new(alloc);
-    env.insert(String::from_str(alloc, "A")?, String::from_str(alloc, "x")?)?;
-    Ok(env)
-}
+use std::process::Abort;
 
 #[test]
-fn a_command_a_value_and_a_text(rt: HostRuntime) -> Result<(), Fail> {
-    let told = told(rt.alloc(), NEVER)?;
-    assert_eq!(rt;
-        told.as_str(),
-        "? run A=x ();<run>;? c A=x () ();\"<c>\";? c A=x () ();<c>;"
+fn a_command_a_value_and_a_text(rt: HostRuntime) {
+    let mut host = TellingHost::new(rt.alloc(), NEVER);
+    call(&rt, rt.alloc(), &mut host);
+    same(
+        &rt,
+        "the calls",
+        &host.told,
+        "? run A=x ();<run>;? c A=x () ();\"<c>\";? c A=x () ();<c>;",
     );
-    Ok(())
 }
 
 // What each call asks, and what comes of it.
@@ -46,32 +39,31 @@ const CALLS: &[(&str, &str)] = &[
 
 // What is asked of a host that fails is refused, and what was asked before is not.
 #[test]
-fn calls_whose_question_fails(rt: HostRuntime) -> Result<(), Fail> {
-    let alloc = rt.alloc();
-    for how in [How::Fault, How::Memory] {
-        for passed in 0..CALLS.len() + 1 {
-            let told = told(alloc, Failing { passed, how })?;
-            let expected = expected(alloc, passed, how)?;
-            assert_eq!(rt; told.as_str(), expected.as_str(), "{how:?} {passed}");
+fn calls_whose_question_fails(rt: HostRuntime) {
+    for how in WAYS {
+        for passed in 0..=CALLS.len() {
+            calls_fail(&rt, rt.alloc(), (passed, *how));
         }
     }
-    Ok(())
+}
+
+// The calls are told so of a host that fails in some way.
+fn calls_fail(rt: &impl Abort, alloc: Global, failing: Failing) {
+    let mut host = TellingHost::new(alloc, failing);
+    call(rt, alloc, &mut host);
+    let wanted = wanted(rt, alloc, failing);
+    same_failing(rt, "the calls", failing, &host.told, &wanted);
 }
 
 // What is told of the calls where so many questions are passed on.
-fn expected(alloc: Global, passed: usize, how: How) -> Result<String, OutOfMemory> {
-    let mut expected = String::new(alloc);
-    let mut left = passed;
-    for (question, answer) in CALLS {
-        expected.push_str(question)?;
-        if left == 0 {
-            expected.push_str(refused(how))?;
-        } else {
-            expected.push_str(answer)?;
-            left -= 1;
-        }
+fn wanted(rt: &impl Abort, alloc: Global, (passed, how): Failing) -> String {
+    let mut wanted = String::new(alloc);
+    for (place, (question, answer)) in CALLS.iter().enumerate() {
+        add(rt, &mut wanted, question);
+        let fails = place >= passed;
+        add(rt, &mut wanted, if fails { refused(how) } else { answer });
     }
-    Ok(expected)
+    wanted
 }
 
 // How the refusal of a call whose question fails is told.
@@ -82,106 +74,99 @@ fn refused(how: How) -> &'static str {
     }
 }
 
-// What was asked, each time with what came of it.
-fn told(alloc: Global, failing: Failing) -> Result<String, Fail> {
-    let module = empty_module(alloc)?;
-    let around = Around::new(alloc)?;
-    let scope = Scope::root(alloc, &[])?;
-    told_on(alloc, &module, &around, &scope, failing)
+// Makes the calls, each in an environment of one variable.
+fn call(rt: &impl Abort, alloc: Global, host: &mut TellingHost) {
+    let around = Around::of_nothing(rt, alloc);
+    let command = command(rt, alloc);
+    call_in(rt, alloc, host, &around, &command);
 }
 
-fn told_on<'src>(
-    alloc: Global,
-    module: &Justfile<'src>,
-    around: &Around,
-    scope: &Scope<'src, '_>,
-    failing: Failing,
-) -> Result<String, Fail> {
-    let context = around.context(module, scope, 100);
-    let mut host = TellingHost::new(alloc, failing);
-    run(alloc, &mut host, &context, scope)?;
-    evaluate(alloc, &mut host, &context, scope)?;
-    Ok(host.into_told())
+fn command(rt: &impl Abort, alloc: Global) -> Expression<'static> {
+    Expression::Backtick {
+        contents: owned(rt, alloc, "c"),
+        token: token("c"),
+    }
 }
 
-fn run<'src>(
+fn call_in(
+    rt: &impl Abort,
     alloc: Global,
     host: &mut TellingHost,
-    context: &ExecutionContext<'src, '_>,
-    scope: &Scope<'src, '_>,
-) -> Result<(), Fail> {
-    // A dry run runs no command.
+    around: &Around<'static>,
+    command: &Expression<'static>,
+) {
+    let context = around.context();
+    run(rt, alloc, host, &context, &env(rt, alloc));
+    evaluate(rt, alloc, host, &context, command);
+}
+
+// The environment of each call.
+fn env(rt: &impl Abort, alloc: Global) -> BTreeMap<String, String> {
+    let mut env = BTreeMap::new(alloc);
+    let inserted: Result<_, _> = env.insert(owned(rt, alloc, "A"), owned(rt, alloc, "x"));
+    inserted.expect(rt, "no memory");
+    env
+}
+
+// Runs the command `run`. A dry run runs no command.
+fn run(
+    rt: &impl Abort,
+    alloc: Global,
+    host: &mut TellingHost,
+    context: &ExecutionContext<'static, '_>,
+    env: &BTreeMap<String, String>,
+) {
     if context.config.dry_run {
-        return Ok(());
+        panic!(rt; "a dry run");
     }
-    let env = env(alloc)?;
-    match Evaluator::run_command(alloc, host, context, &env, scope, "run", None) {
-        Ok(text) => write!(host.told, "{text};")?,
-        Err(CommandFault::OutOfMemory) => host.told.push_str("no memory;")?,
-        Err(_fault) => host.told.push_str("refused;")?,
+    match Evaluator::run_command(alloc, host, context, env, context.scope, "run", None) {
+        Ok(text) => host.tell(rt, &text),
+        Err(CommandFault::OutOfMemory) => host.tell(rt, "no memory"),
+        Err(_fault) => host.tell(rt, "refused"),
     }
-    Ok(())
+    host.tell(rt, ";");
 }
 
-fn evaluate<'src>(
+fn evaluate(
+    rt: &impl Abort,
     alloc: Global,
     host: &mut TellingHost,
-    context: &ExecutionContext<'src, '_>,
-    scope: &Scope<'src, '_>,
-) -> Result<(), Fail>
+    context: &ExecutionContext<'static, '_>,
+    command: &Expression<'static>,
+)
     requires room { 0 < context.now.recursion_limit }
 {
-    let env = env(alloc)?;
-    let evaluator = Evaluator::new(alloc, context, env, false, Some(name(RECIPE)), scope)?;
-    evaluate_command(alloc, host, &evaluator)?;
-    Ok(())
+    let evaluator = evaluator(rt, alloc, context, env(rt, alloc), context.scope);
+    evaluate_value(rt, alloc, host, &evaluator, command);
+    evaluate_text(rt, alloc, host, &evaluator, command);
 }
 
-fn evaluate_command<'src>(
+fn evaluate_value(
+    rt: &impl Abort,
     alloc: Global,
     host: &mut TellingHost,
-    evaluator: &Evaluator<'src, '_>,
-) -> Result<(), OutOfMemory>
-    requires room { HasRoom evaluator.now }
-{
-    let command = command(alloc)?;
-    evaluate_value(alloc, host, evaluator, &command)?;
-    evaluate_text(alloc, host, evaluator, &command)
-}
-
-fn command<'src>(alloc: Global) -> Result<Expression<'src>, OutOfMemory> {
-    Ok(Expression::Backtick {
-        contents: String::from_str(alloc, "c")?,
-        token: token("c"),
-    })
-}
-
-fn evaluate_value<'src>(
-    alloc: Global,
-    host: &mut TellingHost,
-    evaluator: &Evaluator<'src, '_>,
-    command: &Expression<'src>,
-) -> Result<(), OutOfMemory>
+    evaluator: &Evaluator<'static, '_>,
+    command: &Expression<'static>,
+)
     requires room { HasRoom evaluator.now }
 {
     match evaluator.evaluate_value(alloc, host, command) {
-        Ok(value) => write!(host.told, "{value};")?,
-        Err(error) => write!(host.told, "{};", refusal(&error))?,
+        Ok(value) => write!(host.told, "{value};").expect(rt, "no memory"),
+        Err(error) => write!(host.told, "{};", refusal(&error)).expect(rt, "no memory"),
     }
-    Ok(())
 }
 
-fn evaluate_text<'src>(
+fn evaluate_text(
+    rt: &impl Abort,
     alloc: Global,
     host: &mut TellingHost,
-    evaluator: &Evaluator<'src, '_>,
-    command: &Expression<'src>,
-) -> Result<(), OutOfMemory>
+    evaluator: &Evaluator<'static, '_>,
+    command: &Expression<'static>,
+)
     requires room { HasRoom evaluator.now }
 {
     let place = StringContext::Setting(name("set"));
     let outcome = evaluator.evaluate_string(alloc, host, command, place);
-    host.tell(outcome)?;
-    host.told.push(';')?;
-    Ok(())
+    host.tell_outcome(rt, &outcome);
+    host.tell(rt, ";");
 }

@@ -1,47 +1,61 @@
 // Checks of values that refuse all, or have no memory.
 
-use crate::recipes::conditions::{Check, Conditions};
+use crate::recipes::called::Check;
 use crate::recipes::failing::NEVER;
+use crate::recipes::hosts::TellingHost;
 use crate::recipes::parameter_rows::{NONE, ROWS, Row};
-use crate::recipes::parameters::parameters_told;
+use crate::recipes::parameters::tell_row;
+use crate::recipes::texts::{is_so, owned, same};
 use std::alloc::Global;
 use std::process::Abort;
-use std::test::Fail;
 
-// What a check ends each recipe with that comes to its first parameter.
-fn end(alloc: Global, check: Check, parameter: &str) -> Result<String, Fail> {
-    Ok(match check {
-        Check::RefusesNo => String::new(alloc),
-        Check::RefusesAll => format!(in alloc; "check {parameter} no")?,
-        Check::OutOfMemory => String::from_str(alloc, "no memory")?,
-    })
+#[test]
+fn checks_that_refuse_all(rt: HostRuntime) {
+    for row in ROWS {
+        row_ends_at_first(&rt, rt.alloc(), row, Check::RefusesAll);
+        row_ends_at_first(&rt, rt.alloc(), row, Check::OutOfMemory);
+    }
 }
 
 // A recipe whose parameters are checked in some way, which is told `whole` where the check lets them pass, ends at its
 // first parameter, and asks first what it asks there. Where no parameter is checked it is told as ever.
-fn ends_at_first(
-    rt: &impl Abort,
-    alloc: Global,
-    check: Check,
-    parameters: &str,
-    told: &str,
-    whole: &str,
-) -> Result<(), Fail> {
-    let Some(first) = parameters.split_whitespace().next() else {
-        assert_eq!(rt; told, whole);
-        return Ok(());
-    };
-    match told.strip_suffix(end(alloc, check, name_in(first))?.as_str()) {
-        Some(asked) => assert!(rt; whole.starts_with(asked), "{told}"),
-        None => {
-            assert!(rt;
-                !whole.contains("words") && !whole.contains("check"),
-                "{told}"
-            );
-            assert_eq!(rt; told, whole);
-        }
+fn row_ends_at_first(rt: &impl Abort, alloc: Global, row: &Row<'static>, check: Check) {
+    let (_, parameters, _, _, whole) = *row;
+    let mut host = TellingHost::new(alloc, NEVER);
+    tell_row(rt, alloc, &mut host, row, check);
+    match parameters.split_whitespace().next() {
+        Some(first) => ends_so(
+            rt,
+            &host.told,
+            &end(rt, alloc, check, name_in(first)),
+            whole,
+        ),
+        None => same(rt, whole, &host.told, whole),
     }
-    Ok(())
+}
+
+// What is told ends so, and asks first what is asked first in `whole`, or no parameter is checked.
+fn ends_so(rt: &impl Abort, told: &str, end: &str, whole: &str) {
+    match told.strip_suffix(end) {
+        Some(asked) => is_so(rt, told, whole.starts_with(asked)),
+        None => checks_nothing(rt, told, whole),
+    }
+}
+
+// No parameter is checked in `whole`, and that is what is told.
+fn checks_nothing(rt: &impl Abort, told: &str, whole: &str) {
+    let checks_none = !whole.contains("words") && !whole.contains("check");
+    is_so(rt, told, checks_none);
+    same(rt, whole, told, whole);
+}
+
+// What a check ends each recipe with that comes to its first parameter.
+fn end(rt: &impl Abort, alloc: Global, check: Check, parameter: &str) -> String {
+    match check {
+        Check::RefusesNo => String::new(alloc),
+        Check::RefusesAll => format!(in alloc; "check {parameter} no").expect(rt, "no memory"),
+        Check::OutOfMemory => owned(rt, alloc, "no memory"),
+    }
 }
 
 // The name of a parameter that a word describes.
@@ -53,36 +67,14 @@ fn name_in(word: &str) -> &str {
     }
 }
 
-#[test]
-fn checks_that_refuse_all(rt: HostRuntime) -> Result<(), Fail> {
-    let alloc = rt.alloc();
-    for check in [Check::RefusesAll, Check::OutOfMemory] {
-        for row in ROWS {
-            row_ends_at_first(&rt, alloc, check, row)?;
-        }
-    }
-    Ok(())
-}
-
-fn row_ends_at_first(
-    rt: &impl Abort,
-    alloc: Global,
-    check: Check,
-    row: &Row<'static>,
-) -> Result<(), Fail> {
-    let (case, parameters, arguments, is_dependency, whole) = *row;
-    let conditions = Conditions {
-        is_dependency,
-        check,
-        failing: NEVER,
-    };
-    let told = parameters_told(alloc, case, parameters, arguments, conditions)?;
-    ends_at_first(rt, alloc, check, parameters, &told, whole)
-}
-
 // An attribute and two parameters, each of which asks.
-const ASKING: &str =
-    "only p q\nstr A\nassign k-1\ncmd e\nassign e-1\ncmd c\nassign d-p\ncmd d\nassign d-q\nrun";
+const ASKING: Row<'static> = (
+    "only p q\nstr A\nassign k-1\ncmd e\nassign e-1\ncmd c\nassign d-p\ncmd d\nassign d-q\nrun",
+    "p q",
+    &[NONE, NONE],
+    false,
+    "",
+);
 
 // What comes of it where all is refused, and where there is no memory to check.
 const ENDS: &[(Check, &str)] = &[
@@ -92,15 +84,15 @@ const ENDS: &[(Check, &str)] = &[
 
 // The attributes and the first parameter's default ask, and what stands behind does not.
 #[test]
-fn asked_before_the_first_check(rt: HostRuntime) -> Result<(), Fail> {
-    for (check, expected) in ENDS {
-        let conditions = Conditions {
-            is_dependency: false,
-            check: *check,
-            failing: NEVER,
-        };
-        let told = parameters_told(rt.alloc(), ASKING, "p q", &[NONE, NONE], conditions)?;
-        assert_eq!(rt; told.as_str(), *expected, "{check:?}");
+fn asked_before_the_first_check(rt: HostRuntime) {
+    for (check, wanted) in ENDS {
+        asks_and_ends(&rt, rt.alloc(), *check, wanted);
     }
-    Ok(())
+}
+
+// What asks is told so where it is checked in some way.
+fn asks_and_ends(rt: &impl Abort, alloc: Global, check: Check, wanted: &str) {
+    let mut host = TellingHost::new(alloc, NEVER);
+    tell_row(rt, alloc, &mut host, &ASKING, check);
+    same(rt, "what asks", &host.told, wanted);
 }

@@ -1,59 +1,54 @@
 // How a host fails, and what is told then.
 
+use crate::recipes::texts::{add, owned};
 use just_script::fail_at::How;
-use just_syntax::out_of_memory::OutOfMemory;
 use std::alloc::Global;
+use std::process::Abort;
 
 /// How a host fails: behind how many questions, and in which way.
-#[derive(Clone, Copy, Debug)]
-pub(crate) struct Failing {
-    pub(crate) passed: usize,
-    pub(crate) how: How,
-}
+pub(crate) type Failing = (usize, How);
 
 /// No question fails.
-pub(crate) const NEVER: Failing = Failing {
-    passed: usize::MAX,
-    how: How::Memory,
-};
+pub(crate) const NEVER: Failing = (usize::MAX, How::Memory);
 
-/// Each way in which the questions fail that a text tells first: from each one on, and from the one behind the last.
-pub(crate) fn each_way(alloc: Global, told: &str) -> Result<Vec<Failing>, OutOfMemory> {
-    let mut ways = Vec::new(alloc);
-    let mut passed = 0usize;
+/// The ways in which a question fails.
+pub(crate) const WAYS: &[How] = &[How::Fault, How::Memory];
+
+/// How many questions a text tells first.
+pub(crate) fn questions(told: &str) -> usize {
+    let mut count = 0usize;
     for piece in told.split(";") {
-        for how in [How::Fault, How::Memory] {
-            ways.push(Failing { passed, how })?;
-        }
         if !piece.starts_with("? ") {
-            return Ok(ways);
+            return count;
         }
-        passed = passed.saturating_add(1);
+        count = count.saturating_add(1);
     }
-    Ok(ways)
+    count
 }
 
 /// What is told in place of a text where its questions fail: those that are passed on, the first that is not, and a
 /// refusal.
 pub(crate) fn told_failing(
+    rt: &impl Abort,
     alloc: Global,
     told: &str,
-    failing: Failing,
-) -> Result<String, OutOfMemory> {
+    (passed, how): Failing,
+) -> String {
+    if passed >= questions(told) {
+        return owned(rt, alloc, told);
+    }
     let mut expected = String::new(alloc);
-    let mut left = failing.passed;
+    let mut left = passed;
     for question in told.split(";") {
-        if !question.starts_with("? ") {
-            return Ok(String::from_str(alloc, told)?);
-        }
-        write!(expected, "{question};")?;
+        add(rt, &mut expected, question);
+        add(rt, &mut expected, ";");
         if left == 0 {
-            expected.push_str(refusal(failing.how))?;
-            return Ok(expected);
+            add(rt, &mut expected, refusal(how));
+            return expected;
         }
         left -= 1;
     }
-    Ok(expected)
+    expected
 }
 
 // How the refusal of a command that fails is told.

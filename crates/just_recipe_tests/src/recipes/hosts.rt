@@ -1,6 +1,7 @@
 // A host that tells what it is asked, and fails from a question on.
 
 use crate::recipes::failing::Failing;
+use crate::recipes::texts::add;
 use just_host::command_question::CommandQuestion;
 use just_host::host::Host;
 use just_host::no_host::NoHost;
@@ -14,6 +15,7 @@ use just_value::frame::Frame;
 use just_value::scope::Scope;
 use std::alloc::Global;
 use std::collections::BTreeMap;
+use std::process::Abort;
 
 /// Answers each command with its own text in angle brackets, and knows nothing else.
 #[derive(Drop)]
@@ -55,27 +57,24 @@ pub(crate) struct TellingHost {
 
 impl TellingHost {
     /// A host that passes so many questions on, and then fails.
-    pub(crate) fn new(alloc: Global, failing: Failing) -> TellingHost {
+    pub(crate) fn new(alloc: Global, (passed, how): Failing) -> TellingHost {
         TellingHost {
             told: String::new(alloc),
-            host: FailAt::new(BracketHost {}, failing.passed, failing.how),
+            host: FailAt::new(BracketHost {}, passed, how),
         }
     }
 
-    /// Tells a text, or its refusal.
-    pub(crate) fn tell(&mut self, outcome: Result<String, Error>) -> Result<(), OutOfMemory> {
+    /// Tells a text.
+    pub(crate) fn tell(&mut self, rt: &impl Abort, text: &str) {
+        add(rt, &mut self.told, text);
+    }
+
+    /// Tells a text that was evaluated, or its refusal.
+    pub(crate) fn tell_outcome(&mut self, rt: &impl Abort, outcome: &Result<String, Error>) {
         match outcome {
-            Ok(text) => self.told.push_str(&text)?,
-            Err(error) => self.told.push_str(refusal(&error))?,
+            Ok(text) => self.tell(rt, text),
+            Err(error) => self.tell(rt, refusal(error)),
         }
-        Ok(())
-    }
-
-    /// What was told.
-    pub(crate) fn into_told(self) -> String {
-        let TellingHost { told, host } = self;
-        drop(host);
-        told
     }
 }
 

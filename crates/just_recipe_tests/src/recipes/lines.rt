@@ -1,29 +1,28 @@
 // Lines of recipes.
 
+ghost use Rattle.just_eval.specs.View.{HasRoom};
 ghost use Rattle.std.specs.Prelude.{◌<◌};
 
-use crate::recipes::failing::{Failing, NEVER, each_way, told_failing};
+use crate::recipes::around::{Around, evaluator, expressions_of};
+use crate::recipes::failing::{Failing, NEVER, WAYS, questions, told_failing};
 use crate::recipes::hosts::TellingHost;
-use crate::recipes::{Around, RECIPE, empty_module, expressions_of, module_of_case};
-use just_case_lines::case::{Case, build};
-use just_case_lines::line::parse_lines;
+use crate::recipes::texts::{same, same_failing};
+use just_case_lines::line::{Line as CaseLine, parse_lines};
 use just_case_lines::token::{name, token};
 use just_eval::evaluator::Evaluator;
 use just_eval::resolved_here;
 use just_host::execution_context::ExecutionContext;
-use just_host::justfile::Justfile;
 use just_syntax::attribute_set::AttributeSet;
 use just_syntax::expression::Expression;
 use just_syntax::fragment::Fragment;
 use just_syntax::line::Line;
 use just_syntax::number::Number;
-use just_syntax::out_of_memory::OutOfMemory;
 use just_value::binding::Binding;
 use just_value::scope::Scope;
 use just_value::value::Value;
 use std::alloc::Global;
 use std::collections::BTreeMap;
-use std::test::Fail;
+use std::process::Abort;
 
 // A piece of a line: text, or the value of the case's next assignment, by the bytes of their names.
 #[derive(Clone, Copy)]
@@ -36,7 +35,9 @@ use Piece::{Interpolated, Written};
 
 // A line of the recipe: what gives its interpolations, its pieces, whether it is continued, and what comes of it, behind
 // what was asked.
-const LINES: &[(&str, &[Piece], bool, &str)] = &[
+type Row = (&'static str, &'static [Piece], bool, &'static str);
+
+const LINES: &[Row] = &[
     ("run", &[], false, ""),
     ("run", &[], true, ""),
     ("run", &[Written("  {{{{x")], false, "  {{x"),
@@ -92,26 +93,48 @@ const LINES: &[(&str, &[Piece], bool, &str)] = &[
 ];
 
 #[test]
-fn text_fragments(rt: HostRuntime) -> Result<(), Fail> {
-    let alloc = rt.alloc();
-    for (case, pieces, continued, expected) in LINES {
-        let told = line_told(alloc, case, pieces, *continued, NEVER)?;
-        assert_eq!(rt; told.as_str(), *expected, "{case}");
+fn text_fragments(rt: HostRuntime) {
+    for (case, pieces, continued, wanted) in LINES {
+        line_tells(&rt, rt.alloc(), case, (pieces, *continued), wanted);
     }
-    Ok(())
+}
+
+// A line of these pieces, continued or not, tells this where no question fails.
+fn line_tells(
+    rt: &impl Abort,
+    alloc: Global,
+    case: &str,
+    (pieces, continued): (&[Piece], bool),
+    wanted: &str,
+) {
+    let mut host = TellingHost::new(alloc, NEVER);
+    tell_case(rt, alloc, &mut host, case, pieces, continued);
+    same(rt, case, &host.told, wanted);
 }
 
 #[test]
-fn lines_whose_questions_fail(rt: HostRuntime) -> Result<(), Fail> {
-    let alloc = rt.alloc();
-    for (case, pieces, continued, whole) in LINES {
-        for failing in &each_way(alloc, whole)? {
-            let told = line_told(alloc, case, pieces, *continued, *failing)?;
-            let expected = told_failing(alloc, whole, *failing)?;
-            assert_eq!(rt; told.as_str(), expected.as_str(), "{case} {failing:?}");
+fn lines_whose_questions_fail(rt: HostRuntime) {
+    for row in LINES {
+        row_fails_each_way(&rt, rt.alloc(), row);
+    }
+}
+
+fn row_fails_each_way(rt: &impl Abort, alloc: Global, row: &Row) {
+    let (_, _, _, whole) = *row;
+    for passed in 0..=questions(whole) {
+        for how in WAYS {
+            row_fails(rt, alloc, row, (passed, *how));
         }
     }
-    Ok(())
+}
+
+// A line is told so where its questions fail in some way.
+fn row_fails(rt: &impl Abort, alloc: Global, row: &Row, failing: Failing) {
+    let (case, pieces, continued, whole) = *row;
+    let mut host = TellingHost::new(alloc, failing);
+    tell_case(rt, alloc, &mut host, case, pieces, continued);
+    let wanted = told_failing(rt, alloc, whole, failing);
+    same_failing(rt, case, failing, &host.told, &wanted);
 }
 
 // `g` runs a command, `f` puts what it gives behind a parameter, and `r` tells the recipe's name.
@@ -130,152 +153,178 @@ const CALLS: &[(&str, &str)] = &[
 // A body that a line calls stands on the context's scope: it is shown its callers' frames and no recipe's, and knows the
 // recipe's name.
 #[test]
-fn frames_from_a_line(rt: HostRuntime) -> Result<(), Fail> {
-    for (call, expected) in CALLS {
-        let told = call_told(rt.alloc(), call)?;
-        assert_eq!(rt; told.as_str(), *expected, "{call}");
+fn frames_from_a_line(rt: HostRuntime) {
+    for (call, wanted) in CALLS {
+        call_tells(&rt, rt.alloc(), call, wanted);
     }
-    Ok(())
 }
 
-fn call_told(alloc: Global, call: &str) -> Result<String, Fail> {
-    let case = format!(in alloc; "{FUNCTIONS}{call}")?;
-    line_told(alloc, &case, &[Interpolated], false, NEVER)
+// A line that calls one of the functions tells this.
+fn call_tells(rt: &impl Abort, alloc: Global, call: &str, wanted: &str) {
+    let case = format!(in alloc; "{FUNCTIONS}{call}").expect(rt, "no memory");
+    line_tells(rt, alloc, &case, (&[Interpolated], false), wanted);
 }
 
-// What a line comes to, behind what was asked, where the recipe's scope binds `p` to `z`.
-fn line_told(
+// Tells a line of pieces, behind what is asked.
+fn tell_case(
+    rt: &impl Abort,
     alloc: Global,
+    host: &mut TellingHost,
     case: &str,
     pieces: &[Piece],
     continued: bool,
-    failing: Failing,
-) -> Result<String, Fail> {
-    let lines = parse_lines(alloc, case.as_bytes())?;
-    let line = line_of_case(alloc, pieces, build(alloc, &lines)?)?;
-    let module = module_of_case(alloc, build(alloc, &lines)?)?;
-    told_in_module(alloc, &module, &line, continued, failing)
+) {
+    let lines = parse_lines(alloc, case.as_bytes()).expect(rt, "no memory");
+    tell_pieces(rt, alloc, host, &lines, pieces, continued);
 }
 
-fn line_of_case<'src>(
+fn tell_pieces<'src>(
+    rt: &impl Abort,
     alloc: Global,
+    host: &mut TellingHost,
+    lines: &'src [CaseLine<'src>],
     pieces: &[Piece],
-    case: Case<'src>,
-) -> Result<Line<'src>, OutOfMemory> {
-    let expressions = expressions_of(alloc, case)?;
-    line_of(alloc, pieces, expressions)
+    continued: bool,
+) {
+    let around = Around::of_lines(rt, alloc, lines);
+    let line = line_of(rt, alloc, pieces, expressions_of(rt, alloc, lines));
+    tell_around(rt, alloc, host, &around, &line, continued);
 }
 
-/// The same for a line that calls no function of a file.
-pub(crate) fn told(alloc: Global, line: &Line) -> Result<String, Fail> {
-    let module = empty_module(alloc)?;
-    told_in_module(alloc, &module, line, false, NEVER)
+/// Tells a line that calls no function of a file, behind what is asked.
+pub(crate) fn tell(rt: &impl Abort, alloc: Global, host: &mut TellingHost, line: &Line<'static>) {
+    let around = Around::of_nothing(rt, alloc);
+    tell_around(rt, alloc, host, &around, line, false);
 }
 
-fn told_in_module<'src>(
+// The same where the recipe's scope binds `p` to `z`.
+fn tell_around<'src>(
+    rt: &impl Abort,
     alloc: Global,
-    module: &Justfile<'src>,
+    host: &mut TellingHost,
+    around: &Around<'src>,
     line: &Line<'src>,
     continued: bool,
-    failing: Failing,
-) -> Result<String, Fail> {
-    let around = Around::new(alloc)?;
-    let base = Scope::root(alloc, &[])?;
-    told_on(alloc, module, &around, &base, line, continued, failing)
+) {
+    let scope = scope_of(rt, alloc, around);
+    tell_in(rt, alloc, host, &around.context(), &scope, line, continued);
 }
 
-// The same where the module's assignments gave a scope.
-fn told_on<'src>(
+// A scope that binds `p` to `z`.
+fn scope_of<'src, 'run>(
+    rt: &impl Abort,
     alloc: Global,
-    module: &Justfile<'src>,
-    around: &Around,
-    base: &Scope<'src, '_>,
-    line: &Line<'src>,
-    continued: bool,
-    failing: Failing,
-) -> Result<String, Fail> {
-    let mut scope = base.child(alloc)?;
-    scope.bind(bound(alloc, Value::from_text(alloc, "z")?))?;
-    let context = around.context(module, base, 100);
-    told_in(alloc, &context, &scope, line, continued, failing)
+    around: &'run Around<'src>,
+) -> Scope<'src, 'run> {
+    let mut scope = around.scope.child(alloc).expect(rt, "no memory");
+    let bound = scope.bind(binding(rt, alloc));
+    bound.expect(rt, "no memory");
+    scope
 }
 
-// A line of pieces, of which each interpolated one takes the next expression.
-fn line_of<'src>(
-    alloc: Global,
-    pieces: &[Piece],
-    expressions: Vec<Expression<'src>>,
-) -> Result<Line<'src>, OutOfMemory> {
-    let mut fragments = Vec::new(alloc);
-    let mut left = expressions.into_iter();
-    for piece in pieces {
-        match piece {
-            Written(lexeme) => fragments.push(Fragment::Text {
-                token: token(lexeme),
-            })?,
-            Interpolated => {
-                if let Some(expression) = left.next() {
-                    fragments.push(Fragment::Interpolation { expression })?;
-                }
-            }
-        }
-    }
-    Ok(Line { fragments })
-}
-
-// What a line comes to in a scope, behind what was asked. It is resolved.
-fn told_in<'src>(
-    alloc: Global,
-    context: &ExecutionContext<'src, '_>,
-    scope: &Scope<'src, '_>,
-    line: &Line<'src>,
-    continued: bool,
-    failing: Failing,
-) -> Result<String, Fail>
-    requires room { 0 < context.now.recursion_limit }
-{
-    let mut host = TellingHost::new(alloc, failing);
-    if !is_resolved(alloc, context, scope, line)? {
-        host.told.push_str("unresolved;")?;
-    }
-    tell_line(alloc, &mut host, context, scope, line, continued)?;
-    Ok(host.into_told())
-}
-
-fn tell_line<'src>(
+// The same in a scope. The line is resolved.
+fn tell_in<'src>(
+    rt: &impl Abort,
     alloc: Global,
     host: &mut TellingHost,
     context: &ExecutionContext<'src, '_>,
     scope: &Scope<'src, '_>,
     line: &Line<'src>,
     continued: bool,
-) -> Result<(), OutOfMemory>
+)
     requires room { 0 < context.now.recursion_limit }
 {
+    let expressions = interpolated(rt, alloc, line);
+    if !resolved_here(alloc, context, scope, None, &[], expressions).expect(rt, "no memory") {
+        host.tell(rt, "unresolved;");
+    }
     let env = BTreeMap::new(alloc);
-    let recipe = Some(name(RECIPE));
-    let evaluator = Evaluator::new(alloc, context, env, false, recipe, scope)?;
-    let outcome = evaluator.evaluate_line(alloc, host, line, continued);
-    host.tell(outcome)
+    tell_line(rt, alloc, host, context, env, scope, line, continued);
 }
 
-fn is_resolved<'src>(
+/// Tells a line in a scope and an environment, behind what is asked.
+pub(crate) fn tell_line<'src>(
+    rt: &impl Abort,
     alloc: Global,
+    host: &mut TellingHost,
     context: &ExecutionContext<'src, '_>,
+    env: BTreeMap<String, String>,
     scope: &Scope<'src, '_>,
     line: &Line<'src>,
-) -> Result<bool, OutOfMemory> {
+    continued: bool,
+)
+    requires room { 0 < context.now.recursion_limit }
+{
+    let evaluator = evaluator(rt, alloc, context, env, scope);
+    tell_text(rt, alloc, host, &evaluator, line, continued);
+}
+
+fn tell_text<'src>(
+    rt: &impl Abort,
+    alloc: Global,
+    host: &mut TellingHost,
+    evaluator: &Evaluator<'src, '_>,
+    line: &Line<'src>,
+    continued: bool,
+)
+    requires room { HasRoom evaluator.now }
+{
+    let outcome = evaluator.evaluate_line(alloc, host, line, continued);
+    host.tell_outcome(rt, &outcome);
+}
+
+// A line of pieces, of which each interpolated one takes the next expression.
+fn line_of<'src>(
+    rt: &impl Abort,
+    alloc: Global,
+    pieces: &[Piece],
+    expressions: Vec<Expression<'src>>,
+) -> Line<'src> {
+    let mut fragments = Vec::new(alloc);
+    let mut left = expressions.into_iter();
+    for piece in pieces {
+        let fragment = match piece {
+            Written(lexeme) => Fragment::Text {
+                token: token(lexeme),
+            },
+            Interpolated => Fragment::Interpolation {
+                expression: left.next().expect(rt, "no expression"),
+            },
+        };
+        fragments.push(fragment).expect(rt, "no memory");
+    }
+    Line { fragments }
+}
+
+/// A line of one interpolation.
+pub(crate) fn interpolation<'src>(
+    rt: &impl Abort,
+    alloc: Global,
+    expression: Expression<'src>,
+) -> Line<'src> {
+    let fragment = Fragment::Interpolation { expression };
+    Line {
+        fragments: vec![in alloc; fragment].expect(rt, "no memory"),
+    }
+}
+
+// The interpolations of a line.
+fn interpolated<'a, 'src>(
+    rt: &impl Abort,
+    alloc: Global,
+    line: &'a Line<'src>,
+) -> Vec<&'a Expression<'src>> {
     let mut expressions = Vec::new(alloc);
     for fragment in &line.fragments {
         if let Fragment::Interpolation { expression } = fragment {
-            expressions.push(expression)?;
+            expressions.push(expression).expect(rt, "no memory");
         }
     }
-    resolved_here(alloc, context, scope, None, &[], expressions)
+    expressions
 }
 
-// Binds the parameter `p`, which has a number that no name of a case has.
-fn bound<'src>(alloc: Global, value: Value) -> Binding<'src> {
+// Binds the parameter `p`, which has a number that no name of a case has, to `z`.
+fn binding<'src>(rt: &impl Abort, alloc: Global) -> Binding<'src> {
     Binding {
         attributes: AttributeSet::new(alloc),
         eager: false,
@@ -285,6 +334,6 @@ fn bound<'src>(alloc: Global, value: Value) -> Binding<'src> {
         number: Number::new(1000),
         prelude: false,
         private: false,
-        value,
+        value: Value::from_text(alloc, "z").expect(rt, "no memory"),
     }
 }

@@ -3,7 +3,8 @@
 /// A case, parameters, arguments, whether the recipe may run as a dependency, and what comes of it, behind what was asked.
 ///
 /// The case begins with the names of the parameters, so that their numbers are their places. The assignments `d-N`
-/// and `v-N` are the default and the value of the parameter N; `k-1` and `e-1` the key and the value of an `[env]` attribute.
+/// and `v-N` are the default and the value of the parameter N; `k-1` and `e-1` the key and the value of an `[env]` attribute,
+/// `k-2` and `e-2` those of a second.
 ///
 /// Parameters are written as words: `+` or `*` before the name for the kind, and behind a slash `f` for a flag, `m` for one
 /// that may be given more than once, `x` for an exported one. The recipe may run as a dependency.

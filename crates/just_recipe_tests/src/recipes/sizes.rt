@@ -1,20 +1,20 @@
 // Recipes with a thousand parameters, and lines of a thousand fragments. Twice as many take about twice as long.
 
+use crate::recipes::called::Called;
+use crate::recipes::failing::NEVER;
+use crate::recipes::hosts::TellingHost;
+use crate::recipes::texts::{add, owned, same};
 use crate::recipes::{lines, parameters};
 use just_case_lines::token::{name, token};
-use just_syntax::attribute_set::AttributeSet;
 use just_syntax::expression::Expression;
 use just_syntax::fragment::Fragment;
 use just_syntax::line::Line;
 use just_syntax::number::Number;
-use just_syntax::out_of_memory::OutOfMemory;
 use just_syntax::parameter::Parameter;
 use just_syntax::parameter_kind::ParameterKind;
-use just_syntax::recipe::Recipe;
 use just_value::value::Value;
 use std::alloc::Global;
 use std::process::Abort;
-use std::test::Fail;
 
 // The variable with a number, of which each has the same name.
 fn variable<'src>(number: u64) -> Expression<'src> {
@@ -24,115 +24,108 @@ fn variable<'src>(number: u64) -> Expression<'src> {
     }
 }
 
-// So many parameters, of which each but the first reads the one before where no argument is given.
-fn in_a_row<'src>(alloc: Global, count: u64) -> Result<Vec<Parameter<'src>>, OutOfMemory> {
-    let mut parameters = Vec::new(alloc);
-    for number in 0..count {
-        let default = if number == 0 {
-            None
-        } else {
-            Some(variable(number - 1))
-        };
-        parameters.push(Parameter {
-            default,
-            export: false,
-            flag: false,
-            kind: ParameterKind::Singular,
-            multiple: false,
-            name: name("x"),
-            number: Number::new(number),
-            value: None,
-        })?;
+// So many parameters, of which each but the first reads the one before where no argument is given, and an argument for the
+// first alone.
+fn in_a_row<'src>(rt: &impl Abort, alloc: Global, count: u64) -> Called<'src> {
+    let mut called = Called::new(alloc);
+    let argument = Value::from_text(alloc, "a").expect(rt, "no memory");
+    push(rt, &mut called, parameter(0, None), argument);
+    for number in 1..count {
+        let default = variable(number.saturating_sub(1));
+        let parameter = parameter(number, Some(default));
+        push(rt, &mut called, parameter, Value::new(alloc));
     }
-    Ok(parameters)
+    called
 }
 
-// An argument for the first parameter alone.
-fn arguments(alloc: Global, count: u64) -> Result<Vec<Value>, OutOfMemory> {
-    let mut arguments = Vec::new(alloc);
-    arguments.push(Value::from_text(alloc, "a")?)?;
-    for _ in 1..count {
-        arguments.push(Value::new(alloc))?;
-    }
-    Ok(arguments)
+fn parameter<'src>(number: u64, default: Option<Expression<'src>>) -> Parameter<'src> {
+    let mut parameter = Parameter::new(name("x"), Number::new(number), ParameterKind::Singular);
+    parameter.default = default;
+    parameter
 }
 
-// What comes of the parameters in a row.
-fn told_in_a_row(alloc: Global, count: u64) -> Result<String, Fail> {
-    let recipe = Recipe {
-        attributes: AttributeSet::new(alloc),
-        name: name("build"),
-    };
-    let parameters = in_a_row(alloc, count)?;
-    let arguments = arguments(alloc, count)?;
-    parameters::told(alloc, &parameters, &recipe, &arguments)
+// Adds a parameter and its argument.
+fn push<'src>(
+    rt: &impl Abort,
+    called: &mut Called<'src>,
+    parameter: Parameter<'src>,
+    argument: Value,
+) {
+    called.parameters.push(parameter).expect(rt, "no memory");
+    called.arguments.push(argument).expect(rt, "no memory");
 }
 
 // Adds a piece so often.
-fn repeat(text: &mut String, piece: &str, count: u64) -> Result<(), OutOfMemory> {
+fn repeat(rt: &impl Abort, text: &mut String, piece: &str, count: u64) {
     for _ in 0..count {
-        text.push_str(piece)?;
+        add(rt, text, piece);
     }
-    Ok(())
 }
 
 // A word and a binding for each parameter.
-fn wanted_in_a_row(alloc: Global, count: u64) -> Result<String, OutOfMemory> {
-    let mut wanted = String::from_str(alloc, "words")?;
-    repeat(&mut wanted, " a", count)?;
-    wanted.push_str("; (")?;
-    repeat(&mut wanted, "x = \"a\"", count)?;
-    wanted.push_str(") env;")?;
-    Ok(wanted)
+fn wanted_in_a_row(rt: &impl Abort, alloc: Global, count: u64) -> String {
+    let mut wanted = owned(rt, alloc, "words");
+    repeat(rt, &mut wanted, " a", count);
+    add(rt, &mut wanted, "; (");
+    repeat(rt, &mut wanted, "x = \"a\"", count);
+    add(rt, &mut wanted, ") env;");
+    wanted
 }
 
 // The argument of the first parameter comes to be the value of each.
-fn reads_the_one_before(rt: &impl Abort, alloc: Global, count: u64) -> Result<(), Fail> {
-    let told = told_in_a_row(alloc, count)?;
-    let wanted = wanted_in_a_row(alloc, count)?;
-    assert_eq!(rt; told.as_str(), wanted.as_str());
-    Ok(())
+fn reads_the_one_before(rt: &impl Abort, alloc: Global, count: u64) {
+    let mut host = TellingHost::new(alloc, NEVER);
+    parameters::tell(rt, alloc, &mut host, &in_a_row(rt, alloc, count));
+    let wanted = wanted_in_a_row(rt, alloc, count);
+    same(rt, "parameters in a row", &host.told, &wanted);
 }
 
 #[test]
-fn a_thousand_parameters_in_a_row(rt: HostRuntime) -> Result<(), Fail> {
-    reads_the_one_before(&rt, rt.alloc(), 1000)
+fn a_thousand_parameters_in_a_row(rt: HostRuntime) {
+    reads_the_one_before(&rt, rt.alloc(), 1000);
 }
 
 #[test]
-fn two_thousand_parameters_in_a_row(rt: HostRuntime) -> Result<(), Fail> {
-    reads_the_one_before(&rt, rt.alloc(), 2000)
+fn two_thousand_parameters_in_a_row(rt: HostRuntime) {
+    reads_the_one_before(&rt, rt.alloc(), 2000);
 }
 
 // So many texts and interpolations, of what is bound to 1000.
-fn line_of<'src>(alloc: Global, count: u64) -> Result<Line<'src>, OutOfMemory> {
-    let mut fragments = Vec::new(alloc);
+fn line_of<'src>(rt: &impl Abort, alloc: Global, count: u64) -> Line<'src> {
+    let mut line = Line {
+        fragments: Vec::new(alloc),
+    };
     for _ in 0..count {
-        fragments.push(Fragment::Text {
-            token: token("{{{{x"),
-        })?;
-        fragments.push(Fragment::Interpolation {
-            expression: variable(1000),
-        })?;
+        push_pair(rt, &mut line);
     }
-    Ok(Line { fragments })
+    line
+}
+
+// Adds a text and an interpolation.
+fn push_pair<'src>(rt: &impl Abort, line: &mut Line<'src>) {
+    let token = token("{{{{x");
+    let pushed = line.fragments.push(Fragment::Text { token });
+    pushed.expect(rt, "no memory");
+    let expression = variable(1000);
+    let pushed = line.fragments.push(Fragment::Interpolation { expression });
+    pushed.expect(rt, "no memory");
 }
 
 // A line of so many texts and interpolations is all of them.
-fn line_of_many(rt: &impl Abort, alloc: Global, count: u64) -> Result<(), Fail> {
-    let told = lines::told(alloc, &line_of(alloc, count)?)?;
+fn line_of_many(rt: &impl Abort, alloc: Global, count: u64) {
+    let mut host = TellingHost::new(alloc, NEVER);
+    lines::tell(rt, alloc, &mut host, &line_of(rt, alloc, count));
     let mut wanted = String::new(alloc);
-    repeat(&mut wanted, "{{xz", count)?;
-    assert_eq!(rt; told.as_str(), wanted.as_str());
-    Ok(())
+    repeat(rt, &mut wanted, "{{xz", count);
+    same(rt, "a line of many", &host.told, &wanted);
 }
 
 #[test]
-fn a_line_of_a_thousand_interpolations(rt: HostRuntime) -> Result<(), Fail> {
-    line_of_many(&rt, rt.alloc(), 1000)
+fn a_line_of_a_thousand_interpolations(rt: HostRuntime) {
+    line_of_many(&rt, rt.alloc(), 1000);
 }
 
 #[test]
-fn a_line_of_two_thousand_interpolations(rt: HostRuntime) -> Result<(), Fail> {
-    line_of_many(&rt, rt.alloc(), 2000)
+fn a_line_of_two_thousand_interpolations(rt: HostRuntime) {
+    line_of_many(&rt, rt.alloc(), 2000);
 }

@@ -1,0 +1,201 @@
+// What recipes are evaluated in, and what a case describes of it.
+
+ghost use Rattle.just_eval.specs.View.{HasRoom};
+ghost use Rattle.std.specs.Prelude.{◌<◌, ◌≡◌};
+
+use crate::recipes::RECIPE;
+use crate::recipes::texts::owned;
+use just_case_lines::case::{Case, build};
+use just_case_lines::line::Line;
+use just_case_lines::token::name;
+use just_eval::evaluator::Evaluator;
+use just_host::config::Config;
+use just_host::execution_context::ExecutionContext;
+use just_host::host::Host;
+use just_host::justfile::Justfile;
+use just_host::search::Search;
+use just_host::settings::Settings;
+use just_syntax::assignment::Assignment;
+use just_syntax::expression::Expression;
+use just_syntax::function_definition::FunctionDefinition;
+use just_syntax::name::Name;
+use just_syntax::number::Number;
+use just_syntax::table::Table;
+use just_value::error::Error;
+use just_value::scope::Scope;
+use std::alloc::Global;
+use std::collections::{BTreeMap, HashMap};
+use std::process::Abort;
+
+// The file that each module is read from, and the directory that it lies in.
+const JUSTFILE: &str = "/work/justfile";
+
+const DIRECTORY: &str = "/work";
+
+/// What a context lends.
+#[derive(Drop)]
+pub(crate) struct Around<'src> {
+    config: Config,
+    dotenv: BTreeMap<String, String>,
+    module: Justfile<'src>,
+    overrides: HashMap<Number, String>,
+    /// Where nothing is bound.
+    pub(crate) scope: Scope<'src, 'src>,
+    search: Search,
+}
+
+impl<'src> Around<'src> {
+    /// The module that the lines of a case describe, no override, no dotenv file, and no option.
+    pub(crate) fn of_lines(
+        rt: &impl Abort,
+        alloc: Global,
+        lines: &'src [Line<'src>],
+    ) -> Around<'src> {
+        Around::new(rt, alloc, module_of(rt, alloc, case_of(rt, alloc, lines)))
+    }
+
+    /// The same with a module that has no function and no assignment.
+    pub(crate) fn of_nothing(rt: &impl Abort, alloc: Global) -> Around<'src> {
+        let module = Justfile::new(alloc, JUSTFILE, DIRECTORY).expect(rt, "no memory");
+        Around::new(rt, alloc, module)
+    }
+
+    fn new(rt: &impl Abort, alloc: Global, module: Justfile<'src>) -> Around<'src> {
+        Around {
+            config: Config::new(alloc, "").expect(rt, "no memory"),
+            dotenv: BTreeMap::new(alloc),
+            module,
+            overrides: HashMap::new(alloc),
+            scope: Scope::root(alloc, &[]).expect(rt, "no memory"),
+            search: Search::new(alloc, JUSTFILE, DIRECTORY).expect(rt, "no memory"),
+        }
+    }
+
+    /// The context of it.
+    pub(crate) fn context(&self) -> ExecutionContext<'src, '_>
+        ensures { result.recursion_limit ≡ 100 }
+    {
+        ExecutionContext {
+            config: &self.config,
+            dotenv: &self.dotenv,
+            module: &self.module,
+            overrides: &self.overrides,
+            recursion_limit: 100,
+            scope: &self.scope,
+            search: &self.search,
+        }
+    }
+
+    /// Evaluates the module's assignments.
+    pub(crate) fn evaluate<H: Host>(
+        &self,
+        alloc: Global,
+        host: &mut H,
+    ) -> Result<Scope<'src, '_>, Error<'src>> {
+        Evaluator::evaluate_assignments(
+            alloc,
+            host,
+            &self.config,
+            &self.dotenv,
+            &self.module,
+            &self.overrides,
+            &self.scope,
+            &self.search,
+            100,
+            None,
+        )
+    }
+}
+
+/// What evaluates for the recipe, where commands are run with the variables of an environment.
+pub(crate) fn evaluator<'src, 'run>(
+    rt: &impl Abort,
+    alloc: Global,
+    context: &ExecutionContext<'src, 'run>,
+    env: BTreeMap<String, String>,
+    scope: &'run Scope<'src, 'run>,
+) -> Evaluator<'src, 'run>
+    requires room { 0 < context.now.recursion_limit }
+    ensures room { HasRoom result }
+{
+    Evaluator::new(alloc, context, env, false, Some(name(RECIPE)), scope).expect(rt, "no memory")
+}
+
+// The case that lines describe.
+fn case_of<'src>(rt: &impl Abort, alloc: Global, lines: &'src [Line<'src>]) -> Case<'src> {
+    build(alloc, lines).expect(rt, "no case")
+}
+
+// The module that a case describes.
+fn module_of<'src>(rt: &impl Abort, alloc: Global, case: Case<'src>) -> Justfile<'src> {
+    let Case {
+        assignments,
+        evaluation_order,
+        functions,
+        lists,
+        ..
+    } = case;
+    module_with(rt, alloc, assignments, evaluation_order, functions, lists)
+}
+
+// A module with these assignments, in this order, and these functions.
+fn module_with<'src>(
+    rt: &impl Abort,
+    alloc: Global,
+    assignments: Table<Assignment<'src>>,
+    evaluation_order: Vec<Name<'src>>,
+    functions: Table<FunctionDefinition<'src>>,
+    lists: bool,
+) -> Justfile<'src> {
+    let mut settings = Settings::new(alloc);
+    settings.lists = lists;
+    Justfile {
+        assignments,
+        evaluation_order,
+        functions,
+        module_path: String::new(alloc),
+        settings,
+        source: owned(rt, alloc, JUSTFILE),
+        submodule: false,
+        unexports: Vec::new(alloc),
+        working_directory: owned(rt, alloc, DIRECTORY),
+    }
+}
+
+// The assignments of the case that lines describe.
+fn assignments_of<'src>(
+    rt: &impl Abort,
+    alloc: Global,
+    lines: &'src [Line<'src>],
+) -> Table<Assignment<'src>> {
+    case_of(rt, alloc, lines).assignments
+}
+
+/// The expressions of those, by the bytes of their names.
+pub(crate) fn expressions_of<'src>(
+    rt: &impl Abort,
+    alloc: Global,
+    lines: &'src [Line<'src>],
+) -> Vec<Expression<'src>> {
+    let mut expressions = Vec::new(alloc);
+    for assignment in assignments_of(rt, alloc, lines) {
+        expressions.push(assignment.value).expect(rt, "no memory");
+    }
+    expressions
+}
+
+/// The expression of the one whose name is a front and a back.
+pub(crate) fn expression_of<'src>(
+    rt: &impl Abort,
+    alloc: Global,
+    lines: &'src [Line<'src>],
+    front: &str,
+    back: &str,
+) -> Option<Expression<'src>> {
+    for assignment in assignments_of(rt, alloc, lines) {
+        if assignment.name.lexeme().strip_prefix(front) == Some(back) {
+            return Some(assignment.value);
+        }
+    }
+    None
+}

@@ -1,0 +1,123 @@
+// A recipe with what it is called with.
+
+ghost use Rattle.std.specs.Prelude.{◌<◌};
+
+use crate::recipes::RECIPE;
+use crate::recipes::hosts::TellingHost;
+use just_case_lines::token::name;
+use just_eval::evaluator::Evaluator;
+use just_host::execution_context::ExecutionContext;
+use just_syntax::attribute::Attribute;
+use just_syntax::expression::Expression;
+use just_syntax::parameter::Parameter;
+use just_syntax::recipe::Recipe;
+use just_value::check_fault::CheckFault;
+use just_value::error::Error;
+use just_value::scope::Scope;
+use just_value::value::Value;
+use std::alloc::Global;
+use std::collections::BTreeMap;
+use std::process::Abort;
+
+/// A recipe, its parameters and arguments, whether it runs as a dependency, and what values are checked by.
+#[derive(Drop)]
+pub(crate) struct Called<'src> {
+    pub(crate) arguments: Vec<Value>,
+    pub(crate) check: Check,
+    pub(crate) is_dependency: bool,
+    pub(crate) parameters: Vec<Parameter<'src>>,
+    pub(crate) recipe: Recipe<'src>,
+}
+
+/// The scope of a recipe's lines, its words and its environment, or the refusal.
+pub(crate) type Given<'src, 'run> = Result<
+    (Scope<'src, 'run>, Vec<String>, BTreeMap<String, String>),
+    Error<'src>,
+>;
+
+impl<'src> Called<'src> {
+    /// A recipe with no attribute and no parameter.
+    pub(crate) fn new(alloc: Global) -> Called<'src> {
+        Called {
+            arguments: Vec::new(alloc),
+            check: Check::RefusesNo,
+            is_dependency: false,
+            parameters: Vec::new(alloc),
+            recipe: Recipe::new(alloc, name(RECIPE)),
+        }
+    }
+
+    /// Adds the attribute that sets an environment variable: its key and its value.
+    pub(crate) fn push_env(
+        &mut self,
+        rt: &impl Abort,
+        key: Expression<'src>,
+        value: Expression<'src>,
+    ) {
+        let pushed = self
+            .recipe
+            .attributes
+            .push(Attribute::Env(key, value), name("env"));
+        pushed.expect(rt, "no memory");
+    }
+
+    /// Evaluates the attributes and the parameters in the scope of a context.
+    pub(crate) fn evaluate<'run>(
+        &self,
+        alloc: Global,
+        host: &mut TellingHost,
+        context: &ExecutionContext<'src, 'run>,
+    ) -> Given<'src, 'run>
+        requires room { 0 < context.now.recursion_limit }
+    {
+        let way = self.check;
+        let check = |_: &Recipe, _: &Parameter, value: &Value| way.check(alloc, value);
+        Evaluator::evaluate_parameters(
+            alloc,
+            host,
+            &check,
+            &self.arguments,
+            context,
+            self.is_dependency,
+            &self.parameters,
+            &self.recipe,
+            context.scope,
+        )
+    }
+}
+
+/// What values are checked by.
+#[derive(Clone, Copy)]
+pub(crate) enum Check {
+    /// The one text `no` is refused.
+    RefusesNo,
+    /// Each value is refused.
+    RefusesAll,
+    /// There is no memory to check a value.
+    OutOfMemory,
+}
+
+impl Check {
+    // Checks a value. What is refused is told as `no`.
+    fn check(self, alloc: Global, value: &Value) -> Result<(), CheckFault> {
+        match self {
+            Check::RefusesNo if !is_no(value) => Ok(()),
+            Check::OutOfMemory => Err(CheckFault::OutOfMemory),
+            _ => Err(refused(alloc)),
+        }
+    }
+}
+
+fn is_no(value: &Value) -> bool {
+    match value.elements() {
+        [text] => text.as_str() == "no",
+        _ => false,
+    }
+}
+
+fn refused(alloc: Global) -> CheckFault {
+    match String::from_str(alloc, "no") {
+        Ok(message) => CheckFault::Refused(message),
+        Err(_) => CheckFault::OutOfMemory,
+    }
+}
