@@ -98,7 +98,8 @@ fn print_runs<'src, H: Host>(
     )
 }
 
-// Whether a module is resolved in its order and in another. The order and the module stay as they were.
+// Whether a module is resolved in its order and in another. The order and the module stay as they were, unless memory is
+// wanted.
 fn are_resolved<'src>(
     alloc: Global,
     run: &mut ModuleRun<'src>,

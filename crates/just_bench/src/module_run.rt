@@ -37,15 +37,15 @@ use std::mem;
 /// What runs of a case's module are handed, beside a host and a scope.
 #[derive(Drop)]
 pub(crate) struct ModuleRun<'src> {
-    pub(crate) config: Config,
-    pub(crate) dotenv: BTreeMap<String, String>,
+    config: Config,
+    dotenv: BTreeMap<String, String>,
     pub(crate) module: Justfile<'src>,
-    pub(crate) overrides: HashMap<Number, String>,
+    overrides: HashMap<Number, String>,
     /// How many calls may be pending, and one more.
-    pub(crate) recursion_limit: usize,
+    recursion_limit: usize,
     /// The numbers of the variables that are referenced, where they are told.
     pub(crate) references: Option<HashSet<Number>>,
-    pub(crate) search: Search,
+    search: Search,
 }
 
 impl<'src> ModuleRun<'src> {
@@ -76,7 +76,8 @@ impl<'src> ModuleRun<'src> {
         resolved(alloc, &self.module, parent, self.references.as_ref())
     }
 
-    /// Whether the module is resolved in a scope, were it in this order. The order and the module stay as they were.
+    /// Whether the module is resolved in a scope, were it in this order. The order and the module stay as they were, unless
+    /// memory is wanted: then the two orders have changed places.
     pub(crate) fn is_resolved_in(
         &mut self,
         alloc: Global,

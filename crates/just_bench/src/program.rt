@@ -33,6 +33,7 @@ pub fn run<R: Read, W: Write>(alloc: Global, reader: &mut R, writer: &mut W) -> 
     ensures answer { IfSome (R.remaining reader.old) (λ case. Written (W.contents writer.old) (W.contents writer.new) result (
         Answers by_script (λ script state. state ≡ script) case)) }
     ensures too_long { IfSome (R.remaining reader.old) (λ case. LIMIT < length case → result ≡ 1) }
+    ensures unwritten { IfSome (R.remaining reader.old) (λ case. LIMIT < length case → writer.new ≡ writer.old) }
     ensures status { result ≤ 2 }
 {
     exit_status(answer(alloc, reader, writer, &Bare {}))
@@ -50,6 +51,7 @@ pub fn run_failing<R: Read, W: Write>(
     ensures answer { IfSome (R.remaining reader.old) (λ case. Written (W.contents writer.old) (W.contents writer.new) result (
         Answers (PassesOrFails by_script) (λ script state. state ≡ record { host = script; left = passed; how = how }) case)) }
     ensures too_long { IfSome (R.remaining reader.old) (λ case. LIMIT < length case → result ≡ 1) }
+    ensures unwritten { IfSome (R.remaining reader.old) (λ case. LIMIT < length case → writer.new ≡ writer.old) }
     ensures status { result ≤ 2 }
 {
     exit_status(answer(alloc, reader, writer, &Failing { passed, how }))
