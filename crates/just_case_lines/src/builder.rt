@@ -144,8 +144,8 @@ impl<'src> Builder<'src> {
     fn assign(&mut self, lexeme: &'src str, export: bool) -> Result<(), LineError>
         ensures { Done result (read (lines.Assign lexeme.now export) (reading_view self.old)) (reading_view self.new) }
     {
-        let value = self.stack.pop()?;
         let number = self.numbering.number_of(lexeme)?;
+        let value = self.stack.pop()?;
         let name = token::name(lexeme);
         let mut assignment = Assignment::new(name, number, value);
         assignment.export = export;
@@ -181,8 +181,8 @@ impl<'src> Builder<'src> {
     ) -> Result<(), LineError>
         ensures { (text : Text) → names text ≡ Some (lexeme.now ∷ map (λ name. name.now) parameters.now) → Done result (read (lines.Function text) (reading_view self.old)) (reading_view self.new) }
     {
-        let body = self.stack.pop()?;
         let parameters = self.numbering.parameters_of(alloc, parameters)?;
+        let body = self.stack.pop()?;
         let function = FunctionDefinition::new(token::name(lexeme), parameters, body);
         let earlier = self.case.functions.len();
         self.case.functions.insert(function)?;

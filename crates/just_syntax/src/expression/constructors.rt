@@ -28,10 +28,8 @@ impl<'src> Expression<'src> {
     ) -> Result<Expression<'src>, OutOfMemory>
         ensures { IfOk result (λ e. view e ≡ plain.And (view lhs.entry) (view rhs.entry)) }
     {
-        Ok(Expression::And {
-            lhs: Box::new(alloc, lhs)?,
-            rhs: Box::new(alloc, rhs)?,
-        })
+        let (lhs, rhs) = boxed_pair(alloc, lhs, rhs)?;
+        Ok(Expression::And { lhs, rhs })
     }
 
     /// `assert(condition)`, or `assert(condition, message)`. The name is that which the assertion is called by, and a refusal
@@ -48,9 +46,10 @@ impl<'src> Expression<'src> {
     ) -> Result<Expression<'src>, OutOfMemory>
         ensures { IfOk result (λ e. view e ≡ assertion (view condition.entry) (option_map view message.entry) (name_view name.entry)) }
     {
+        let (condition, message) = boxed_with(alloc, condition, message)?;
         Ok(Expression::Assert {
-            condition: Box::new(alloc, condition)?,
-            message: boxed(alloc, message)?,
+            condition,
+            message,
             name,
         })
     }
@@ -94,10 +93,11 @@ impl<'src> Expression<'src> {
     ) -> Result<Expression<'src>, OutOfMemory>
         ensures { IfOk result (λ e. view e ≡ plain.Comparison (view lhs.entry) operator (view rhs.entry) (token_view token.entry)) }
     {
+        let (lhs, rhs) = boxed_pair(alloc, lhs, rhs)?;
         Ok(Expression::Comparison {
-            lhs: Box::new(alloc, lhs)?,
+            lhs,
             operator,
-            rhs: Box::new(alloc, rhs)?,
+            rhs,
             token,
         })
     }
@@ -115,11 +115,8 @@ impl<'src> Expression<'src> {
     ) -> Result<Expression<'src>, OutOfMemory>
         ensures { IfOk result (λ e. view e ≡ plain.Concatenation (view lhs.entry) (token_view operator.entry) (view rhs.entry)) }
     {
-        Ok(Expression::Concatenation {
-            lhs: Box::new(alloc, lhs)?,
-            operator,
-            rhs: Box::new(alloc, rhs)?,
-        })
+        let (lhs, rhs) = boxed_pair(alloc, lhs, rhs)?;
+        Ok(Expression::Concatenation { lhs, operator, rhs })
     }
 
     /// `if condition { consequence } else { otherwise }`, or without the last part.
@@ -135,10 +132,11 @@ impl<'src> Expression<'src> {
     ) -> Result<Expression<'src>, OutOfMemory>
         ensures { IfOk result (λ e. view e ≡ conditional (view condition.entry) (view consequence.entry) (option_map view otherwise.entry)) }
     {
+        let (consequence, otherwise) = boxed_with(alloc, consequence, otherwise)?;
         Ok(Expression::Conditional {
             condition: Box::new(alloc, condition)?,
-            consequence: Box::new(alloc, consequence)?,
-            otherwise: boxed(alloc, otherwise)?,
+            consequence,
+            otherwise,
         })
     }
 
@@ -178,11 +176,8 @@ impl<'src> Expression<'src> {
     ) -> Result<Expression<'src>, OutOfMemory>
         ensures { IfOk result (λ e. view e ≡ join (option_map view lhs.entry) (token_view operator.entry) (view rhs.entry)) }
     {
-        Ok(Expression::Join {
-            lhs: boxed(alloc, lhs)?,
-            operator,
-            rhs: Box::new(alloc, rhs)?,
-        })
+        let (rhs, lhs) = boxed_with(alloc, rhs, lhs)?;
+        Ok(Expression::Join { lhs, operator, rhs })
     }
 
     /// `[elements]`. The token is the bracket. It takes no memory.
@@ -205,11 +200,8 @@ impl<'src> Expression<'src> {
     ) -> Result<Expression<'src>, OutOfMemory>
         ensures { IfOk result (λ e. view e ≡ plain.ListConcatenation (view lhs.entry) (token_view operator.entry) (view rhs.entry)) }
     {
-        Ok(Expression::ListConcatenation {
-            lhs: Box::new(alloc, lhs)?,
-            operator,
-            rhs: Box::new(alloc, rhs)?,
-        })
+        let (lhs, rhs) = boxed_pair(alloc, lhs, rhs)?;
+        Ok(Expression::ListConcatenation { lhs, operator, rhs })
     }
 
     /// The literal that [`StringLiteral::new`] makes of a text and of how it was written.
@@ -253,10 +245,8 @@ impl<'src> Expression<'src> {
     ) -> Result<Expression<'src>, OutOfMemory>
         ensures { IfOk result (λ e. view e ≡ plain.Or (view lhs.entry) (view rhs.entry)) }
     {
-        Ok(Expression::Or {
-            lhs: Box::new(alloc, lhs)?,
-            rhs: Box::new(alloc, rhs)?,
-        })
+        let (lhs, rhs) = boxed_pair(alloc, lhs, rhs)?;
+        Ok(Expression::Or { lhs, rhs })
     }
 
     /// The variable with this number.
@@ -270,15 +260,31 @@ impl<'src> Expression<'src> {
     }
 }
 
-// A part that may be left out, in its box.
-fn boxed<'src>(
+// Two parts, each in its box.
+fn boxed_pair<'src>(
     alloc: Global,
-    part: Option<Expression<'src>>,
-) -> Result<Option<Box<Expression<'src>>>, OutOfMemory>
-    ensures { IfOk result (λ boxed. option_map (λ b. view b.value) boxed ≡ option_map view part.entry) }
+    first: Expression<'src>,
+    second: Expression<'src>,
+) -> Result<(Box<Expression<'src>>, Box<Expression<'src>>), OutOfMemory>
+    ensures first { IfOk result (λ boxed. view boxed.0.value ≡ view first.entry) }
+    ensures second { IfOk result (λ boxed. view boxed.1.value ≡ view second.entry) }
 {
-    match part {
-        Some(part) => Ok(Some(Box::new(alloc, part)?)),
-        None => Ok(None),
+    let first = Box::new(alloc, first)?;
+    Ok((first, Box::new(alloc, second)?))
+}
+
+// A part, and one that may be left out, each in its box.
+fn boxed_with<'src>(
+    alloc: Global,
+    part: Expression<'src>,
+    option: Option<Expression<'src>>,
+) -> Result<(Box<Expression<'src>>, Option<Box<Expression<'src>>>), OutOfMemory>
+    ensures part { IfOk result (λ boxed. view boxed.0.value ≡ view part.entry) }
+    ensures option { IfOk result (λ boxed. option_map (λ b. view b.value) boxed.1 ≡ option_map view option.entry) }
+{
+    let part = Box::new(alloc, part)?;
+    match option {
+        Some(option) => Ok((part, Some(Box::new(alloc, option)?))),
+        None => Ok((part, None)),
     }
 }
