@@ -1,5 +1,6 @@
 // Tests of what no stored case can say: a case that is cut, streams that fail, hosts, and evaluations in a scope that binds
-// something. They stand in a crate of their own since a crate with tests is proved twice.
+// something. They stand in a crate of their own since a crate with tests is proved twice, and lean on `just_bench` and what is
+// below it.
 #![tactic(auto)]
 
 #[cfg(test)]

@@ -1,4 +1,5 @@
-// Tests of the evaluator's const calls. They stand in a crate of their own since a crate with tests is proved twice.
+// Tests of the evaluator's const calls. They stand in a crate of their own since a crate with tests is proved twice, and
+// lean on `just_eval` and, for modules to evaluate, on the reader of cases.
 #![tactic(auto)]
 
 #[cfg(test)]

@@ -1,7 +1,6 @@
-// The exact tests whether a module, its assignments before any run, or what is evaluated for a recipe are resolved:
-// whether each name means one thing, and all is evaluated before it is read; and, of a module, why it is not. They lean
-// on the definitions of `just_meaning` and on what lies below them, and never on the laws of evaluation nor on the
-// evaluator: what they decide is settled by the definitions alone.
+// The exact tests whether a module, its assignments before any run, or what is evaluated for a recipe are resolved: whether each
+// name means one thing, and all is evaluated before it is read; and, of a module, why it is not. They lean on the definitions
+// of `just_meaning` and on what is below them alone, and never on the laws of evaluation nor on the evaluator.
 #![tactic(auto)]
 
 mod admitted;

@@ -1,5 +1,5 @@
 // Tests of what asks no host: syntax, texts, values, and whether a module is resolved. They stand in a crate of their
-// own since a crate with tests is proved twice.
+// own since a crate with tests is proved twice, and lean on `just_resolution` and what is below it, and on no evaluation.
 #![tactic(auto)]
 
 #[cfg(test)]
