@@ -1,20 +1,13 @@
 -- Numbers at their first places, and sets with one number more.
-use Rattle.std.proofs.Common.{◌≡◌, ℕ, Bool, true, false, cond, ◌||◌, nat_eq, List, [], ◌∷◌, ◌++◌, append_assoc, refl, sym, ap, ◌∙◌, arith}
+use Rattle.std.proofs.Common.{◌≡◌, ℕ, Bool, true, false, cond, ◌||◌, nat_eq, List, [], ◌∷◌, ◌++◌, append_assoc, refl, sym, ap, ◌∙◌}
 use Rattle.std.specs.List.{list_any}
-use Rattle.std.proofs.lemmas.Bool.Decides.{nat_tests}
 use Rattle.just_syntax.specs.Plain.{Token}
+use Rattle.just_syntax.proofs.Maps.{number_with}
 use Rattle.just_bench.specs.Taken.{first_places}
-
-either : (k n : ℕ) (b : Bool) → cond (nat_eq k n) true b ≡ (nat_eq n k || b)
-either k n b = by (nat_eq k n) refl
-  where
-    by : (x : Bool) → nat_eq k n ≡ x → cond x true b ≡ (nat_eq n k || b)
-    by true e = let other : nat_eq n k ≡ true = grind (arith, nat_tests) in rw other refl
-    by false e = let other : nat_eq n k ≡ false = grind (arith, nat_tests) in rw other refl
 
 -- one number more was put in
 pub one_more : (old new : List ℕ) (k : ℕ) → ((n : ℕ) → list_any (nat_eq n) new ≡ cond (nat_eq k n) true (list_any (nat_eq n) old)) → (n : ℕ) → list_any (nat_eq n) new ≡ list_any (nat_eq n) (k ∷ old)
-one_more old new k put n = put n ∙ either k n (list_any (nat_eq n) old)
+one_more old new k put n = put n ∙ number_with k n (list_any (nat_eq n) old)
 
 -- where the same numbers came before
 places_same : (a b : List ℕ) (xs : List (Token × ℕ)) → ((n : ℕ) → list_any (nat_eq n) a ≡ list_any (nat_eq n) b) → first_places a xs ≡ first_places b xs
@@ -36,7 +29,7 @@ old_place before rest x old new known same = rw (same, known) refl
 
 -- a number that was put in was left before
 pub one_fewer : (old new : List ℕ) (k n : ℕ) (rest all : Bool) → list_any (nat_eq n) new ≡ cond (nat_eq k n) true (list_any (nat_eq n) old) → (list_any (nat_eq n) old || (nat_eq n k || rest)) ≡ all → (list_any (nat_eq n) new || rest) ≡ all
-one_fewer old new k n rest all put is = rw (put, either k n (list_any (nat_eq n) old)) (swapped (nat_eq n k) (list_any (nat_eq n) old) rest ∙ is)
+one_fewer old new k n rest all put is = rw (put, number_with k n (list_any (nat_eq n) old)) (swapped (nat_eq n k) (list_any (nat_eq n) old) rest ∙ is)
   where
     swapped : (x y z : Bool) → ((x || y) || z) ≡ (y || (x || z))
     swapped true true z = refl

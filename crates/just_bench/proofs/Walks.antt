@@ -8,14 +8,13 @@ use Rattle.std.specs.List.{flat_map}
 use Rattle.std.specs.Map.{lookup}
 use Rattle.std.specs.Option.{option_map}
 use Rattle.std.specs.declared.string.String.{String}
-use Rattle.just_syntax.specs.View.{name_view}
+use Rattle.just_syntax.specs.View.{name_view, text_numbered}
 use Rattle.just_syntax.specs.declared.name.Name.{Name}
 use Rattle.just_syntax.specs.Plain.{Text, Token}
 use Rattle.just_value.specs.Frames.{Frames}
 use Rattle.just_value.specs.Outcome.{Outcome, Gave, without_value}
 use Rattle.just_value.specs.Refusal.{Refusal}
 use Rattle.just_host.specs.Recorded.{Kept}
-use Rattle.just_case_lines.specs.View.{texts_view}
 use Rattle.just_meaning.specs.Module.{Module, dynamically}
 use Rattle.just_answer.specs.Answer.{order_line, refusal_line}
 use Rattle.just_bench.specs.Run.{Step, recording}
@@ -127,7 +126,7 @@ module _ {S : Type 0} {step : Step S} {m : Module} where
     }
 
 -- a map with no entry has no text
-pub none_asked : {A S : Type 0} (m : HashMap ℕ (String A) S) → m.entries ≡ [] → texts_view m ≡ (λ n. None)
+pub none_asked : {A S : Type 0} (m : HashMap ℕ (String A) S) → m.entries ≡ [] → text_numbered m ≡ (λ n. None)
 none_asked {A} m none = ap {B = ℕ → Option Text} (λ (entries : List (ℕ × String A)) (n : ℕ). option_map string_bytes (lookup (nat_eq n) entries)) none
 
 -- the names of what is taken

@@ -1,9 +1,9 @@
 -- What a run of a case's module, what comes of it and a stage before any run are as plain data.
 use Rattle.std.specs.Prelude.{List, max, map, string_bytes}
 use Rattle.std.specs.Option.{option_map}
-use Rattle.just_syntax.specs.View.{assignment_view, function_view, name_view}
+use Rattle.just_syntax.specs.View.{assignment_view, function_view, name_view, pairs_view, text_numbered}
 use Rattle.just_value.specs.View.{frames_view}
-use Rattle.just_case_lines.specs.View.{pairs_view, set_view, texts_view}
+use Rattle.just_case_lines.specs.View.{set_view}
 use Rattle.just_host.specs.Recorded.{Kept}
 use Rattle.just_host.specs.View.{config_view, inner_host, records_view, settings_view}
 use Rattle.just_host.specs.declared.recorder.Recorder.{Recorder}
@@ -34,7 +34,7 @@ run_view run = record {
   };
   assignments = record { all = map assignment_view run.module.assignments; order = map name_view run.module.evaluation_order.items; referenced = referenced_in (option_map set_view run.references) };
   limit = max run.recursion_limit 1;
-  overrides = texts_view run.overrides;
+  overrides = text_numbered run.overrides;
 }
 
 -- a recorder's host, and what it was asked so far
@@ -43,10 +43,10 @@ seen recorder = (inner_host recorder, records_view recorder)
 
 -- what came of a run
 abbrev pub found_view : Blocks → Found
-found_view blocks = record { frames = frames_view blocks.scope; asked = texts_view blocks.questions }
+found_view blocks = record { frames = frames_view blocks.scope; asked = text_numbered blocks.questions }
 
 abbrev pub stage_view : Stage → Constants
 stage_view stage = record {
   assignments = record { all = map assignment_view stage.assignments; order = map name_view stage.evaluation_order.items; referenced = set_view stage.references };
-  overrides = texts_view stage.overrides;
+  overrides = text_numbered stage.overrides;
 }

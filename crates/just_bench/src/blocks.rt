@@ -3,11 +3,11 @@
 ghost use Rattle.std.specs.Prelude.{◌≡◌, ◌++◌, ◌∷◌, ◌↔◌, ◌<◌, ◌≤◌, [], IfOk, IfSome, IsTrue, OnOk, codes, drop, length, map, string_bytes};
 ghost use Rattle.std.specs.List.{flat_map};
 ghost use Rattle.std.specs.Option.{option_map};
-ghost use Rattle.just_syntax.specs.View.{name_view};
+ghost use Rattle.just_syntax.specs.View.{name_view, text_numbered};
 ghost use Rattle.just_value.specs.Frames.{bound_at, own_frame};
 ghost use Rattle.just_value.specs.View.{bound_view, ended, frames_view};
 ghost use Rattle.just_host.specs.View.{inner_host, recorded_view, records_view};
-ghost use Rattle.just_case_lines.specs.View.{case_view, texts_view};
+ghost use Rattle.just_case_lines.specs.View.{case_view};
 ghost use Rattle.just_meaning.specs.Module.{dynamically};
 ghost use Rattle.just_meaning.specs.Resolved.{IsResolved};
 ghost use Rattle.just_answer.specs.Answer as answer;
@@ -183,7 +183,7 @@ fn print_turns<'src, 'run, H: Host>(
     mut blocks: Blocks<'src, 'run>,
 ) -> Result<Option<Blocks<'src, 'run>>, OutOfMemory>
     ensures walks { IfOk result (λ found. Added (string_bytes text.old) (string_bytes text.new) (λ printed.
-        Walks H.step (in_order (run_view run.old) (map name_view order.now)) (seen host.old) (frames_view blocks.entry.scope) (map name_view order.now) (map taken_view taken.now) (texts_view blocks.entry.questions) printed (option_map found_view found))) }
+        Walks H.step (in_order (run_view run.old) (map name_view order.now)) (seen host.old) (frames_view blocks.entry.scope) (map name_view order.now) (map taken_view taken.now) (text_numbered blocks.entry.questions) printed (option_map found_view found))) }
     ensures run { OnOk result (in_order (run_view run.new) [] ≡ in_order (run_view run.old) []) }
 {
     let mut at: usize = 0;
@@ -218,7 +218,7 @@ fn print_turn<'src, H: Host>(
     ensures text { let coming = drop at (map taken_view taken.now) in
         OnOk result (string_bytes text.new ≡ string_bytes text.old ++ flat_map block_lines (block_of (turn (name_view name.entry) (seen host.old) (seen host.new)) (plain.next_number coming (name_view name.entry)))) }
     ensures asked { let coming = drop at (map taken_view taken.now) in
-        OnOk result (texts_view blocks.new.questions ≡ with_blocks (texts_view blocks.old.questions) (block_of (turn (name_view name.entry) (seen host.old) (seen host.new)) (plain.next_number coming (name_view name.entry)))) }
+        OnOk result (text_numbered blocks.new.questions ≡ with_blocks (text_numbered blocks.old.questions) (block_of (turn (name_view name.entry) (seen host.old) (seen host.new)) (plain.next_number coming (name_view name.entry)))) }
 {
     let before = count(host);
     let bound = run.extend(alloc, host, name, &mut blocks.scope)?;
@@ -245,7 +245,7 @@ fn add_block(
     ensures text { let coming = drop at (map taken_view taken.now) in
         OnOk result (string_bytes text.new ≡ string_bytes text.old ++ flat_map block_lines (block_of (record { name = name_view name.now; asked = map recorded_view asked.now }) (plain.next_number coming (name_view name.now)))) }
     ensures asked { let coming = drop at (map taken_view taken.now) in
-        OnOk result (texts_view questions.new ≡ with_blocks (texts_view questions.old) (block_of (record { name = name_view name.now; asked = map recorded_view asked.now }) (plain.next_number coming (name_view name.now)))) }
+        OnOk result (text_numbered questions.new ≡ with_blocks (text_numbered questions.old) (block_of (record { name = name_view name.now; asked = map recorded_view asked.now }) (plain.next_number coming (name_view name.now)))) }
 {
     match number_at(taken, at, name) {
         Some(number) => {
@@ -289,7 +289,7 @@ fn print_block(
     questions: &mut HashMap<Number, String>,
 ) -> Result<(), OutOfMemory>
     ensures text { OnOk result (string_bytes text.new ≡ string_bytes text.old ++ block_lines (record { number = number; name = name_view name.now; asked = map recorded_view asked.now })) }
-    ensures asked { OnOk result (texts_view questions.new ≡ with_block (texts_view questions.old) (record { number = number; name = name_view name.now; asked = map recorded_view asked.now })) }
+    ensures asked { OnOk result (text_numbered questions.new ≡ with_block (text_numbered questions.old) (record { number = number; name = name_view name.now; asked = map recorded_view asked.now })) }
 {
     let lines = question_lines(alloc, asked)?;
     writeln!(text, "block {name}")?;
@@ -349,7 +349,7 @@ fn agree(one: &Blocks, other: &Blocks) -> bool
 // Whether a variable has in another run, if that binds it, the same questions and the same value as in one that binds it so.
 fn is_alike(one: &Blocks, other: &Blocks, binding: &Binding) -> bool
     ensures { let number = binding.now.number in
-        result ≡ plain.is_alike (texts_view one.now.questions number) (texts_view other.now.questions number) (bound_view binding.now) (bound_at number (own_frame (frames_view other.now.scope))) }
+        result ≡ plain.is_alike (text_numbered one.now.questions number) (text_numbered other.now.questions number) (bound_view binding.now) (bound_at number (own_frame (frames_view other.now.scope))) }
 {
     match other.scope.frame().binding(binding.number) {
         Some(bound) => {

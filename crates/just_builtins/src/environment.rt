@@ -2,7 +2,8 @@
 
 ghost use Rattle.std.specs.Prelude.{◌≡◌, Option, map, option_map, string_bytes};
 ghost use Rattle.just_value.specs.Frames.{Frames};
-ghost use Rattle.just_host.specs.View.{function_context_view, pairs_view, text_replied};
+ghost use Rattle.just_syntax.specs.View.{pairs_view};
+ghost use Rattle.just_host.specs.View.{function_context_view, text_replied};
 ghost use Rattle.just_builtins.specs.Asking as spec;
 ghost use Rattle.just_builtins.specs.Called.{Asked, AskedOr, Gives, GivesOr};
 ghost use Rattle.just_builtins.specs.Message.{variable_not_unicode, variable_unreadable};

@@ -1,6 +1,5 @@
 mod Split
 mod Counts
-mod Maps
 mod Stacks
 pub mod Lines
 pub mod Texts

@@ -1,16 +1,14 @@
 -- What lines and cases are as plain data.
 use Rattle.std.specs.Prelude.{ℕ, Bool, List, map, nat_eq, Option, Result, Ok, Err, string_bytes, reverse}
-use Rattle.std.specs.BTreeMap.{BTreeMap, btree_map_len, get_by}
+use Rattle.std.specs.BTreeMap.{btree_map_len, get_by}
 use Rattle.std.specs.Cmp.Lexicographic.{slice_cmp}
-use Rattle.std.specs.HashMap.{HashMap}
 use Rattle.std.specs.HashSet.{HashSet}
 use Rattle.std.specs.List.{list_any}
-use Rattle.std.specs.Map.{lookup}
 use Rattle.std.specs.Option.{option_map}
 use Rattle.std.specs.Ordering.{nat_cmp}
 use Rattle.std.specs.declared.string.String.{String}
-use Rattle.just_syntax.specs.Plain.{Text, Expr}
-use Rattle.just_syntax.specs.View.{assignment_view, function_view, name_view, view}
+use Rattle.just_syntax.specs.Plain.{Expr}
+use Rattle.just_syntax.specs.View.{assignment_view, function_view, name_view, pair_view, pairs_view, text_numbered, view}
 use Rattle.just_value.specs.View.{fault_view}
 use Rattle.just_value.specs.declared.error.CommandFault.{CommandFault}
 use Rattle.just_case_lines.specs.Case as cases
@@ -53,16 +51,6 @@ line_view lines.Run = plain.Run
 line_view lines.Const = plain.Const
 line_view (lines.Blocks names) = plain.Blocks names.now
 
-abbrev pub pair_view : {A B : Type 0} → String A × String B → Text × Text
-pair_view pair = (string_bytes pair.0, string_bytes pair.1)
-
--- a map of texts: its pairs, by rising key
-abbrev pub pairs_view : {A B : Type 0} → BTreeMap (String A) (String B) → List (Text × Text)
-pairs_view m = map pair_view m.entries
-
-abbrev pub texts_view : {A S : Type 0} → HashMap ℕ (String A) S → ℕ → Option Text
-texts_view m n = option_map string_bytes (lookup (nat_eq n) m.entries)
-
 abbrev pub set_view : {S : Type 0} → HashSet ℕ S → ℕ → Bool
 set_view set n = list_any (nat_eq n) set.keys
 
@@ -80,7 +68,7 @@ case_view c = record {
   assignments = map assignment_view c.assignments;
   evaluation_order = map name_view c.evaluation_order.items;
   functions = map function_view c.functions;
-  overrides = texts_view c.overrides;
+  overrides = text_numbered c.overrides;
   references = option_map set_view c.references;
   dotenv = pairs_view c.dotenv;
   always = map pair_view c.always.items;

@@ -8,9 +8,8 @@ use Rattle.std.specs.declared.string.String.{String}
 use Rattle.std.proofs.lemmas.Bool.Decides.{nat_tests}
 use Rattle.std.proofs.lemmas.Slice.Eq.{bytes_eq-Decides}
 use Rattle.just_syntax.specs.Plain.{Text, Assignment, Function}
-use Rattle.just_syntax.specs.View.{assignment_view, function_view}
+use Rattle.just_syntax.specs.View.{assignment_view, function_view, text_numbered}
 use Rattle.just_meaning.specs.Reaches.{function_at}
-use Rattle.just_meaning.specs.View.{override_of}
 use Rattle.just_agreement.specs.Cone.{numbered}
 use Rattle.just_changes.specs.declared.version.Version.{Version as Declared}
 use Rattle.just_changes.specs.Nodes.{PlainNode, OfFunction, OfVariable, IsListed, IsSame, Version}

@@ -5,12 +5,11 @@ use Rattle.std.specs.Global.{Global}
 use Rattle.std.specs.declared.hash.BuildHasherDefault.{BuildHasherDefault}
 use Rattle.std.specs.declared.hash.FoldHasher.{FoldHasher}
 use Rattle.std.specs.declared.string.String.{String}
-use Rattle.just_syntax.specs.View.{assignment_view, function_view}
+use Rattle.just_syntax.specs.View.{assignment_view, function_view, text_numbered}
 use Rattle.just_value.specs.Frames.{Frames}
 use Rattle.just_host.specs.declared.justfile.Justfile.{Justfile}
 use Rattle.just_meaning.specs.Module.{Module}
 use Rattle.just_meaning.specs.Reaches.{function_at}
-use Rattle.just_meaning.specs.View.{override_of}
 use Rattle.just_agreement.specs.Cone.{BlocksAgree, HaveSameCone, numbered}
 use Rattle.just_changes.specs.declared.version.Version.{Version as Declared}
 use Rattle.just_changes.specs.Changed.{AreAlikeAt, IsOver}
@@ -24,7 +23,7 @@ pub over : (v : Declared) (justfile : Justfile) (given : HashMap ℕ (String Glo
 over v justfile given m whole assignments functions overrides h = record {
   assignments = λ n. whole n ∙ ap (λ all. numbered (map assignment_view all) n) assignments ∙ ap (λ all. numbered all n) (sym h.assignments);
   functions = λ t. ap (λ all. function_at (map function_view all) t) functions ∙ ap (λ all. function_at all t) (sym h.functions);
-  overrides = λ n. ap (λ all. override_of all n) overrides ∙ sym (h.overrides n);
+  overrides = λ n. ap (λ all. text_numbered all n) overrides ∙ sym (h.overrides n);
 }
 
 pub exact : (m w : Module) (outer : Frames) (v u : Version) (readers : PlainNode → List PlainNode) (starts : List PlainNode) (touched : PlainNode → Bool) → AreAlike v (version_of m) → AreAlike u (version_of w)

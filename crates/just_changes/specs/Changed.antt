@@ -2,20 +2,20 @@
 use Rattle.std.specs.Prelude.{◌≡◌, ◌≢◌, ℕ, Bool, false, Contains, List, [], ◌∷◌, map}
 use Rattle.std.specs.HashMap.{HashMap}
 use Rattle.std.specs.declared.string.String.{String}
-use Rattle.just_syntax.specs.View.{assignment_view}
+use Rattle.just_syntax.specs.View.{assignment_view, text_numbered}
 use Rattle.just_value.specs.Frames.{Frames}
 use Rattle.just_value.specs.Outcome.{Outcome, Stopped}
 use Rattle.just_host.specs.declared.justfile.Justfile.{Justfile}
 use Rattle.just_meaning.specs.Module.{Module, Block, Run, events_of, lexically}
 use Rattle.just_meaning.specs.Resolved.{IsResolved}
-use Rattle.just_meaning.specs.View.{functions_view, override_of}
+use Rattle.just_meaning.specs.View.{functions_view}
 use Rattle.just_laws.specs.Laws.{AreAnsweredAlike, AreSame}
 
 -- A run over this file with these overrides is given such a module: its order, its settings and all else are free.
 pub record IsOver {A S : Type 0} (justfile : Justfile) (given : HashMap ℕ (String A) S) (m : Module) : Type 0 where
   pub assignments : m.assignments.all ≡ map assignment_view justfile.assignments
   pub functions : m.program.functions ≡ functions_view justfile
-  pub overrides : (n : ℕ) → m.overrides n ≡ override_of given n
+  pub overrides : (n : ℕ) → m.overrides n ≡ text_numbered given n
 
 -- Two runs of two modules in one outer scope, with one fixed context and one limit, both resolved, give a variable that
 -- both reach, neither stopped in it, one value or refusal, by the same questions, if whatever both ask, frames aside, is

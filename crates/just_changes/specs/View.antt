@@ -9,9 +9,8 @@ use Rattle.just_agreement.specs.Cone.{numbered}
 use Rattle.std.specs.Cmp.Lexicographic.{slice_cmp}
 use Rattle.std.specs.Ordering.{nat_cmp}
 use Rattle.just_syntax.specs.Plain.{Text, Assignment}
-use Rattle.just_syntax.specs.View.{assignment_view, function_view}
+use Rattle.just_syntax.specs.View.{assignment_view, function_view, text_numbered}
 use Rattle.just_meaning.specs.Reaches.{function_at}
-use Rattle.just_meaning.specs.View.{override_of}
 use Rattle.just_resolution.specs.Seen.{is_name_in, is_number_in}
 use Rattle.just_syntax.specs.declared.assignment.Assignment as declared
 use Rattle.just_changes.specs.declared.node.Node as declared_node
@@ -57,7 +56,7 @@ abbrev pub version_view : Declared → Version
 version_view v = record {
   assignment = assignment_in v.numbered;
   function = function_at (map function_view v.functions.now);
-  override = override_of v.overrides.now;
+  override = text_numbered v.overrides.now;
 }
 
 -- a version has the assignments of its file by their numbers

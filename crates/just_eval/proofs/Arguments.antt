@@ -5,7 +5,7 @@ use Rattle.std.specs.Option.{is_some, option_map}
 use Rattle.std.specs.Prelude.{Result}
 use Rattle.just_syntax.specs.Plain as plain
 use Rattle.just_syntax.specs.Plain.{Text, Expr}
-use Rattle.just_syntax.specs.View.{name_view}
+use Rattle.just_syntax.specs.View.{name_view, pairs_view}
 use Rattle.just_syntax.specs.declared.name.Name.{Name}
 use Rattle.just_syntax.specs.declared.parameter.Parameter.{Parameter}
 use Rattle.just_syntax.specs.declared.recipe.Recipe.{Recipe}
@@ -17,7 +17,6 @@ use Rattle.just_value.specs.declared.check_fault.CheckFault.{CheckFault}
 use Rattle.just_value.specs.declared.scope.Scope.{Scope}
 use Rattle.just_host.specs.Question.{Question, Answer}
 use Rattle.just_host.specs.Interaction.{Rules, Runs, RunsChecked, Tree, check, done}
-use Rattle.just_host.specs.View.{pairs_view}
 use Rattle.just_host.proofs.Checked.{checked_check, checked_on, unchecked}
 use Rattle.just_meaning.specs.Meaning.{Situation}
 use Rattle.just_meaning.specs.Parameters.{checked, judged, seeing, valued}

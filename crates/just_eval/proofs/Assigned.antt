@@ -1,10 +1,10 @@
 -- What evaluating one assignment means, in a run and in a const stage.
-use Rattle.std.proofs.Common.{◌≡◌, ℕ, Bool, true, false, cond, ◌||◌, nat_eq, [], ◌∷◌, Option, Some, None, Result, Err, refl, sym, ap, ◌∙◌, subst, arith}
+use Rattle.std.proofs.Common.{◌≡◌, ℕ, Bool, true, false, cond, nat_eq, [], ◌∷◌, Option, Some, None, Result, Err, refl, sym, ap, ◌∙◌, subst}
 use Rattle.std.specs.List.{list_any}
 use Rattle.std.specs.Option.{ForSome}
-use Rattle.std.proofs.lemmas.Bool.Decides.{nat_tests}
 use mathlib.Core.Path.{fun_ext}
 use Rattle.just_syntax.specs.Plain.{Token, Assignment}
+use Rattle.just_syntax.proofs.Maps.{number_with}
 use Rattle.just_value.specs.declared.compile_error.CompileError.{CompileError}
 use Rattle.just_value.specs.declared.error.Error.{Error}
 use Rattle.just_value.specs.declared.error.Error.TheVariants as errors
@@ -109,18 +109,11 @@ opened_exit f r e d p q w is = rw (p, q) is
 pub standing_kept : (e f : Evaluator) → IsSame e f → frames_view f.scope ≡ frames_view e.scope → standing_of f ≡ standing_of e
 standing_kept e f same kept = standing_same e f same ∙ ap (λ fs. record { lists = e.lists; frames = fs; is_open = (standing_of e).is_open }) kept
 
-either : (n k : ℕ) (b : Bool) → cond (nat_eq n k) true b ≡ (nat_eq k n || b)
-either n k b = by (nat_eq n k) refl
-  where
-    by : (x : Bool) → nat_eq n k ≡ x → cond x true b ≡ (nat_eq k n || b)
-    by true e = let other : nat_eq k n ≡ true = grind (arith, nat_tests) in rw other refl
-    by false e = let other : nat_eq k n ≡ false = grind (arith, nat_tests) in rw other refl
-
 pub standing_opened : (e f : Evaluator) (n : ℕ) → f.lists ≡ e.lists → frames_view f.scope ≡ frames_view e.scope → ((k : ℕ) → list_any (nat_eq k) f.non_const_assignments.keys ≡ cond (nat_eq n k) true (list_any (nat_eq k) e.non_const_assignments.keys)) → standing_of f ≡ with_open (standing_of e) n
 standing_opened e f n lists frames put =
     ap (λ l. record { lists = l; frames = frames_view f.scope; is_open = (standing_of f).is_open }) lists
     ∙ ap (λ fs. record { lists = e.lists; frames = fs; is_open = (standing_of f).is_open }) frames
-    ∙ ap (λ is_open. record { lists = e.lists; frames = frames_view e.scope; is_open = is_open }) (fun_ext (λ k. put k ∙ either n k (list_any (nat_eq k) e.non_const_assignments.keys)))
+    ∙ ap (λ is_open. record { lists = e.lists; frames = frames_view e.scope; is_open = is_open }) (fun_ext (λ k. put k ∙ number_with n k (list_any (nat_eq k) e.non_const_assignments.keys)))
 
 -- an error that is no `Const` ends a stage
 pub final_of : (e : Error) → ((c : _) → e ≡ errors.Const c → ⊥) → OfSome IsFinal (refusal e)

@@ -2,7 +2,7 @@
 use Rattle.std.proofs.Common.{◌≡◌, List, [], ◌∷◌, length, map, refl, ap, sym, subst, ◌∙◌, Option}
 use Rattle.just_syntax.specs.Plain.{Text, Token, Attribute, Env, Expr, Other}
 use Rattle.just_syntax.specs.StringContext.{EnvKey}
-use Rattle.just_syntax.specs.View.{attribute_view, name_view, named_attribute_view, view}
+use Rattle.just_syntax.specs.View.{attribute_view, name_view, named_attribute_view, pairs_view, view}
 use Rattle.just_syntax.specs.declared.attribute.Attribute.{Attribute as Declared}
 use Rattle.just_syntax.specs.declared.attribute.Attribute.TheVariants as kinds
 use Rattle.just_syntax.specs.declared.expression.Expression.{Expression}
@@ -12,7 +12,6 @@ use Rattle.just_value.specs.Value.{Value}
 use Rattle.just_value.specs.Outcome.{Outcome, Gave, Stopped, without_value}
 use Rattle.just_host.specs.Question.{Question, Answer}
 use Rattle.just_host.specs.Interaction.{Runs, Tree, bind}
-use Rattle.just_host.specs.View.{pairs_view}
 use Rattle.just_host.proofs.Paths.{runs_ends, runs_gives, runs_on, runs_stopped}
 use Rattle.just_meaning.specs.Line.{string}
 use Rattle.just_meaning.specs.Parameters.{Meanings, environment, with_variable}

@@ -3,7 +3,7 @@ use Rattle.std.proofs.Common.{◌≡◌, inl, inr, ◌⊎◌, true, List, [], �
 use Rattle.std.specs.Fn.{Shared}
 use Rattle.std.specs.Option.{is_some}
 use Rattle.just_syntax.specs.Plain.{Text, Parameter}
-use Rattle.just_syntax.specs.View.{recipe_view}
+use Rattle.just_syntax.specs.View.{pairs_view, recipe_view}
 use Rattle.just_syntax.specs.declared.parameter.Parameter.{Parameter as Declared}
 use Rattle.just_syntax.specs.declared.recipe.Recipe.{Recipe}
 use Rattle.just_value.specs.Refusal.{Refusal}
@@ -14,7 +14,6 @@ use Rattle.just_value.specs.View.{frames_view}
 use Rattle.just_value.specs.declared.check_fault.CheckFault.{CheckFault}
 use Rattle.just_host.specs.Question.{Question, Answer}
 use Rattle.just_host.specs.Interaction.{Runs, RunsChecked, Tree, Verdict, bind, gives}
-use Rattle.just_host.specs.View.{pairs_view}
 use Rattle.just_host.proofs.Checked.{checked_ends, checked_gives, checked_on, checked_stopped, unchecked}
 use Rattle.just_meaning.specs.Parameters.{Arguments, Meanings, bindings, checked, parameter_bound, seeing, valued, words_of}
 use Rattle.just_forms.specs.Check.{Gives, IsJudged}

@@ -8,7 +8,7 @@ use Rattle.just_value.specs.Value.{Value}
 use Rattle.just_value.specs.Outcome.{Outcome, Gave, Refused, UnlessStopped, without_value}
 use Rattle.just_host.specs.Question.{Question, Answer}
 use Rattle.just_host.specs.Interaction.{Runs, RunsChecked, Tree, Verdict, freely, refuses}
-use Rattle.just_host.specs.View.{pairs_view}
+use Rattle.just_syntax.specs.View.{pairs_view}
 use Rattle.just_host.specs.declared.execution_context.ExecutionContext.{ExecutionContext}
 use Rattle.just_host.proofs.Checked.{checked_ends, checked_on, unchecked}
 use Rattle.just_host.proofs.Paths.{runs_done}

@@ -6,7 +6,7 @@ use Rattle.std.specs.List.{list_any}
 use Rattle.std.specs.Option.{ForSome, is_some, option_map}
 use Rattle.std.specs.declared.string.String.{String}
 use Rattle.just_syntax.specs.Plain.{Expr, Assignment}
-use Rattle.just_syntax.specs.View.{assignment_view, name_view}
+use Rattle.just_syntax.specs.View.{assignment_view, name_view, pairs_view}
 use Rattle.just_syntax.specs.declared.name.Name.{Name}
 use Rattle.just_value.specs.Value.{Value}
 use Rattle.just_value.specs.Frames.{Bound, Frames, innermost, bound_in_front, value_in}
@@ -17,7 +17,6 @@ use Rattle.just_value.specs.View.{frames_view}
 use Rattle.just_value.specs.declared.scope.Scope.{Scope}
 use Rattle.just_host.specs.Interaction.{Rules, Runs, Tree}
 use Rattle.just_host.specs.Question.{Question, Answer}
-use Rattle.just_host.specs.View.{pairs_view}
 use Rattle.just_host.specs.declared.execution_context.ExecutionContext.{ExecutionContext}
 use Rattle.just_meaning.specs.Closings.{dynamic}
 use Rattle.just_meaning.specs.Meaning.{Situation, eval}

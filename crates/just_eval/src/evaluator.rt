@@ -2,7 +2,7 @@
 
 ghost use Rattle.std.specs.Prelude.{[], IfErr, OnErr, Some, false, map, ℕ, ◌<◌, ◌≡◌, ◌∷◌};
 ghost use Rattle.std.specs.Option.{ForSome, is_some};
-ghost use Rattle.just_syntax.specs.View.{assignment_view, name_view, view};
+ghost use Rattle.just_syntax.specs.View.{assignment_view, name_view, text_numbered, view};
 ghost use Rattle.just_value.specs.ConstEval.{IsConstEval};
 ghost use Rattle.just_value.specs.Frames.{innermost};
 ghost use Rattle.just_value.specs.Outcome.{UnlessStopped};
@@ -12,7 +12,7 @@ ghost use Rattle.just_meaning.specs.Internal.{IfRefused, IsFinal, IsNotInternal}
 ghost use Rattle.just_meaning.specs.Module.{Ran, bound_of, dynamically, lexically, or_override};
 ghost use Rattle.just_meaning.specs.Resolved.{IsResolved};
 ghost use Rattle.just_meaning.specs.Stage.{const_value};
-ghost use Rattle.just_meaning.specs.View.{module_view, override_of, run_of};
+ghost use Rattle.just_meaning.specs.View.{module_view, run_of};
 ghost use Rattle.just_expression.specs.View.{program, program_of, rules, situation};
 ghost use Rattle.just_eval.specs.View.{Assigned, HasRoom, HasRoomIn, IsAtStart, IsConst, IsInRun, IsSame, Resolves, calls_left_of, exports_all, lexical_meaning, meaning, rules_of, situation_of, standing_of};
 
@@ -248,7 +248,7 @@ impl<'src, 'run> Evaluator<'src, 'run> {
         ensures same { IsSame self.old self.new × IsAtStart self.new }
         ensures kept { OnErr result (frames_view self.new.scope ≡ frames_view self.old.scope) }
         ensures assigned { let a = assignment_view assignment.now in
-            Assigned (rules_of self.old) H.step host.old (or_override (override_of overrides.now a.number) (meaning self.old a.value)) (exports_all self.old) a (frames_view self.old.scope) (ended (λ _. frames_view self.new.scope) result) host.new }
+            Assigned (rules_of self.old) H.step host.old (or_override (text_numbered overrides.now a.number) (meaning self.old a.value)) (exports_all self.old) a (frames_view self.old.scope) (ended (λ _. frames_view self.new.scope) result) host.new }
     {
         if self.is_bound(assignment.number) {
             return Ok(());
@@ -275,7 +275,7 @@ impl<'src, 'run> Evaluator<'src, 'run> {
         assignment: &Assignment<'src>,
     ) -> Result<Value, Error<'src>>
         requires start { IsAtStart self.now }
-        ensures { Runs (rules_of self.now) H.step host.old (or_override (override_of overrides.now assignment.now.number) (meaning self.now (view assignment.now.value))) (ended (λ v. v) result) host.new }
+        ensures { Runs (rules_of self.now) H.step host.old (or_override (text_numbered overrides.now assignment.now.number) (meaning self.now (view assignment.now.value))) (ended (λ v. v) result) host.new }
     {
         match overrides.get(&assignment.number) {
             Some(text) => Ok(Value::from_text(alloc, text)?),

@@ -3,7 +3,7 @@ use Rattle.std.specs.Prelude.{ℕ, Bool, false, List, Option, Some, None, Result
 use Rattle.std.specs.List.{list_any}
 use Rattle.std.specs.Option.{option_copied, option_map}
 use Rattle.just_syntax.specs.Plain.{Expr}
-use Rattle.just_syntax.specs.View.{name_view, views}
+use Rattle.just_syntax.specs.View.{name_view, pairs_view, views}
 use Rattle.just_syntax.specs.declared.expression.Expression.{Expression}
 use Rattle.just_syntax.specs.declared.name.Name.{Name}
 use Rattle.just_value.specs.Frames.{value_in}
@@ -12,7 +12,6 @@ use Rattle.just_value.specs.View.{ended, frames_view}
 use Rattle.just_value.specs.declared.error.Error.{Error}
 use Rattle.just_host.specs.Interaction.{Rules, Runs, Tree, freely}
 use Rattle.just_host.specs.Question.{Question, Answer}
-use Rattle.just_host.specs.View.{pairs_view}
 use Rattle.just_host.specs.declared.execution_context.ExecutionContext.{ExecutionContext}
 use Rattle.just_meaning.specs.Closings.{dynamic}
 use Rattle.just_meaning.specs.Constant.{constantly, nowhere}

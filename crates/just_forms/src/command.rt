@@ -1,11 +1,11 @@
 // What command expressions give.
 
 ghost use Rattle.std.specs.Prelude.{◌≡◌};
-ghost use Rattle.just_syntax.specs.View.{token_view};
+ghost use Rattle.just_syntax.specs.View.{pairs_view, token_view};
 ghost use Rattle.just_value.specs.Outcome.{without_value};
 ghost use Rattle.just_value.specs.View.{ended, fault_view, frames_view, refusal};
 ghost use Rattle.just_host.specs.Interaction.{Runs, freely};
-ghost use Rattle.just_host.specs.View.{fixed_view, pairs_view};
+ghost use Rattle.just_host.specs.View.{fixed_view};
 ghost use Rattle.just_meaning.specs.Meaning.{faulted, written};
 
 use just_host::ask::ask_command;

@@ -6,7 +6,7 @@ use Rattle.std.specs.BTreeMap.{BTreeMap}
 use Rattle.std.specs.declared.string.String.{String}
 use Rattle.just_syntax.specs.Plain.{Text, Interpreter}
 use Rattle.just_syntax.specs.declared.out_of_memory.OutOfMemory.{OutOfMemory}
-use Rattle.just_syntax.specs.View.{assignment_view, function_view, interpreter_view, name_view}
+use Rattle.just_syntax.specs.View.{assignment_view, function_view, interpreter_view, name_view, pairs_view}
 use Rattle.just_value.specs.Refusal.{Message, NoMemory}
 use Rattle.just_value.specs.View.{frames_view, fault_view}
 use Rattle.just_value.specs.declared.error.CommandFault.{CommandFault}
@@ -35,10 +35,6 @@ use Rattle.just_host.specs.Question as questions
 use Rattle.just_host.specs.Fixed.{Fixed}
 use Rattle.just_host.specs.Function as functions
 use Rattle.just_host.specs.Question.{BlindCommand, Question, CommandOf, TextOf, ExistsAt, NumberOf, frameless, Answer, Replied, Failed, Absent, NotText, Found, Numbered}
-
--- a map of texts: its pairs, by rising key
-abbrev pub pairs_view : {A B : Type 0} → BTreeMap (String A) (String B) → List (Text × Text)
-pairs_view m = map (λ e. (string_bytes e.0, string_bytes e.1)) m.entries
 
 abbrev pub config_view : Config → plain.Config
 config_view c = record { dry_run = c.dry_run; invocation_directory = string_bytes c.invocation_directory; jobs = c.jobs; quiet = c.quiet; shell = option_map string_bytes c.shell; shell_args = option_map (λ words. map string_bytes words.items) c.shell_args; shell_command = c.shell_command }

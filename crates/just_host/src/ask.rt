@@ -5,7 +5,8 @@ ghost use Rattle.std.specs.Option.{option_map};
 ghost use Rattle.just_value.specs.View.{frames_view};
 ghost use Rattle.just_host.specs.Interaction.{AsksOnce};
 ghost use Rattle.just_host.specs.Question.{command_question};
-ghost use Rattle.just_host.specs.View.{fixed_view, pairs_view, replied};
+ghost use Rattle.just_syntax.specs.View.{pairs_view};
+ghost use Rattle.just_host.specs.View.{fixed_view, replied};
 
 use crate::command_question::CommandQuestion;
 use crate::execution_context::ExecutionContext;

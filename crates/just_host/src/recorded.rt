@@ -3,7 +3,8 @@
 ghost use Rattle.std.specs.Prelude.{◌≡◌, IfOk, map, string_bytes};
 ghost use Rattle.just_host.specs.Question.{TextOf};
 ghost use Rattle.just_host.specs.Recorded.{kind_of, recorded, text_of};
-ghost use Rattle.just_host.specs.View.{pairs_view, question_view, recorded_view, text_question_view};
+ghost use Rattle.just_syntax.specs.View.{pairs_view};
+ghost use Rattle.just_host.specs.View.{question_view, recorded_view, text_question_view};
 
 use crate::command_question::CommandQuestion;
 use crate::directory_kind::DirectoryKind;

@@ -6,13 +6,12 @@ use Rattle.std.specs.Global.{Global}
 use Rattle.std.specs.HashMap.{HashMap}
 use Rattle.std.specs.HashSet.{HashSet}
 use Rattle.std.specs.List.{list_any}
-use Rattle.std.specs.Map.{lookup}
 use Rattle.std.specs.Option.{option_map}
 use Rattle.std.specs.declared.hash.FoldHasher.{FoldHasher}
 use Rattle.std.specs.declared.hash.BuildHasherDefault.{BuildHasherDefault}
 use Rattle.std.specs.declared.string.String.{String}
 use Rattle.just_syntax.specs.Plain.{Text, Token, Attribute, Expr, Function, Parameter}
-use Rattle.just_syntax.specs.View.{assignment_view, function_view, name_view}
+use Rattle.just_syntax.specs.View.{assignment_view, function_view, name_view, text_numbered}
 use Rattle.just_syntax.specs.declared.assignment.Assignment.{Assignment}
 use Rattle.just_syntax.specs.declared.name.Name.{Name}
 use Rattle.just_value.specs.declared.scope.Scope.{Scope}
@@ -49,16 +48,13 @@ assignments_view justfile references = ordered_view justfile.assignments justfil
 abbrev pub program_view : ExecutionContext → Program
 program_view c = record { fixed = fixed_view c; functions = functions_view c.module.now }
 
-abbrev pub override_of : {A S : Type 0} → HashMap ℕ (String A) S → ℕ → Option Text
-override_of overrides n = option_map string_bytes (lookup (nat_eq n) overrides.entries)
-
 -- what a run in a context is given, where these variables are referenced
 abbrev pub module_view : {S : Type 0} → ExecutionContext → Option (Bor (HashSet ℕ S)) → Module
 module_view c references = record {
   program = program_view c;
   assignments = assignments_view c.module.now references;
   limit = c.recursion_limit;
-  overrides = override_of c.overrides.now;
+  overrides = text_numbered c.overrides.now;
 }
 
 -- what a run is given, by the arguments of its call
@@ -70,7 +66,7 @@ run_of config dotenv justfile overrides parent search limit references =
 abbrev pub constants_of : {A S T : Type 0} → List Assignment → List Name → HashMap ℕ (String A) S → HashSet ℕ T → Constants
 constants_of assignments order overrides references = record {
   assignments = record { all = map assignment_view assignments; order = map name_view order; referenced = λ n. list_any (nat_eq n) references.keys };
-  overrides = override_of overrides;
+  overrides = text_numbered overrides;
 }
 
 -- what is evaluated for a recipe in a context is resolved, where these frames stand

@@ -2,16 +2,12 @@
 use Rattle.std.specs.Prelude.{List, map, string_bytes}
 use Rattle.std.specs.Vec.Iter.{into_iter_items}
 use Rattle.std.specs.declared.string.String.{String}
-use Rattle.just_syntax.specs.Plain.{Text}
+use Rattle.just_syntax.specs.View.{pair_view}
 use Rattle.just_host.specs.View.{replied, text_replied}
 use Rattle.just_script.specs.Failing.{Failing}
 use Rattle.just_script.specs.Script.{Script}
 use Rattle.just_script.specs.declared.fail_at.FailAt.{FailAt}
 use Rattle.just_script.specs.declared.scripted_host.ScriptedHost.{ScriptedHost}
-
--- a command and a text
-abbrev pub pair_view : {A B : Type 0} → String A × String B → Text × Text
-pair_view pair = (string_bytes pair.0, string_bytes pair.1)
 
 -- what is always answered, and the answers to come
 abbrev pub script_view : ScriptedHost → Script

@@ -5,7 +5,8 @@ ghost use Rattle.std.specs.Option.{option_map};
 ghost use Rattle.just_host.specs.Question.{Replied, UnlessNoMemory};
 ghost use Rattle.just_host.specs.View.{replied, text_replied};
 ghost use Rattle.just_script.specs.Script.{text_for};
-ghost use Rattle.just_script.specs.View.{pair_view, script_view};
+ghost use Rattle.just_syntax.specs.View.{pair_view};
+ghost use Rattle.just_script.specs.View.{script_view};
 
 use just_host::command_question::CommandQuestion;
 use just_host::host::Host;

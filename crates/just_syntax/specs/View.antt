@@ -1,5 +1,8 @@
 -- What declared syntax is as plain syntax.
-use Rattle.std.specs.Prelude.{ℕ, List, [], ◌∷◌, map, Option, Some, None, string_bytes, option_map}
+use Rattle.std.specs.Prelude.{ℕ, List, [], ◌∷◌, map, nat_eq, Option, Some, None, string_bytes, option_map}
+use Rattle.std.specs.BTreeMap.{BTreeMap}
+use Rattle.std.specs.HashMap.{HashMap}
+use Rattle.std.specs.Map.{lookup}
 use Rattle.std.specs.declared.string.String.{String}
 use Rattle.just_syntax.specs.declared.place.Place.{Place}
 use Rattle.just_syntax.specs.declared.token.Token.{Token}
@@ -181,9 +184,17 @@ string_context_view (contexts.Setting name) = Setting (name_view name)
 abbrev pub enclosed : {T : Type 0} → Enclosure T → T
 enclosed e = e.value
 
--- a name and a text, as `name=text`
-abbrev pub override_view : {A B : Type 0} → String A × String B → plain.Text × plain.Text
-override_view pair = (string_bytes pair.0, string_bytes pair.1)
+-- a name, or a command, and a text
+abbrev pub pair_view : {A B : Type 0} → String A × String B → plain.Text × plain.Text
+pair_view pair = (string_bytes pair.0, string_bytes pair.1)
+
+-- a map of texts: its pairs, by rising key
+abbrev pub pairs_view : {A B : Type 0} → BTreeMap (String A) (String B) → List (plain.Text × plain.Text)
+pairs_view m = map pair_view m.entries
+
+-- the text that a map has for a number
+abbrev pub text_numbered : {A S : Type 0} → HashMap ℕ (String A) S → ℕ → Option plain.Text
+text_numbered m n = option_map string_bytes (lookup (nat_eq n) m.entries)
 
 -- the name that no variable has; none for want of memory
 abbrev pub unknown_name : VariableError → Option plain.Text

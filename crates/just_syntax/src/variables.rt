@@ -2,10 +2,8 @@
 
 ghost use Rattle.std.specs.Prelude.{◌≡◌, ℕ, None, Some, IfErr, IfOk, IfSome, OnOk, map, nat_eq, string_bytes};
 ghost use Rattle.std.specs.List.{list_any};
-ghost use Rattle.std.specs.Map.{lookup};
-ghost use Rattle.std.specs.Option.{option_map};
 ghost use Rattle.just_syntax.specs.Variables.{first_unknown, given, has_number, number_named};
-ghost use Rattle.just_syntax.specs.View.{assignment_view, override_view, unknown_name};
+ghost use Rattle.just_syntax.specs.View.{assignment_view, pair_view, text_numbered, unknown_name};
 
 use crate::assignment::Assignment;
 use crate::number::Number;
@@ -37,7 +35,7 @@ pub fn overrides_of<'name>(
     assignments: &Table<Assignment>,
     pairs: &'name [(String, String)],
 ) -> Result<HashMap<Number, String>, VariableError<'name>>
-    ensures given { IfOk result (λ overrides. (n : ℕ) → option_map string_bytes (lookup (nat_eq n) overrides.entries) ≡ given (map assignment_view assignments.now) (map override_view pairs.now) n) }
+    ensures given { IfOk result (λ overrides. (n : ℕ) → text_numbered overrides n ≡ given (map assignment_view assignments.now) (map pair_view pairs.now) n) }
     ensures known { OnOk result (first_unknown (map assignment_view assignments.now) (map (λ pair. string_bytes pair.0) pairs.now) ≡ None) }
     ensures unknown { IfErr result (λ error. IfSome (unknown_name error) (λ name. first_unknown (map assignment_view assignments.now) (map (λ pair. string_bytes pair.0) pairs.now) ≡ Some name)) }
 {

@@ -66,20 +66,19 @@ times_more zero n f s r fits e same = rw e (times_same n f r same)
 times_more (suc k) zero f s r fits e same = absurd (omega arith)
 times_more (suc k) (suc n) f s r fits e same = times_more k n f (f s) r (omega arith) e same
 
+-- a pattern taken off once more than some times
+taken_once_more : (f : List ℕ → List ℕ) (p s m r ns : List ℕ) → 0 < length p → (times (length ns) f s ≡ m) × (length ns + length m ≤ length s) → (f m ≡ r) × (length r + length p ≡ length m)
+    → (times (suc (length ns)) f s ≡ r) × (suc (length ns) + length r ≤ length s)
+taken_once_more f p s m r ns some known taken = (sym (times_last (length ns) f s) ∙ (ap f known.0 ∙ taken.0), omega (arith, known.1, taken.1))
+
 -- patterns cut off one after another
 start_cuts : (p s ns r : List ℕ) → 0 < length p → CutsPrefixes (FindsTextPrefix p) s ns r → (times (length ns) (without_start p) s ≡ r) × (length ns + length r ≤ length s)
 start_cuts p s [] r some e = (sym e, omega (arith, ap length e))
-start_cuts p s (n ∷ ns) r some (m, before, found, cut) =
-    let known = start_cuts p s ns m some before in
-    let taken = start_taken p m r n found cut in
-    (sym (times_last (length ns) (without_start p) s) ∙ (ap (without_start p) known.0 ∙ taken.0), omega (arith, known.1, taken.1))
+start_cuts p s (n ∷ ns) r some (m, before, found, cut) = taken_once_more (without_start p) p s m r ns some (start_cuts p s ns m some before) (start_taken p m r n found cut)
 
 end_cuts : (p s ns r : List ℕ) → 0 < length p → CutsSuffixes (FindsTextSuffix p) s ns r → (times (length ns) (without_end p) s ≡ r) × (length ns + length r ≤ length s)
 end_cuts p s [] r some e = (sym e, omega (arith, ap length e))
-end_cuts p s (n ∷ ns) r some (m, before, found, cut) =
-    let known = end_cuts p s ns m some before in
-    let taken = end_taken p m r n found cut in
-    (sym (times_last (length ns) (without_end p) s) ∙ (ap (without_end p) known.0 ∙ taken.0), omega (arith, known.1, taken.1))
+end_cuts p s (n ∷ ns) r some (m, before, found, cut) = taken_once_more (without_end p) p s m r ns some (end_cuts p s ns m some before) (end_taken p m r n found cut)
 
 -- empty patterns cut off
 start_cuts_nothing : (s ns r : List ℕ) → CutsPrefixes (FindsTextPrefix []) s ns r → r ≡ s

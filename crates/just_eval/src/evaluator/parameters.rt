@@ -3,11 +3,10 @@
 ghost use Rattle.std.specs.Prelude.{IfOk, List, OnOk, Some, [], false, is_some, length, map, string_bytes, true, ◌++◌, ◌<◌, ◌≡◌, ◌∷◌, ◌↔◌};
 ghost use Rattle.std.specs.Option.{option_map};
 ghost use Rattle.just_syntax.specs.Plain.{Expr};
-ghost use Rattle.just_syntax.specs.View.{name_view, recipe_parameter_view, recipe_view};
+ghost use Rattle.just_syntax.specs.View.{name_view, pairs_view, recipe_parameter_view, recipe_view};
 ghost use Rattle.just_value.specs.Frames.{bound_in_front, own_frame};
 ghost use Rattle.just_value.specs.View.{ended, frames_view};
 ghost use Rattle.just_host.specs.Interaction.{GoesByAnswers, Runs, RunsChecked, freely};
-ghost use Rattle.just_host.specs.View.{pairs_view};
 ghost use Rattle.just_meaning.specs.Here.{meanings};
 ghost use Rattle.just_meaning.specs.Internal.{IfRefused, IsFinal, IsNotInternal};
 ghost use Rattle.just_meaning.specs.Parameters as meant;

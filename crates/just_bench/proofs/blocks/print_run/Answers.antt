@@ -1,9 +1,8 @@
 use Rattle.std.proofs.Common.{◌≡◌, ◌∙◌, ◌++◌, ap, map, string_bytes, sym}
 use Rattle.std.proofs.lemmas.Result.{IfOk-weaker}
-use Rattle.just_syntax.specs.View.{name_view}
+use Rattle.just_syntax.specs.View.{name_view, text_numbered}
 use Rattle.just_value.specs.View.{frames_view}
 use Rattle.just_host.specs.View.{inner_host, records_view}
-use Rattle.just_case_lines.specs.View.{texts_view}
 use Rattle.just_answer.specs.Answer.{order_line}
 use Rattle.just_bench.specs.Blocks.{in_order}
 use Rattle.just_bench.specs.Taken.{taken_in, taken_view}
@@ -19,5 +18,5 @@ returns-clause-prints g c =
     let coming : map taken_view c.deref-2.result.now ≡ taken_in m.assignments m.assignments.order = ap (map taken_view) c.deref-2.ensures.value ∙ told in
     IfOk-weaker c.print_turns.result _ _ (λ found w.
     order_prints (string_bytes c.args.text.now) (string_bytes c.print_order.new.text) (string_bytes c.print_turns.new.text) (inner_host c.args.host.now) (records_view c.args.host.now) (frames_view c.args.parent.now) (frames_view c.in_ok-child.field-0)
-    (map taken_view c.deref-2.result.now) (texts_view c.new.result) c.requires.fresh c.in_ok-child.ensures coming (none_asked c.new.result c.new.ensures.empty)
+    (map taken_view c.deref-2.result.now) (text_numbered c.new.result) c.requires.fresh c.in_ok-child.ensures coming (none_asked c.new.result c.new.ensures.empty)
     (c.in_ok-print_order.ensures ∙ ap (λ names. string_bytes c.args.text.now ++ order_line names) (same_names c.deref.result.now c.deref-2.result.now (c.deref.ensures.value ∙ sym c.deref-2.ensures.value))) w) c.print_turns.ensures.walks

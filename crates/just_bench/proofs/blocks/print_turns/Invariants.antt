@@ -1,8 +1,7 @@
 use Rattle.std.proofs.Common.{◌≡◌, [], ◌++◌, Option, drop, map, string_bytes}
 use Rattle.just_syntax.specs.Plain.{Text}
-use Rattle.just_syntax.specs.View.{name_view}
+use Rattle.just_syntax.specs.View.{name_view, text_numbered}
 use Rattle.just_value.specs.View.{frames_view}
-use Rattle.just_case_lines.specs.View.{texts_view}
 use Rattle.just_bench.specs.Written.{Added}
 use Rattle.just_bench.specs.Blocks.{Found, Walks, in_order}
 use Rattle.just_bench.specs.Taken.{taken_view}
@@ -16,6 +15,6 @@ invariant-loop-name g l =
     record {
       run : in_order (run_view l.run) [] ≡ in_order (run_view l.fn.run) [];
       walks : Added (string_bytes l.fn.text) (string_bytes l.text) (λ printed. (more : Text) (found : Option Found)
-          → Walks g.H.Host.step m (seen l.host) (frames_view l.blocks.scope) (map name_view (drop l.name-index l.order)) (drop l.at (map taken_view l.taken)) (texts_view l.blocks.questions) more found
-          → Walks g.H.Host.step m (seen l.fn.host) (frames_view l.fn.blocks.scope) (map name_view l.order) (map taken_view l.taken) (texts_view l.fn.blocks.questions) (printed ++ more) found);
+          → Walks g.H.Host.step m (seen l.host) (frames_view l.blocks.scope) (map name_view (drop l.name-index l.order)) (drop l.at (map taken_view l.taken)) (text_numbered l.blocks.questions) more found
+          → Walks g.H.Host.step m (seen l.fn.host) (frames_view l.fn.blocks.scope) (map name_view l.order) (map taken_view l.taken) (text_numbered l.fn.blocks.questions) (printed ++ more) found);
     }

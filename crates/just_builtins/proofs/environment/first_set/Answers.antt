@@ -1,7 +1,7 @@
 use Rattle.std.proofs.Common.{◌≡◌, ◌+◌, ◌∙◌, sym, ap, subst, Ok, None, drop, map, string_bytes}
 use Rattle.std.proofs.lemmas.Result.{err_from_is_err_and}
 use Rattle.just_host.specs.Interaction.{Runs, freely}
-use Rattle.just_host.specs.View.{pairs_view}
+use Rattle.just_syntax.specs.View.{pairs_view}
 use Rattle.just_builtins.specs.Asking.{first_set}
 use Rattle.just_builtins.specs.Called.{tree}
 use Rattle.just_builtins.proofs.Variables.{ended, front, not_set, nothing_left, set}

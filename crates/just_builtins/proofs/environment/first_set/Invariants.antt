@@ -2,7 +2,7 @@ use Rattle.std.proofs.Common.{drop, map, string_bytes}
 use Rattle.just_value.specs.Frames.{Frames}
 use Rattle.just_value.specs.Outcome.{Outcome}
 use Rattle.just_host.specs.Interaction.{Runs, freely}
-use Rattle.just_host.specs.View.{pairs_view}
+use Rattle.just_syntax.specs.View.{pairs_view}
 use Rattle.just_builtins.specs.Asking.{first_set}
 use Rattle.just_builtins.specs.Called.{Called, tree}
 use Rattle.just_builtins.specs.Reply.{Reply}

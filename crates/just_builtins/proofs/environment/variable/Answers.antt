@@ -1,7 +1,7 @@
 use Rattle.std.proofs.lemmas.Result.{err_from_is_err_and}
 use Rattle.std.proofs.Common.{◌≡◌, ◌∙◌, sym, ap, Ok, Err, Some, None, option_map, string_bytes, ◌∷◌, []}
 use Rattle.std.specs.Option.{option_copied}
-use Rattle.just_host.specs.View.{pairs_view}
+use Rattle.just_syntax.specs.View.{pairs_view}
 use Rattle.just_builtins.specs.Asking.{entry, variable}
 use Rattle.just_builtins.specs.declared.call_fault.CallFault.TheVariants.{OutOfMemory}
 use Rattle.just_builtins.proofs.Calls.{told}

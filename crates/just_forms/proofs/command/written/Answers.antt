@@ -1,9 +1,9 @@
 use Rattle.std.proofs.Common.{◌∙◌, ap, ◌∷◌, [], refl}
 use Rattle.std.proofs.lemmas.Result.{err_from_is_err_and}
-use Rattle.just_syntax.specs.View.{token_view}
+use Rattle.just_syntax.specs.View.{pairs_view, token_view}
 use Rattle.just_value.specs.Outcome.{Gave}
 use Rattle.just_value.specs.View.{fault_view, frames_view}
-use Rattle.just_host.specs.View.{fixed_view, pairs_view}
+use Rattle.just_host.specs.View.{fixed_view}
 use Rattle.just_host.proofs.Paths.{runs_stopped}
 use Rattle.just_forms.proofs.Commands.{itself, without_memory, written_asked, written_dry}
 use Rattle.just_forms.proofs.command.written.Goals as goal

@@ -1,14 +1,10 @@
 use Rattle.std.proofs.Common.{◌≡◌, List, [], ◌∷◌, map, refl, ap₂, string_bytes}
 use Rattle.std.specs.List.{AllZip}
 use Rattle.std.specs.declared.string.String.{String}
-use Rattle.just_syntax.specs.Plain.{Text}
+use Rattle.just_syntax.specs.View.{pair_view}
 use Rattle.just_host.proofs.recorded.env_copy.Goals as goal
 
--- a variable and its text
-abbrev pair : {A B : Type 0} → String A × String B → Text × Text
-pair e = (string_bytes e.0, string_bytes e.1)
-
-copied : {A B : Type 0} (es fs : List (String A × String B)) → AllZip (λ e f. (string_bytes f.0 ≡ string_bytes e.0) × (string_bytes f.1 ≡ string_bytes e.1)) es fs → map pair fs ≡ map pair es
+copied : {A B : Type 0} (es fs : List (String A × String B)) → AllZip (λ e f. (string_bytes f.0 ≡ string_bytes e.0) × (string_bytes f.1 ≡ string_bytes e.1)) es fs → map pair_view fs ≡ map pair_view es
 copied [] [] h = refl
 copied [] (f ∷ fs) h = absurd h
 copied (e ∷ es) [] h = absurd h

@@ -1,7 +1,7 @@
 use Rattle.std.proofs.Common.{◌≡◌, drop, map}
 use Rattle.std.specs.Option.{option_map}
 use Rattle.just_script.specs.Script.{text_after, text_for}
-use Rattle.just_script.specs.View.{pair_view}
+use Rattle.just_syntax.specs.View.{pair_view}
 use Rattle.just_script.proofs.scripted_host.text_for.Given as goal
 
 -- what is found so far, and then behind it, is what is found in all

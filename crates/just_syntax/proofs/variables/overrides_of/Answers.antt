@@ -2,7 +2,7 @@ use Rattle.std.proofs.Common.{◌≡◌, List, Some, cond, map, string_bytes, na
 use Rattle.std.specs.Map.{lookup}
 use Rattle.just_syntax.specs.Plain.{Assignment}
 use Rattle.just_syntax.specs.Variables.{number_named}
-use Rattle.just_syntax.specs.View.{assignment_view, override_view}
+use Rattle.just_syntax.specs.View.{assignment_view, pair_view}
 use Rattle.just_syntax.proofs.Names.{given_more, known_on}
 use Rattle.just_syntax.proofs.Tables.{map_cond}
 use Rattle.just_syntax.proofs.variables.overrides_of.Goals as goal
@@ -21,6 +21,6 @@ loop-name-preserved c =
           ∙ map_cond string_bytes (nat_eq k n) (Some c.in_ok-from_str.field-0) (lookup (nat_eq n) c.loop-name.overrides.entries)
           ∙ ap (λ text. cond (nat_eq k n) (Some text) (option_map string_bytes (lookup (nat_eq n) c.loop-name.overrides.entries))) same
           ∙ ap (cond (nat_eq k n) (Some (string_bytes pair.1))) (c.loop-name.invariant.given n)
-          ∙ sym (given_more override_view assignments c.args.pairs.now i pair k n (search rules) (search rules) known);
+          ∙ sym (given_more pair_view assignments c.args.pairs.now i pair k n (search rules) (search rules) known);
       known = known_on (λ p. string_bytes p.0) assignments c.args.pairs.now i pair k (search rules) (search rules) known c.loop-name.invariant.known;
     }

@@ -8,7 +8,7 @@ use Rattle.just_case_lines.specs.Numbering.{number_of}
 use Rattle.just_case_lines.specs.Reading.{assigned_name}
 use Rattle.just_case_lines.specs.View.{numbering_view}
 use Rattle.just_case_lines.proofs.Counts.{was_new, was_there}
-use Rattle.just_case_lines.proofs.Maps.{seen_with}
+use Rattle.just_syntax.proofs.Maps.{seen_with}
 use Rattle.just_case_lines.proofs.builder.Builder.assign.Goals as goal
 
 pub returns-then-len-earlier : goal.returns-then-len-earlier

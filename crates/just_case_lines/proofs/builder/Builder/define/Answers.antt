@@ -7,7 +7,7 @@ use Rattle.just_case_lines.specs.Numbering.{parameters_of}
 use Rattle.just_case_lines.specs.Reading.{defined_name}
 use Rattle.just_case_lines.specs.View.{numbering_view}
 use Rattle.just_case_lines.proofs.Counts.{was_new, was_there}
-use Rattle.just_case_lines.proofs.Maps.{seen_with}
+use Rattle.just_syntax.proofs.Maps.{seen_with}
 use Rattle.just_case_lines.proofs.builder.Builder.define.Goals as goal
 
 pub returns-then-len-earlier : goal.returns-then-len-earlier

@@ -2,8 +2,8 @@ use Rattle.std.proofs.Common.{◌≡◌, map, refl, ap, ◌∙◌}
 use Rattle.std.specs.BTreeMap.{insert_entry}
 use Rattle.std.specs.Cmp.Lexicographic.{slice_cmp}
 use Rattle.std.specs.Ordering.{nat_cmp}
-use Rattle.just_case_lines.specs.View.{pair_view, pairs_view}
-use Rattle.just_case_lines.proofs.Maps.{pairs_with}
+use Rattle.just_syntax.specs.View.{pair_view, pairs_view}
+use Rattle.just_syntax.proofs.Maps.{pairs_with}
 use Rattle.just_case_lines.proofs.builder.Builder.dotenv.Goals as goal
 
 pub returns : goal.returns

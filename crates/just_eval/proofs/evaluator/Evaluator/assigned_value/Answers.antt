@@ -2,7 +2,7 @@ use Rattle.std.proofs.Common.{◌≡◌, ◌∙◌, ◌∷◌, [], ap, sym, Some
 use Rattle.std.proofs.lemmas.Result.{err_from_is_err_and}
 use Rattle.just_value.specs.Outcome.{Gave}
 use Rattle.just_host.proofs.Paths.{runs_done, runs_stopped}
-use Rattle.just_meaning.specs.View.{override_of}
+use Rattle.just_syntax.specs.View.{text_numbered}
 use Rattle.just_eval.proofs.evaluator.Evaluator.assigned_value.Goals as goal
 
 pub returns-in_err-from_text-in-Some : goal.returns-in_err-from_text-in-Some
@@ -12,5 +12,5 @@ returns-in_err-from_text-in-Some g c =
 
 pub returns-in_ok-from_text-in-Some : goal.returns-in_ok-from_text-in-Some
 returns-in_ok-from_text-in-Some g c =
-    let found : override_of c.args.overrides.now c.args.assignment.now.number ≡ Some (string_bytes c.in-Some.text.now) = sym (ap (option_map string_bytes) c.in-Some.ensures.value) in
+    let found : text_numbered c.args.overrides.now c.args.assignment.now.number ≡ Some (string_bytes c.in-Some.text.now) = sym (ap (option_map string_bytes) c.in-Some.ensures.value) in
     rw found (runs_done _ _ (ap Gave (c.in_ok-from_text-in-Some.ensures ∙ ap (λ text. text ∷ []) c.deref.ensures)))

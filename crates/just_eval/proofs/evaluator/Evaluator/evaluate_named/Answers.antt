@@ -1,8 +1,8 @@
 use Rattle.std.proofs.Common.{◌≡◌, ap, true, false, Some, None}
-use Rattle.just_syntax.specs.View.{assignment_view, name_view, view}
+use Rattle.just_syntax.specs.View.{assignment_view, name_view, text_numbered, view}
 use Rattle.just_syntax.proofs.Tables.{found_at}
 use Rattle.just_value.specs.View.{frames_view}
-use Rattle.just_meaning.specs.View.{is_referenced_in, override_of}
+use Rattle.just_meaning.specs.View.{is_referenced_in}
 use Rattle.just_eval.proofs.Assigned.{ran_assigned}
 use Rattle.just_eval.proofs.Here.{ran_here}
 use Rattle.just_eval.proofs.Module.{ran_passes, ran_unknown}
@@ -24,4 +24,4 @@ returns-clause-ran g c =
     let b : is_referenced_in c.args.references c.in-Some.assignment.now.number ≡ true = cc in
     ran_assigned (frames_view c.args.self.now.scope) (name_view c.args.name) (assignment_view c.in-Some.assignment.now)
     (found_at assignment_view (λ a. a.name.lexeme) _ _ _ (Some c.in-Some.assignment.now) c.in-Some.ensures (ap (λ l. l.now) c.lexeme.ensures)) b
-    (ran_here c.args.self.now c.requires.start (override_of c.args.context.overrides.now c.in-Some.assignment.now.number) (view c.in-Some.assignment.now.value) c.args.context c.requires.here c.requires.lists c.evaluate_assignment.ensures.assigned)
+    (ran_here c.args.self.now c.requires.start (text_numbered c.args.context.overrides.now c.in-Some.assignment.now.number) (view c.in-Some.assignment.now.value) c.args.context c.requires.here c.requires.lists c.evaluate_assignment.ensures.assigned)

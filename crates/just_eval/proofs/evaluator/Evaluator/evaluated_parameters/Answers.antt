@@ -1,8 +1,7 @@
 use Rattle.std.proofs.Common.{◌≡◌, [], ◌∷◌, map, refl, ap, ◌∙◌, Some}
 use Rattle.std.proofs.lemmas.Result.{err_from_is_err_and}
-use Rattle.just_syntax.specs.View.{recipe_parameter_view, recipe_view}
+use Rattle.just_syntax.specs.View.{pairs_view, recipe_parameter_view, recipe_view}
 use Rattle.just_value.specs.View.{frames_view}
-use Rattle.just_host.specs.View.{pairs_view}
 use Rattle.just_host.proofs.Checked.{checked_stopped}
 use Rattle.just_forms.specs.Check.{Gives}
 use Rattle.just_meaning.specs.View.{recipe_in}

@@ -2,9 +2,8 @@ use Rattle.std.proofs.Common.{◌≡◌, List, [], ◌∷◌, Some}
 use Rattle.std.specs.Option.{option_map}
 use Rattle.std.specs.Prelude.{◌↔◌}
 use Rattle.just_syntax.specs.Plain.{Expr}
-use Rattle.just_syntax.specs.View.{name_view}
+use Rattle.just_syntax.specs.View.{name_view, pairs_view}
 use Rattle.just_value.specs.View.{frames_view}
-use Rattle.just_host.specs.View.{pairs_view}
 use Rattle.just_meaning.specs.View.{IsResolvedWith, recipe_in}
 use Rattle.just_eval.specs.View.{Resolves, situation_of}
 use Rattle.just_eval.proofs.Recipes.{if_both, resolves_with}

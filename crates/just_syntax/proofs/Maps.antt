@@ -1,5 +1,6 @@
--- Tables and maps with one entry more, as plain data.
-use Rattle.std.proofs.Common.{◌≡◌, List, [], ◌∷◌, map, refl, ap, ◌∙◌, string_bytes}
+-- Tables, maps and sets of numbers with one entry more, as plain data.
+use Rattle.std.proofs.Common.{◌≡◌, ℕ, Bool, true, false, cond, ◌||◌, nat_eq, List, [], ◌∷◌, map, refl, ap, ◌∙◌, string_bytes, arith}
+use Rattle.std.proofs.lemmas.Bool.Decides.{nat_tests}
 use Rattle.std.specs.BTreeMap.{insert_entry}
 use Rattle.std.specs.Cmp.Lexicographic.{slice_cmp}
 use Rattle.std.specs.Ordering.{match_ordering, nat_cmp}
@@ -9,7 +10,7 @@ use Rattle.std.specs.declared.cmp.Ordering.TheVariants.{Less, Equal, Greater}
 use Rattle.std.specs.declared.string.String.{String}
 use Rattle.just_syntax.specs.Keyed.{with_value}
 use Rattle.just_syntax.specs.Plain.{Text}
-use Rattle.just_case_lines.specs.View.{pair_view}
+use Rattle.just_syntax.specs.View.{pair_view}
 
 map_choice : {X Y : Type 0} (f : X → Y) (o : Ordering) (a b c : List X) → map f (match_ordering o a b c) ≡ match_ordering o (map f a) (map f b) (map f c)
 map_choice f Less a b c = refl
@@ -29,3 +30,11 @@ pairs_with [] k v = refl
 pairs_with (e ∷ es) k v =
     map_choice pair_view (string_cmp k e.0) ((k, v) ∷ e ∷ es) ((e.0, v) ∷ es) (e ∷ insert_entry string_cmp es k v)
     ∙ ap (λ more. match_ordering (string_cmp k e.0) (map pair_view ((k, v) ∷ e ∷ es)) (map pair_view ((e.0, v) ∷ es)) (pair_view e ∷ more)) (pairs_with es k v)
+
+-- whether a number is in a set with the number k more
+pub number_with : (k n : ℕ) (b : Bool) → cond (nat_eq k n) true b ≡ (nat_eq n k || b)
+number_with k n b = by (nat_eq k n) refl
+  where
+    by : (x : Bool) → nat_eq k n ≡ x → cond x true b ≡ (nat_eq n k || b)
+    by true e = let other : nat_eq n k ≡ true = grind (arith, nat_tests) in rw other refl
+    by false e = let other : nat_eq n k ≡ false = grind (arith, nat_tests) in rw other refl
