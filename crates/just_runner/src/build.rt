@@ -23,49 +23,73 @@ use std::alloc::Global;
 
 /// The recipe with its attribute.
 pub(crate) fn recipe<'src>(alloc: Global) -> Result<Recipe<'src>, OutOfMemory> {
+    let mut recipe = Recipe::new(alloc, name("build"));
+    let attribute = stamp(alloc)?;
+    recipe.attributes.push(attribute, name("env"))?;
+    Ok(recipe)
+}
+
+// What gives `STAMP` its text.
+fn stamp<'src>(alloc: Global) -> Result<Attribute<'src>, OutOfMemory> {
     let stamp = Expression::literal(alloc, "STAMP", "'STAMP'")?;
     let date = Expression::backtick(alloc, "date", token("`date`"))?;
-    let mut recipe = Recipe::new(alloc, name("build"));
-    recipe
-        .attributes
-        .push(Attribute::Env(stamp, date), name("env"))?;
-    Ok(recipe)
+    Ok(Attribute::Env(stamp, date))
 }
 
 /// Its parameters. Their numbers are what a resolver gave them.
 pub(crate) fn parameters<'src>(alloc: Global) -> Result<Vec<Parameter<'src>>, OutOfMemory> {
+    let output = output(alloc)?;
+    let target = Parameter::new(name("target"), Number::new(0), ParameterKind::Singular);
+    let flags = Parameter::new(name("flags"), Number::new(2), ParameterKind::Star);
+    Ok(vec![in alloc; target, output, flags]?)
+}
+
+// The parameter that has a default.
+fn output<'src>(alloc: Global) -> Result<Parameter<'src>, OutOfMemory> {
     let out = Expression::literal(alloc, "out", "'out'")?;
     let beside = Expression::join(alloc, Some(variable("target", 0)), token("/"), out)?;
     let mut output = Parameter::new(name("output"), Number::new(1), ParameterKind::Singular);
     output.default = Some(beside);
-    let mut parameters = Vec::new(alloc);
-    parameters.push(Parameter::new(name("target"), Number::new(0), ParameterKind::Singular))?;
-    parameters.push(output)?;
-    parameters.push(Parameter::new(name("flags"), Number::new(2), ParameterKind::Star))?;
-    Ok(parameters)
+    Ok(output)
 }
 
-/// Its lines, each with whether it goes on the line before.
-pub(crate) fn lines<'src>(alloc: Global) -> Result<Vec<(Line<'src>, bool)>, OutOfMemory> {
-    let recipe_name = Expression::call(name("recipe_name"), Vec::new(alloc));
-    let mut first = Vec::new(alloc);
-    first.push(text("cc "))?;
-    first.push(interpolation(variable("flags", 2)))?;
-    first.push(text(" "))?;
-    let mut second = Vec::new(alloc);
-    second.push(text("   -o "))?;
-    second.push(interpolation(variable("output", 1)))?;
-    second.push(text(" "))?;
-    second.push(interpolation(variable("target", 0)))?;
-    second.push(text(".c"))?;
-    let mut third = Vec::new(alloc);
-    third.push(text("echo '{{{{built}}' "))?;
-    third.push(interpolation(recipe_name))?;
+/// A line, and whether it goes on the line before.
+pub(crate) type Continued<'src> = (Line<'src>, bool);
+
+/// Its lines.
+pub(crate) fn lines<'src>(alloc: Global) -> Result<Vec<Continued<'src>>, OutOfMemory> {
     let mut lines = Vec::new(alloc);
-    lines.push((Line { fragments: first }, false))?;
-    lines.push((Line { fragments: second }, true))?;
-    lines.push((Line { fragments: third }, false))?;
+    add_lines(alloc, &mut lines)?;
     Ok(lines)
+}
+
+fn add_lines<'src>(alloc: Global, lines: &mut Vec<Continued<'src>>) -> Result<(), OutOfMemory> {
+    lines.push((compiler(alloc)?, false))?;
+    lines.push((files(alloc)?, true))?;
+    lines.push((end(alloc)?, false))?;
+    Ok(())
+}
+
+// `cc {{flags}} \`
+fn compiler<'src>(alloc: Global) -> Result<Line<'src>, OutOfMemory> {
+    let flags = interpolation(variable("flags", 2));
+    let fragments = vec![in alloc; text("cc "), flags, text(" ")]?;
+    Ok(Line { fragments })
+}
+
+// `   -o {{output}} {{target}}.c`
+fn files<'src>(alloc: Global) -> Result<Line<'src>, OutOfMemory> {
+    let output = interpolation(variable("output", 1));
+    let target = interpolation(variable("target", 0));
+    let fragments = vec![in alloc; text("   -o "), output, text(" "), target, text(".c")]?;
+    Ok(Line { fragments })
+}
+
+// `echo '{{{{built}}' {{recipe_name()}}`
+fn end<'src>(alloc: Global) -> Result<Line<'src>, OutOfMemory> {
+    let recipe_name = Expression::call(name("recipe_name"), Vec::new(alloc));
+    let fragments = vec![in alloc; text("echo '{{{{built}}' "), interpolation(recipe_name)]?;
+    Ok(Line { fragments })
 }
 
 fn text<'src>(lexeme: &'src str) -> Fragment<'src> {

@@ -12,46 +12,51 @@ use just_value::scope::Scope;
 use std::alloc::Global;
 use std::collections::{BTreeMap, HashMap};
 
-/// What a command line and the files that it names come to.
+/// What a command line and the files that it names come to, and the module, which has nothing but the recipe.
 #[derive(Drop)]
-pub(crate) struct Invocation {
+pub(crate) struct Invocation<'src> {
     config: Config,
     dotenv: BTreeMap<String, String>,
+    module: Justfile<'src>,
     overrides: HashMap<Number, String>,
+    scope: Scope<'src, 'src>,
     search: Search,
 }
 
-impl Invocation {
-    /// One in `/work`, with no override and no dotenv file.
-    pub(crate) fn new(alloc: Global) -> Result<Invocation, OutOfMemory> {
+impl<'src> Invocation<'src> {
+    /// One in `/work`, with no override and no dotenv file. A module's assignments would be evaluated first, and theirs would
+    /// be its scope.
+    pub(crate) fn new(alloc: Global) -> Result<Invocation<'src>, OutOfMemory> {
+        let (config, search) = place(alloc)?;
+        let module = Justfile::new(alloc, "/work/justfile", "/work")?;
+        let scope = Scope::root(alloc, &[])?;
         Ok(Invocation {
-            config: Config::new(alloc, "/work")?,
+            config,
             dotenv: BTreeMap::new(alloc),
+            module,
             overrides: HashMap::new(alloc),
-            search: Search::new(alloc, "/work/justfile", "/work")?,
+            scope,
+            search,
         })
     }
 
-    /// What is handed to each call of the evaluator; `scope` is that of the module's assignments.
-    pub(crate) fn context<'src, 'run>(
-        &'run self,
-        module: &'run Justfile<'src>,
-        scope: &'run Scope<'src, 'run>,
-    ) -> ExecutionContext<'src, 'run>
+    /// What is handed to each call of the evaluator.
+    pub(crate) fn context(&self) -> ExecutionContext<'src, '_>
         ensures limit { result.recursion_limit ≡ 100 }
     {
         ExecutionContext::new(
             &self.config,
             &self.dotenv,
-            module,
+            &self.module,
             &self.overrides,
-            scope,
+            &self.scope,
             &self.search,
         )
     }
 }
 
-/// A module that has nothing but the recipe.
-pub(crate) fn module<'src>(alloc: Global) -> Result<Justfile<'src>, OutOfMemory> {
-    Justfile::new(alloc, "/work/justfile", "/work")
+// Where the program is called, and where the justfile is.
+fn place(alloc: Global) -> Result<(Config, Search), OutOfMemory> {
+    let config = Config::new(alloc, "/work")?;
+    Ok((config, Search::new(alloc, "/work/justfile", "/work")?))
 }

@@ -1,14 +1,14 @@
 // From words to the environment, the positional words and the lines of the recipe.
 
+ghost use Rattle.just_eval.specs.View.{HasRoom};
 ghost use Rattle.std.specs.Prelude.{◌<◌};
 
-use crate::build;
+use crate::build::{self, Continued};
 use crate::host::Calendar;
-use crate::invocation::{self, Invocation};
+use crate::invocation::Invocation;
 use just_eval::evaluator::Evaluator;
 use just_eval::resolved_here;
 use just_host::execution_context::ExecutionContext;
-use just_host::justfile::Justfile;
 use just_syntax::out_of_memory::OutOfMemory;
 use just_syntax::parameter::Parameter;
 use just_syntax::recipe::Recipe;
@@ -21,53 +21,56 @@ use std::collections::BTreeMap;
 
 /// What is printed where the recipe is called with these words.
 pub(crate) fn explain(alloc: Global, words: &str) -> Result<String, OutOfMemory> {
-    let module = invocation::module(alloc)?;
-    let invocation = Invocation::new(alloc)?;
-    // A module's assignments would be evaluated first, and theirs would be this scope.
-    let scope = Scope::root(alloc, &[])?;
     let mut text = format!(in alloc; "build {words}\n")?;
-    explain_recipe(alloc, &mut text, &invocation, &module, &scope, words)?;
+    explain_words(alloc, &mut text, words)?;
     Ok(text)
 }
 
-// Adds what the recipe comes to: its parameters first, and then its lines.
-fn explain_recipe<'src>(
+fn explain_words(alloc: Global, text: &mut String, words: &str) -> Result<(), OutOfMemory> {
+    let invocation = Invocation::new(alloc)?;
+    explain_in(alloc, text, &invocation.context(), words)
+}
+
+fn explain_in(
     alloc: Global,
     text: &mut String,
-    invocation: &Invocation,
-    module: &Justfile<'src>,
-    scope: &Scope<'src, '_>,
+    context: &ExecutionContext,
     words: &str,
-) -> Result<(), OutOfMemory> {
-    let context = invocation.context(module, scope);
-    let recipe = build::recipe(alloc)?;
-    let parameters = build::parameters(alloc)?;
-    let arguments = arguments(alloc, words)?;
+) -> Result<(), OutOfMemory>
+    requires room { 0 < context.now.recursion_limit }
+{
+    let called = Called::new(alloc, words)?;
+    explain_called(alloc, text, context, &called)
+}
+
+// Adds what the recipe comes to: its parameters first, and then its lines.
+fn explain_called<'src>(
+    alloc: Global,
+    text: &mut String,
+    context: &ExecutionContext<'src, '_>,
+    called: &Called<'src>,
+) -> Result<(), OutOfMemory>
+    requires room { 0 < context.now.recursion_limit }
+{
+    explain_resolution(alloc, text, context, called)?;
     let mut host = Calendar {
         asked: Vec::new(alloc),
     };
-    explain_resolution(alloc, text, &context, scope, &recipe, &parameters)?;
-    let check = |_: &Recipe, _: &Parameter, value: &Value| inside(alloc, value);
-    let evaluated = Evaluator::evaluate_parameters(
-        alloc,
-        &mut host,
-        &check,
-        &arguments,
-        &context,
-        false,
-        &parameters,
-        &recipe,
-        scope,
-    );
-    for command in &host.asked {
-        writeln!(text, "  asked for `{command}`")?;
-    }
-    match evaluated {
-        Ok((scope, positional, env)) => {
-            explain_words(text, &positional, &env)?;
-            explain_lines(alloc, text, &mut host, &context, &scope, &recipe, env)
+    match called.evaluate(alloc, &mut host, context) {
+        Ok((scope, positional, env)) => explain_given(
+            alloc,
+            text,
+            &mut host,
+            context,
+            &scope,
+            called,
+            &positional,
+            env,
+        ),
+        Err(error) => {
+            explain_questions(text, &host.asked)?;
+            explain_refusal(text, &error)
         }
-        Err(error) => explain_refusal(text, &error),
     }
 }
 
@@ -76,19 +79,51 @@ fn explain_resolution<'src>(
     alloc: Global,
     text: &mut String,
     context: &ExecutionContext<'src, '_>,
-    scope: &Scope<'src, '_>,
-    recipe: &Recipe<'src>,
-    parameters: &[Parameter<'src>],
+    called: &Called<'src>,
 ) -> Result<(), OutOfMemory> {
+    let recipe = Some(&called.recipe);
     let lines = Vec::new(alloc);
-    if !resolved_here(alloc, context, scope, Some(recipe), parameters, lines)? {
+    if !resolved_here(
+        alloc,
+        context,
+        context.scope,
+        recipe,
+        &called.parameters,
+        lines,
+    )? {
         writeln!(text, "  unresolved")?;
     }
     Ok(())
 }
 
+// Adds the commands that were asked for.
+fn explain_questions(text: &mut String, asked: &[String]) -> Result<(), OutOfMemory> {
+    for command in asked {
+        writeln!(text, "  asked for `{command}`")?;
+    }
+    Ok(())
+}
+
+// The same, then the positional words and the environment, and then the lines.
+fn explain_given<'src>(
+    alloc: Global,
+    text: &mut String,
+    host: &mut Calendar,
+    context: &ExecutionContext<'src, '_>,
+    scope: &Scope<'src, '_>,
+    called: &Called<'src>,
+    positional: &[String],
+    env: BTreeMap<String, String>,
+) -> Result<(), OutOfMemory>
+    requires room { 0 < context.now.recursion_limit }
+{
+    explain_questions(text, &host.asked)?;
+    explain_environment(text, positional, &env)?;
+    explain_lines(alloc, text, host, context, scope, called, env)
+}
+
 // Adds the positional words and the environment.
-fn explain_words(
+fn explain_environment(
     text: &mut String,
     positional: &[String],
     env: &BTreeMap<String, String>,
@@ -109,20 +144,84 @@ fn explain_lines<'src>(
     host: &mut Calendar,
     context: &ExecutionContext<'src, '_>,
     scope: &Scope<'src, '_>,
-    recipe: &Recipe<'src>,
+    called: &Called<'src>,
     env: BTreeMap<String, String>,
 ) -> Result<(), OutOfMemory>
     requires room { 0 < context.now.recursion_limit }
 {
-    let name = Some(recipe.name);
+    let name = Some(called.recipe.name);
     let evaluator = Evaluator::new(alloc, context, env, false, name, scope)?;
-    for (line, continued) in &build::lines(alloc)? {
+    explain_each(alloc, text, host, &evaluator, &called.lines)
+}
+
+// Adds lines up to the first that is refused.
+fn explain_each<'src>(
+    alloc: Global,
+    text: &mut String,
+    host: &mut Calendar,
+    evaluator: &Evaluator<'src, '_>,
+    lines: &[Continued<'src>],
+) -> Result<(), OutOfMemory>
+    requires room { HasRoom evaluator.now }
+{
+    for (line, continued) in lines {
         match evaluator.evaluate_line(alloc, host, line, *continued) {
             Ok(line) => writeln!(text, "  > {line}")?,
             Err(error) => return explain_refusal(text, &error),
         }
     }
     Ok(())
+}
+
+// The recipe as it is called.
+#[derive(Drop)]
+struct Called<'src> {
+    arguments: Vec<Value>,
+    lines: Vec<Continued<'src>>,
+    parameters: Vec<Parameter<'src>>,
+    recipe: Recipe<'src>,
+}
+
+// The scope of the recipe's lines, its positional words and its environment.
+type Given<'src, 'run> = (Scope<'src, 'run>, Vec<String>, BTreeMap<String, String>);
+
+impl<'src> Called<'src> {
+    // The recipe, called with these words.
+    fn new(alloc: Global, words: &str) -> Result<Called<'src>, OutOfMemory> {
+        let arguments = arguments(alloc, words)?;
+        let lines = build::lines(alloc)?;
+        let parameters = build::parameters(alloc)?;
+        let recipe = build::recipe(alloc)?;
+        Ok(Called {
+            arguments,
+            lines,
+            parameters,
+            recipe,
+        })
+    }
+
+    // Evaluates its attribute and its parameters in the module's scope.
+    fn evaluate<'run>(
+        &self,
+        alloc: Global,
+        host: &mut Calendar,
+        context: &ExecutionContext<'src, 'run>,
+    ) -> Result<Given<'src, 'run>, Error<'src>>
+        requires room { 0 < context.now.recursion_limit }
+    {
+        let check = |_: &Recipe, _: &Parameter, value: &Value| inside(alloc, value);
+        Evaluator::evaluate_parameters(
+            alloc,
+            host,
+            &check,
+            &self.arguments,
+            context,
+            false,
+            &self.parameters,
+            &self.recipe,
+            context.scope,
+        )
+    }
 }
 
 // The first word is for the first parameter, the second for the second, and the others are for the last, which takes any
