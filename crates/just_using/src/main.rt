@@ -31,33 +31,47 @@ impl Host for Greeter {
     }
 }
 
-fn letter<'src>(alloc: Global) -> Result<Expression<'src>, OutOfMemory> {
-    let mode = Expression::variable(Name::new("mode", None), Number::new(0));
+fn mode<'src>(alloc: Global) -> Result<Assignment<'src>, OutOfMemory> {
     let debug = Expression::literal(alloc, "debug", "'debug'")?;
+    Ok(Assignment::new(Name::new("mode", None), Number::new(0), debug))
+}
+
+fn greeting<'src>(alloc: Global) -> Result<Assignment<'src>, OutOfMemory> {
+    let hello = Expression::literal(alloc, "Hello, ", "'Hello, '")?;
+    let whoami = Expression::backtick(alloc, "whoami", Token::new("`whoami`", None))?;
+    let sum = Expression::concatenation(alloc, hello, Token::new("+", None), whoami)?;
+    Ok(Assignment::new(Name::new("greeting", None), Number::new(1), sum))
+}
+
+fn is_debug<'src>(alloc: Global) -> Result<Expression<'src>, OutOfMemory> {
+    let debug = Expression::literal(alloc, "debug", "'debug'")?;
+    let mode = Expression::variable(Name::new("mode", None), Number::new(0));
     let equals = ConditionalOperator::Equality;
-    let is_debug = Expression::comparison(alloc, mode, equals, debug, Token::new("==", None))?;
-    let greeting = Expression::variable(Name::new("greeting", None), Number::new(1));
+    Expression::comparison(alloc, mode, equals, debug, Token::new("==", None))
+}
+
+fn letter<'src>(alloc: Global) -> Result<Assignment<'src>, OutOfMemory> {
     let mut place = Place::start_of("justfile");
     (place.line, place.column, place.offset) = (2, 49, 98);
     let mail = Expression::backtick(alloc, "mail", Token::new("`mail`", Some(place)))?;
-    Expression::conditional(alloc, is_debug, greeting, Some(mail))
+    let is_debug = is_debug(alloc)?;
+    let greeting = Expression::variable(Name::new("greeting", None), Number::new(1));
+    let value = Expression::conditional(alloc, is_debug, greeting, Some(mail))?;
+    Ok(Assignment::new(Name::new("letter", None), Number::new(2), value))
+}
+
+fn fill<'src>(alloc: Global, module: &mut Justfile<'src>) -> Result<(), OutOfMemory> {
+    for name in ["mode", "greeting", "letter"] {
+        module.evaluation_order.push(Name::new(name, None))?;
+    }
+    module.assignments.insert(mode(alloc)?)?;
+    module.assignments.insert(greeting(alloc)?)?;
+    module.assignments.insert(letter(alloc)?)
 }
 
 fn module<'src>(alloc: Global) -> Result<Justfile<'src>, OutOfMemory> {
     let mut module = Justfile::new(alloc, "/work/justfile", "/work")?;
-    for name in ["mode", "greeting", "letter"] {
-        module.evaluation_order.push(Name::new(name, None))?;
-    }
-    let debug = Expression::literal(alloc, "debug", "'debug'")?;
-    let mode = Assignment::new(Name::new("mode", None), Number::new(0), debug);
-    module.assignments.insert(mode)?;
-    let hello = Expression::literal(alloc, "Hello, ", "'Hello, '")?;
-    let whoami = Expression::backtick(alloc, "whoami", Token::new("`whoami`", None))?;
-    let sum = Expression::concatenation(alloc, hello, Token::new("+", None), whoami)?;
-    let greeting = Assignment::new(Name::new("greeting", None), Number::new(1), sum);
-    module.assignments.insert(greeting)?;
-    let letter = Assignment::new(Name::new("letter", None), Number::new(2), letter(alloc)?);
-    module.assignments.insert(letter)?;
+    fill(alloc, &mut module)?;
     Ok(module)
 }
 
