@@ -4,6 +4,7 @@
 use anyhow::Result;
 use just_eval::prelude::*;
 use std::alloc::Global;
+use std::collections::{BTreeMap, HashMap};
 
 #[derive(Drop)]
 struct Greeter;
@@ -78,28 +79,47 @@ fn module<'src>(alloc: Global) -> Result<Justfile<'src>, OutOfMemory> {
 fn run(rt: &impl Print, alloc: Global, outer: &Scope, given: &[(String, String)]) -> Result<()> {
     let module = module(alloc)?;
     let overrides = overrides_of(alloc, &module.assignments, given)?;
+    evaluate(rt, alloc, outer, &module, &overrides)
+}
+
+fn evaluate<'src>(
+    rt: &impl Print,
+    alloc: Global,
+    outer: &Scope<'src, '_>,
+    module: &Justfile<'src>,
+    overrides: &HashMap<Number, String>,
+) -> Result<()> {
     let config = Config::new(alloc, "/work")?;
-    let dotenv = std::collections::BTreeMap::new(alloc);
+    let dotenv = BTreeMap::new(alloc);
     let search = Search::new(alloc, "/work/justfile", "/work")?;
     match Evaluator::evaluate_assignments(
         alloc,
         &mut Greeter,
         &config,
         &dotenv,
-        &module,
-        &overrides,
+        module,
+        overrides,
         outer,
         &search,
         RECURSION_LIMIT,
         None,
     ) {
-        Ok(scope) => for binding in scope.bindings() {
-            println!(rt; "{} = {}", binding.name, binding.value)?;
-        },
-        Err(error) => match error.token() {
-            Some(at) => println!(rt; "{}:{}:{}: {error}", at.path, at.line, at.column)?,
-            None => println!(rt; "{error}")?,
-        },
+        Ok(scope) => print_bindings(rt, &scope),
+        Err(error) => print_error(rt, &error),
+    }
+}
+
+fn print_bindings(rt: &impl Print, scope: &Scope) -> Result<()> {
+    for binding in scope.bindings() {
+        println!(rt; "{} = {}", binding.name, binding.value)?;
+    }
+    Ok(())
+}
+
+fn print_error(rt: &impl Print, error: &Error) -> Result<()> {
+    match error.token() {
+        Some(at) => println!(rt; "{}:{}:{}: {error}", at.path, at.line, at.column)?,
+        None => println!(rt; "{error}")?,
     }
     Ok(())
 }
