@@ -14,6 +14,7 @@ use just_value::scope::Scope;
 use just_value::value::Value;
 use std::alloc::Global;
 use std::collections::{BTreeSet, HashMap};
+use std::process::Abort;
 use std::test::Fail;
 
 // Each case begins with this line, so that the variables `a` to `e` have the numbers 0 to 4.
@@ -167,27 +168,46 @@ const BOUND_OUTSIDE: &[(&str, &str, &str)] = &[
 /// The numbers that an edit of a case changes.
 pub(crate) fn changed_numbers(
     alloc: Global,
-    before_lines: &[Line],
-    after_lines: &[Line],
+    before: &str,
+    after: &str,
     outer: &Scope,
 ) -> Result<BTreeSet<Number>, Fail> {
-    let (before, before_overrides) = module_of(alloc, build(alloc, before_lines)?)?;
-    let (after, after_overrides) = module_of(alloc, build(alloc, after_lines)?)?;
-    Ok(changed(
+    let before_lines = parse_lines(alloc, before.as_bytes())?;
+    let after_lines = parse_lines(alloc, after.as_bytes())?;
+    changed_in_lines(alloc, &before_lines, &after_lines, outer)
+}
+
+fn changed_in_lines<'src>(
+    alloc: Global,
+    before_lines: &'src [Line<'src>],
+    after_lines: &'src [Line<'src>],
+    outer: &Scope,
+) -> Result<BTreeSet<Number>, Fail> {
+    let before = build(alloc, before_lines)?;
+    let after = build(alloc, after_lines)?;
+    Ok(changed_between(alloc, before, after, outer)?)
+}
+
+fn changed_between<'src>(
+    alloc: Global,
+    before: Case<'src>,
+    after: Case<'src>,
+    outer: &Scope,
+) -> Result<BTreeSet<Number>, OutOfMemory> {
+    let (before, before_overrides) = module_of(alloc, before);
+    let (after, after_overrides) = module_of(alloc, after);
+    changed(
         alloc,
         &before,
         &before_overrides,
         &after,
         &after_overrides,
         outer,
-    )?)
+    )
 }
 
 // A module with what a case describes, and its overrides.
-fn module_of<'src>(
-    alloc: Global,
-    case: Case<'src>,
-) -> Result<(Justfile<'src>, HashMap<Number, String>), OutOfMemory> {
+fn module_of<'src>(alloc: Global, case: Case<'src>) -> (Justfile<'src>, HashMap<Number, String>) {
     let Case {
         assignments,
         evaluation_order,
@@ -206,21 +226,27 @@ fn module_of<'src>(
         unexports: Vec::new(alloc),
         working_directory: String::new(alloc),
     };
-    Ok((justfile, overrides))
+    (justfile, overrides)
 }
 
 // The numbers that an edit changes, a space behind each.
 fn told(alloc: Global, before: &str, after: &str, outer: &Scope) -> Result<String, Fail> {
-    let before_text = format!(in alloc; "{HEAD}{before}{TAIL}")?;
-    let after_text = format!(in alloc; "{HEAD}{after}{TAIL}")?;
-    let before_lines = parse_lines(alloc, before_text.as_bytes())?;
-    let after_lines = parse_lines(alloc, after_text.as_bytes())?;
-    let numbers = changed_numbers(alloc, &before_lines, &after_lines, outer)?;
+    let before = case_of(alloc, before)?;
+    let after = case_of(alloc, after)?;
+    let numbers = changed_numbers(alloc, &before, &after, outer)?;
+    Ok(told_of(alloc, &numbers)?)
+}
+
+// The text of a case with these lines in the middle.
+fn case_of(alloc: Global, lines: &str) -> Result<String, OutOfMemory> {
+    Ok(format!(in alloc; "{HEAD}{lines}{TAIL}")?)
+}
+
+fn told_of(alloc: Global, numbers: &BTreeSet<Number>) -> Result<String, OutOfMemory> {
     let mut told = String::new(alloc);
     for place in 0..5 {
         if numbers.contains(&Number::new(place)) {
-            let number = format!(in alloc; "{place} ")?;
-            told.push_str(&number)?;
+            write!(told, "{place} ")?;
         }
     }
     Ok(told)
@@ -228,10 +254,19 @@ fn told(alloc: Global, before: &str, after: &str, outer: &Scope) -> Result<Strin
 
 #[test]
 fn edits(rt: HostRuntime) -> Result<(), Fail> {
-    let alloc = rt.alloc();
-    let outer = Scope::root(alloc, &[])?;
-    for (before, after, expected) in EDITS {
-        let told = told(alloc, before, after, &outer)?;
+    let outer = Scope::root(rt.alloc(), &[])?;
+    each_tells(&rt, rt.alloc(), EDITS, &outer)
+}
+
+// Each edit changes these numbers.
+fn each_tells(
+    rt: &impl Abort,
+    alloc: Global,
+    edits: &[(&str, &str, &str)],
+    outer: &Scope,
+) -> Result<(), Fail> {
+    for (before, after, expected) in edits {
+        let told = told(alloc, before, after, outer)?;
         assert_eq!(rt; told.as_str(), *expected, "{before}to\n{after}");
     }
     Ok(())
@@ -239,9 +274,14 @@ fn edits(rt: HostRuntime) -> Result<(), Fail> {
 
 #[test]
 fn bound_outside(rt: HostRuntime) -> Result<(), Fail> {
-    let alloc = rt.alloc();
-    let mut outer = Scope::root(alloc, &[])?;
-    outer.bind(Binding {
+    let mut outer = Scope::root(rt.alloc(), &[])?;
+    outer.bind(binding(rt.alloc()))?;
+    each_tells(&rt, rt.alloc(), BOUND_OUTSIDE, &outer)
+}
+
+// Binds `a` to no element.
+fn binding<'src>(alloc: Global) -> Binding<'src> {
+    Binding {
         attributes: AttributeSet::new(alloc),
         eager: false,
         export: false,
@@ -251,10 +291,5 @@ fn bound_outside(rt: HostRuntime) -> Result<(), Fail> {
         prelude: false,
         private: false,
         value: Value::new(alloc),
-    })?;
-    for (before, after, expected) in BOUND_OUTSIDE {
-        let told = told(alloc, before, after, &outer)?;
-        assert_eq!(rt; told.as_str(), *expected, "{before}to\n{after}");
     }
-    Ok(())
 }

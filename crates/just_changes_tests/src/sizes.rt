@@ -1,7 +1,6 @@
 // A module of many assignments, each of which reads the one before it.
 
 use crate::edits::changed_numbers;
-use just_case_lines::line::parse_lines;
 use just_value::scope::Scope;
 use std::alloc::Global;
 use std::test::Fail;
@@ -24,9 +23,7 @@ fn row(alloc: Global, first: &str, last: &str) -> Result<String, Fail> {
 // How many variables an edit of such a row changes.
 fn count(alloc: Global, before: &str, after: &str) -> Result<usize, Fail> {
     let outer = Scope::root(alloc, &[])?;
-    let before_lines = parse_lines(alloc, before.as_bytes())?;
-    let after_lines = parse_lines(alloc, after.as_bytes())?;
-    let numbers = changed_numbers(alloc, &before_lines, &after_lines, &outer)?;
+    let numbers = changed_numbers(alloc, before, after, &outer)?;
     Ok(numbers.len())
 }
 
