@@ -231,14 +231,14 @@ fn module_of<'src>(alloc: Global, case: Case<'src>) -> (Justfile<'src>, HashMap<
 
 // The numbers that an edit changes, a space behind each.
 fn told(alloc: Global, before: &str, after: &str, outer: &Scope) -> Result<String, Fail> {
-    let before = case_of(alloc, before)?;
-    let after = case_of(alloc, after)?;
+    let before = case_text(alloc, before)?;
+    let after = case_text(alloc, after)?;
     let numbers = changed_numbers(alloc, &before, &after, outer)?;
     Ok(told_of(alloc, &numbers)?)
 }
 
 // The text of a case with these lines in the middle.
-fn case_of(alloc: Global, lines: &str) -> Result<String, OutOfMemory> {
+fn case_text(alloc: Global, lines: &str) -> Result<String, OutOfMemory> {
     Ok(format!(in alloc; "{HEAD}{lines}{TAIL}")?)
 }
 

@@ -26,11 +26,13 @@ pub(crate) fn explain(alloc: Global, words: &str) -> Result<String, OutOfMemory>
     Ok(text)
 }
 
+// Adds what the recipe comes to that is called with these words.
 fn explain_words(alloc: Global, text: &mut String, words: &str) -> Result<(), OutOfMemory> {
     let invocation = Invocation::new(alloc)?;
     explain_in(alloc, text, &invocation.context(), words)
 }
 
+// The same in a context.
 fn explain_in(
     alloc: Global,
     text: &mut String,
@@ -43,7 +45,7 @@ fn explain_in(
     explain_called(alloc, text, context, &called)
 }
 
-// Adds what the recipe comes to: its parameters first, and then its lines.
+// The same of what is called: its parameters first, and then its lines.
 fn explain_called<'src>(
     alloc: Global,
     text: &mut String,

@@ -61,7 +61,7 @@ fn letter<'src>(alloc: Global) -> Result<Assignment<'src>, OutOfMemory> {
     Ok(Assignment::new(Name::new("letter", None), Number::new(2), value))
 }
 
-fn fill<'src>(alloc: Global, module: &mut Justfile<'src>) -> Result<(), OutOfMemory> {
+fn add_assignments<'src>(alloc: Global, module: &mut Justfile<'src>) -> Result<(), OutOfMemory> {
     for name in ["mode", "greeting", "letter"] {
         module.evaluation_order.push(Name::new(name, None))?;
     }
@@ -72,7 +72,7 @@ fn fill<'src>(alloc: Global, module: &mut Justfile<'src>) -> Result<(), OutOfMem
 
 fn module<'src>(alloc: Global) -> Result<Justfile<'src>, OutOfMemory> {
     let mut module = Justfile::new(alloc, "/work/justfile", "/work")?;
-    fill(alloc, &mut module)?;
+    add_assignments(alloc, &mut module)?;
     Ok(module)
 }
 
