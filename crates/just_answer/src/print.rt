@@ -46,7 +46,10 @@ pub fn print_order(text: &mut String, taken: &[(Name, Number)]) -> Result<(), Ou
 }
 
 /// Adds a scope's own bindings by rising number, each on a line: the name and the value.
-pub fn print_bindings(text: &mut String, scope: &Scope) -> Result<(), OutOfMemory>
+pub fn print_bindings<'call>(
+    text: &'call mut String,
+    scope: &'call Scope,
+) -> Result<(), OutOfMemory>
     ensures { OnOk result (string_bytes text.new ≡ string_bytes text.old ++ binding_lines (values_of (own_frame (frames_view scope.now)))) }
 {
     for binding in scope.bindings() {

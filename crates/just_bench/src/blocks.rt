@@ -75,10 +75,10 @@ pub(crate) fn evaluate_blocks<'src, A: Around>(
 
 // Runs a module in its order and in another, with hosts that were asked nothing. Adds `unresolved` where it is that in one of
 // them, what both runs ask and whether they agree, and gives the exit status.
-fn print_runs<'src, H: Host>(
+fn print_runs<'call, 'src, H: Host>(
     alloc: Global,
-    text: &mut String,
-    run: &mut ModuleRun<'src>,
+    text: &'call mut String,
+    run: &'call mut ModuleRun<'src>,
     one_host: &mut Recorder<H>,
     other_host: &mut Recorder<H>,
     mut second: Vec<Name<'src>>,
@@ -118,10 +118,10 @@ fn are_resolved<'src>(
 }
 
 // Runs a module in two orders. Adds what each run asks, the second where the first is not refused, and whether they agree.
-fn print_both<'src, H: Host>(
+fn print_both<'call, 'src, H: Host>(
     alloc: Global,
-    text: &mut String,
-    run: &mut ModuleRun<'src>,
+    text: &'call mut String,
+    run: &'call mut ModuleRun<'src>,
     one_host: &mut Recorder<H>,
     other_host: &mut Recorder<H>,
     first: &[Name<'src>],
@@ -148,10 +148,10 @@ fn print_both<'src, H: Host>(
 
 // Runs a module in an order, with a host that was asked nothing. Adds the variables that are taken, and behind each what is
 // asked for it. A refusal is added where it ends the run, of which then nothing is given.
-fn print_run<'src, 'run, H: Host>(
+fn print_run<'call, 'src, 'run, H: Host>(
     alloc: Global,
-    text: &mut String,
-    run: &mut ModuleRun<'src>,
+    text: &'call mut String,
+    run: &'call mut ModuleRun<'src>,
     host: &mut Recorder<H>,
     order: &[Name<'src>],
     parent: &'run Scope<'src, '_>,
@@ -173,10 +173,10 @@ fn print_run<'src, 'run, H: Host>(
 
 // Evaluates the names of an order, one after another, behind what came of those before. Adds the blocks of the variables that
 // come, and a refusal where it ends this.
-fn print_turns<'src, 'run, H: Host>(
+fn print_turns<'call, 'src, 'run, H: Host>(
     alloc: Global,
-    text: &mut String,
-    run: &mut ModuleRun<'src>,
+    text: &'call mut String,
+    run: &'call mut ModuleRun<'src>,
     host: &mut Recorder<H>,
     order: &[Name<'src>],
     taken: &[(Name<'src>, Number)],
@@ -201,10 +201,10 @@ fn print_turns<'src, 'run, H: Host>(
 
 // Evaluates a name, where the variables from a place on still come. Adds its block, if the next of them has this name, and
 // gives the place behind that, or the refusal.
-fn print_turn<'src, H: Host>(
+fn print_turn<'call, 'src, H: Host>(
     alloc: Global,
-    text: &mut String,
-    run: &mut ModuleRun<'src>,
+    text: &'call mut String,
+    run: &'call mut ModuleRun<'src>,
     host: &mut Recorder<H>,
     name: Name<'src>,
     taken: &[(Name, Number)],
@@ -335,7 +335,7 @@ fn print_agreement(text: &mut String, agree: bool) -> Result<(), OutOfMemory>
 }
 
 // Whether each variable that two runs bind has the same questions and the same value in both.
-fn agree(one: &Blocks, other: &Blocks) -> bool
+fn agree<'src>(one: &Blocks<'src, '_>, other: &Blocks<'src, '_>) -> bool
     ensures { result ≡ plain.agree (found_view one.now) (found_view other.now) }
 {
     for binding in one.scope.bindings() {
@@ -347,7 +347,7 @@ fn agree(one: &Blocks, other: &Blocks) -> bool
 }
 
 // Whether a variable has in another run, if that binds it, the same questions and the same value as in one that binds it so.
-fn is_alike(one: &Blocks, other: &Blocks, binding: &Binding) -> bool
+fn is_alike<'src>(one: &Blocks<'src, '_>, other: &Blocks<'src, '_>, binding: &Binding<'src>) -> bool
     ensures { let number = binding.now.number in
         result ≡ plain.is_alike (text_numbered one.now.questions number) (text_numbered other.now.questions number) (bound_view binding.now) (bound_at number (own_frame (frames_view other.now.scope))) }
 {

@@ -40,10 +40,10 @@ pub(crate) fn evaluate_run<'src, A: Around>(
 
 // Runs a module with a host that was asked nothing. Adds `unresolved` where it is that, the questions that the host was
 // asked, and the bindings or the refusal, and gives the exit status.
-fn print_evaluation<'src, H: Host>(
+fn print_evaluation<'call, 'src, H: Host>(
     alloc: Global,
-    text: &mut String,
-    run: &ModuleRun<'src>,
+    text: &'call mut String,
+    run: &'call ModuleRun<'src>,
     host: &mut Recorder<H>,
     parent: &Scope<'src, '_>,
 ) -> Result<u8, OutOfMemory>
@@ -70,10 +70,10 @@ pub(crate) fn print_resolved(text: &mut String, resolved: bool) -> Result<(), Ou
 }
 
 // Adds the bindings or the refusal, and gives the exit status.
-fn print_outcome<'src>(
+fn print_outcome<'call, 'src>(
     alloc: Global,
-    text: &mut String,
-    outcome: &Result<Scope<'src, '_>, Error<'src>>,
+    text: &'call mut String,
+    outcome: &'call Result<Scope<'src, '_>, Error<'src>>,
 ) -> Result<u8, OutOfMemory>
     ensures printed { OnOk result (string_bytes text.new ≡ string_bytes text.old ++ outcome_lines (ended frames_view outcome.now)) }
     ensures status { IfOk result (λ status. status ≤ 2) }

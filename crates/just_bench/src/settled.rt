@@ -125,7 +125,7 @@ impl<'src> Stage<'src> {
                 let references = Some(&self.references);
                 let order = &self.evaluation_order;
                 let taken = taken_variables(alloc, &self.assignments, order, references)?;
-                print_settled(text, &taken, evaluator)?;
+                print_settled(evaluator, text, &taken)?;
                 Ok(0)
             }
             Err(refusal) => {
@@ -166,24 +166,24 @@ fn assigned_numbers(
 
 // Adds a line on each of these variables.
 fn print_settled(
+    evaluator: &Evaluator,
     text: &mut String,
     taken: &[(Name, Number)],
-    evaluator: &Evaluator,
 ) -> Result<(), OutOfMemory>
     ensures { OnOk result (string_bytes text.new ≡ string_bytes text.old ++ flat_map (standing_line (standing_of evaluator.now)) (map taken_view taken.now)) }
 {
     for (name, number) in taken {
-        print_standing(text, name, *number, evaluator)?;
+        print_standing(evaluator, text, name, *number)?;
     }
     Ok(())
 }
 
 // Adds a line on a variable: its name, and its value or that it is open.
 fn print_standing(
+    evaluator: &Evaluator,
     text: &mut String,
     name: &Name,
     number: Number,
-    evaluator: &Evaluator,
 ) -> Result<(), OutOfMemory>
     ensures { OnOk result (string_bytes text.new ≡ string_bytes text.old ++ standing_line (standing_of evaluator.now) (name_view name.now, number)) }
 {

@@ -146,10 +146,10 @@ fn extended(
 }
 
 /// What a built-in function asks and answers that takes two values.
-pub fn value_binary<H: Host>(
+pub fn value_binary<'call, H: Host>(
     alloc: Global,
-    host: &mut H,
-    context: &Context,
+    host: &'call mut H,
+    context: &'call Context,
     builtin: Builtin,
     value: &Value,
     other: &Value,
@@ -163,10 +163,10 @@ pub fn value_binary<H: Host>(
 }
 
 /// What a built-in function asks and answers that takes a value, and a second where it is given.
-pub fn value_binary_opt<H: Host>(
+pub fn value_binary_opt<'call, H: Host>(
     alloc: Global,
-    host: &mut H,
-    context: &Context,
+    host: &'call mut H,
+    context: &'call Context,
     builtin: Builtin,
     value: &Value,
     other: Option<&Value>,

@@ -25,10 +25,10 @@ use std::collections::BTreeMap;
 ///
 /// `Message` where none is set and there is no default, and where a variable that is asked for holds no text or
 /// cannot be read; `OutOfMemory` where memory was asked for and refused, or where the host says so.
-pub fn environment<H: Host>(
+pub fn environment<'call, H: Host>(
     alloc: Global,
-    host: &mut H,
-    context: &Context,
+    host: &'call mut H,
+    context: &'call Context,
     keys: &Value,
     default: Option<&Value>,
 ) -> Result<Value, CallFault>

@@ -34,10 +34,10 @@ fn in_working_directory(alloc: Global, context: &Context, path: &str) -> Result<
 ///
 /// `Message` where there is none, where it is no text, and at the host's fault; `OutOfMemory` where memory was
 /// asked for and refused, or where the host says so.
-pub fn canonicalize<H: Host>(
+pub fn canonicalize<'call, H: Host>(
     alloc: Global,
-    host: &mut H,
-    context: &Context,
+    host: &'call mut H,
+    context: &'call Context,
     path: &str,
 ) -> Result<Value, CallFault>
     ensures { (shown : Frames) → Asked H.step host.old shown (spec.asks_canonical (function_context_view context.now) path.now) result host.new }
@@ -73,10 +73,10 @@ fn canonical_answered(alloc: Global, path: &str, answer: TextAnswer) -> Result<V
 ///
 /// `Message` where there is none, where it holds no text, and at the host's fault; `OutOfMemory` where memory was
 /// asked for and refused, or where the host says so.
-pub fn read<H: Host>(
+pub fn read<'call, H: Host>(
     alloc: Global,
-    host: &mut H,
-    context: &Context,
+    host: &'call mut H,
+    context: &'call Context,
     path: &str,
 ) -> Result<Value, CallFault>
     ensures { (shown : Frames) → Asked H.step host.old shown (spec.asks_contents (function_context_view context.now) path.now) result host.new }
@@ -109,10 +109,10 @@ fn contents_answered(alloc: Global, path: &str, answer: TextAnswer) -> Result<Va
 /// # Errors
 ///
 /// `OutOfMemory` where memory was asked for and refused, or where the host says so.
-pub fn path_exists<H: Host>(
+pub fn path_exists<'call, H: Host>(
     alloc: Global,
-    host: &mut H,
-    context: &Context,
+    host: &'call mut H,
+    context: &'call Context,
     path: &str,
 ) -> Result<Value, CallFault>
     ensures { let c = function_context_view context.now in (shown : Frames) → Asked H.step host.old shown (spec.asks_existence c (truth (has_lists c)) path.now) result host.new }

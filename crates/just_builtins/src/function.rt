@@ -132,11 +132,11 @@ impl Function {
     /// `Message` where the function says why it gives no value; `OutOfMemory` where memory was asked for and refused, or where
     /// the host says so; `Internal` only where no name stands for the function, and then nothing is asked. What the host was
     /// asked before a refusal stays asked.
-    pub fn call<H: Host>(
+    pub fn call<'call, H: Host>(
         self,
         alloc: Global,
-        host: &mut H,
-        context: &Context,
+        host: &'call mut H,
+        context: &'call Context,
         arguments: &[Value],
     ) -> Result<Value, CallFault>
         requires count { IsExpected self (length arguments.now) }
@@ -149,11 +149,11 @@ impl Function {
     }
 
     // What it asks and answers, by its shape.
-    fn answer<H: Host>(
+    fn answer<'call, H: Host>(
         self,
         alloc: Global,
-        host: &mut H,
-        context: &Context,
+        host: &'call mut H,
+        context: &'call Context,
         arguments: &[Value],
     ) -> Result<Value, CallFault>
         requires count { IsExpected self (length arguments.now) }

@@ -23,10 +23,10 @@ use std::alloc::Global;
 ///
 /// `Message` where the path is no text, and at the host's fault; `OutOfMemory` where memory was asked for and
 /// refused, or where the host says so.
-pub fn which<H: Host>(
+pub fn which<'call, H: Host>(
     alloc: Global,
-    host: &mut H,
-    context: &Context,
+    host: &'call mut H,
+    context: &'call Context,
     name: &str,
 ) -> Result<Value, CallFault>
     ensures { (shown : Frames) → Asked H.step host.old shown (asks_which (function_context_view context.now) name.now (Answers [])) result host.new }
@@ -58,10 +58,10 @@ fn which_answered(alloc: Global, answer: TextAnswer) -> Result<Value, CallFault>
 ///
 /// `Message` where there is none, where the path is no text, and at the host's fault; `OutOfMemory` where memory
 /// was asked for and refused, or where the host says so.
-pub fn require<H: Host>(
+pub fn require<'call, H: Host>(
     alloc: Global,
-    host: &mut H,
-    context: &Context,
+    host: &'call mut H,
+    context: &'call Context,
     name: &str,
 ) -> Result<Value, CallFault>
     ensures { (shown : Frames) → Asked H.step host.old shown (asks_which (function_context_view context.now) name.now (Fails (no_executable name.now))) result host.new }

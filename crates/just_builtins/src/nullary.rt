@@ -27,10 +27,10 @@ use just_value::value::Value;
 use std::alloc::Global;
 
 /// What a built-in function asks and answers that takes nothing and gives a text.
-pub fn nullary<H: Host>(
+pub fn nullary<'call, H: Host>(
     alloc: Global,
-    host: &mut H,
-    context: &Context,
+    host: &'call mut H,
+    context: &'call Context,
     builtin: Builtin,
 ) -> Result<Value, CallFault>
     ensures { (shown : Frames) → AskedBy (Nullary builtin) H.step host.old shown (spec.reply builtin (function_context_view context.now) []) result host.new }

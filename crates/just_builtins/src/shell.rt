@@ -29,10 +29,10 @@ use std::alloc::Global;
 ///
 /// `Message` with the host's fault; `OutOfMemory` where memory was asked for and refused, or where the host says
 /// so.
-pub fn shell<H: Host>(
+pub fn shell<'call, H: Host>(
     alloc: Global,
-    host: &mut H,
-    context: &Context,
+    host: &'call mut H,
+    context: &'call Context,
     arguments: &[Value],
 ) -> Result<Value, CallFault>
     requires some { 0 < length arguments.now }

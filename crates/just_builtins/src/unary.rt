@@ -31,10 +31,10 @@ use just_value::value::Value;
 use std::alloc::Global;
 
 /// What a built-in function asks and answers that takes a text and gives one.
-pub fn unary<H: Host>(
+pub fn unary<'call, H: Host>(
     alloc: Global,
-    host: &mut H,
-    context: &Context,
+    host: &'call mut H,
+    context: &'call Context,
     builtin: Builtin,
     text: &str,
 ) -> Result<Value, CallFault>
@@ -108,10 +108,10 @@ fn quoted(alloc: Global, texts: &[String]) -> Result<Vec<String>, OutOfMemory>
 }
 
 /// What a built-in function asks and answers that takes one text or more.
-pub fn unary_plus<H: Host>(
+pub fn unary_plus<'call, H: Host>(
     alloc: Global,
-    host: &mut H,
-    context: &Context,
+    host: &'call mut H,
+    context: &'call Context,
     builtin: Builtin,
     arguments: &[Value],
 ) -> Result<Value, CallFault>
@@ -126,10 +126,10 @@ pub fn unary_plus<H: Host>(
 }
 
 /// What a built-in function asks and answers that takes a text and gives a value.
-pub fn unary_to_value<H: Host>(
+pub fn unary_to_value<'call, H: Host>(
     alloc: Global,
-    host: &mut H,
-    context: &Context,
+    host: &'call mut H,
+    context: &'call Context,
     builtin: Builtin,
     text: &str,
 ) -> Result<Value, CallFault>
@@ -143,10 +143,10 @@ pub fn unary_to_value<H: Host>(
 }
 
 /// What a built-in function asks and answers that takes a value.
-pub fn value_unary<H: Host>(
+pub fn value_unary<'call, H: Host>(
     alloc: Global,
-    host: &mut H,
-    context: &Context,
+    host: &'call mut H,
+    context: &'call Context,
     builtin: Builtin,
     value: &Value,
 ) -> Result<Value, CallFault>

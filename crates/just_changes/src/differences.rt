@@ -19,8 +19,8 @@ use std::collections::HashMap;
 // The nodes that differ. One may be there more than once.
 pub(crate) fn differences<'src>(
     alloc: Global,
-    before: &Version<'_, 'src>,
-    after: &Version<'_, 'src>,
+    before: &Version<'src, '_>,
+    after: &Version<'src, '_>,
 ) -> Result<Vec<Node<'src>>, OutOfMemory>
     requires before { IsWhole before.now }
     requires after { IsWhole after.now }
@@ -36,8 +36,8 @@ pub(crate) fn differences<'src>(
 // Those of some nodes that differ.
 fn different<'src>(
     alloc: Global,
-    before: &Version<'_, 'src>,
-    after: &Version<'_, 'src>,
+    before: &Version<'src, '_>,
+    after: &Version<'src, '_>,
     nodes: &[Node<'src>],
 ) -> Result<Vec<Node<'src>>, OutOfMemory>
     ensures differ { IfOk result (λ different. (x : PlainNode) → IsListed (nodes_view different.items) x → IsSame (version_view before.now) (version_view after.now) x → ⊥) }
@@ -56,7 +56,7 @@ fn different<'src>(
 // Adds the nodes of a version.
 fn add_nodes<'src>(
     nodes: &mut Vec<Node<'src>>,
-    version: &Version<'_, 'src>,
+    version: &Version<'src, '_>,
 ) -> Result<(), OutOfMemory>
     ensures { OnOk result (nodes_view nodes.new.items ≡ nodes_view nodes.old.items ++ all_nodes version.now) }
 {

@@ -26,7 +26,7 @@ use std::collections::BTreeSet;
 // The readers of each node: the assignments that are evaluated, and the functions.
 pub(crate) fn readers_in<'src>(
     alloc: Global,
-    version: &Version<'_, 'src>,
+    version: &Version<'src, '_>,
     parent: &Scope,
 ) -> Result<Readers<'src>, OutOfMemory>
     requires whole { IsWhole version.now }
@@ -46,7 +46,7 @@ pub(crate) fn readers_in<'src>(
 fn add_assignment<'src>(
     alloc: Global,
     readers: &mut Readers<'src>,
-    version: &Version<'_, 'src>,
+    version: &Version<'src, '_>,
     parent: &Scope,
     assignment: &Assignment<'src>,
 ) -> Result<(), OutOfMemory>

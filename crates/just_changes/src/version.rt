@@ -22,20 +22,20 @@ use std::collections::{BTreeMap, HashMap};
 
 // A module's assignments and functions, and its overrides. Of the assignments of one number the first counts.
 #[derive(Drop)]
-pub(crate) struct Version<'a, 'src> {
+pub(crate) struct Version<'src, 'a> {
     pub(crate) assignments: &'a Table<Assignment<'src>>,
     pub(crate) functions: &'a Table<FunctionDefinition<'src>>,
     numbered: BTreeMap<Number, &'a Assignment<'src>>,
     pub(crate) overrides: &'a HashMap<Number, String>,
 }
 
-impl<'a, 'src> Version<'a, 'src> {
+impl<'a, 'src> Version<'src, 'a> {
     // A module and these overrides.
     pub(crate) fn new(
         alloc: Global,
         justfile: &'a Justfile<'src>,
         overrides: &'a HashMap<Number, String>,
-    ) -> Result<Version<'a, 'src>, OutOfMemory>
+    ) -> Result<Version<'src, 'a>, OutOfMemory>
         ensures whole { IfOk result IsWhole }
         ensures assignments { IfOk result (λ version. version.assignments.now ≡ justfile.entry.now.assignments) }
         ensures functions { IfOk result (λ version. version.functions.now ≡ justfile.entry.now.functions) }
@@ -51,7 +51,7 @@ impl<'a, 'src> Version<'a, 'src> {
     }
 
     // Whether a node is the same in another version.
-    pub(crate) fn is_same(&self, other: &Version, node: &Node) -> bool
+    pub(crate) fn is_same(&self, other: &Version<'src, '_>, node: &Node<'src>) -> bool
         ensures { IsTrue result ↔ IsSame (version_view self.now) (version_view other.now) (node_view node.now) }
     {
         match node {
@@ -61,14 +61,14 @@ impl<'a, 'src> Version<'a, 'src> {
     }
 
     // Whether a name has the same function in another version.
-    fn is_same_function(&self, other: &Version, name: &str) -> bool
+    fn is_same_function(&self, other: &Version<'src, '_>, name: &str) -> bool
         ensures { IsTrue result ↔ ((version_view self.now).function name.now ≡ (version_view other.now).function name.now) }
     {
         is_same_function(self.functions.get(name), other.functions.get(name))
     }
 
     // Whether a number has the same assignment and the same override in another version.
-    fn is_same_variable(&self, other: &Version, number: Number) -> bool
+    fn is_same_variable(&self, other: &Version<'src, '_>, number: Number) -> bool
         ensures { IsTrue result ↔ (((version_view self.now).assignment number ≡ (version_view other.now).assignment number) × ((version_view self.now).override number ≡ (version_view other.now).override number)) }
     {
         is_same_assignment(self.assignment(number), other.assignment(number))
@@ -76,7 +76,7 @@ impl<'a, 'src> Version<'a, 'src> {
     }
 
     // Whether an assignment is the first with its number.
-    pub(crate) fn is_first(&self, assignment: &Assignment) -> bool
+    pub(crate) fn is_first(&self, assignment: &Assignment<'src>) -> bool
         ensures { IsTrue result ↔ ((version_view self.now).assignment assignment.now.number ≡ Some (assignment_view assignment.now)) }
     {
         is_same_assignment(self.assignment(assignment.number), Some(assignment))

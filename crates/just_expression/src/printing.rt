@@ -65,7 +65,7 @@ fn fits(expression: &Expression, room: usize) -> bool {
 
 // Whether two expressions are.
 #[cycle(fits)]
-fn both_fit(lhs: &Expression, rhs: &Expression, room: usize) -> bool {
+fn both_fit<'src>(lhs: &Expression<'src>, rhs: &Expression<'src>, room: usize) -> bool {
     fits(lhs, room) && fits(rhs, room)
 }
 

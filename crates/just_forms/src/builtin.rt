@@ -37,10 +37,10 @@ pub fn refuse_list<'src>(name: &Name<'src>, value: Value) -> Result<Value, Error
 }
 
 /// What a built-in function answers. Its own message is a refusal.
-pub fn call<'src, H: Host>(
+pub fn call<'call, 'src, H: Host>(
     alloc: Global,
-    host: &mut H,
-    context: &Context<'src, '_>,
+    host: &'call mut H,
+    context: &'call Context<'src, '_>,
     function: Function,
     arguments: &[Value],
 ) -> Result<Value, Error<'src>>
@@ -50,7 +50,7 @@ pub fn call<'src, H: Host>(
     ensures { let answer = reply (builtin_of function) (function_context_view context.now) arguments.now in
         Runs freely H.step host.old (bind (tree (frames_view context.now.scope.now) answer) (returned (name_view context.now.name))) (ended (λ v. v) result) host.new }
 {
-    match function.call(alloc, host, context, arguments) {
+    match function.call(alloc, host, &*context, arguments) {
         Ok(value) => Ok(value),
         Err(CallFault::Message(message)) => Err(Error::FunctionCall {
             function: context.name,

@@ -19,10 +19,10 @@ use std::alloc::Global;
 use std::collections::BTreeMap;
 
 /// What a command expression gives: the text that the host answers, or in a dry run its own in backticks.
-pub fn written<'src, 'run, H: Host>(
+pub fn written<'call, 'src, 'run, H: Host>(
     alloc: Global,
-    host: &mut H,
-    context: &ExecutionContext<'src, 'run>,
+    host: &'call mut H,
+    context: &'call ExecutionContext<'src, 'run>,
     env: &BTreeMap<String, String>,
     scope: &Scope<'src, 'run>,
     contents: &str,
@@ -34,7 +34,7 @@ pub fn written<'src, 'run, H: Host>(
         let text = format!(in alloc; "`{contents}`")?;
         return Ok(Value::from_string(alloc, text)?);
     }
-    match ask_command(alloc, host, context, env, scope, contents, None) {
+    match ask_command(alloc, host, &*context, env, scope, contents, None) {
         Ok(text) => Ok(Value::from_string(alloc, text)?),
         Err(fault) => Err(backtick_error(*token, fault)),
     }

@@ -24,10 +24,10 @@ use std::collections::BTreeMap;
 ///
 /// The host's fault, or `OutOfMemory` where the host says so, or where memory was asked for and refused before the host is
 /// asked: then it is not asked, and stays as it was.
-pub fn ask_command<'src, 'run, H: Host>(
+pub fn ask_command<'call, 'src, 'run, H: Host>(
     alloc: Global,
-    host: &mut H,
-    context: &ExecutionContext<'src, 'run>,
+    host: &'call mut H,
+    context: &'call ExecutionContext<'src, 'run>,
     env: &BTreeMap<String, String>,
     scope: &Scope<'src, 'run>,
     command: &str,

@@ -42,25 +42,25 @@ pub fn exports<'name>(
 {
     let mut changes = Vec::new(alloc);
     if let Some(outer) = scope.parent() {
-        add_frames(alloc, &mut changes, outer)?;
+        add_frames(alloc, outer, &mut changes)?;
     }
     for name in unexports {
         changes.push(EnvironmentChange::Remove(name))?;
     }
-    add_frame(alloc, &mut changes, scope.frame())?;
+    add_frame(alloc, scope.frame(), &mut changes)?;
     Ok(changes)
 }
 
 // Adds what frames export, which stand innermost first, the outermost frame's first.
 fn add_frames<'name>(
     alloc: Global,
+    frames: &'name [&'name Frame<'_>],
     changes: &mut Vec<EnvironmentChange<'name>>,
-    frames: &[&'name Frame<'_>],
 ) -> Result<(), OutOfMemory>
     ensures { OnOk result (map change_view changes.new.items ≡ map change_view changes.old.items ++ frames_exports (map (λ frame. frame_view frame.now) frames.now)) }
 {
     for frame in frames.iter().rev() {
-        add_frame(alloc, changes, frame)?;
+        add_frame(alloc, frame, changes)?;
     }
     Ok(())
 }
@@ -68,8 +68,8 @@ fn add_frames<'name>(
 // Adds what a frame exports, by rising number.
 fn add_frame<'name>(
     alloc: Global,
-    changes: &mut Vec<EnvironmentChange<'name>>,
     frame: &'name Frame<'_>,
+    changes: &mut Vec<EnvironmentChange<'name>>,
 ) -> Result<(), OutOfMemory>
     ensures { OnOk result (map change_view changes.new.items ≡ map change_view changes.old.items ++ frame_exports (frame_view frame.now)) }
 {

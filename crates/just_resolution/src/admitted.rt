@@ -32,8 +32,8 @@ use std::collections::BTreeSet;
 pub(crate) fn first_unreadable<'src>(
     alloc: Global,
     functions: &Table<FunctionDefinition<'src>>,
-    here: &Readable,
-    readable: &Readable,
+    here: &Readable<'src, '_, '_>,
+    readable: &Readable<'src, '_, '_>,
     admitted: &mut BTreeSet<&'src str>,
     expression: &Expression<'src>,
 ) -> Result<Option<Name<'src>>, OutOfMemory>
@@ -65,7 +65,7 @@ pub(crate) fn first_unreadable<'src>(
 fn look_through_function<'src>(
     alloc: Global,
     functions: &Table<FunctionDefinition<'src>>,
-    readable: &Readable,
+    readable: &Readable<'src, '_, '_>,
     pending: &mut Vec<&'src str>,
     name: &str,
 ) -> Result<Option<Name<'src>>, OutOfMemory>
@@ -85,7 +85,7 @@ fn look_through_function<'src>(
 // added.
 fn look_through<'src>(
     alloc: Global,
-    readable: &Readable,
+    readable: &Readable<'src, '_, '_>,
     own: &BTreeSet<Number>,
     pending: &mut Vec<&'src str>,
     expression: &Expression<'src>,
@@ -104,7 +104,7 @@ fn look_through<'src>(
 
 // The first variable that has a number and is neither own nor readable.
 fn first_unreadable_site<'src>(
-    readable: &Readable,
+    readable: &Readable<'src, '_, '_>,
     own: &BTreeSet<Number>,
     sites: &[Site<'src>],
 ) -> Option<Name<'src>>

@@ -33,8 +33,8 @@ use std::collections::BTreeSet;
 pub(crate) fn are_parameters_apart<'src>(
     alloc: Global,
     module: &Justfile<'src>,
-    scope: &Scope,
-    base: &Scope,
+    scope: &Scope<'src, '_>,
+    base: &Scope<'src, '_>,
     parameters: &[Parameter<'src>],
 ) -> Result<bool, OutOfMemory>
     ensures { let assignments = map (λ a. a.number) (map assignment_view «module».now.assignments) in let functions = parameter_numbers (functions_view «module».now) in let own = map (λ p. p.number) (map recipe_parameter_view parameters.now) in
@@ -85,16 +85,16 @@ pub(crate) fn are_readable_here<'src, 'run>(
 
 // What may be read, and the functions that were looked through.
 #[derive(Drop)]
-struct Reader<'a, 'src, 'run> {
+struct Reader<'src, 'a, 'run> {
     functions: &'a Table<FunctionDefinition<'src>>,
     // What is evaluated may read this by itself.
-    here: Readable<'a, 'src, 'run>,
+    here: Readable<'src, 'a, 'run>,
     // Bodies may read this besides their own parameters.
-    bodies: Readable<'a, 'src, 'run>,
+    bodies: Readable<'src, 'a, 'run>,
     admitted: BTreeSet<&'src str>,
 }
 
-impl<'src> Reader<'_, 'src, '_> {
+impl<'src> Reader<'src, '_, '_> {
     // Whether an expression is known, and reads nothing but what it may.
     fn may_stand(
         &mut self,

@@ -32,7 +32,7 @@ use std::collections::BTreeSet;
 pub(crate) fn numbering_fault<'src>(
     alloc: Global,
     module: &Justfile<'src>,
-    parent: &Scope,
+    parent: &Scope<'src, '_>,
 ) -> Result<Option<Fault<'src>>, OutOfMemory>
     ensures { let parameters = parameters_of (functions_view «module».now) in let outer = frames_view parent.now in
         IfOk result (λ fault. (functions : List Function) (assignments : Assignments) → Finds (IsSound functions assignments outer) (IsFaulty functions assignments outer)

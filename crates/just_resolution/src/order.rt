@@ -66,7 +66,7 @@ fn take_next<'src>(
     functions: &Table<FunctionDefinition<'src>>,
     assignments: &Table<Assignment<'src>>,
     variable_references: Option<&HashSet<Number>>,
-    readable: &mut Readable,
+    readable: &mut Readable<'src, '_, '_>,
     admitted: &mut BTreeSet<&'src str>,
     name: &Name<'src>,
 ) -> Result<Option<Fault<'src>>, OutOfMemory>
@@ -99,7 +99,7 @@ fn take_next<'src>(
 fn take<'src>(
     alloc: Global,
     functions: &Table<FunctionDefinition<'src>>,
-    readable: &mut Readable,
+    readable: &mut Readable<'src, '_, '_>,
     admitted: &mut BTreeSet<&'src str>,
     assignment: &Assignment<'src>,
 ) -> Result<Option<Fault<'src>>, OutOfMemory>

@@ -10,19 +10,19 @@ use std::collections::BTreeSet;
 
 // The numbers that may be read: those that were taken, and those that are bound outside.
 #[derive(Drop)]
-pub(crate) struct Readable<'scope, 'src, 'run> {
+pub(crate) struct Readable<'src, 'scope, 'run> {
     outer: &'scope Scope<'src, 'run>,
     taken: BTreeSet<Number>,
 }
 
-impl<'scope, 'src, 'run> Readable<'scope, 'src, 'run> {
+impl<'src, 'scope, 'run> Readable<'src, 'scope, 'run> {
     ghost use Rattle.just_resolution.specs.Seen.{is_readable, is_taken};
 
     // None is taken. It takes no memory.
     pub(crate) fn new(
         alloc: Global,
         outer: &'scope Scope<'src, 'run>,
-    ) -> Readable<'scope, 'src, 'run>
+    ) -> Readable<'src, 'scope, 'run>
         ensures taken { (n : ℕ) → is_taken result n ≡ false }
         ensures outer { result.outer ≡ outer.entry }
     {
