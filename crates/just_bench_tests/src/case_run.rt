@@ -104,10 +104,10 @@ impl<'src> CaseRun<'src> {
 }
 
 /// Whether a case is unresolved, and its bindings or its refusal.
-pub(crate) fn told_by_run<'src, H: Host>(
-    rt: &impl Abort,
+pub(crate) fn told_by_run<'call, 'src, H: Host>(
+    rt: &'call impl Abort,
     alloc: Global,
-    host: &mut H,
+    host: &'call mut H,
     case: Case<'src>,
     parent: &Scope<'src, '_>,
 ) -> String {

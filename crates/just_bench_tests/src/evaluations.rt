@@ -162,7 +162,7 @@ fn keeps_the_outer_value<'src>(
 }
 
 // A scope binds nothing of its own, and the first number has the value `o`.
-fn has_the_outer_value_alone(rt: &impl Abort, alloc: Global, scope: &Scope) {
+fn has_the_outer_value_alone<'call>(rt: &'call impl Abort, alloc: Global, scope: &'call Scope) {
     assert_eq!(rt; scope.bindings().count(), 0);
     match scope.value(Number::new(0)) {
         Some(value) => prints(rt, alloc, value, "\"o\""),

@@ -61,7 +61,7 @@ impl Host for FrameHost {
 }
 
 // Adds the frames, innermost first.
-fn keep_frames(text: &mut String, scope: &Scope) -> Result<(), OutOfMemory> {
+fn keep_frames<'call>(text: &'call mut String, scope: &'call Scope) -> Result<(), OutOfMemory> {
     keep_frame(text, scope.frame())?;
     let Some(outer) = scope.parent() else {
         return Ok(());
@@ -73,7 +73,7 @@ fn keep_frames(text: &mut String, scope: &Scope) -> Result<(), OutOfMemory> {
 }
 
 // Adds what a frame binds, in parentheses.
-fn keep_frame(text: &mut String, frame: &Frame) -> Result<(), OutOfMemory> {
+fn keep_frame<'call>(text: &'call mut String, frame: &'call Frame) -> Result<(), OutOfMemory> {
     text.push('(')?;
     for binding in frame.bindings() {
         let name = binding.name;

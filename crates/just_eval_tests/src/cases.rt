@@ -4,7 +4,7 @@ ghost use Rattle.just_eval.specs.View.{IsConst};
 
 use crate::stage::Stage;
 use crate::{constants, interpreters, settings};
-use just_case_lines::case::{Case, build};
+use just_case_lines::case::build;
 use just_case_lines::line::{Line, parse_lines};
 use just_eval::evaluator::Evaluator;
 use just_syntax::assignment::Assignment;
@@ -37,7 +37,7 @@ pub(crate) fn told(
     told_of(rt, alloc, &lines, outside, subject)
 }
 
-// What is told of a case of these lines. It is built once more, since its assignments are taken apart.
+// What is told of a case of these lines. It is built twice, since its assignments are taken apart.
 fn told_of<'src>(
     rt: &impl Abort,
     alloc: Global,
@@ -45,49 +45,48 @@ fn told_of<'src>(
     outside: &[(&'static str, &'static str)],
     subject: Subject,
 ) -> String {
-    let case = case_of(rt, alloc, lines);
-    let assignments = assignments_of(case_of(rt, alloc, lines));
+    let stage = Stage::of_lines(rt, alloc, lines);
+    let assignments = assignments_of(rt, alloc, lines);
     let scope = Scope::root(alloc, outside).expect(rt, "no memory");
-    told_in(rt, alloc, case, assignments, &scope, subject)
+    told_in(&stage, rt, alloc, assignments, &scope, subject)
 }
 
-fn case_of<'src>(rt: &impl Abort, alloc: Global, lines: &'src [Line<'src>]) -> Case<'src> {
-    build(alloc, lines).expect(rt, "no case")
-}
-
-fn assignments_of<'src>(case: Case<'src>) -> Table<Assignment<'src>> {
-    case.assignments
-}
-
-// What is told in a scope of a case, which has these assignments.
-fn told_in<'src>(
+fn assignments_of<'src>(
     rt: &impl Abort,
     alloc: Global,
-    case: Case<'src>,
+    lines: &'src [Line<'src>],
+) -> Table<Assignment<'src>> {
+    build(alloc, lines).expect(rt, "no case").assignments
+}
+
+// What is told in a scope of a stage, which has these assignments.
+fn told_in<'src>(
+    stage: &Stage<'src>,
+    rt: &impl Abort,
+    alloc: Global,
     assignments: Table<Assignment<'src>>,
     scope: &Scope<'src, '_>,
     subject: Subject,
 ) -> String {
-    let stage = Stage::of_case(alloc, case);
     match stage.evaluate(alloc, scope) {
-        Ok(evaluator) => told_by(rt, alloc, &evaluator, assignments, subject),
+        Ok(evaluator) => told_by(&evaluator, rt, alloc, assignments, subject),
         Err(error) => said(rt, alloc, &error),
     }
 }
 
 fn told_by<'src>(
+    evaluator: &Evaluator<'src, '_>,
     rt: &impl Abort,
     alloc: Global,
-    evaluator: &Evaluator<'src, '_>,
     assignments: Table<Assignment<'src>>,
     subject: Subject,
 ) -> String
     requires before_runs { IsConst evaluator.now }
 {
     match subject {
-        Subject::Expression => constants::told_by(rt, alloc, evaluator, assignments),
-        Subject::Interpreter => interpreters::told_by(rt, alloc, evaluator, assignments),
-        Subject::Settings => settings::told_by(rt, alloc, evaluator, assignments),
+        Subject::Expression => constants::told_by(evaluator, rt, alloc, assignments),
+        Subject::Interpreter => interpreters::told_by(evaluator, rt, alloc, assignments),
+        Subject::Settings => settings::told_by(evaluator, rt, alloc, assignments),
     }
 }
 

@@ -115,16 +115,16 @@ fn bound_outside(rt: HostRuntime) {
 /// What an expression comes to: as a value, as a text, as a value where a host is handed in; how often that host was asked;
 /// and what the first five numbers are.
 pub(crate) fn told_by<'src>(
+    evaluator: &Evaluator<'src, '_>,
     rt: &impl Abort,
     alloc: Global,
-    evaluator: &Evaluator<'src, '_>,
     assignments: Table<Assignment<'src>>,
 ) -> String
     requires before_runs { IsConst evaluator.now }
 {
     let mut text = String::new(alloc);
     match assignments.get("e") {
-        Some(assignment) => add_all(rt, alloc, &mut text, evaluator, &assignment.value),
+        Some(assignment) => add_all(evaluator, rt, alloc, &mut text, &assignment.value),
         None => panic!(rt; "no expression"),
     }
     text
@@ -132,19 +132,19 @@ pub(crate) fn told_by<'src>(
 
 // Adds all of it.
 fn add_all<'src>(
+    evaluator: &Evaluator<'src, '_>,
     rt: &impl Abort,
     alloc: Global,
     text: &mut String,
-    evaluator: &Evaluator<'src, '_>,
     expression: &Expression<'src>,
 )
     requires before_runs { IsConst evaluator.now }
 {
     let value = evaluator.evaluate_value_const(alloc, expression);
     add_value(rt, text, &value);
-    add_text(rt, alloc, text, evaluator, expression);
-    add_asked(rt, alloc, text, evaluator, expression);
-    add_numbers(rt, text, evaluator);
+    add_text(evaluator, rt, alloc, text, expression);
+    add_asked(evaluator, rt, alloc, text, expression);
+    add_numbers(evaluator, rt, text);
 }
 
 // Adds a value, or what is said of its refusal.
@@ -158,10 +158,10 @@ fn add_value(rt: &impl Abort, text: &mut String, outcome: &Result<Value, Compile
 
 // Adds what an expression comes to as a text.
 fn add_text<'src>(
+    evaluator: &Evaluator<'src, '_>,
     rt: &impl Abort,
     alloc: Global,
     text: &mut String,
-    evaluator: &Evaluator<'src, '_>,
     expression: &Expression<'src>,
 )
     requires before_runs { IsConst evaluator.now }
@@ -176,16 +176,16 @@ fn add_text<'src>(
 
 // Adds what an expression comes to as a value where a host is handed in, and how often that host was asked.
 fn add_asked<'src>(
+    evaluator: &Evaluator<'src, '_>,
     rt: &impl Abort,
     alloc: Global,
     text: &mut String,
-    evaluator: &Evaluator<'src, '_>,
     expression: &Expression<'src>,
 )
     requires before_runs { IsConst evaluator.now }
 {
     let mut host = Recorder::new(alloc, NoHost);
-    let value = value_with(alloc, &mut host, evaluator, expression);
+    let value = value_with(evaluator, alloc, &mut host, expression);
     add_value(rt, text, &value);
     let asked = host.questions().len();
     write!(text, "{asked}; ").expect(rt, "no memory");
@@ -193,9 +193,9 @@ fn add_asked<'src>(
 
 // What an expression comes to as a value where this host is handed in.
 fn value_with<'src>(
+    evaluator: &Evaluator<'src, '_>,
     alloc: Global,
     host: &mut Recorder<NoHost>,
-    evaluator: &Evaluator<'src, '_>,
     expression: &Expression<'src>,
 ) -> Result<Value, CompileError<'src>>
     requires before_runs { IsConst evaluator.now }
@@ -207,15 +207,15 @@ fn value_with<'src>(
 }
 
 // Adds what the first five numbers are, and how many bindings are own.
-fn add_numbers(rt: &impl Abort, text: &mut String, evaluator: &Evaluator) {
+fn add_numbers(evaluator: &Evaluator, rt: &impl Abort, text: &mut String) {
     for number in 0..5u64 {
-        add_number(rt, text, evaluator, Number::new(number));
+        add_number(evaluator, rt, text, Number::new(number));
     }
     let own = evaluator.scope().bindings().count();
     write!(text, "{own} own").expect(rt, "no memory");
 }
 
-fn add_number(rt: &impl Abort, text: &mut String, evaluator: &Evaluator, number: Number) {
+fn add_number(evaluator: &Evaluator, rt: &impl Abort, text: &mut String, number: Number) {
     let unsettled = if evaluator.is_open(number) {
         "open "
     } else {

@@ -73,15 +73,27 @@ fn staged(rt: &impl Abort, alloc: Global, list: &str) -> String {
 
 /// What the interpreter of a case comes to, or what is said of its refusal.
 pub(crate) fn told_by<'src>(
+    evaluator: &Evaluator<'src, '_>,
     rt: &impl Abort,
     alloc: Global,
-    evaluator: &Evaluator<'src, '_>,
     assignments: Table<Assignment<'src>>,
 ) -> String
     requires before_runs { IsConst evaluator.now }
 {
     let list = interpreter(rt, first_of(rt, assignments));
-    match evaluator.evaluate_interpreter(alloc, &list, name("shell")) {
+    told_of(evaluator, rt, alloc, &list)
+}
+
+// The same of an interpreter.
+fn told_of<'src>(
+    evaluator: &Evaluator<'src, '_>,
+    rt: &impl Abort,
+    alloc: Global,
+    list: &Interpreter<Expression<'src>>,
+) -> String
+    requires before_runs { IsConst evaluator.now }
+{
+    match evaluator.evaluate_interpreter(alloc, list, name("shell")) {
         Ok(interpreter) => printed(rt, alloc, &interpreter),
         Err(error) => said(rt, alloc, &error),
     }

@@ -67,7 +67,7 @@ fn flag(rt: &impl Abort, name: &str) -> Setting<'static> {
 }
 
 // What these settings come to where nothing is settled and nothing is open.
-fn settings_of(rt: &impl Abort, alloc: Global, sets: Table<Set<'static>>) -> Settings {
+fn settings_of<'src>(rt: &impl Abort, alloc: Global, sets: Table<Set<'src>>) -> Settings {
     let scope = Scope::root(alloc, &[]).expect(rt, "no memory");
     settings_in(rt, alloc, sets, &scope)
 }
@@ -80,15 +80,15 @@ fn settings_in<'src>(
 ) -> Settings {
     let stage = Stage::of_nothing(alloc);
     match stage.evaluate(alloc, scope) {
-        Ok(evaluator) => settings_by(rt, alloc, &evaluator, sets),
+        Ok(evaluator) => settings_by(&evaluator, rt, alloc, sets),
         Err(error) => no_settings(rt, &error),
     }
 }
 
 fn settings_by<'src>(
+    evaluator: &Evaluator<'src, '_>,
     rt: &impl Abort,
     alloc: Global,
-    evaluator: &Evaluator<'src, '_>,
     sets: Table<Set<'src>>,
 ) -> Settings
     requires before_runs { IsConst evaluator.now }

@@ -73,9 +73,9 @@ fn add_set<'src>(rt: &impl Abort, sets: &mut Table<Set<'src>>, assignment: Assig
 
 /// What a case's settings come to: a line for each that is set to something, or what they are refused with.
 pub(crate) fn told_by<'src>(
+    evaluator: &Evaluator<'src, '_>,
     rt: &impl Abort,
     alloc: Global,
-    evaluator: &Evaluator<'src, '_>,
     assignments: Table<Assignment<'src>>,
 ) -> String
     requires before_runs { IsConst evaluator.now }

@@ -3,7 +3,8 @@
 ghost use Rattle.std.specs.Prelude.{IfOk};
 ghost use Rattle.just_eval.specs.View.{IsConst};
 
-use just_case_lines::case::Case;
+use just_case_lines::case::{Case, build};
+use just_case_lines::line::Line;
 use just_eval::evaluator::Evaluator;
 use just_syntax::assignment::Assignment;
 use just_syntax::name::Name;
@@ -13,6 +14,7 @@ use just_value::compile_error::CompileError;
 use just_value::scope::Scope;
 use std::alloc::Global;
 use std::collections::{HashMap, HashSet};
+use std::process::Abort;
 
 /// Assignments, and what they are evaluated with before any run, beside a scope.
 #[derive(Drop)]
@@ -36,8 +38,12 @@ impl<'src> Stage<'src> {
         }
     }
 
-    /// That of a case.
-    pub(crate) fn of_case(alloc: Global, case: Case<'src>) -> Stage<'src> {
+    /// That of the case of these lines.
+    pub(crate) fn of_lines(
+        rt: &impl Abort,
+        alloc: Global,
+        lines: &'src [Line<'src>],
+    ) -> Stage<'src> {
         let Case {
             assignments,
             evaluation_order,
@@ -45,7 +51,7 @@ impl<'src> Stage<'src> {
             references,
             lists,
             ..
-        } = case;
+        } = build(alloc, lines).expect(rt, "no case");
         Stage {
             assignments,
             evaluation_order,

@@ -47,7 +47,7 @@ fn sets_nothing(rt: &impl Abort, alloc: Global, settings: &Settings) {
 }
 
 // A module is the root in the file `/work/a.just`, with nothing in it.
-fn holds_nothing(rt: &impl Abort, module: &Justfile) {
+fn holds_nothing<'call>(rt: &'call impl Abort, module: &'call Justfile) {
     let has_items = !module.assignments.is_empty() || !module.functions.is_empty();
     is_either(rt, "items", has_items, false);
     let has_names = !module.evaluation_order.is_empty() || !module.unexports.is_empty();
@@ -100,7 +100,7 @@ fn has_its_parts(rt: &impl Abort, alloc: Global, around: &Around) {
     is_made_of_them(rt, &context);
 }
 
-fn is_made_of_them(rt: &impl Abort, context: &ExecutionContext) {
+fn is_made_of_them<'call>(rt: &'call impl Abort, context: &'call ExecutionContext) {
     assert_eq!(rt; [context.recursion_limit, RECURSION_LIMIT], [100; 2]);
     same(rt, &context.config.invocation_directory, "/called/here");
     same(rt, &context.module.working_directory, "/module");

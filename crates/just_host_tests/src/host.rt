@@ -113,10 +113,10 @@ fn bare(rt: &impl Abort, alloc: Global, settings: Settings) -> Around {
 }
 
 // A command writes a text, or has a fault.
-fn writes(
-    rt: &impl Abort,
+fn writes<'call>(
+    rt: &'call impl Abort,
     alloc: Global,
-    context: &ExecutionContext,
+    context: &'call ExecutionContext,
     command: &str,
     wanted: Result<&str, &str>,
 ) {
@@ -251,11 +251,11 @@ pub(crate) fn answer_under<H: Host>(
 }
 
 // What a host answers to a command and its arguments in a context.
-fn answer_in<H: Host>(
-    rt: &impl Abort,
+fn answer_in<'call, H: Host>(
+    rt: &'call impl Abort,
     alloc: Global,
-    host: &mut H,
-    context: &ExecutionContext,
+    host: &'call mut H,
+    context: &'call ExecutionContext,
     command: &str,
     arguments: Option<&[String]>,
 ) -> Result<String, CommandFault> {

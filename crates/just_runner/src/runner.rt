@@ -29,43 +29,43 @@ pub(crate) fn explain(alloc: Global, words: &str) -> Result<String, OutOfMemory>
 // Adds what the recipe comes to that is called with these words.
 fn explain_words(alloc: Global, text: &mut String, words: &str) -> Result<(), OutOfMemory> {
     let invocation = Invocation::new(alloc)?;
-    explain_in(alloc, text, &invocation.context(), words)
+    explain_in(alloc, &invocation.context(), text, words)
 }
 
 // The same in a context.
 fn explain_in(
     alloc: Global,
-    text: &mut String,
     context: &ExecutionContext,
+    text: &mut String,
     words: &str,
 ) -> Result<(), OutOfMemory>
     requires room { 0 < context.now.recursion_limit }
 {
     let called = Called::new(alloc, words)?;
-    explain_called(alloc, text, context, &called)
+    explain_called(alloc, context, &called, text)
 }
 
 // The same of what is called: its parameters first, and then its lines.
 fn explain_called<'src>(
     alloc: Global,
-    text: &mut String,
     context: &ExecutionContext<'src, '_>,
     called: &Called<'src>,
+    text: &mut String,
 ) -> Result<(), OutOfMemory>
     requires room { 0 < context.now.recursion_limit }
 {
-    explain_resolution(alloc, text, context, called)?;
+    explain_resolution(alloc, context, called, text)?;
     let mut host = Calendar {
         asked: Vec::new(alloc),
     };
     match called.evaluate(alloc, &mut host, context) {
         Ok((scope, positional, env)) => explain_given(
             alloc,
-            text,
-            &mut host,
             context,
             &scope,
             called,
+            text,
+            &mut host,
             &positional,
             env,
         ),
@@ -79,9 +79,9 @@ fn explain_called<'src>(
 // Adds whether a name means more than one thing.
 fn explain_resolution<'src>(
     alloc: Global,
-    text: &mut String,
     context: &ExecutionContext<'src, '_>,
     called: &Called<'src>,
+    text: &mut String,
 ) -> Result<(), OutOfMemory> {
     let recipe = Some(&called.recipe);
     let lines = Vec::new(alloc);
@@ -109,11 +109,11 @@ fn explain_questions(text: &mut String, asked: &[String]) -> Result<(), OutOfMem
 // The same, then the positional words and the environment, and then the lines.
 fn explain_given<'src>(
     alloc: Global,
-    text: &mut String,
-    host: &mut Calendar,
     context: &ExecutionContext<'src, '_>,
     scope: &Scope<'src, '_>,
     called: &Called<'src>,
+    text: &mut String,
+    host: &mut Calendar,
     positional: &[String],
     env: BTreeMap<String, String>,
 ) -> Result<(), OutOfMemory>
@@ -121,7 +121,7 @@ fn explain_given<'src>(
 {
     explain_questions(text, &host.asked)?;
     explain_environment(text, positional, &env)?;
-    explain_lines(alloc, text, host, context, scope, called, env)
+    explain_lines(alloc, context, scope, called, text, host, env)
 }
 
 // Adds the positional words and the environment.
@@ -142,27 +142,27 @@ fn explain_environment(
 // Adds the lines that would be run.
 fn explain_lines<'src>(
     alloc: Global,
-    text: &mut String,
-    host: &mut Calendar,
     context: &ExecutionContext<'src, '_>,
     scope: &Scope<'src, '_>,
     called: &Called<'src>,
+    text: &mut String,
+    host: &mut Calendar,
     env: BTreeMap<String, String>,
 ) -> Result<(), OutOfMemory>
     requires room { 0 < context.now.recursion_limit }
 {
     let name = Some(called.recipe.name);
     let evaluator = Evaluator::new(alloc, context, env, false, name, scope)?;
-    explain_each(alloc, text, host, &evaluator, &called.lines)
+    explain_each(alloc, &evaluator, &called.lines, text, host)
 }
 
 // Adds lines up to the first that is refused.
 fn explain_each<'src>(
     alloc: Global,
-    text: &mut String,
-    host: &mut Calendar,
     evaluator: &Evaluator<'src, '_>,
     lines: &[Continued<'src>],
+    text: &mut String,
+    host: &mut Calendar,
 ) -> Result<(), OutOfMemory>
     requires room { HasRoom evaluator.now }
 {

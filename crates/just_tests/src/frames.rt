@@ -45,14 +45,14 @@ fn looked_up_between_and_beside(rt: HostRuntime) -> Result<(), Fail> {
     let alloc = rt.alloc();
     let mut parent = Scope::root(alloc, &[])?;
     bind_outer(alloc, &mut parent)?;
-    child_holds_between(&rt, alloc, &parent)?;
+    child_holds_between(&parent, &rt, alloc)?;
     Ok(())
 }
 
-fn child_holds_between(rt: &impl Abort, alloc: Global, parent: &Scope) -> Result<(), OutOfMemory> {
+fn child_holds_between(parent: &Scope, rt: &impl Abort, alloc: Global) -> Result<(), OutOfMemory> {
     let mut child = parent.child(alloc)?;
     bind_in_any_order(alloc, &mut child)?;
-    holds_between(rt, alloc, &child)
+    holds_between(&child, rt, alloc)
 }
 
 // Binds 6, 2, 1 and 0.
@@ -63,9 +63,9 @@ fn bind_outer(alloc: Global, scope: &mut Scope) -> Result<(), OutOfMemory> {
     Ok(())
 }
 
-fn holds_between(rt: &impl Abort, alloc: Global, scope: &Scope) -> Result<(), OutOfMemory> {
+fn holds_between(scope: &Scope, rt: &impl Abort, alloc: Global) -> Result<(), OutOfMemory> {
     for (number, wanted) in BETWEEN_AND_BESIDE {
-        holds(rt, alloc, scope, *number, wanted)?;
+        holds(scope, rt, alloc, *number, wanted)?;
     }
     Ok(())
 }
@@ -74,11 +74,11 @@ fn holds_between(rt: &impl Abort, alloc: Global, scope: &Scope) -> Result<(), Ou
 fn looked_up_in_no_binding(rt: HostRuntime) -> Result<(), Fail> {
     let alloc = rt.alloc();
     let root = Scope::root(alloc, &[])?;
-    child_binds_none(&rt, alloc, &root)?;
+    child_binds_none(&root, &rt, alloc)?;
     Ok(())
 }
 
-fn child_binds_none(rt: &impl Abort, alloc: Global, parent: &Scope) -> Result<(), OutOfMemory> {
+fn child_binds_none(parent: &Scope, rt: &impl Abort, alloc: Global) -> Result<(), OutOfMemory> {
     let child = parent.child(alloc)?;
     is_so(rt, "outside", !binds(&child, 0));
     is_so(rt, "own", !binds_itself(&child, 1));

@@ -110,8 +110,8 @@ fn root_binds_constants(rt: HostRuntime) -> Result<(), Fail> {
     );
     is_so(&rt, "no parent", outer_length(&root).is_none());
     same_if_any(&rt, "second", name_of(&root, 1), Some("RED"));
-    holds(&rt, alloc, &root, 2, "not bound")?;
-    are_constants(&rt, &root);
+    holds(&root, &rt, alloc, 2, "not bound")?;
+    are_constants(&root, &rt);
     Ok(())
 }
 
@@ -132,7 +132,7 @@ fn name_of<'src>(scope: &Scope<'src, '_>, number: u64) -> Option<&'src str> {
 }
 
 // Whether each own binding of a scope is that of a constant.
-fn are_constants(rt: &impl Abort, scope: &Scope) {
+fn are_constants(scope: &Scope, rt: &impl Abort) {
     for binding in scope.bindings() {
         is_constant(rt, binding);
     }
@@ -180,9 +180,9 @@ fn bind_own(alloc: Global, scope: &mut Scope) -> Result<(), OutOfMemory> {
 
 // Whether a number has this value in a scope.
 pub(crate) fn holds(
+    scope: &Scope,
     rt: &impl Abort,
     alloc: Global,
-    scope: &Scope,
     number: u64,
     wanted: &str,
 ) -> Result<(), OutOfMemory> {
@@ -207,17 +207,17 @@ fn child_binds_its_own(rt: HostRuntime) -> Result<(), Fail> {
     let alloc = rt.alloc();
     let mut parent = Scope::root(alloc, &[])?;
     bind_two(alloc, &mut parent)?;
-    child_hides(&rt, alloc, &parent)?;
+    child_hides(&parent, &rt, alloc)?;
     Ok(())
 }
 
 // A child gives 1 the value of its parent until it binds it itself.
-fn child_hides(rt: &impl Abort, alloc: Global, parent: &Scope) -> Result<(), OutOfMemory> {
+fn child_hides(parent: &Scope, rt: &impl Abort, alloc: Global) -> Result<(), OutOfMemory> {
     let mut child = parent.child(alloc)?;
     let number = Number::new(1);
     same_values(rt, child.value(number), parent.value(number));
     bind_own(alloc, &mut child)?;
-    hold_their_own(rt, alloc, &child, parent)
+    hold_their_own(&child, rt, alloc, parent)
 }
 
 // Whether two values are the same, or there are none.
@@ -225,15 +225,15 @@ fn same_values(rt: &impl Abort, given: Option<&Value>, wanted: Option<&Value>) {
     assert_eq!(rt; given, wanted);
 }
 
-fn hold_their_own(
+fn hold_their_own<'src>(
+    child: &Scope<'src, '_>,
     rt: &impl Abort,
     alloc: Global,
-    child: &Scope,
-    parent: &Scope,
+    parent: &Scope<'src, '_>,
 ) -> Result<(), OutOfMemory> {
     for (number, in_child, in_parent) in IN_BOTH {
-        holds(rt, alloc, child, *number, in_child)?;
-        holds(rt, alloc, parent, *number, in_parent)?;
+        holds(child, rt, alloc, *number, in_child)?;
+        holds(parent, rt, alloc, *number, in_parent)?;
     }
     Ok(())
 }
@@ -262,12 +262,12 @@ fn own_bindings(rt: HostRuntime) -> Result<(), Fail> {
     let alloc = rt.alloc();
     let mut parent = Scope::root(alloc, &[])?;
     bind(alloc, &mut parent, "x", 2, "two")?;
-    child_binds_again(&rt, alloc, &parent)?;
+    child_binds_again(&parent, &rt, alloc)?;
     Ok(())
 }
 
 // A child binds 1 and 3, below a parent that has one binding, of 2.
-fn child_binds_again(rt: &impl Abort, alloc: Global, parent: &Scope) -> Result<(), OutOfMemory> {
+fn child_binds_again(parent: &Scope, rt: &impl Abort, alloc: Global) -> Result<(), OutOfMemory> {
     let mut child = parent.child(alloc)?;
     bind_again(alloc, &mut child)?;
     tells(rt, told_bindings(alloc, &child)?, "own three yz");

@@ -219,10 +219,10 @@ fn called_in<'run>(
     call(alloc, host, &context, function, arguments)
 }
 
-fn call(
+fn call<'call>(
     alloc: Global,
-    host: &mut Scripted,
-    context: &Context,
+    host: &'call mut Scripted,
+    context: &'call Context,
     function: Function,
     arguments: &[Value],
 ) -> Result<Value, CallFault>

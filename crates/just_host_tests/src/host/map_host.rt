@@ -89,10 +89,10 @@ fn answer_at(alloc: Global, map: &BTreeMap<String, String>, key: &str) -> TextAn
 }
 
 /// What a command writes in a context: the text that the host's map has for it. The host stays as it is.
-pub fn written(
+pub fn written<'call>(
     alloc: Global,
-    host: &mut MapHost,
-    context: &ExecutionContext,
+    host: &'call mut MapHost,
+    context: &'call ExecutionContext,
     command: &str,
 ) -> Result<String, CommandFault>
     requires { context.now.config.now.dry_run ≡ false }

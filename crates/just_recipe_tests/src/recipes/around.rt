@@ -87,20 +87,20 @@ impl<'src> Around<'src> {
     }
 
     /// Evaluates the module's assignments.
-    pub(crate) fn evaluate<H: Host>(
-        &self,
+    pub(crate) fn evaluate<'run, H: Host>(
         alloc: Global,
         host: &mut H,
-    ) -> Result<Scope<'src, '_>, Error<'src>> {
+        around: &'run Around<'src>,
+    ) -> Result<Scope<'src, 'run>, Error<'src>> {
         Evaluator::evaluate_assignments(
             alloc,
             host,
-            &self.config,
-            &self.dotenv,
-            &self.module,
-            &self.overrides,
-            &self.scope,
-            &self.search,
+            &around.config,
+            &around.dotenv,
+            &around.module,
+            &around.overrides,
+            &around.scope,
+            &around.search,
             100,
             None,
         )
@@ -109,9 +109,9 @@ impl<'src> Around<'src> {
 
 /// What evaluates for the recipe, where commands are run with the variables of an environment.
 pub(crate) fn evaluator<'src, 'run>(
+    context: &ExecutionContext<'src, 'run>,
     rt: &impl Abort,
     alloc: Global,
-    context: &ExecutionContext<'src, 'run>,
     env: BTreeMap<String, String>,
     scope: &'run Scope<'src, 'run>,
 ) -> Evaluator<'src, 'run>
@@ -192,10 +192,30 @@ pub(crate) fn expression_of<'src>(
     front: &str,
     back: &str,
 ) -> Option<Expression<'src>> {
-    for assignment in assignments_of(rt, alloc, lines) {
+    let assignments = assignments_of(rt, alloc, lines);
+    match place_of(&assignments, front, back) {
+        Some(place) => expression_at(assignments, place),
+        None => None,
+    }
+}
+
+// The place of that one.
+fn place_of(assignments: &Table<Assignment>, front: &str, back: &str) -> Option<usize> {
+    for (place, assignment) in assignments.iter().enumerate() {
         if assignment.name.lexeme().strip_prefix(front) == Some(back) {
-            return Some(assignment.value);
+            return Some(place);
         }
     }
     None
+}
+
+// The expression of the one at a place.
+fn expression_at<'src>(
+    assignments: Table<Assignment<'src>>,
+    place: usize,
+) -> Option<Expression<'src>> {
+    match assignments.into_iter().nth(place) {
+        Some(assignment) => Some(assignment.value),
+        None => None,
+    }
 }

@@ -21,7 +21,7 @@ use std::process::Abort;
 #[test]
 fn a_command_a_value_and_a_text(rt: HostRuntime) {
     let mut host = TellingHost::new(rt.alloc(), NEVER);
-    call(&rt, rt.alloc(), &mut host);
+    call(&command(&rt, rt.alloc()), &rt, rt.alloc(), &mut host);
     same(
         &rt,
         "the calls",
@@ -50,7 +50,7 @@ fn calls_whose_question_fails(rt: HostRuntime) {
 // The calls are told so of a host that fails in some way.
 fn calls_fail(rt: &impl Abort, alloc: Global, failing: Failing) {
     let mut host = TellingHost::new(alloc, failing);
-    call(rt, alloc, &mut host);
+    call(&command(rt, alloc), rt, alloc, &mut host);
     let wanted = wanted(rt, alloc, failing);
     same_failing(rt, "the calls", failing, &host.told, &wanted);
 }
@@ -75,10 +75,9 @@ fn refused(how: How) -> &'static str {
 }
 
 // Makes the calls, each in an environment of one variable.
-fn call(rt: &impl Abort, alloc: Global, host: &mut TellingHost) {
+fn call<'src>(command: &Expression<'src>, rt: &impl Abort, alloc: Global, host: &mut TellingHost) {
     let around = Around::of_nothing(rt, alloc);
-    let command = command(rt, alloc);
-    call_in(rt, alloc, host, &around, &command);
+    call_in(&around, rt, alloc, host, command);
 }
 
 fn command(rt: &impl Abort, alloc: Global) -> Expression<'static> {
@@ -88,16 +87,16 @@ fn command(rt: &impl Abort, alloc: Global) -> Expression<'static> {
     }
 }
 
-fn call_in(
+fn call_in<'src>(
+    around: &Around<'src>,
     rt: &impl Abort,
     alloc: Global,
     host: &mut TellingHost,
-    around: &Around<'static>,
-    command: &Expression<'static>,
+    command: &Expression<'src>,
 ) {
     let context = around.context();
-    run(rt, alloc, host, &context, &env(rt, alloc));
-    evaluate(rt, alloc, host, &context, command);
+    run(&context, rt, alloc, host, &env(rt, alloc));
+    evaluate(&context, rt, alloc, host, command);
 }
 
 // The environment of each call.
@@ -109,11 +108,11 @@ fn env(rt: &impl Abort, alloc: Global) -> BTreeMap<String, String> {
 }
 
 // Runs the command `run`. A dry run runs no command.
-fn run(
+fn run<'src>(
+    context: &ExecutionContext<'src, '_>,
     rt: &impl Abort,
     alloc: Global,
     host: &mut TellingHost,
-    context: &ExecutionContext<'static, '_>,
     env: &BTreeMap<String, String>,
 ) {
     if context.config.dry_run {
@@ -127,26 +126,39 @@ fn run(
     host.tell(rt, ";");
 }
 
-fn evaluate(
+fn evaluate<'src>(
+    context: &ExecutionContext<'src, '_>,
     rt: &impl Abort,
     alloc: Global,
     host: &mut TellingHost,
-    context: &ExecutionContext<'static, '_>,
-    command: &Expression<'static>,
+    command: &Expression<'src>,
 )
     requires room { 0 < context.now.recursion_limit }
 {
-    let evaluator = evaluator(rt, alloc, context, env(rt, alloc), context.scope);
-    evaluate_value(rt, alloc, host, &evaluator, command);
-    evaluate_text(rt, alloc, host, &evaluator, command);
+    let evaluator = evaluator(context, rt, alloc, env(rt, alloc), context.scope);
+    evaluate_both(&evaluator, rt, alloc, host, command);
 }
 
-fn evaluate_value(
+// Evaluates the command as a value, and then as a text.
+fn evaluate_both<'src>(
+    evaluator: &Evaluator<'src, '_>,
     rt: &impl Abort,
     alloc: Global,
     host: &mut TellingHost,
-    evaluator: &Evaluator<'static, '_>,
-    command: &Expression<'static>,
+    command: &Expression<'src>,
+)
+    requires room { HasRoom evaluator.now }
+{
+    evaluate_value(evaluator, rt, alloc, host, command);
+    evaluate_text(evaluator, rt, alloc, host, command);
+}
+
+fn evaluate_value<'src>(
+    evaluator: &Evaluator<'src, '_>,
+    rt: &impl Abort,
+    alloc: Global,
+    host: &mut TellingHost,
+    command: &Expression<'src>,
 )
     requires room { HasRoom evaluator.now }
 {
@@ -156,12 +168,12 @@ fn evaluate_value(
     }
 }
 
-fn evaluate_text(
+fn evaluate_text<'src>(
+    evaluator: &Evaluator<'src, '_>,
     rt: &impl Abort,
     alloc: Global,
     host: &mut TellingHost,
-    evaluator: &Evaluator<'static, '_>,
-    command: &Expression<'static>,
+    command: &Expression<'src>,
 )
     requires room { HasRoom evaluator.now }
 {

@@ -53,20 +53,20 @@ fn call(rt: &impl Abort, alloc: Global, host: &mut TellingHost, called: &str) {
         "no memory",
     );
     let lines = parse_lines(alloc, case.as_bytes()).expect(rt, "no memory");
-    tell_case(rt, alloc, host, &lines);
+    tell_case(rt, alloc, &lines, host);
 }
 
 // Tells the line of a case's assignment `c`, behind what is asked, where `a` and `b` give an attribute.
 fn tell_case<'src>(
     rt: &impl Abort,
     alloc: Global,
-    host: &mut TellingHost,
     lines: &'src [CaseLine<'src>],
+    host: &mut TellingHost,
 ) {
     let around = Around::of_lines(rt, alloc, lines);
     let called = called_of(rt, alloc, lines);
     let line = interpolation(rt, alloc, named(rt, alloc, lines, "c"));
-    tell_called(rt, alloc, host, &around, &called, &line);
+    tell_called(&around, rt, alloc, host, &called, &line);
 }
 
 // A recipe with an attribute of the key `b` and the value `a`.
@@ -88,30 +88,30 @@ fn named<'src>(
 }
 
 fn tell_called<'src>(
+    around: &Around<'src>,
     rt: &impl Abort,
     alloc: Global,
     host: &mut TellingHost,
-    around: &Around<'src>,
     called: &Called<'src>,
     line: &Line<'src>,
 ) {
     let context = around.context();
-    tell_in(rt, alloc, host, &context, called, line);
+    tell_in(&context, rt, alloc, host, called, line);
 }
 
 // Tells a line in the environment that the recipe's attributes give.
 fn tell_in<'src>(
+    context: &ExecutionContext<'src, '_>,
     rt: &impl Abort,
     alloc: Global,
     host: &mut TellingHost,
-    context: &ExecutionContext<'src, '_>,
     called: &Called<'src>,
     line: &Line<'src>,
 )
     requires room { 0 < context.now.recursion_limit }
 {
     match called.evaluate(alloc, host, context) {
-        Ok((scope, _words, env)) => tell_line(rt, alloc, host, context, env, &scope, line, false),
+        Ok((scope, _words, env)) => tell_line(context, rt, alloc, host, env, &scope, line, false),
         Err(error) => host.tell(rt, refusal(&error)),
     }
 }
@@ -128,12 +128,17 @@ fn environment_of_assignments(rt: HostRuntime) {
 // Tells what the assignments of a case ask.
 fn tell_assignments(rt: &impl Abort, alloc: Global, host: &mut TellingHost, case: &str) {
     let lines = parse_lines(alloc, case.as_bytes()).expect(rt, "no memory");
-    let around = Around::of_lines(rt, alloc, &lines);
-    evaluate(rt, alloc, host, &around);
+    evaluate(rt, alloc, &lines, host);
 }
 
-fn evaluate(rt: &impl Abort, alloc: Global, host: &mut TellingHost, around: &Around) {
-    if around.evaluate(alloc, host).is_err() {
+fn evaluate<'src>(
+    rt: &impl Abort,
+    alloc: Global,
+    lines: &'src [CaseLine<'src>],
+    host: &mut TellingHost,
+) {
+    let around = Around::of_lines(rt, alloc, lines);
+    if Around::evaluate(alloc, host, &around).is_err() {
         host.tell(rt, "refused");
     }
 }

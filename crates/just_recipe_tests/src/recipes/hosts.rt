@@ -118,7 +118,7 @@ fn tell_command(told: &mut String, question: &CommandQuestion) -> Result<(), Out
     let command = question.command;
     write!(told, "? {command}")?;
     tell_environment(told, question.env)?;
-    tell_frames(told, question.scope)?;
+    tell_frames(question.scope, told)?;
     told.push(';')?;
     Ok(())
 }
@@ -135,19 +135,19 @@ pub(crate) fn tell_environment(
 }
 
 // Adds the frames, innermost first, each in parentheses.
-fn tell_frames(told: &mut String, scope: &Scope) -> Result<(), OutOfMemory> {
-    tell_frame(told, scope.frame())?;
+fn tell_frames(scope: &Scope, told: &mut String) -> Result<(), OutOfMemory> {
+    tell_frame(scope.frame(), told)?;
     let Some(outer) = scope.parent() else {
         return Ok(());
     };
     for frame in outer {
-        tell_frame(told, frame)?;
+        tell_frame(frame, told)?;
     }
     Ok(())
 }
 
 /// Adds what a frame binds.
-pub(crate) fn tell_frame(told: &mut String, frame: &Frame) -> Result<(), OutOfMemory> {
+pub(crate) fn tell_frame(frame: &Frame, told: &mut String) -> Result<(), OutOfMemory> {
     told.push_str(" (")?;
     for binding in frame.bindings() {
         let name = binding.name;

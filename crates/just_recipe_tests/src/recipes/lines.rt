@@ -175,46 +175,51 @@ fn tell_case(
     continued: bool,
 ) {
     let lines = parse_lines(alloc, case.as_bytes()).expect(rt, "no memory");
-    tell_pieces(rt, alloc, host, &lines, pieces, continued);
+    tell_pieces(rt, alloc, &lines, host, pieces, continued);
 }
 
 fn tell_pieces<'src>(
     rt: &impl Abort,
     alloc: Global,
-    host: &mut TellingHost,
     lines: &'src [CaseLine<'src>],
+    host: &mut TellingHost,
     pieces: &[Piece],
     continued: bool,
 ) {
     let around = Around::of_lines(rt, alloc, lines);
     let line = line_of(rt, alloc, pieces, expressions_of(rt, alloc, lines));
-    tell_around(rt, alloc, host, &around, &line, continued);
+    tell_around(&around, rt, alloc, host, &line, continued);
 }
 
 /// Tells a line that calls no function of a file, behind what is asked.
-pub(crate) fn tell(rt: &impl Abort, alloc: Global, host: &mut TellingHost, line: &Line<'static>) {
+pub(crate) fn tell<'src>(
+    line: &Line<'src>,
+    rt: &impl Abort,
+    alloc: Global,
+    host: &mut TellingHost,
+) {
     let around = Around::of_nothing(rt, alloc);
-    tell_around(rt, alloc, host, &around, line, false);
+    tell_around(&around, rt, alloc, host, line, false);
 }
 
 // The same where the recipe's scope binds `p` to `z`.
 fn tell_around<'src>(
+    around: &Around<'src>,
     rt: &impl Abort,
     alloc: Global,
     host: &mut TellingHost,
-    around: &Around<'src>,
     line: &Line<'src>,
     continued: bool,
 ) {
-    let scope = scope_of(rt, alloc, around);
-    tell_in(rt, alloc, host, &around.context(), &scope, line, continued);
+    let scope = scope_of(around, rt, alloc);
+    tell_in(&around.context(), rt, alloc, host, &scope, line, continued);
 }
 
 // A scope that binds `p` to `z`.
 fn scope_of<'src, 'run>(
+    around: &'run Around<'src>,
     rt: &impl Abort,
     alloc: Global,
-    around: &'run Around<'src>,
 ) -> Scope<'src, 'run> {
     let mut scope = around.scope.child(alloc).expect(rt, "no memory");
     let bound = scope.bind(binding(rt, alloc));
@@ -224,10 +229,10 @@ fn scope_of<'src, 'run>(
 
 // The same in a scope. The line is resolved.
 fn tell_in<'src>(
+    context: &ExecutionContext<'src, '_>,
     rt: &impl Abort,
     alloc: Global,
     host: &mut TellingHost,
-    context: &ExecutionContext<'src, '_>,
     scope: &Scope<'src, '_>,
     line: &Line<'src>,
     continued: bool,
@@ -239,15 +244,15 @@ fn tell_in<'src>(
         host.tell(rt, "unresolved;");
     }
     let env = BTreeMap::new(alloc);
-    tell_line(rt, alloc, host, context, env, scope, line, continued);
+    tell_line(context, rt, alloc, host, env, scope, line, continued);
 }
 
 /// Tells a line in a scope and an environment, behind what is asked.
 pub(crate) fn tell_line<'src>(
+    context: &ExecutionContext<'src, '_>,
     rt: &impl Abort,
     alloc: Global,
     host: &mut TellingHost,
-    context: &ExecutionContext<'src, '_>,
     env: BTreeMap<String, String>,
     scope: &Scope<'src, '_>,
     line: &Line<'src>,
@@ -255,15 +260,15 @@ pub(crate) fn tell_line<'src>(
 )
     requires room { 0 < context.now.recursion_limit }
 {
-    let evaluator = evaluator(rt, alloc, context, env, scope);
-    tell_text(rt, alloc, host, &evaluator, line, continued);
+    let evaluator = evaluator(context, rt, alloc, env, scope);
+    tell_text(&evaluator, rt, alloc, host, line, continued);
 }
 
 fn tell_text<'src>(
+    evaluator: &Evaluator<'src, '_>,
     rt: &impl Abort,
     alloc: Global,
     host: &mut TellingHost,
-    evaluator: &Evaluator<'src, '_>,
     line: &Line<'src>,
     continued: bool,
 )

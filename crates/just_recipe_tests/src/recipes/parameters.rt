@@ -68,20 +68,31 @@ pub(crate) fn tell_row(
 ) {
     let (case, _, _, _, _) = *row;
     let lines = parse_lines(alloc, case.as_bytes()).expect(rt, "no memory");
-    let around = Around::of_lines(rt, alloc, &lines);
-    let called = called_of(rt, alloc, row, check, &lines);
-    tell_around(rt, alloc, host, &around, &called);
+    tell_lines(rt, alloc, &lines, host, row, check);
+}
+
+fn tell_lines<'src>(
+    rt: &impl Abort,
+    alloc: Global,
+    lines: &'src [CaseLine<'src>],
+    host: &mut TellingHost,
+    row: &Row<'static>,
+    check: Check,
+) {
+    let around = Around::of_lines(rt, alloc, lines);
+    let called = called_of(rt, alloc, row, check, lines);
+    tell_around(&around, rt, alloc, host, &called);
 }
 
 /// Tells what a recipe's parameters come to that calls no function of a file.
-pub(crate) fn tell(
+pub(crate) fn tell<'src>(
+    called: &Called<'src>,
     rt: &impl Abort,
     alloc: Global,
     host: &mut TellingHost,
-    called: &Called<'static>,
 ) {
     let around = Around::of_nothing(rt, alloc);
-    tell_around(rt, alloc, host, &around, called);
+    tell_around(&around, rt, alloc, host, called);
 }
 
 // The recipe of a row.
@@ -189,17 +200,17 @@ fn push_pair<'src>(
 }
 
 fn tell_around<'src>(
+    around: &Around<'src>,
     rt: &impl Abort,
     alloc: Global,
     host: &mut TellingHost,
-    around: &Around<'src>,
     called: &Called<'src>,
 ) {
     let context = around.context();
     if !is_resolved(alloc, &context, called).expect(rt, "no memory") {
         host.tell(rt, "unresolved;");
     }
-    tell_in(rt, alloc, host, &context, called);
+    tell_in(&context, rt, alloc, host, called);
 }
 
 // The recipe is resolved.
@@ -220,24 +231,24 @@ fn is_resolved<'src>(
 }
 
 fn tell_in<'src>(
+    context: &ExecutionContext<'src, '_>,
     rt: &impl Abort,
     alloc: Global,
     host: &mut TellingHost,
-    context: &ExecutionContext<'src, '_>,
     called: &Called<'src>,
 )
     requires room { 0 < context.now.recursion_limit }
 {
     let told = match called.evaluate(alloc, host, context) {
-        Ok((scope, words, env)) => tell_given(&mut host.told, &scope, &words, &env),
+        Ok((scope, words, env)) => tell_given(&scope, &mut host.told, &words, &env),
         Err(error) => tell_refusal(&mut host.told, &error),
     };
     told.expect(rt, "no memory");
 }
 
 fn tell_given(
-    told: &mut String,
     scope: &Scope,
+    told: &mut String,
     words: &[String],
     env: &BTreeMap<String, String>,
 ) -> Result<(), OutOfMemory> {
@@ -246,7 +257,7 @@ fn tell_given(
         write!(told, " {word}")?;
     }
     told.push(';')?;
-    tell_frame(told, scope.frame())?;
+    tell_frame(scope.frame(), told)?;
     told.push_str(" env")?;
     tell_environment(told, env)?;
     told.push(';')?;

@@ -75,7 +75,7 @@ fn wanted_in_a_row(rt: &impl Abort, alloc: Global, count: u64) -> String {
 // The argument of the first parameter comes to be the value of each.
 fn reads_the_one_before(rt: &impl Abort, alloc: Global, count: u64) {
     let mut host = TellingHost::new(alloc, NEVER);
-    parameters::tell(rt, alloc, &mut host, &in_a_row(rt, alloc, count));
+    parameters::tell(&in_a_row(rt, alloc, count), rt, alloc, &mut host);
     let wanted = wanted_in_a_row(rt, alloc, count);
     same(rt, "parameters in a row", &host.told, &wanted);
 }
@@ -114,7 +114,7 @@ fn push_pair<'src>(rt: &impl Abort, line: &mut Line<'src>) {
 // A line of so many texts and interpolations is all of them.
 fn line_of_many(rt: &impl Abort, alloc: Global, count: u64) {
     let mut host = TellingHost::new(alloc, NEVER);
-    lines::tell(rt, alloc, &mut host, &line_of(rt, alloc, count));
+    lines::tell(&line_of(rt, alloc, count), rt, alloc, &mut host);
     let mut wanted = String::new(alloc);
     repeat(rt, &mut wanted, "{{xz", count);
     same(rt, "a line of many", &host.told, &wanted);

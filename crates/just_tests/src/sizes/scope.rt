@@ -24,13 +24,13 @@ fn bind_all<'src>(
 
 // Whether each name is bound to itself, by its place among them.
 fn holds_all(
+    scope: &Scope,
     rt: &impl Abort,
     alloc: Global,
-    scope: &Scope,
     names: &[String],
 ) -> Result<(), OutOfMemory> {
     for (place, lexeme) in names.iter().enumerate() {
-        holds(rt, alloc, scope, place as u64, lexeme)?;
+        holds(scope, rt, alloc, place as u64, lexeme)?;
     }
     Ok(())
 }
@@ -53,7 +53,7 @@ fn a_thousand_bindings(rt: HostRuntime) -> Result<(), Fail> {
     let names = numbered(alloc, 2000)?;
     let mut scope = Scope::root(alloc, &[])?;
     bind_all(alloc, &mut scope, &names)?;
-    holds_all(&rt, alloc, &scope, &names)?;
+    holds_all(&scope, &rt, alloc, &names)?;
     is_so(&rt, "no more", !binds(&scope, 1000));
     same(&rt, &names_twice(alloc, &scope)?, &twice(alloc, &names)?);
     Ok(())
@@ -79,19 +79,19 @@ fn a_thousand_constants(rt: HostRuntime) -> Result<(), Fail> {
 // A root binds each name to itself, by its place among them.
 fn are_constants(rt: &impl Abort, alloc: Global, names: &[String]) -> Result<(), OutOfMemory> {
     let root = Scope::root(alloc, &beside_themselves(alloc, names)?)?;
-    holds_all(rt, alloc, &root, names)
+    holds_all(&root, rt, alloc, names)
 }
 
 // So many frames within a scope, of which each sees what it binds.
-fn descend(rt: &impl Abort, alloc: Global, scope: &Scope, levels: u64) -> Result<(), OutOfMemory> {
-    holds(rt, alloc, scope, 0, "outermost")?;
+fn descend(scope: &Scope, rt: &impl Abort, alloc: Global, levels: u64) -> Result<(), OutOfMemory> {
+    holds(scope, rt, alloc, 0, "outermost")?;
     if levels == 0 {
         return Ok(());
     }
     let mut child = scope.child(alloc)?;
     bind(alloc, &mut child, "own", levels, "own")?;
-    holds(rt, alloc, &child, levels, "own")?;
-    descend(rt, alloc, &child, levels - 1)
+    holds(&child, rt, alloc, levels, "own")?;
+    descend(&child, rt, alloc, levels - 1)
 }
 
 #[test]
@@ -99,6 +99,6 @@ fn hundreds_of_frames(rt: HostRuntime) -> Result<(), Fail> {
     let alloc = rt.alloc();
     let mut scope = Scope::root(alloc, &[])?;
     bind(alloc, &mut scope, "x", 0, "outermost")?;
-    descend(&rt, alloc, &scope, 200)?;
+    descend(&scope, &rt, alloc, 200)?;
     Ok(())
 }
