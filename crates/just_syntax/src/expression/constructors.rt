@@ -132,9 +132,10 @@ impl<'src> Expression<'src> {
     ) -> Result<Expression<'src>, OutOfMemory>
         ensures { IfOk result (λ e. view e ≡ conditional (view condition.entry) (view consequence.entry) (option_map view otherwise.entry)) }
     {
-        let (consequence, otherwise) = boxed_with(alloc, consequence, otherwise)?;
+        let (condition, branches) = boxed_branches(alloc, condition, consequence, otherwise)?;
+        let (consequence, otherwise) = branches;
         Ok(Expression::Conditional {
-            condition: Box::new(alloc, condition)?,
+            condition,
             consequence,
             otherwise,
         })
@@ -260,31 +261,42 @@ impl<'src> Expression<'src> {
     }
 }
 
-// Two parts, each in its box.
-fn boxed_pair<'src>(
-    alloc: Global,
-    first: Expression<'src>,
-    second: Expression<'src>,
-) -> Result<(Box<Expression<'src>>, Box<Expression<'src>>), OutOfMemory>
-    ensures first { IfOk result (λ boxed. view boxed.0.value ≡ view first.entry) }
-    ensures second { IfOk result (λ boxed. view boxed.1.value ≡ view second.entry) }
+// Two parts, each in its box. What is boxed here is of any type, so that no expression has to be dropped where a box is refused.
+fn boxed_pair<T: Drop>(alloc: Global, first: T, second: T) -> Result<(Box<T>, Box<T>), OutOfMemory>
+    ensures first { IfOk result (λ boxed. boxed.0.value ≡ first) }
+    ensures second { IfOk result (λ boxed. boxed.1.value ≡ second) }
 {
     let first = Box::new(alloc, first)?;
     Ok((first, Box::new(alloc, second)?))
 }
 
 // A part, and one that may be left out, each in its box.
-fn boxed_with<'src>(
+fn boxed_with<T: Drop>(
     alloc: Global,
-    part: Expression<'src>,
-    option: Option<Expression<'src>>,
-) -> Result<(Box<Expression<'src>>, Option<Box<Expression<'src>>>), OutOfMemory>
-    ensures part { IfOk result (λ boxed. view boxed.0.value ≡ view part.entry) }
-    ensures option { IfOk result (λ boxed. option_map (λ b. view b.value) boxed.1 ≡ option_map view option.entry) }
+    part: T,
+    option: Option<T>,
+) -> Result<(Box<T>, Option<Box<T>>), OutOfMemory>
+    ensures part { IfOk result (λ boxed. boxed.0.value ≡ part) }
+    ensures option { IfOk result (λ boxed. option_map (λ b. b.value) boxed.1 ≡ option) }
 {
     let part = Box::new(alloc, part)?;
     match option {
         Some(option) => Ok((part, Some(Box::new(alloc, option)?))),
         None => Ok((part, None)),
     }
+}
+
+// A condition, and what it chooses between, each in its box.
+fn boxed_branches<T: Drop>(
+    alloc: Global,
+    condition: T,
+    consequence: T,
+    otherwise: Option<T>,
+) -> Result<(Box<T>, (Box<T>, Option<Box<T>>)), OutOfMemory>
+    ensures condition { IfOk result (λ boxed. boxed.0.value ≡ condition) }
+    ensures consequence { IfOk result (λ boxed. boxed.1.0.value ≡ consequence) }
+    ensures otherwise { IfOk result (λ boxed. option_map (λ b. b.value) boxed.1.1 ≡ otherwise) }
+{
+    let condition = Box::new(alloc, condition)?;
+    Ok((condition, boxed_with(alloc, consequence, otherwise)?))
 }
