@@ -46,9 +46,8 @@ fn told_of<'src>(
     subject: Subject,
 ) -> String {
     let stage = Stage::of_lines(rt, alloc, lines);
-    let assignments = assignments_of(rt, alloc, lines);
     let scope = Scope::root(alloc, outside).expect(rt, "no memory");
-    told_in(&stage, rt, alloc, assignments, &scope, subject)
+    told_in(&stage, rt, alloc, lines, &scope, subject)
 }
 
 fn assignments_of<'src>(
@@ -59,17 +58,17 @@ fn assignments_of<'src>(
     build(alloc, lines).expect(rt, "no case").assignments
 }
 
-// What is told in a scope of a stage, which has these assignments.
+// What is told in a scope of a stage, which is that of a case of these lines.
 fn told_in<'src>(
     stage: &Stage<'src>,
     rt: &impl Abort,
     alloc: Global,
-    assignments: Table<Assignment<'src>>,
+    lines: &'src [Line<'src>],
     scope: &Scope<'src, '_>,
     subject: Subject,
 ) -> String {
     match stage.evaluate(alloc, scope) {
-        Ok(evaluator) => told_by(&evaluator, rt, alloc, assignments, subject),
+        Ok(evaluator) => told_by(&evaluator, rt, alloc, lines, subject),
         Err(error) => said(rt, alloc, &error),
     }
 }
@@ -78,11 +77,12 @@ fn told_by<'src>(
     evaluator: &Evaluator<'src, '_>,
     rt: &impl Abort,
     alloc: Global,
-    assignments: Table<Assignment<'src>>,
+    lines: &'src [Line<'src>],
     subject: Subject,
 ) -> String
     requires before_runs { IsConst evaluator.now }
 {
+    let assignments = assignments_of(rt, alloc, lines);
     match subject {
         Subject::Expression => constants::told_by(evaluator, rt, alloc, assignments),
         Subject::Interpreter => interpreters::told_by(evaluator, rt, alloc, assignments),

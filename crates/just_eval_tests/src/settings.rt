@@ -19,33 +19,51 @@ use just_value::value::Value;
 use std::alloc::Global;
 use std::process::Abort;
 
-// A setting by its name. That of an interpreter is given as a list: the command and its arguments.
-fn setting<'src>(rt: &impl Abort, name: &str, value: Expression<'src>) -> Option<Setting<'src>> {
-    if ["script-interpreter", "shell", "windows-shell"].contains(&name) {
-        return setting_of_list(name, interpreter(rt, value));
-    }
-    setting_of_expression(name, value)
+// The settings that hold an expression or an interpreter.
+#[derive(Clone, Copy)]
+enum Kind {
+    DotenvCommand,
+    DotenvFilename,
+    DotenvPath,
+    ScriptInterpreter,
+    Shell,
+    Tempdir,
+    WindowsShell,
+    WorkingDirectory,
 }
 
-// A setting of an interpreter, by its name.
-fn setting_of_list<'src>(name: &str, list: Interpreter<Expression<'src>>) -> Option<Setting<'src>> {
-    match name {
-        "script-interpreter" => Some(Setting::ScriptInterpreter(list)),
-        "shell" => Some(Setting::Shell(list)),
-        "windows-shell" => Some(Setting::WindowsShell(list)),
-        _ => None,
+const KINDS: &[(&str, Kind)] = &[
+    ("dotenv-command", Kind::DotenvCommand),
+    ("dotenv-filename", Kind::DotenvFilename),
+    ("dotenv-path", Kind::DotenvPath),
+    ("script-interpreter", Kind::ScriptInterpreter),
+    ("shell", Kind::Shell),
+    ("tempdir", Kind::Tempdir),
+    ("windows-shell", Kind::WindowsShell),
+    ("working-directory", Kind::WorkingDirectory),
+];
+
+// The setting of a name, if it is one of these.
+fn kind_of(name: &str) -> Option<Kind> {
+    for (known, kind) in KINDS {
+        if *known == name {
+            return Some(*kind);
+        }
     }
+    None
 }
 
-// A setting of an expression, by its name.
-fn setting_of_expression<'src>(name: &str, value: Expression<'src>) -> Option<Setting<'src>> {
-    match name {
-        "dotenv-command" => Some(Setting::DotenvCommand(value)),
-        "dotenv-filename" => Some(Setting::DotenvFilename(value)),
-        "dotenv-path" => Some(Setting::DotenvPath(value)),
-        "tempdir" => Some(Setting::Tempdir(value)),
-        "working-directory" => Some(Setting::WorkingDirectory(value)),
-        _ => None,
+// A setting of an expression. That of an interpreter is given as a list: the command and its arguments.
+fn setting<'src>(rt: &impl Abort, kind: Kind, value: Expression<'src>) -> Setting<'src> {
+    match kind {
+        Kind::DotenvCommand => Setting::DotenvCommand(value),
+        Kind::DotenvFilename => Setting::DotenvFilename(value),
+        Kind::DotenvPath => Setting::DotenvPath(value),
+        Kind::ScriptInterpreter => Setting::ScriptInterpreter(interpreter(rt, value)),
+        Kind::Shell => Setting::Shell(interpreter(rt, value)),
+        Kind::Tempdir => Setting::Tempdir(value),
+        Kind::WindowsShell => Setting::WindowsShell(interpreter(rt, value)),
+        Kind::WorkingDirectory => Setting::WorkingDirectory(value),
     }
 }
 
@@ -57,18 +75,25 @@ fn sets_of<'src>(
 ) -> Table<Set<'src>> {
     let mut sets = Table::new(alloc);
     for assignment in assignments {
-        add_set(rt, &mut sets, assignment);
+        if let Some(kind) = kind_of(assignment.name.lexeme()) {
+            add_set(rt, &mut sets, kind, assignment);
+        }
     }
     sets
 }
 
-// Adds the setting that an assignment is, if it is one.
-fn add_set<'src>(rt: &impl Abort, sets: &mut Table<Set<'src>>, assignment: Assignment<'src>) {
-    let name = assignment.name;
-    if let Some(value) = setting(rt, name.lexeme(), assignment.value) {
-        let inserted = sets.insert(Set { name, value });
-        inserted.expect(rt, "no memory");
-    }
+// Adds the setting that an assignment is.
+fn add_set<'src>(
+    rt: &impl Abort,
+    sets: &mut Table<Set<'src>>,
+    kind: Kind,
+    assignment: Assignment<'src>,
+) {
+    let set = Set {
+        name: assignment.name,
+        value: setting(rt, kind, assignment.value),
+    };
+    sets.insert(set).expect(rt, "no memory");
 }
 
 /// What a case's settings come to: a line for each that is set to something, or what they are refused with.

@@ -21,7 +21,7 @@ use std::process::Abort;
 #[test]
 fn a_command_a_value_and_a_text(rt: HostRuntime) {
     let mut host = TellingHost::new(rt.alloc(), NEVER);
-    call(&command(&rt, rt.alloc()), &rt, rt.alloc(), &mut host);
+    call(&rt, rt.alloc(), "c", &mut host);
     same(
         &rt,
         "the calls",
@@ -50,7 +50,7 @@ fn calls_whose_question_fails(rt: HostRuntime) {
 // The calls are told so of a host that fails in some way.
 fn calls_fail(rt: &impl Abort, alloc: Global, failing: Failing) {
     let mut host = TellingHost::new(alloc, failing);
-    call(&command(rt, alloc), rt, alloc, &mut host);
+    call(rt, alloc, "c", &mut host);
     let wanted = wanted(rt, alloc, failing);
     same_failing(rt, "the calls", failing, &host.told, &wanted);
 }
@@ -74,16 +74,17 @@ fn refused(how: How) -> &'static str {
     }
 }
 
-// Makes the calls, each in an environment of one variable.
-fn call<'src>(command: &Expression<'src>, rt: &impl Abort, alloc: Global, host: &mut TellingHost) {
+// Makes the calls, each in an environment of one variable. A value and a text are those of this command.
+fn call<'src>(rt: &impl Abort, alloc: Global, text: &'src str, host: &mut TellingHost) {
+    let command = command(rt, alloc, text);
     let around = Around::of_nothing(rt, alloc);
-    call_in(&around, rt, alloc, host, command);
+    call_in(&around, rt, alloc, host, &command);
 }
 
-fn command(rt: &impl Abort, alloc: Global) -> Expression<'static> {
+fn command<'src>(rt: &impl Abort, alloc: Global, text: &'src str) -> Expression<'src> {
     Expression::Backtick {
-        contents: owned(rt, alloc, "c"),
-        token: token("c"),
+        contents: owned(rt, alloc, text),
+        token: token(text),
     }
 }
 
@@ -95,7 +96,7 @@ fn call_in<'src>(
     command: &Expression<'src>,
 ) {
     let context = around.context();
-    run(&context, rt, alloc, host, &env(rt, alloc));
+    run(rt, alloc, &context, host, &env(rt, alloc));
     evaluate(&context, rt, alloc, host, command);
 }
 
@@ -109,9 +110,9 @@ fn env(rt: &impl Abort, alloc: Global) -> BTreeMap<String, String> {
 
 // Runs the command `run`. A dry run runs no command.
 fn run<'src>(
-    context: &ExecutionContext<'src, '_>,
     rt: &impl Abort,
     alloc: Global,
+    context: &ExecutionContext<'src, '_>,
     host: &mut TellingHost,
     env: &BTreeMap<String, String>,
 ) {
