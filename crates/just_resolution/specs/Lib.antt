@@ -3,4 +3,5 @@ pub mod First
 pub mod Unreadable
 pub mod Fault
 pub mod Admitted
+pub mod Apart
 pub mod Seen

@@ -8,6 +8,7 @@ ghost use Rattle.just_meaning.specs.Here.{AllReadable, AreReadableInTurn, attrib
 ghost use Rattle.just_meaning.specs.Resolved.{AllKnown, AreDistinct, HasValue, IsOneOf, parameter_numbers};
 ghost use Rattle.just_meaning.specs.View.{functions_view};
 ghost use Rattle.just_resolution.specs.Admitted.{IsAdmitted, MayAllStand, MayFollowInTurn, MayStand};
+ghost use Rattle.just_resolution.specs.Apart.{AreApart};
 ghost use Rattle.just_resolution.specs.Seen.{IsSameReader, attributes_of, expressions_view, is_name_in, is_readable};
 
 use crate::admitted::first_unreadable;
@@ -37,8 +38,7 @@ pub(crate) fn are_parameters_apart<'src>(
     base: &Scope<'src, '_>,
     parameters: &[Parameter<'src>],
 ) -> Result<bool, OutOfMemory>
-    ensures { let assignments = map (λ a. a.number) (map assignment_view «module».now.assignments) in let functions = parameter_numbers (functions_view «module».now) in let own = map (λ p. p.number) (map recipe_parameter_view parameters.now) in
-        IfOk result (λ answer. IsTrue answer ↔ (AreDistinct (assignments ++ functions ++ own) × ((n : ℕ) → IsOneOf (functions ++ own) n → HasValue (value_in (frames_view scope.now)) n ⊎ HasValue (value_in (frames_view base.now)) n → ⊥))) }
+    ensures { IfOk result (λ answer. IsTrue answer ↔ AreApart (functions_view «module».now) (map assignment_view «module».now.assignments) (frames_view base.now) (frames_view scope.now) (map recipe_parameter_view parameters.now)) }
 {
     let mut numbers = assignment_numbers(alloc, &module.assignments)?;
     let first_parameter = numbers.len();

@@ -1,8 +1,9 @@
 // Whether assignments before any run are resolved.
 
-ghost use Rattle.std.specs.Prelude.{◌↔◌, IfOk, IsTrue, Some};
+ghost use Rattle.std.specs.Prelude.{◌↔◌, IfOk, IsTrue, Some, map};
+ghost use Rattle.just_syntax.specs.View.{assignment_view};
 ghost use Rattle.just_value.specs.View.{frames_view};
-ghost use Rattle.just_meaning.specs.Resolved.{IsResolvedConst};
+ghost use Rattle.just_meaning.specs.Resolved.{AllNumbered, AreDistinct, IsResolvedConst};
 ghost use Rattle.just_meaning.specs.View.{ordered_view};
 
 use crate::known::are_values_numbered;
@@ -46,11 +47,7 @@ pub fn resolved_const<'src, 'run>(
 ) -> Result<bool, OutOfMemory>
     ensures exact { IfOk result (λ answer. IsTrue answer ↔ IsResolvedConst (ordered_view assignments.now evaluation_order.now (Some variable_references.entry)) (frames_view scope.now)) }
 {
-    let numbers = assignment_numbers(alloc, assignments)?;
-    if number_fault(alloc, &numbers)?.is_some() {
-        return Ok(false);
-    }
-    if !are_values_numbered(alloc, assignments)? {
+    if !are_numbered(alloc, assignments)? {
         return Ok(false);
     }
     let functions = Table::new(alloc);
@@ -63,4 +60,19 @@ pub fn resolved_const<'src, 'run>(
         Some(variable_references),
     )?;
     Ok(misplaced.is_none())
+}
+
+// Whether the numbers of assignments are distinct, and each variable in one has a number.
+fn are_numbered<'src>(
+    alloc: Global,
+    assignments: &Table<Assignment<'src>>,
+) -> Result<bool, OutOfMemory>
+    ensures { let all = map assignment_view assignments.now in
+        IfOk result (λ answer. IsTrue answer ↔ (AreDistinct (map (λ a. a.number) all) × AllNumbered (map (λ a. a.value) all))) }
+{
+    let numbers = assignment_numbers(alloc, assignments)?;
+    if number_fault(alloc, &numbers)?.is_some() {
+        return Ok(false);
+    }
+    are_values_numbered(alloc, assignments)
 }
