@@ -50,14 +50,15 @@ seen_same : {X Y : Type 0} (f : X → Y) (o : Option X) → is_some (option_map 
 seen_same f None = refl
 seen_same f (Some x) = refl
 
-module _ {X Y : Type 0} (f : X → Y) (key : Y → Text) (xs : List X) (x : X) (ordered : IsInOrder (λ x. key (f x)) xs) where
-  seen_in : is_some (value_at key (key (f x)) (map f xs)) ≡ is_some (value_at (λ x. key (f x)) (key (f x)) xs)
-  seen_in = ap is_some (seen_at f key (key (f x)) xs) ∙ seen_same f (value_at (λ x. key (f x)) (key (f x)) xs)
+-- whether there is one with a key, of values that are seen by f
+pub seen_in : {X Y : Type 0} (f : X → Y) (key : Y → Text) (k : Text) (xs : List X) → is_some (value_at key k (map f xs)) ≡ is_some (value_at (λ x. key (f x)) k xs)
+seen_in f key k xs = ap is_some (seen_at f key k xs) ∙ seen_same f (value_at (λ x. key (f x)) k xs)
 
+module _ {V : Type 0} (key : V → Text) (vs : List V) (v : V) (ordered : IsInOrder key vs) where
   -- there are as many as before, so there was one with its key
-  pub was_there : length xs ≡ length (with_value (λ x. key (f x)) xs x) → is_some (value_at key (key (f x)) (map f xs)) ≡ true
-  was_there same = seen_in ∙ same_count (length xs) _ (same ∙ length_with (λ x. key (f x)) xs x ordered)
+  pub was_there : length vs ≡ length (with_value key vs v) → is_some (value_at key (key v) vs) ≡ true
+  was_there same = same_count (length vs) _ (same ∙ length_with key vs v ordered)
 
   -- there are more, so there was none
-  pub was_new : length xs ≢ length (with_value (λ x. key (f x)) xs x) → is_some (value_at key (key (f x)) (map f xs)) ≡ false
-  was_new other = seen_in ∙ other_count (length xs) _ (λ same. other (same ∙ sym (length_with (λ x. key (f x)) xs x ordered)))
+  pub was_new : length vs ≢ length (with_value key vs v) → is_some (value_at key (key v) vs) ≡ false
+  was_new other = other_count (length vs) _ (λ same. other (same ∙ sym (length_with key vs v ordered)))

@@ -1,5 +1,5 @@
 -- The expressions that are not yet assigned, as they are pushed and taken.
-use Rattle.std.proofs.Common.{◌≡◌, ℕ, zero, suc, ◌<◌, List, [], ◌∷◌, ◌++◌, map, length, Option, Some, None, Result, Ok, Err, refl, sym, ap, ◌∙◌, arith}
+use Rattle.std.proofs.Common.{◌≡◌, ℕ, zero, suc, ◌<◌, List, [], ◌∷◌, ◌++◌, map, length, Option, Some, None, Result, Ok, Err, IfErr, OnOk, refl, sym, ap, ◌∙◌, arith}
 use Rattle.std.specs.Option.{option_map}
 use Rattle.std.specs.Prelude.{reverse}
 use Rattle.std.proofs.lemmas.List.{length-map, length-reverse, map-append, reverse-append}
@@ -20,6 +20,11 @@ if_bad OutOfMemory follows holds = tt
 pub done_with : {A B C : Type 0} (f : B → C) (result : Result A LineError) (comes : Option B) (new : B) → Done result comes new → Done result (option_map f comes) (f new)
 done_with f (Ok value) comes new done = ap (option_map f) done
 done_with f (Err e) comes new done = if_bad e (ap (option_map f)) done
+
+-- what was put where there was none of its key is done, and else the line is bad
+pub done_new : {A B P Q R : Type 0} (result : Result A LineError) (comes : Option B) (new : B) → OnOk result P → OnOk result Q → IfErr result (λ e. IfBad e R) → (P → Q → comes ≡ Some new) → (R → comes ≡ None) → Done result comes new
+done_new (Ok value) comes new p q r done bad = done p q
+done_new (Err e) comes new p q r done bad = if_bad e bad r
 
 -- the last in a row is the first from its end
 pub pushed : {A B : Type 0} (f : A → B) (xs : List A) (x : A) → reverse (map f (xs ++ x ∷ [])) ≡ f x ∷ reverse (map f xs)

@@ -81,7 +81,7 @@ case_view c = record {
 
 -- the expressions that are not yet assigned, the last first
 abbrev pub stack_view : Stack → List Expr
-stack_view s = reverse (map (λ nested. view nested.expression) s.expressions.items)
+stack_view s = reverse (map (λ nested. view nested.part) s.expressions.items)
 
 abbrev pub numbering_view : Numbering → Names
 numbering_view numbering = record { number = λ name. get_by (λ key. slice_cmp nat_cmp name key.now) numbering.numbers; count = btree_map_len numbering.numbers }

@@ -1,11 +1,12 @@
 // A case so far.
 
-ghost use Rattle.std.specs.Prelude.{◌≡◌, ◌∷◌, Some, true, map};
+ghost use Rattle.std.specs.Prelude.{◌≡◌, ◌∷◌, IfErr, IfOk, None, OnOk, Some, false, true, map};
 ghost use Rattle.std.specs.Option.{is_some, option_map};
+ghost use Rattle.just_syntax.specs.Keyed.{value_at, with_value};
 ghost use Rattle.just_syntax.specs.Plain.{Text};
 ghost use Rattle.just_case_lines.specs.Case as cases;
 ghost use Rattle.just_case_lines.specs.Case.{token_of};
-ghost use Rattle.just_case_lines.specs.Done.{Done};
+ghost use Rattle.just_case_lines.specs.Done.{Done, IfBad};
 ghost use Rattle.just_case_lines.specs.Line as lines;
 ghost use Rattle.just_case_lines.specs.Reading.{finished, names_in, nothing, read, step};
 ghost use Rattle.just_case_lines.specs.Rest.{names};
@@ -21,7 +22,9 @@ use crate::stack::Stack;
 use crate::token;
 use just_syntax::assignment::Assignment;
 use just_syntax::function_definition::FunctionDefinition;
+use just_syntax::keyed::Keyed;
 use just_syntax::name::Name;
+use just_syntax::table::Table;
 use just_syntax::variables::set_of;
 use just_value::error::CommandFault;
 use std::alloc::Global;
@@ -61,18 +64,11 @@ impl<'src> Builder<'src> {
         let Builder {
             mut case,
             is_over,
-            last_command: _,
-            numbering: _,
             order,
-            stack: _,
+            ..
         } = self;
-        if !is_over {
-            return None;
-        }
-        if let Some(order) = order {
-            case.evaluation_order = order;
-        }
-        Some(case)
+        case.evaluation_order = order.unwrap_or(case.evaluation_order);
+        is_over.then_some(case)
     }
 
     /// Does what a line says. Behind the end every line is bad that is not skipped.
@@ -139,40 +135,37 @@ impl<'src> Builder<'src> {
         self.stack.variable(name, number)
     }
 
-    // Assigns the expression on top to a name that has none. One that takes an earlier one's place, so that there are no
-    // more than before, ends the case.
+    // Assigns the expression on top to a name that has none.
     fn assign(&mut self, lexeme: &'src str, export: bool) -> Result<(), LineError>
         ensures { Done result (read (lines.Assign lexeme.now export) (reading_view self.old)) (reading_view self.new) }
     {
         let number = self.numbering.number_of(lexeme)?;
-        let value = self.stack.pop()?;
         let name = token::name(lexeme);
-        let mut assignment = Assignment::new(name, number, value);
-        assignment.export = export;
-        let earlier = self.case.assignments.len();
-        self.case.assignments.insert(assignment)?;
-        if self.case.assignments.len() == earlier {
-            return Err(LineError::Bad);
-        }
         self.case.evaluation_order.push(name)?;
-        Ok(())
+        let value = self.stack.pop()?;
+        let assignment = Assignment {
+            eager: false,
+            export,
+            name,
+            number,
+            private: false,
+            value,
+        };
+        insert_new(&mut self.case.assignments, assignment)
     }
 
     // Defines a function: its name, and those of its parameters.
     fn function(&mut self, alloc: Global, text: &'src str) -> Result<(), LineError>
         ensures { Done result (read (lines.Function text.now) (reading_view self.old)) (reading_view self.new) }
     {
-        let Some(names) = parse_names(alloc, text)? else {
-            return Err(LineError::Bad);
-        };
+        let names = names_of(alloc, text)?;
         match names.split_first() {
             Some((name, parameters)) => self.define(alloc, name, parameters),
             None => Err(LineError::Bad),
         }
     }
 
-    // Defines a function, of which there is none of this name, with the expression on top as its body. Again, one that
-    // takes an earlier one's place ends the case.
+    // Defines a function, of which there is none of this name, with the expression on top as its body.
     fn define(
         &mut self,
         alloc: Global,
@@ -183,13 +176,12 @@ impl<'src> Builder<'src> {
     {
         let parameters = self.numbering.parameters_of(alloc, parameters)?;
         let body = self.stack.pop()?;
-        let function = FunctionDefinition::new(token::name(lexeme), parameters, body);
-        let earlier = self.case.functions.len();
-        self.case.functions.insert(function)?;
-        if self.case.functions.len() == earlier {
-            return Err(LineError::Bad);
-        }
-        Ok(())
+        let function = FunctionDefinition {
+            body,
+            name: token::name(lexeme),
+            parameters,
+        };
+        insert_new(&mut self.case.functions, function)
     }
 
     // Gives a variable's value from outside.
@@ -216,10 +208,9 @@ impl<'src> Builder<'src> {
     fn order(&mut self, alloc: Global, text: &'src str) -> Result<(), LineError>
         ensures { Done result (read (lines.Order text.now) (reading_view self.old)) (reading_view self.new) }
     {
-        let Some(names) = parse_names(alloc, text)? else {
-            return Err(LineError::Bad);
-        };
-        self.order = Some(token::names(alloc, &names)?);
+        let names = names_of(alloc, text)?;
+        let told = token::names(alloc, &names)?;
+        self.order = Some(told);
         Ok(())
     }
 
@@ -227,11 +218,10 @@ impl<'src> Builder<'src> {
     fn only(&mut self, alloc: Global, text: &'src str) -> Result<(), LineError>
         ensures { Done result (read (lines.Only text.now) (reading_view self.old)) (reading_view self.new) }
     {
-        let Some(names) = parse_names(alloc, text)? else {
-            return Err(LineError::Bad);
-        };
+        let names = names_of(alloc, text)?;
         let numbers = self.numbering.numbers_of(alloc, &names)?;
-        self.case.references = Some(set_of(alloc, &numbers)?);
+        let references = set_of(alloc, &numbers)?;
+        self.case.references = Some(references);
         Ok(())
     }
 
@@ -294,9 +284,7 @@ impl<'src> Builder<'src> {
     fn blocks(&mut self, alloc: Global, text: &'src str) -> Result<(), LineError>
         ensures { Done result (read (lines.Blocks text.now) (reading_view self.old)) (reading_view self.new) }
     {
-        let Some(names) = parse_names(alloc, text)? else {
-            return Err(LineError::Bad);
-        };
+        let names = names_of(alloc, text)?;
         let order = token::names(alloc, &names)?;
         self.end(Evaluation::Blocks { order })
     }
@@ -314,5 +302,29 @@ impl<'src> Builder<'src> {
         } else {
             Err(LineError::Bad)
         }
+    }
+}
+
+// The names of a line, which is bad where something else stands there.
+fn names_of<'src>(alloc: Global, text: &'src str) -> Result<Vec<&'src str>, LineError>
+    ensures ok { IfOk result (λ list. names text.now ≡ Some (map (λ name. name.now) list.items)) }
+    ensures bad { IfErr result (λ e. IfBad e (names text.now ≡ None)) }
+{
+    parse_names(alloc, text)?.ok_or(LineError::Bad)
+}
+
+// Puts a value into a table that has none of its key. One that takes an earlier one's place, so that there are no more than
+// before, is bad.
+fn insert_new<V: Keyed + Drop>(table: &mut Table<V>, value: V) -> Result<(), LineError>
+    ensures inserted { OnOk result (table.new ≡ with_value V.key_text table.old value) }
+    ensures new { OnOk result (is_some (value_at V.key_text (V.key_text value) table.old) ≡ false) }
+    ensures bad { IfErr result (λ e. IfBad e (is_some (value_at V.key_text (V.key_text value) table.old) ≡ true)) }
+{
+    let earlier = table.len();
+    table.insert(value)?;
+    if table.len() == earlier {
+        Err(LineError::Bad)
+    } else {
+        Ok(())
     }
 }

@@ -1,8 +1,8 @@
 // What a case describes.
 
-ghost use Rattle.std.specs.Prelude.{◌≡◌, IfOk, map};
-ghost use Rattle.just_case_lines.specs.Reading.{Describes, BadLine, described, nothing};
-ghost use Rattle.just_case_lines.specs.View.{case_view, line_view};
+ghost use Rattle.std.specs.Prelude.{◌≡◌, ◌+◌, [], IfOk, OnOk, length, map};
+ghost use Rattle.just_case_lines.specs.Reading.{Describes, BadLine, described, described_from, nothing};
+ghost use Rattle.just_case_lines.specs.View.{case_view, line_view, reading_view};
 
 use crate::builder::Builder;
 use crate::evaluation::Evaluation;
@@ -87,6 +87,21 @@ pub fn build<'src>(alloc: Global, lines: &'src [Line<'src>]) -> Result<Case<'src
     ensures bad { (place : _) → result ≡ Err (CaseError.BadLine place) → described (map line_view lines.now) ≡ BadLine place }
 {
     let mut builder = Builder::new(alloc);
+    take_all(&mut builder, alloc, lines)?;
+    builder
+        .finished()
+        .ok_or(CaseError::BadLine(lines.len().saturating_add(1)))
+}
+
+// Does what lines say, up to the first bad one.
+fn take_all<'src>(
+    builder: &mut Builder<'src>,
+    alloc: Global,
+    lines: &'src [Line<'src>],
+) -> Result<(), CaseError>
+    ensures ok { OnOk result (described_from 1 (reading_view builder.old) (map line_view lines.now) ≡ described_from (length lines.now + 1) (reading_view builder.new) []) }
+    ensures bad { (place : _) → result ≡ Err (CaseError.BadLine place) → described_from 1 (reading_view builder.old) (map line_view lines.now) ≡ BadLine place }
+{
     for (index, line) in lines.iter().enumerate() {
         match builder.take(alloc, line) {
             Ok(()) => {}
@@ -94,8 +109,5 @@ pub fn build<'src>(alloc: Global, lines: &'src [Line<'src>]) -> Result<Case<'src
             Err(LineError::OutOfMemory) => return Err(CaseError::OutOfMemory),
         }
     }
-    match builder.finished() {
-        Some(case) => Ok(case),
-        None => Err(CaseError::BadLine(lines.len().saturating_add(1))),
-    }
+    Ok(())
 }

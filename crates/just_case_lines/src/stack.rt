@@ -1,6 +1,6 @@
 // The expressions that are not yet assigned.
 
-ghost use Rattle.std.specs.Prelude.{◌≡◌, ◌∷◌, ◌==◌, [], Some, None, IfErr, IfOk, codes, length, map, option_map};
+ghost use Rattle.std.specs.Prelude.{◌≡◌, ◌∷◌, ◌++◌, ◌==◌, [], Some, None, IfErr, IfOk, OnOk, codes, length, map, option_map};
 ghost use Rattle.just_syntax.specs.Plain as plain;
 ghost use Rattle.just_syntax.specs.View.{assertion, view, views};
 ghost use Rattle.just_case_lines.specs.Case.{token_of};
@@ -28,13 +28,14 @@ const MOST_LEVELS: usize = 54_000;
 /// the rightmost.
 #[derive(Drop)]
 pub(crate) struct Stack<'src> {
-    expressions: Vec<Nested<'src>>,
+    expressions: Vec<Nested<Expression<'src>>>,
 }
 
-// An expression, and how many forms stand in one another there.
+// A part, and how many forms stand in one another there. It is of any type, since the prover then drops no expression where
+// one is refused.
 #[derive(Drop)]
-struct Nested<'src> {
-    expression: Expression<'src>,
+struct Nested<T> {
+    part: T,
     levels: usize,
 }
 
@@ -61,7 +62,7 @@ impl<'src> Stack<'src> {
         ensures bad { IfErr result (λ e. IfBad e (stack_view self.old ≡ [])) }
     {
         match self.expressions.pop() {
-            Some(nested) => Ok(nested.expression),
+            Some(nested) => Ok(nested.part),
             None => Err(LineError::Bad),
         }
     }
@@ -174,10 +175,7 @@ impl<'src> Stack<'src> {
     fn push(&mut self, expression: Expression<'src>, levels: usize) -> Result<(), LineError>
         ensures { Done result (Some (view expression.entry ∷ stack_view self.old)) (stack_view self.new) }
     {
-        if levels > MOST_LEVELS {
-            return Err(LineError::OutOfMemory);
-        }
-        self.expressions.push(Nested { expression, levels })?;
+        nest(&mut self.expressions, expression, levels)?;
         Ok(())
     }
 
@@ -186,27 +184,46 @@ impl<'src> Stack<'src> {
         ensures ok { IfOk result (λ taken. stack_view self.old ≡ view taken.0.value ∷ stack_view self.new) }
         ensures bad { IfErr result (λ e. IfBad e (stack_view self.old ≡ [])) }
     {
-        match self.expressions.pop() {
-            Some(Nested { expression, levels }) => Ok((Box::new(alloc, expression)?, levels)),
-            None => Err(LineError::Bad),
-        }
+        pop_boxed(alloc, &mut self.expressions)
     }
 }
 
-// Expressions, and the levels of the deepest.
-fn told_apart<'src>(
-    alloc: Global,
-    taken: Vec<Nested<'src>>,
-) -> Result<(Vec<Expression<'src>>, usize), OutOfMemory>
-    ensures { IfOk result (λ told. told.0.items ≡ map (λ nested. nested.expression) taken.entry.items) }
+// Pushes a part of so many levels, if it may have so many.
+fn nest<T: Drop>(parts: &mut Vec<Nested<T>>, part: T, levels: usize) -> Result<(), OutOfMemory>
+    ensures { OnOk result (parts.new.items ≡ parts.old.items ++ record { part = part; levels = levels } ∷ []) }
 {
-    let mut expressions = Vec::with_capacity(alloc, taken.len())?;
+    if levels > MOST_LEVELS {
+        return Err(OutOfMemory);
+    }
+    parts.push(Nested { part, levels })?;
+    Ok(())
+}
+
+// Takes the part on top, in a box, and tells its levels.
+fn pop_boxed<T: Drop>(
+    alloc: Global,
+    parts: &mut Vec<Nested<T>>,
+) -> Result<(Box<T>, usize), LineError>
+    ensures ok { IfOk result (λ taken. parts.old.items ≡ parts.new.items ++ record { part = taken.0.value; levels = taken.1 } ∷ []) }
+    ensures bad { IfErr result (λ e. IfBad e (parts.old.items ≡ [])) }
+{
+    match parts.pop() {
+        Some(Nested { part, levels }) => Ok((Box::new(alloc, part)?, levels)),
+        None => Err(LineError::Bad),
+    }
+}
+
+// Parts, and the levels of the deepest.
+fn told_apart<T: Drop>(alloc: Global, taken: Vec<Nested<T>>) -> Result<(Vec<T>, usize), OutOfMemory>
+    ensures { IfOk result (λ told. told.0.items ≡ map (λ nested. nested.part) taken.items) }
+{
+    let mut parts = Vec::with_capacity(alloc, taken.len())?;
     let mut levels = 0;
     for nested in taken {
         levels = levels.max(nested.levels);
-        expressions.push(nested.expression)?;
+        parts.push(nested.part)?;
     }
-    Ok((expressions, levels))
+    Ok((parts, levels))
 }
 
 // The levels of a form whose deepest part has so many.
