@@ -16,6 +16,7 @@ use just_syntax::recipe::Recipe;
 use just_syntax::string_literal::StringLiteral;
 use just_syntax::token::Token;
 use std::alloc::Global;
+use std::fmt::Display;
 use std::process::Abort;
 use std::test::Fail;
 
@@ -31,14 +32,14 @@ fn b<'src>() -> Expression<'src> {
     variable("b")
 }
 
-// Whether an expression is written so.
-fn expect(
+// Whether what is made is written so.
+fn expect<T: Display + Drop>(
     rt: &impl Abort,
     alloc: Global,
-    expression: Expression,
+    made: T,
     text: &str,
 ) -> Result<(), OutOfMemory> {
-    shows(rt, alloc, &expression, text)
+    shows(rt, alloc, &made, text)
 }
 
 #[test]
@@ -120,15 +121,33 @@ fn compares(
 #[test]
 fn parts_that_may_be_left_out(rt: HostRuntime) -> Result<(), Fail> {
     let alloc = rt.alloc();
-    let both = Expression::conditional(alloc, a(), b(), Some(variable("c")))?;
-    expect(&rt, alloc, both, "if a { b } else { c }")?;
-    let one = Expression::conditional(alloc, a(), b(), None)?;
-    expect(&rt, alloc, one, "if a { b }")?;
-    let told = Expression::assert(alloc, name("assert"), a(), Some(b()))?;
-    expect(&rt, alloc, told, "assert(a, b)")?;
-    let bare = Expression::assert(alloc, name("assert"), a(), None)?;
-    expect(&rt, alloc, bare, "assert(a)")?;
+    chooses(Some("c"), &rt, alloc, "if a { b } else { c }")?;
+    chooses(None, &rt, alloc, "if a { b }")?;
+    asserts(Some("b"), &rt, alloc, "assert(a, b)")?;
+    asserts(None, &rt, alloc, "assert(a)")?;
     Ok(())
+}
+
+// Whether a conditional with this variable in its other branch is written so.
+fn chooses<'src>(
+    other: Option<&'src str>,
+    rt: &impl Abort,
+    alloc: Global,
+    text: &str,
+) -> Result<(), OutOfMemory> {
+    let made = Expression::conditional(alloc, a(), b(), other.map(variable))?;
+    expect(rt, alloc, made, text)
+}
+
+// Whether an assertion with this variable for its message is written so.
+fn asserts<'src>(
+    message: Option<&'src str>,
+    rt: &impl Abort,
+    alloc: Global,
+    text: &str,
+) -> Result<(), OutOfMemory> {
+    let made = Expression::assert(alloc, name("assert"), a(), message.map(variable))?;
+    expect(rt, alloc, made, text)
 }
 
 #[test]
@@ -148,21 +167,31 @@ fn rows_of_expressions(rt: HostRuntime) -> Result<(), Fail> {
 #[test]
 fn format_strings(rt: HostRuntime) -> Result<(), Fail> {
     let alloc = rt.alloc();
-    let last = StringLiteral::new(alloc, " last", "}} last'")?;
-    let mut pieces = Vec::new(alloc);
-    pieces.push((a(), last))?;
     let first = StringLiteral::new(alloc, "first ", "f'first {{")?;
-    let written = Expression::format_string(first, pieces);
+    let last = StringLiteral::new(alloc, " last", "}} last'")?;
+    let written = Expression::format_string(first, only(alloc, (a(), last))?);
     expect(&rt, alloc, written, "f'first {{a}} last'")?;
     Ok(())
 }
 
+// The only element of a row.
+fn only<T: Drop>(alloc: Global, element: T) -> Result<Vec<T>, OutOfMemory> {
+    let mut row = Vec::new(alloc);
+    row.push(element)?;
+    Ok(row)
+}
+
 // A variable and a literal.
 fn pair<'src>(alloc: Global) -> Result<Vec<Expression<'src>>, OutOfMemory> {
-    let mut pair = Vec::new(alloc);
-    pair.push(variable("a"))?;
-    pair.push(Expression::literal(alloc, "x", "'x'")?)?;
-    Ok(pair)
+    let literal = Expression::literal(alloc, "x", "'x'")?;
+    beside(alloc, variable("a"), literal)
+}
+
+fn beside<T: Drop>(alloc: Global, first: T, second: T) -> Result<Vec<T>, OutOfMemory> {
+    let mut row = Vec::new(alloc);
+    row.push(first)?;
+    row.push(second)?;
+    Ok(row)
 }
 
 // Texts, and how literals of them are written.
@@ -192,14 +221,19 @@ fn is_numbered(rt: &impl Abort, given: Name, number: Number, lexeme: &str, wante
 
 #[test]
 fn assignments(rt: HostRuntime) -> Result<(), Fail> {
-    let assignment = Assignment::new(name("x"), Number::new(3), variable("a"));
-    is_plain_assignment(&rt, &assignment);
-    shows(&rt, rt.alloc(), &assignment.value, "a")?;
+    assigns("a", &rt, rt.alloc())?;
     Ok(())
 }
 
+// Whether a variable is assigned so, and its value is written as its name.
+fn assigns<'src>(lexeme: &'src str, rt: &impl Abort, alloc: Global) -> Result<(), OutOfMemory> {
+    let assignment = Assignment::new(name("x"), Number::new(3), variable(lexeme));
+    is_plain_assignment(&assignment, rt);
+    expect(rt, alloc, assignment.value, lexeme)
+}
+
 // Whether an assignment is of `x`, whose number is 3, and says nothing else.
-fn is_plain_assignment(rt: &impl Abort, assignment: &Assignment) {
+fn is_plain_assignment(assignment: &Assignment, rt: &impl Abort) {
     is_numbered(rt, assignment.name, assignment.number, "x", 3);
     let says_more = assignment.eager || assignment.export || assignment.private;
     is_so(rt, "plain", !says_more);
@@ -207,16 +241,20 @@ fn is_plain_assignment(rt: &impl Abort, assignment: &Assignment) {
 
 #[test]
 fn functions(rt: HostRuntime) -> Result<(), Fail> {
-    let mut parameters = Vec::new(rt.alloc());
-    parameters.extend_from_slice(&[(name("p"), Number::new(7))])?;
-    let function = FunctionDefinition::new(name("f"), parameters, variable("p"));
-    takes_one(&rt, &function);
-    shows(&rt, rt.alloc(), &function.body, "p")?;
+    defines("p", &rt, rt.alloc())?;
     Ok(())
 }
 
+// Whether a function of one parameter is defined so, and its body is written as the parameter.
+fn defines<'src>(lexeme: &'src str, rt: &impl Abort, alloc: Global) -> Result<(), OutOfMemory> {
+    let parameters = only(alloc, (name(lexeme), Number::new(7)))?;
+    let function = FunctionDefinition::new(name("f"), parameters, variable(lexeme));
+    takes_one(&function, rt);
+    expect(rt, alloc, function.body, lexeme)
+}
+
 // Whether a function is called `f` and has one parameter, `p`, whose number is 7.
-fn takes_one(rt: &impl Abort, function: &FunctionDefinition) {
+fn takes_one(function: &FunctionDefinition, rt: &impl Abort) {
     same_token(rt, "f", function.name.token, token("f"));
     counts(rt, "parameters", function.parameters.len(), 1);
     for (parameter, number) in &function.parameters {
@@ -226,12 +264,17 @@ fn takes_one(rt: &impl Abort, function: &FunctionDefinition) {
 
 #[test]
 fn parameters(rt: HostRuntime) {
-    let parameter = Parameter::new(name("p"), Number::new(5), ParameterKind::Plus);
-    is_plain_parameter(&rt, &parameter);
+    is_parameter("p", &rt);
+}
+
+fn is_parameter<'src>(lexeme: &'src str, rt: &impl Abort) {
+    let parameter = Parameter::new(name(lexeme), Number::new(5), ParameterKind::Plus);
+    is_plain_parameter(&parameter, rt);
+    drop(parameter);
 }
 
 // Whether a parameter is `p`, whose number is 5, takes several arguments, and says nothing else.
-fn is_plain_parameter(rt: &impl Abort, parameter: &Parameter) {
+fn is_plain_parameter(parameter: &Parameter, rt: &impl Abort) {
     is_numbered(rt, parameter.name, parameter.number, "p", 5);
     is_so(rt, "plus", parameter.kind == ParameterKind::Plus);
     let says_more = parameter.export || parameter.flag || parameter.multiple;

@@ -9,6 +9,7 @@ use just_resolution::fault::Fault;
 use just_resolution::first_fault::first_fault;
 use just_syntax::name::Name;
 use just_syntax::out_of_memory::OutOfMemory;
+use just_value::scope::Scope;
 use std::alloc::Global;
 use std::process::Abort;
 use std::test::Fail;
@@ -65,14 +66,47 @@ fn whole(short: Short<'_>) -> Fault<'_> {
 // The first fault of a module, where these numbers are referenced: each, where none are given.
 fn found<'a>(
     alloc: Global,
+    sketch: &Sketch<'a>,
+    referenced: Option<&[u64]>,
+) -> Result<Option<Fault<'a>>, OutOfMemory> {
+    let module = module(alloc, sketch)?;
+    let found = found_in(alloc, &module, referenced);
+    drop(module);
+    found
+}
+
+fn found_in<'a>(
+    alloc: Global,
     module: &Justfile<'a>,
     referenced: Option<&[u64]>,
 ) -> Result<Option<Fault<'a>>, OutOfMemory> {
     let outer = outer_scope(alloc)?;
+    let found = found_within(&outer, alloc, module, referenced);
+    drop(outer);
+    found
+}
+
+fn found_within<'a>(
+    outer: &Scope<'a, '_>,
+    alloc: Global,
+    module: &Justfile<'a>,
+    referenced: Option<&[u64]>,
+) -> Result<Option<Fault<'a>>, OutOfMemory> {
     let parent = outer.child(alloc)?;
+    let found = found_below(alloc, module, &parent, referenced);
+    drop(parent);
+    found
+}
+
+fn found_below<'a>(
+    alloc: Global,
+    module: &Justfile<'a>,
+    parent: &Scope<'a, '_>,
+    referenced: Option<&[u64]>,
+) -> Result<Option<Fault<'a>>, OutOfMemory> {
     match referenced {
-        Some(numbers) => first_fault(alloc, module, &parent, Some(&references(alloc, numbers)?)),
-        None => first_fault(alloc, module, &parent, None),
+        Some(numbers) => first_fault(alloc, module, parent, Some(&references(alloc, numbers)?)),
+        None => first_fault(alloc, module, parent, None),
     }
 }
 
@@ -83,8 +117,7 @@ fn expect(
     referenced: Option<&[u64]>,
     expected: Option<Short>,
 ) -> Result<(), OutOfMemory> {
-    let module = module(alloc, sketch)?;
-    let found = found(alloc, &module, referenced)?;
+    let found = found(alloc, &sketch, referenced)?;
     let (_, _, order) = sketch;
     same_fault(rt, order, referenced, found, expected);
     Ok(())

@@ -1,6 +1,6 @@
 // Modules that tests are made of.
 
-use crate::parts::{name, token};
+use crate::parts::{name, token, whole};
 use crate::scope::bind;
 use just_host::justfile::Justfile;
 use just_host::settings::Settings;
@@ -96,12 +96,26 @@ fn functions<'a>(
     all: &[Function<'a>],
 ) -> Result<Table<FunctionDefinition<'a>>, OutOfMemory> {
     let mut table = Table::new(alloc);
-    for (lexeme, numbers, body) in all {
-        let body = expression(alloc, body)?;
-        let parameters = parameters(alloc, numbers)?;
-        table.insert(FunctionDefinition::new(name(lexeme), parameters, body))?;
+    let filled = define(alloc, &mut table, all);
+    whole(table, filled)
+}
+
+fn define<'a>(
+    alloc: Global,
+    table: &mut Table<FunctionDefinition<'a>>,
+    all: &[Function<'a>],
+) -> Result<(), OutOfMemory> {
+    for of in all {
+        table.insert(function(alloc, of)?)?;
     }
-    Ok(table)
+    Ok(())
+}
+
+fn function<'a>(alloc: Global, of: &Function<'a>) -> Result<FunctionDefinition<'a>, OutOfMemory> {
+    let (lexeme, numbers, body) = *of;
+    let parameters = parameters(alloc, numbers)?;
+    let body = expression(alloc, body)?;
+    Ok(FunctionDefinition::new(name(lexeme), parameters, body))
 }
 
 pub(crate) fn assignments<'a>(
@@ -109,11 +123,20 @@ pub(crate) fn assignments<'a>(
     all: &[Variable<'a>],
 ) -> Result<Table<Assignment<'a>>, OutOfMemory> {
     let mut table = Table::new(alloc);
+    let filled = assign(alloc, &mut table, all);
+    whole(table, filled)
+}
+
+fn assign<'a>(
+    alloc: Global,
+    table: &mut Table<Assignment<'a>>,
+    all: &[Variable<'a>],
+) -> Result<(), OutOfMemory> {
     for (lexeme, number, value) in all {
         let value = expression(alloc, value)?;
         table.insert(Assignment::new(name(lexeme), Number::new(*number), value))?;
     }
-    Ok(table)
+    Ok(())
 }
 
 pub(crate) fn names<'a>(alloc: Global, lexemes: &[&'a str]) -> Result<Vec<Name<'a>>, OutOfMemory> {
@@ -124,8 +147,8 @@ pub(crate) fn names<'a>(alloc: Global, lexemes: &[&'a str]) -> Result<Vec<Name<'
     Ok(all)
 }
 
-pub(crate) fn module<'a>(alloc: Global, sketch: Sketch<'a>) -> Result<Justfile<'a>, OutOfMemory> {
-    let (functions_of, variables, order) = sketch;
+pub(crate) fn module<'a>(alloc: Global, sketch: &Sketch<'a>) -> Result<Justfile<'a>, OutOfMemory> {
+    let (functions_of, variables, order) = *sketch;
     let evaluation_order = names(alloc, order)?;
     let functions = functions(alloc, functions_of)?;
     let assignments = assignments(alloc, variables)?;

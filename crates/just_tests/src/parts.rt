@@ -44,3 +44,9 @@ pub(crate) fn shows<T: Display>(
     tells(rt, format!(in alloc; "{item}")?, text);
     Ok(())
 }
+
+// What was made, unless memory gave out while it was filled.
+pub(crate) fn whole<T: Drop>(made: T, filled: Result<(), OutOfMemory>) -> Result<T, OutOfMemory> {
+    filled?;
+    Ok(made)
+}

@@ -11,6 +11,7 @@ use just_syntax::assignment::Assignment;
 use just_syntax::name::Name;
 use just_syntax::out_of_memory::OutOfMemory;
 use just_syntax::table::Table;
+use just_value::scope::Scope;
 use std::alloc::Global;
 use std::process::Abort;
 use std::test::Fail;
@@ -18,14 +19,47 @@ use std::test::Fail;
 // Whether a module is resolved, where these numbers are referenced: each, where none are given.
 fn is_resolved(
     alloc: Global,
+    sketch: &Sketch,
+    referenced: Option<&[u64]>,
+) -> Result<bool, OutOfMemory> {
+    let module = module(alloc, sketch)?;
+    let answer = is_resolved_in(alloc, &module, referenced);
+    drop(module);
+    answer
+}
+
+fn is_resolved_in(
+    alloc: Global,
     module: &Justfile,
     referenced: Option<&[u64]>,
 ) -> Result<bool, OutOfMemory> {
     let outer = outer_scope(alloc)?;
+    let answer = is_resolved_within(&outer, alloc, module, referenced);
+    drop(outer);
+    answer
+}
+
+fn is_resolved_within<'a>(
+    outer: &Scope<'a, '_>,
+    alloc: Global,
+    module: &Justfile<'a>,
+    referenced: Option<&[u64]>,
+) -> Result<bool, OutOfMemory> {
     let parent = outer.child(alloc)?;
+    let answer = is_resolved_below(alloc, module, &parent, referenced);
+    drop(parent);
+    answer
+}
+
+fn is_resolved_below<'a>(
+    alloc: Global,
+    module: &Justfile<'a>,
+    parent: &Scope<'a, '_>,
+    referenced: Option<&[u64]>,
+) -> Result<bool, OutOfMemory> {
     match referenced {
-        Some(numbers) => resolved(alloc, module, &parent, Some(&references(alloc, numbers)?)),
-        None => resolved(alloc, module, &parent, None),
+        Some(numbers) => resolved(alloc, module, parent, Some(&references(alloc, numbers)?)),
+        None => resolved(alloc, module, parent, None),
     }
 }
 
@@ -36,8 +70,7 @@ fn expect(
     referenced: Option<&[u64]>,
     expected: bool,
 ) -> Result<(), OutOfMemory> {
-    let module = module(alloc, sketch)?;
-    let answer = is_resolved(alloc, &module, referenced)?;
+    let answer = is_resolved(alloc, &sketch, referenced)?;
     let (_, _, order) = sketch;
     same_answer(rt, order, referenced, answer, expected);
     Ok(())

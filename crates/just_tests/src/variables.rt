@@ -1,7 +1,7 @@
 // Overrides and references, told by the names of variables.
 
 use crate::compared::{counts, numbered, same_if_any, tells};
-use crate::parts::{name, shows};
+use crate::parts::{name, shows, whole};
 use just_syntax::assignment::Assignment;
 use just_syntax::expression::Expression;
 use just_syntax::number::Number;
@@ -19,11 +19,19 @@ const VARIABLES: &[(&str, u64)] = &[("b", 2), ("c", 9), ("a", 4)];
 
 fn assignments<'src>(alloc: Global) -> Result<Table<Assignment<'src>>, OutOfMemory> {
     let mut assignments = Table::new(alloc);
+    let filled = assign(alloc, &mut assignments);
+    whole(assignments, filled)
+}
+
+fn assign<'src>(
+    alloc: Global,
+    assignments: &mut Table<Assignment<'src>>,
+) -> Result<(), OutOfMemory> {
     for (lexeme, number) in VARIABLES {
         let value = Expression::literal(alloc, "", "''")?;
         assignments.insert(Assignment::new(name(lexeme), Number::new(*number), value))?;
     }
-    Ok(assignments)
+    Ok(())
 }
 
 // Pairs of a name and a text, each `name=text`.
