@@ -4,7 +4,7 @@ use Rattle.just_syntax.specs.Plain.{Expr, Function, Parameter}
 use Rattle.just_value.specs.Value.{Names}
 use Rattle.just_meaning.specs.Here.{AllReadable, AreReadableInTurn, expressions_of, parameter_expressions}
 use Rattle.just_meaning.specs.Resolved.{AllKnown, HasValue, IsOneOf}
-use Rattle.just_resolution.specs.Admitted.{AllReadBy, AllWithin, MayAllStand, MayFollowInTurn, MayStand}
+use Rattle.just_resolution.specs.Admitted.{AllReadBy, MayAllStand, MayFollowInTurn, MayStand}
 use Rattle.just_resolution.proofs.Resolving.{refuses}
 
 pub known_append : (functions : List Function) (es fs : List Expr) → AllKnown functions (es ++ fs) ↔ (AllKnown functions es × AllKnown functions fs)
@@ -105,35 +105,15 @@ module _ (functions : List Function) (base names : Names) (readable : ℕ → Bo
 
   -- the three tests are the test of all
   pub all_here : (here : ℕ → Bool) (A : Type 0) (attributes expressions : List Expr) (ps : List Parameter) → ((n : ℕ) → IsTrue (here n) ↔ HasValue names n)
-      → AllKnown functions attributes × AllWithin functions here readable attributes → AllKnown functions expressions × AllWithin functions here readable expressions → A ↔ MayFollowInTurn functions (λ n. IsTrue (here n)) readable ps
+      → A ↔ (MayAllStand functions here readable attributes × MayAllStand functions here readable expressions × MayFollowInTurn functions (λ n. IsTrue (here n)) readable ps)
       → A ↔ (AllKnown functions (attributes ++ parameter_expressions ps ++ expressions) × AllReadable functions base (HasValue names) (attributes ++ expressions) × AreReadableInTurn functions base names [] ps)
-  all_here here A attributes expressions ps bound first second third =
+  all_here here A attributes expressions ps bound all =
       let in_turn = turn_readable (λ n. IsTrue (here n)) [] ps (λ n. ((λ h. inr ((bound n).0 h)), (λ h. ⊎_elim (λ bad. absurd bad) (λ v. (bound n).1 v) h))) in
       let front = known_append functions attributes (parameter_expressions ps) in
       let whole = known_append functions (attributes ++ parameter_expressions ps) expressions in
       let read = readable_append functions base (HasValue names) attributes expressions in
       let a = read_readable (λ n. IsTrue (here n)) (HasValue names) attributes bound in
       let e = read_readable (λ n. IsTrue (here n)) (HasValue names) expressions bound in (
-        (λ x. let t = in_turn.0 (third.0 x) in (whole.1 (front.1 (first.0, t.0), second.0), read.1 (a.0 first.1, e.0 second.1), t.1)),
-        (λ h. third.1 (in_turn.1 ((front.0 (whole.0 h.0).0).1, h.2))),
+        (λ x. let h = all.0 x in let t = in_turn.0 h.2 in (whole.1 (front.1 (h.0.0, t.0), h.1.0), read.1 (a.0 h.0.1, e.0 h.1.1), t.1)),
+        (λ h. let known = whole.0 h.0 in let ahead = front.0 known.0 in let reads = read.0 h.1 in all.1 ((ahead.0, a.1 reads.0), (known.1, e.1 reads.1), in_turn.1 (ahead.1, h.2))),
       )
-
-  -- the attributes are refused
-  pub off_first : (here : ℕ → Bool) (attributes expressions : List Expr) (ps : List Parameter) → ((n : ℕ) → IsTrue (here n) ↔ HasValue names n)
-      → (answer : Bool) → answer ≡ false → (answer ≡ true) ↔ MayAllStand functions here readable attributes
-      → (false ≡ true) ↔ (AllKnown functions (attributes ++ parameter_expressions ps ++ expressions) × AllReadable functions base (HasValue names) (attributes ++ expressions) × AreReadableInTurn functions base names [] ps)
-  off_first here attributes expressions ps bound answer off decides = refuses answer off decides
-      (λ h. (
-        ((known_append functions attributes (parameter_expressions ps)).0 ((known_append functions (attributes ++ parameter_expressions ps) expressions).0 h.0).0).0,
-        (read_readable (λ n. IsTrue (here n)) (HasValue names) attributes bound).1 ((readable_append functions base (HasValue names) attributes expressions).0 h.1).0,
-      ))
-
-  -- the expressions are refused
-  pub off_second : (here : ℕ → Bool) (attributes expressions : List Expr) (ps : List Parameter) → ((n : ℕ) → IsTrue (here n) ↔ HasValue names n)
-      → (answer : Bool) → answer ≡ false → (answer ≡ true) ↔ MayAllStand functions here readable expressions
-      → (false ≡ true) ↔ (AllKnown functions (attributes ++ parameter_expressions ps ++ expressions) × AllReadable functions base (HasValue names) (attributes ++ expressions) × AreReadableInTurn functions base names [] ps)
-  off_second here attributes expressions ps bound answer off decides = refuses answer off decides
-      (λ h. (
-        ((known_append functions (attributes ++ parameter_expressions ps) expressions).0 h.0).1,
-        (read_readable (λ n. IsTrue (here n)) (HasValue names) expressions bound).1 ((readable_append functions base (HasValue names) attributes expressions).0 h.1).1,
-      ))

@@ -1,11 +1,11 @@
 // What is evaluated for a recipe: whether its numbers are apart, and whether all is known and bound before it is read.
 
-ghost use Rattle.std.specs.Prelude.{◌↔◌, ◌⊎◌, ◌++◌, ℕ, IfOk, IsTrue, [], map};
+ghost use Rattle.std.specs.Prelude.{◌↔◌, ◌++◌, IfOk, IsTrue, [], map};
 ghost use Rattle.just_syntax.specs.View.{assignment_view, function_view, recipe_parameter_view, view};
 ghost use Rattle.just_value.specs.Frames.{value_in};
 ghost use Rattle.just_value.specs.View.{frames_view};
 ghost use Rattle.just_meaning.specs.Here.{AllReadable, AreReadableInTurn, attribute_expressions, parameter_expressions};
-ghost use Rattle.just_meaning.specs.Resolved.{AllKnown, AreDistinct, HasValue, IsOneOf, parameter_numbers};
+ghost use Rattle.just_meaning.specs.Resolved.{AllKnown, HasValue};
 ghost use Rattle.just_meaning.specs.View.{functions_view};
 ghost use Rattle.just_resolution.specs.Admitted.{IsAdmitted, MayAllStand, MayFollowInTurn, MayStand};
 ghost use Rattle.just_resolution.specs.Apart.{AreApart};
@@ -73,14 +73,7 @@ pub(crate) fn are_readable_here<'src, 'run>(
         bodies: Readable::new(alloc, context.scope),
         admitted: BTreeSet::new(alloc),
     };
-    let attributes = recipe_expressions(alloc, recipe)?;
-    if !reader.may_all_stand(alloc, attributes)? {
-        return Ok(false);
-    }
-    if !reader.may_all_stand(alloc, expressions)? {
-        return Ok(false);
-    }
-    reader.may_follow(alloc, parameters)
+    reader.may_stand_and_follow(alloc, recipe, parameters, expressions)
 }
 
 // What may be read, and the functions that were looked through.
@@ -138,6 +131,29 @@ impl<'src> Reader<'src, '_, '_> {
             }
         }
         Ok(true)
+    }
+
+    // Whether these expressions and a recipe's attributes are known and read nothing but what they may, and these parameters
+    // nothing but that and the earlier ones.
+    fn may_stand_and_follow(
+        &mut self,
+        alloc: Global,
+        recipe: Option<&Recipe<'src>>,
+        parameters: &[Parameter<'src>],
+        expressions: Vec<&Expression<'src>>,
+    ) -> Result<bool, OutOfMemory>
+        requires closed { IsAdmitted (map function_view self.old.functions.now) (is_readable self.old.bodies) (is_name_in self.old.admitted) }
+        ensures { let functions = map function_view self.old.functions.now in let may_stand = MayAllStand functions (is_readable self.old.here) (is_readable self.old.bodies) in
+            IfOk result (λ answer. IsTrue answer ↔ (may_stand (attribute_expressions (attributes_of recipe.entry)) × may_stand (expressions_view expressions.entry.items) × MayFollowInTurn functions (λ n. IsTrue (is_readable self.old.here n)) (is_readable self.old.bodies) (map recipe_parameter_view parameters.now))) }
+    {
+        if !self.may_all_stand(alloc, expressions)? {
+            return Ok(false);
+        }
+        let attributes = recipe_expressions(alloc, recipe)?;
+        if !self.may_all_stand(alloc, attributes)? {
+            return Ok(false);
+        }
+        self.may_follow(alloc, parameters)
     }
 
     // Whether the defaults and values of these parameters are known, and read nothing but what they may and the earlier
