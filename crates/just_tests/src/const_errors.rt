@@ -22,10 +22,13 @@ fn expect(
     text: &str,
     at: Token,
 ) -> Result<(), Fail> {
-    shows(rt, alloc, &error, text)?;
+    let shown = shows(rt, alloc, &error, text);
     same_token(rt, text, error.context(), at);
-    expect_kept(rt, alloc, &error.into_compile_error(), text, at)?;
-    Ok(())
+    let ended = error.into_compile_error();
+    let kept = expect_kept(rt, alloc, &ended, text, at);
+    drop(ended);
+    shown?;
+    Ok(kept?)
 }
 
 // Whether what ends the compilation holds a refusal that says this text and stood at this token.
@@ -179,6 +182,12 @@ fn lists_that_do_not_go_together(rt: HostRuntime) -> Result<(), Fail> {
 
 // Whether compilation ends so.
 fn ends(rt: &impl Abort, given: CompileError, wanted: CompileError) {
+    ends_so(rt, &given, &wanted);
+    drop(given);
+    drop(wanted);
+}
+
+fn ends_so(rt: &impl Abort, given: &CompileError, wanted: &CompileError) {
     assert_eq!(rt; given, wanted);
 }
 

@@ -1,7 +1,7 @@
 // Syntax made by hand.
 
 use crate::compared::{counts, is_so, numbered, same, same_token};
-use crate::parts::{name, shows, token};
+use crate::parts::{is_written, name, token};
 use just_syntax::assignment::Assignment;
 use just_syntax::conditional_operator::ConditionalOperator;
 use just_syntax::expression::Expression;
@@ -16,7 +16,6 @@ use just_syntax::recipe::Recipe;
 use just_syntax::string_literal::StringLiteral;
 use just_syntax::token::Token;
 use std::alloc::Global;
-use std::fmt::Display;
 use std::process::Abort;
 use std::test::Fail;
 
@@ -30,16 +29,6 @@ fn a<'src>() -> Expression<'src> {
 
 fn b<'src>() -> Expression<'src> {
     variable("b")
-}
-
-// Whether what is made is written so.
-fn expect<T: Display + Drop>(
-    rt: &impl Abort,
-    alloc: Global,
-    made: T,
-    text: &str,
-) -> Result<(), OutOfMemory> {
-    shows(rt, alloc, &made, text)
 }
 
 #[test]
@@ -70,10 +59,10 @@ fn tokens_at_places(rt: HostRuntime) {
 #[test]
 fn operators(rt: HostRuntime) -> Result<(), Fail> {
     let alloc = rt.alloc();
-    expect(&rt, alloc, Expression::and(alloc, a(), b())?, "a && b")?;
-    expect(&rt, alloc, Expression::or(alloc, a(), b())?, "a || b")?;
-    expect(&rt, alloc, Expression::not(alloc, a())?, "!a")?;
-    expect(&rt, alloc, Expression::group(alloc, a())?, "(a)")?;
+    is_written(&rt, alloc, Expression::and(alloc, a(), b())?, "a && b")?;
+    is_written(&rt, alloc, Expression::or(alloc, a(), b())?, "a || b")?;
+    is_written(&rt, alloc, Expression::not(alloc, a())?, "!a")?;
+    is_written(&rt, alloc, Expression::group(alloc, a())?, "(a)")?;
     Ok(())
 }
 
@@ -81,13 +70,13 @@ fn operators(rt: HostRuntime) -> Result<(), Fail> {
 fn operators_at_tokens(rt: HostRuntime) -> Result<(), Fail> {
     let alloc = rt.alloc();
     let sum = Expression::concatenation(alloc, a(), token("+"), b())?;
-    expect(&rt, alloc, sum, "a + b")?;
+    is_written(&rt, alloc, sum, "a + b")?;
     let both = Expression::list_concatenation(alloc, a(), token("++"), b())?;
-    expect(&rt, alloc, both, "a ++ b")?;
+    is_written(&rt, alloc, both, "a ++ b")?;
     let beside = Expression::join(alloc, Some(a()), token("/"), b())?;
-    expect(&rt, alloc, beside, "a / b")?;
+    is_written(&rt, alloc, beside, "a / b")?;
     let rooted = Expression::join(alloc, None, token("/"), b())?;
-    expect(&rt, alloc, rooted, "/ b")?;
+    is_written(&rt, alloc, rooted, "/ b")?;
     Ok(())
 }
 
@@ -115,7 +104,7 @@ fn compares(
     text: &str,
 ) -> Result<(), OutOfMemory> {
     let compared = Expression::comparison(alloc, a(), operator, b(), token(lexeme))?;
-    expect(rt, alloc, compared, text)
+    is_written(rt, alloc, compared, text)
 }
 
 #[test]
@@ -128,6 +117,14 @@ fn parts_that_may_be_left_out(rt: HostRuntime) -> Result<(), Fail> {
     Ok(())
 }
 
+// This variable, if there is one.
+fn variable_if_any<'src>(lexeme: Option<&'src str>) -> Option<Expression<'src>> {
+    match lexeme {
+        Some(lexeme) => Some(variable(lexeme)),
+        None => None,
+    }
+}
+
 // Whether a conditional with this variable in its other branch is written so.
 fn chooses<'src>(
     other: Option<&'src str>,
@@ -135,8 +132,8 @@ fn chooses<'src>(
     alloc: Global,
     text: &str,
 ) -> Result<(), OutOfMemory> {
-    let made = Expression::conditional(alloc, a(), b(), other.map(variable))?;
-    expect(rt, alloc, made, text)
+    let made = Expression::conditional(alloc, a(), b(), variable_if_any(other))?;
+    is_written(rt, alloc, made, text)
 }
 
 // Whether an assertion with this variable for its message is written so.
@@ -146,21 +143,21 @@ fn asserts<'src>(
     alloc: Global,
     text: &str,
 ) -> Result<(), OutOfMemory> {
-    let made = Expression::assert(alloc, name("assert"), a(), message.map(variable))?;
-    expect(rt, alloc, made, text)
+    let made = Expression::assert(alloc, name("assert"), a(), variable_if_any(message))?;
+    is_written(rt, alloc, made, text)
 }
 
 #[test]
 fn rows_of_expressions(rt: HostRuntime) -> Result<(), Fail> {
     let alloc = rt.alloc();
     let call = Expression::call(name("f"), pair(alloc)?);
-    expect(&rt, alloc, call, "f(a, 'x')")?;
+    is_written(&rt, alloc, call, "f(a, 'x')")?;
     let none = Expression::call(name("pid"), Vec::new(alloc));
-    expect(&rt, alloc, none, "pid()")?;
+    is_written(&rt, alloc, none, "pid()")?;
     let list = Expression::list(pair(alloc)?, token("["));
-    expect(&rt, alloc, list, "[a, 'x']")?;
+    is_written(&rt, alloc, list, "[a, 'x']")?;
     let command = Expression::backtick(alloc, "date -u", token("`date -u`"))?;
-    expect(&rt, alloc, command, "`date -u`")?;
+    is_written(&rt, alloc, command, "`date -u`")?;
     Ok(())
 }
 
@@ -170,7 +167,7 @@ fn format_strings(rt: HostRuntime) -> Result<(), Fail> {
     let first = StringLiteral::new(alloc, "first ", "f'first {{")?;
     let last = StringLiteral::new(alloc, " last", "}} last'")?;
     let written = Expression::format_string(first, only(alloc, (a(), last))?);
-    expect(&rt, alloc, written, "f'first {{a}} last'")?;
+    is_written(&rt, alloc, written, "f'first {{a}} last'")?;
     Ok(())
 }
 
@@ -229,7 +226,7 @@ fn assignments(rt: HostRuntime) -> Result<(), Fail> {
 fn assigns<'src>(lexeme: &'src str, rt: &impl Abort, alloc: Global) -> Result<(), OutOfMemory> {
     let assignment = Assignment::new(name("x"), Number::new(3), variable(lexeme));
     is_plain_assignment(&assignment, rt);
-    expect(rt, alloc, assignment.value, lexeme)
+    is_written(rt, alloc, assignment.value, lexeme)
 }
 
 // Whether an assignment is of `x`, whose number is 3, and says nothing else.
@@ -250,7 +247,7 @@ fn defines<'src>(lexeme: &'src str, rt: &impl Abort, alloc: Global) -> Result<()
     let parameters = only(alloc, (name(lexeme), Number::new(7)))?;
     let function = FunctionDefinition::new(name("f"), parameters, variable(lexeme));
     takes_one(&function, rt);
-    expect(rt, alloc, function.body, lexeme)
+    is_written(rt, alloc, function.body, lexeme)
 }
 
 // Whether a function is called `f` and has one parameter, `p`, whose number is 7.

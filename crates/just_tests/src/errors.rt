@@ -24,9 +24,10 @@ fn expect(
     text: &str,
     at: Option<&str>,
 ) -> Result<(), Fail> {
-    says(rt, alloc, &error, text)?;
+    let said = says(rt, alloc, &error, text);
     stands_at(rt, text, error.token(), at);
-    Ok(())
+    drop(error);
+    Ok(said?)
 }
 
 // Whether `Display` writes this text, with and without options.
@@ -213,9 +214,10 @@ fn expect_compile(
     text: &str,
     at: Option<&str>,
 ) -> Result<(), Fail> {
-    says(rt, alloc, &error, text)?;
+    let said = says(rt, alloc, &error, text);
     stands_at(rt, text, error.token(), at);
-    Ok(())
+    drop(error);
+    Ok(said?)
 }
 
 #[test]

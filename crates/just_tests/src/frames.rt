@@ -21,10 +21,15 @@ fn bind_in_any_order(alloc: Global, scope: &mut Scope) -> Result<(), OutOfMemory
 
 #[test]
 fn walked_by_rising_number(rt: HostRuntime) -> Result<(), Fail> {
-    let alloc = rt.alloc();
-    let mut scope = Scope::root(alloc, &[])?;
-    bind_in_any_order(alloc, &mut scope)?;
-    tells(&rt, told_values(alloc, &scope)?, "second three five ");
+    let mut scope = Scope::root(rt.alloc(), &[])?;
+    let walked = is_walked(&mut scope, &rt, rt.alloc());
+    drop(scope);
+    Ok(walked?)
+}
+
+fn is_walked(scope: &mut Scope, rt: &impl Abort, alloc: Global) -> Result<(), OutOfMemory> {
+    bind_in_any_order(alloc, scope)?;
+    tells(rt, told_values(alloc, scope)?, "second three five ");
     Ok(())
 }
 
@@ -42,11 +47,15 @@ const BETWEEN_AND_BESIDE: &[(u64, &str)] = &[
 
 #[test]
 fn looked_up_between_and_beside(rt: HostRuntime) -> Result<(), Fail> {
-    let alloc = rt.alloc();
-    let mut parent = Scope::root(alloc, &[])?;
-    bind_outer(alloc, &mut parent)?;
-    child_holds_between(&parent, &rt, alloc)?;
-    Ok(())
+    let mut parent = Scope::root(rt.alloc(), &[])?;
+    let looked_up = is_looked_up(&mut parent, &rt, rt.alloc());
+    drop(parent);
+    Ok(looked_up?)
+}
+
+fn is_looked_up(parent: &mut Scope, rt: &impl Abort, alloc: Global) -> Result<(), OutOfMemory> {
+    bind_outer(alloc, parent)?;
+    child_holds_between(parent, rt, alloc)
 }
 
 fn child_holds_between(parent: &Scope, rt: &impl Abort, alloc: Global) -> Result<(), OutOfMemory> {
@@ -72,9 +81,8 @@ fn holds_between(scope: &Scope, rt: &impl Abort, alloc: Global) -> Result<(), Ou
 
 #[test]
 fn looked_up_in_no_binding(rt: HostRuntime) -> Result<(), Fail> {
-    let alloc = rt.alloc();
-    let root = Scope::root(alloc, &[])?;
-    child_binds_none(&root, &rt, alloc)?;
+    let root = Scope::root(rt.alloc(), &[])?;
+    child_binds_none(&root, &rt, rt.alloc())?;
     Ok(())
 }
 

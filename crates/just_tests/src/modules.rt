@@ -73,13 +73,22 @@ fn made<'a>(alloc: Global, part: Part<'a>, offset: usize) -> Result<Expression<'
 // A list of these parts, each at its place among them.
 fn expression<'a>(alloc: Global, parts: &[Part<'a>]) -> Result<Expression<'a>, OutOfMemory> {
     let mut elements = Vec::new(alloc);
+    let filled = make(alloc, &mut elements, parts);
+    Ok(Expression::List {
+        elements: whole(elements, filled)?,
+        token: name("[").token,
+    })
+}
+
+fn make<'a>(
+    alloc: Global,
+    elements: &mut Vec<Expression<'a>>,
+    parts: &[Part<'a>],
+) -> Result<(), OutOfMemory> {
     for (offset, part) in parts.iter().enumerate() {
         elements.push(made(alloc, *part, offset)?)?;
     }
-    Ok(Expression::List {
-        elements,
-        token: name("[").token,
-    })
+    Ok(())
 }
 
 // Parameters with these numbers.
@@ -132,11 +141,16 @@ fn assign<'a>(
     table: &mut Table<Assignment<'a>>,
     all: &[Variable<'a>],
 ) -> Result<(), OutOfMemory> {
-    for (lexeme, number, value) in all {
-        let value = expression(alloc, value)?;
-        table.insert(Assignment::new(name(lexeme), Number::new(*number), value))?;
+    for of in all {
+        table.insert(assignment(alloc, of)?)?;
     }
     Ok(())
+}
+
+fn assignment<'a>(alloc: Global, of: &Variable<'a>) -> Result<Assignment<'a>, OutOfMemory> {
+    let (lexeme, number, value) = *of;
+    let value = expression(alloc, value)?;
+    Ok(Assignment::new(name(lexeme), Number::new(number), value))
 }
 
 pub(crate) fn names<'a>(alloc: Global, lexemes: &[&'a str]) -> Result<Vec<Name<'a>>, OutOfMemory> {
@@ -180,8 +194,8 @@ pub(crate) const OUTER: u64 = 100;
 
 pub(crate) fn outer_scope<'src, 'run>(alloc: Global) -> Result<Scope<'src, 'run>, OutOfMemory> {
     let mut scope = Scope::root(alloc, &[])?;
-    bind(alloc, &mut scope, "outer", OUTER, "")?;
-    Ok(scope)
+    let filled = bind(alloc, &mut scope, "outer", OUTER, "");
+    whole(scope, filled)
 }
 
 pub(crate) fn references(alloc: Global, numbers: &[u64]) -> Result<HashSet<Number>, OutOfMemory> {

@@ -45,6 +45,16 @@ pub(crate) fn shows<T: Display>(
     Ok(())
 }
 
+// Whether what is made is written so.
+pub(crate) fn is_written<T: Display + Drop>(
+    rt: &impl Abort,
+    alloc: Global,
+    made: T,
+    text: &str,
+) -> Result<(), OutOfMemory> {
+    shows(rt, alloc, &made, text)
+}
+
 // What was made, unless memory gave out while it was filled.
 pub(crate) fn whole<T: Drop>(made: T, filled: Result<(), OutOfMemory>) -> Result<T, OutOfMemory> {
     filled?;

@@ -68,11 +68,17 @@ const FROM_PARAMETERS: &[(&str, Option<u64>)] = &[("x", Some(7)), ("y", Some(6))
 #[test]
 fn parameters_and_numbers(rt: HostRuntime) -> Result<(), Fail> {
     let parameters = [parameter("x", 5), parameter("y", 6), parameter("x", 7)];
-    let context = ExpressionContext::from_parameters(rt.alloc(), &parameters)?;
-    for (name, number) in FROM_PARAMETERS {
-        gives(&rt, &context, name, *number);
-    }
+    let context = ExpressionContext::from_parameters(rt.alloc(), &parameters);
+    drop(parameters);
+    gives_all(&rt, &context?);
     Ok(())
+}
+
+// Whether a context gives each name of parameters its number.
+fn gives_all(rt: &impl Abort, context: &ExpressionContext) {
+    for (name, number) in FROM_PARAMETERS {
+        gives(rt, context, name, *number);
+    }
 }
 
 pub(crate) fn parameter(lexeme: &str, number: u64) -> Parameter<'_> {
@@ -94,24 +100,32 @@ fn told_root(alloc: Global, root: &Scope) -> Result<String, OutOfMemory> {
     for binding in root.bindings() {
         let name = binding.name;
         let value = &binding.value;
-        told.push_str(&format!(in alloc; "{name}={value};")?)?;
+        write!(told, "{name}={value};")?;
     }
     Ok(told)
 }
 
+const CONSTANTS: &[(&str, &str)] = &[("HEX", "0123"), ("RED", "\u{1b}[31m")];
+
 #[test]
 fn root_binds_constants(rt: HostRuntime) -> Result<(), Fail> {
-    let alloc = rt.alloc();
-    let root = Scope::root(alloc, &[("HEX", "0123"), ("RED", "\u{1b}[31m")])?;
+    let root = Scope::root(rt.alloc(), CONSTANTS)?;
+    let bound = binds_constants(&root, &rt, rt.alloc());
+    drop(root);
+    Ok(bound?)
+}
+
+// Whether a root binds the constants, and nothing else.
+fn binds_constants(root: &Scope, rt: &impl Abort, alloc: Global) -> Result<(), OutOfMemory> {
     tells(
-        &rt,
-        told_root(alloc, &root)?,
+        rt,
+        told_root(alloc, root)?,
         "HEX=\"0123\";RED=\"\u{1b}[31m\";",
     );
-    is_so(&rt, "no parent", outer_length(&root).is_none());
-    same_if_any(&rt, "second", name_of(&root, 1), Some("RED"));
-    holds(&root, &rt, alloc, 2, "not bound")?;
-    are_constants(&root, &rt);
+    is_so(rt, "no parent", outer_length(root).is_none());
+    same_if_any(rt, "second", name_of(root, 1), Some("RED"));
+    holds(root, rt, alloc, 2, "not bound")?;
+    are_constants(root, rt);
     Ok(())
 }
 
@@ -204,11 +218,15 @@ const IN_BOTH: &[(u64, &str, &str)] = &[
 
 #[test]
 fn child_binds_its_own(rt: HostRuntime) -> Result<(), Fail> {
-    let alloc = rt.alloc();
-    let mut parent = Scope::root(alloc, &[])?;
-    bind_two(alloc, &mut parent)?;
-    child_hides(&parent, &rt, alloc)?;
-    Ok(())
+    let mut parent = Scope::root(rt.alloc(), &[])?;
+    let hidden = is_hidden(&mut parent, &rt, rt.alloc());
+    drop(parent);
+    Ok(hidden?)
+}
+
+fn is_hidden(parent: &mut Scope, rt: &impl Abort, alloc: Global) -> Result<(), OutOfMemory> {
+    bind_two(alloc, parent)?;
+    child_hides(parent, rt, alloc)
 }
 
 // A child gives 1 the value of its parent until it binds it itself.
@@ -259,20 +277,30 @@ fn told_bindings(alloc: Global, scope: &Scope) -> Result<String, OutOfMemory> {
 
 #[test]
 fn own_bindings(rt: HostRuntime) -> Result<(), Fail> {
-    let alloc = rt.alloc();
-    let mut parent = Scope::root(alloc, &[])?;
-    bind(alloc, &mut parent, "x", 2, "two")?;
-    child_binds_again(&parent, &rt, alloc)?;
-    Ok(())
+    let mut parent = Scope::root(rt.alloc(), &[])?;
+    let bound = bound_again(&mut parent, &rt, rt.alloc());
+    drop(parent);
+    Ok(bound?)
+}
+
+fn bound_again(parent: &mut Scope, rt: &impl Abort, alloc: Global) -> Result<(), OutOfMemory> {
+    bind(alloc, parent, "x", 2, "two")?;
+    child_binds_again(parent, rt, alloc)
 }
 
 // A child binds 1 and 3, below a parent that has one binding, of 2.
 fn child_binds_again(parent: &Scope, rt: &impl Abort, alloc: Global) -> Result<(), OutOfMemory> {
     let mut child = parent.child(alloc)?;
-    bind_again(alloc, &mut child)?;
-    tells(rt, told_bindings(alloc, &child)?, "own three yz");
-    stands(rt, "outer bindings", outer_length(&child), Some(1));
-    is_so(rt, "own", !binds_itself(&child, 2));
+    let bound = binds_again(&mut child, rt, alloc);
+    drop(child);
+    bound
+}
+
+fn binds_again(child: &mut Scope, rt: &impl Abort, alloc: Global) -> Result<(), OutOfMemory> {
+    bind_again(alloc, child)?;
+    tells(rt, told_bindings(alloc, child)?, "own three yz");
+    stands(rt, "outer bindings", outer_length(child), Some(1));
+    is_so(rt, "own", !binds_itself(child, 2));
     Ok(())
 }
 

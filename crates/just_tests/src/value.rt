@@ -1,7 +1,7 @@
 // Values.
 
 use crate::compared::{counts, is_either, tells};
-use crate::parts::{shows, token, value};
+use crate::parts::{is_written, shows, token, value};
 use just_syntax::list_operator::ListOperator;
 use just_syntax::out_of_memory::OutOfMemory;
 use just_value::element::Element;
@@ -235,16 +235,25 @@ fn applied<'src>(
 
 #[test]
 fn operator_on_lists(rt: HostRuntime) -> Result<(), Fail> {
-    let alloc = rt.alloc();
-    for (lhs, rhs, wanted) in SUMS {
-        let sum = applied(alloc, lhs, ListOperator::Concatenate, rhs)?;
-        shows(&rt, alloc, &sum, wanted)?;
+    for row in SUMS {
+        comes_to(&rt, rt.alloc(), ListOperator::Concatenate, row)?;
     }
-    for (lhs, rhs, wanted) in JOINS {
-        let joined = applied(alloc, lhs, ListOperator::Join, rhs)?;
-        shows(&rt, alloc, &joined, wanted)?;
+    for row in JOINS {
+        comes_to(&rt, rt.alloc(), ListOperator::Join, row)?;
     }
     Ok(())
+}
+
+// Whether what is beside an operator comes to this.
+fn comes_to(
+    rt: &impl Abort,
+    alloc: Global,
+    operator: ListOperator,
+    row: &(&[&str], &[&str], &str),
+) -> Result<(), Fail> {
+    let (lhs, rhs, wanted) = *row;
+    let applied = applied(alloc, lhs, operator, rhs)?;
+    Ok(is_written(rt, alloc, applied, wanted)?)
 }
 
 // Lists whose lengths do not go together.

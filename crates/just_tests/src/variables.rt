@@ -28,10 +28,19 @@ fn assign<'src>(
     assignments: &mut Table<Assignment<'src>>,
 ) -> Result<(), OutOfMemory> {
     for (lexeme, number) in VARIABLES {
-        let value = Expression::literal(alloc, "", "''")?;
-        assignments.insert(Assignment::new(name(lexeme), Number::new(*number), value))?;
+        assignments.insert(assignment(alloc, lexeme, *number)?)?;
     }
     Ok(())
+}
+
+// Assigns the empty text.
+pub(crate) fn assignment<'src>(
+    alloc: Global,
+    lexeme: &'src str,
+    number: u64,
+) -> Result<Assignment<'src>, OutOfMemory> {
+    let value = Expression::literal(alloc, "", "''")?;
+    Ok(Assignment::new(name(lexeme), Number::new(number), value))
 }
 
 // Pairs of a name and a text, each `name=text`.

@@ -1,7 +1,7 @@
 // Word lists and positional words.
 
 use crate::compared::{counts, is_so, same, tells};
-use crate::parts::shows;
+use crate::parts::is_written;
 use just_syntax::out_of_memory::OutOfMemory;
 use just_value::list::List;
 use just_value::positional::Positional;
@@ -58,12 +58,12 @@ const LISTS: &[Lists] = &[
 
 fn list_all(rt: &impl Abort, alloc: Global, lists: &Lists) -> Result<(), OutOfMemory> {
     let numbers = lists.numbers;
-    shows(rt, alloc, &List::or(alloc, numbers)?, lists.or)?;
-    shows(rt, alloc, &List::and(alloc, numbers)?, lists.and)?;
+    is_written(rt, alloc, List::or(alloc, numbers)?, lists.or)?;
+    is_written(rt, alloc, List::and(alloc, numbers)?, lists.and)?;
     let ticked = List::or_ticked(alloc, numbers)?;
-    shows(rt, alloc, &ticked, lists.or_ticked)?;
+    is_written(rt, alloc, ticked, lists.or_ticked)?;
     let ticked = List::and_ticked(alloc, numbers)?;
-    shows(rt, alloc, &ticked, lists.and_ticked)
+    is_written(rt, alloc, ticked, lists.and_ticked)
 }
 
 #[test]
@@ -117,13 +117,13 @@ const POSITIONAL: &[(&[&str], &str)] = &[
 fn told(alloc: Global, positional: &Positional) -> Result<String, OutOfMemory> {
     let mut text = String::new(alloc);
     for (key, value) in &positional.overrides {
-        text.push_str(&format!(in alloc; "({key}={value})")?)?;
+        write!(text, "({key}={value})")?;
     }
     if let Some(directory) = &positional.search_directory {
-        text.push_str(&format!(in alloc; "[{directory}]")?)?;
+        write!(text, "[{directory}]")?;
     }
     for argument in &positional.arguments {
-        text.push_str(&format!(in alloc; "'{argument}'")?)?;
+        write!(text, "'{argument}'")?;
     }
     Ok(text)
 }

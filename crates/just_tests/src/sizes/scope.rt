@@ -49,13 +49,33 @@ fn names_twice(alloc: Global, scope: &Scope) -> Result<String, OutOfMemory> {
 
 #[test]
 fn a_thousand_bindings(rt: HostRuntime) -> Result<(), Fail> {
-    let alloc = rt.alloc();
-    let names = numbered(alloc, 2000)?;
+    let names = numbered(rt.alloc(), 2000)?;
+    are_bound(&names, &rt, rt.alloc())?;
+    Ok(())
+}
+
+// A scope binds each of a thousand names to itself.
+fn are_bound<'src>(
+    names: &'src [String],
+    rt: &impl Abort,
+    alloc: Global,
+) -> Result<(), OutOfMemory> {
     let mut scope = Scope::root(alloc, &[])?;
-    bind_all(alloc, &mut scope, &names)?;
-    holds_all(&scope, &rt, alloc, &names)?;
-    is_so(&rt, "no more", !binds(&scope, 1000));
-    same(&rt, &names_twice(alloc, &scope)?, &twice(alloc, &names)?);
+    let bound = bind_and_hold(&mut scope, rt, alloc, names);
+    drop(scope);
+    bound
+}
+
+fn bind_and_hold<'src>(
+    scope: &mut Scope<'src, '_>,
+    rt: &impl Abort,
+    alloc: Global,
+    names: &'src [String],
+) -> Result<(), OutOfMemory> {
+    bind_all(alloc, scope, names)?;
+    holds_all(scope, rt, alloc, names)?;
+    is_so(rt, "no more", !binds(scope, 1000));
+    same(rt, &names_twice(alloc, scope)?, &twice(alloc, names)?);
     Ok(())
 }
 
@@ -96,9 +116,13 @@ fn descend(scope: &Scope, rt: &impl Abort, alloc: Global, levels: u64) -> Result
 
 #[test]
 fn hundreds_of_frames(rt: HostRuntime) -> Result<(), Fail> {
-    let alloc = rt.alloc();
-    let mut scope = Scope::root(alloc, &[])?;
-    bind(alloc, &mut scope, "x", 0, "outermost")?;
-    descend(&scope, &rt, alloc, 200)?;
-    Ok(())
+    let mut scope = Scope::root(rt.alloc(), &[])?;
+    let descended = descend_from(&mut scope, &rt, rt.alloc());
+    drop(scope);
+    Ok(descended?)
+}
+
+fn descend_from(scope: &mut Scope, rt: &impl Abort, alloc: Global) -> Result<(), OutOfMemory> {
+    bind(alloc, scope, "x", 0, "outermost")?;
+    descend(scope, rt, alloc, 200)
 }

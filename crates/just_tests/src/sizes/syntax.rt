@@ -1,19 +1,18 @@
 // Tables of a thousand keys, a thousand names of variables, and texts of hundreds of lines.
 
 use crate::compared::{counts, same};
-use crate::parts::name;
+use crate::parts::{name, whole};
 use crate::sizes::{Long, long, numbered, twice};
 use crate::syntax::{Named, has_length, keeps, keys_twice};
-use crate::variables::{contains, overrides_with};
+use crate::variables::{assignment, contains, overrides_with};
 use just_syntax::assignment::Assignment;
-use just_syntax::expression::Expression;
 use just_syntax::number::Number;
 use just_syntax::out_of_memory::OutOfMemory;
 use just_syntax::table::Table;
 use just_syntax::unindent::unindent;
 use just_syntax::variables::{overrides_of, references_of};
 use std::alloc::Global;
-use std::collections::HashMap;
+use std::collections::{HashMap, HashSet};
 use std::process::Abort;
 use std::test::Fail;
 
@@ -73,11 +72,19 @@ fn hundreds_of_lines_unindented(rt: HostRuntime) -> Result<(), Fail> {
 // Assigns each name, which has its place among them as its number.
 fn assignments(alloc: Global, names: &[String]) -> Result<Table<Assignment<'_>>, OutOfMemory> {
     let mut assignments = Table::new(alloc);
+    let filled = assign(alloc, &mut assignments, names);
+    whole(assignments, filled)
+}
+
+fn assign<'a>(
+    alloc: Global,
+    assignments: &mut Table<Assignment<'a>>,
+    names: &'a [String],
+) -> Result<(), OutOfMemory> {
     for (place, lexeme) in names.iter().enumerate() {
-        let value = Expression::literal(alloc, "", "''")?;
-        assignments.insert(Assignment::new(name(lexeme), Number::new(place as u64), value))?;
+        assignments.insert(assignment(alloc, lexeme, place as u64)?)?;
     }
-    Ok(assignments)
+    Ok(())
 }
 
 // Pairs of each name and itself.
@@ -94,8 +101,10 @@ fn a_thousand_overrides(rt: HostRuntime) -> Result<(), Fail> {
     let alloc = rt.alloc();
     let names = numbered(alloc, 2000)?;
     let pairs = pairs(alloc, &names)?;
-    let overrides = overrides_of(alloc, &assignments(alloc, &names)?, &pairs)?;
-    override_themselves(&rt, &overrides, &names);
+    let assignments = assignments(alloc, &names)?;
+    let overrides = overrides_of(alloc, &assignments, &pairs);
+    drop(assignments);
+    override_themselves(&rt, &overrides?, &names);
     Ok(())
 }
 
@@ -121,10 +130,17 @@ fn a_thousand_references(rt: HostRuntime) -> Result<(), Fail> {
     let alloc = rt.alloc();
     let names = numbered(alloc, 2000)?;
     let lexemes = borrowed(alloc, &names)?;
-    let references = references_of(alloc, &assignments(alloc, &names)?, &lexemes)?;
-    counts(&rt, "references", references.len(), 1000);
-    for place in 0..names.len() {
-        contains(&rt, &references, place as u64, true);
-    }
+    let assignments = assignments(alloc, &names)?;
+    let references = references_of(alloc, &assignments, &lexemes);
+    drop(assignments);
+    are_referenced(&rt, &references?, 1000);
     Ok(())
+}
+
+// Whether so many numbers are referenced, from 0 on.
+fn are_referenced(rt: &impl Abort, references: &HashSet<Number>, times: usize) {
+    counts(rt, "references", references.len(), times);
+    for place in 0..times {
+        contains(rt, references, place as u64, true);
+    }
 }
