@@ -208,16 +208,20 @@ fn assertion_that_fails_before_a_run(rt: HostRuntime) -> Result<(), Fail> {
 
 #[test]
 fn refusals_before_a_run(rt: HostRuntime) {
-    let variable = ConstError::Variable(name("x"));
-    let same = ConstEvalError::Const(variable).into_compile_error();
-    ends(&rt, Error::Const(variable).unwrap_const(), same);
-    let wanted = CompileError::OutOfMemory;
-    ends(&rt, Error::OutOfMemory.unwrap_const(), wanted);
-    ends(
-        &rt,
-        CompileError::from(OutOfMemory),
-        CompileError::OutOfMemory,
-    );
+    ends_at(&rt, ConstError::Variable(name("x")));
+    wants_memory(&rt, Error::OutOfMemory.unwrap_const());
+    wants_memory(&rt, CompileError::from(OutOfMemory));
+}
+
+// Whether compilation ends with the same refusal.
+fn ends_at(rt: &impl Abort, error: ConstError) {
+    let same = ConstEvalError::Const(error).into_compile_error();
+    ends(rt, Error::Const(error).unwrap_const(), same);
+}
+
+// Whether compilation ends for want of memory.
+fn wants_memory(rt: &impl Abort, given: CompileError) {
+    ends(rt, given, CompileError::OutOfMemory);
 }
 
 #[test]
