@@ -1,5 +1,6 @@
 // The assignments of cases, evaluated before any run, and what is told of them.
 
+ghost use Rattle.std.specs.Prelude.{IfOk};
 ghost use Rattle.just_eval.specs.View.{IsConst};
 
 use crate::stage::Stage;
@@ -12,6 +13,7 @@ use just_syntax::table::Table;
 use just_value::compile_error::CompileError;
 use just_value::scope::Scope;
 use std::alloc::Global;
+use std::mem;
 use std::process::Abort;
 
 /// What is told of a case.
@@ -47,7 +49,10 @@ fn told_of<'src>(
 ) -> String {
     let stage = Stage::of_lines(rt, alloc, lines);
     let scope = Scope::root(alloc, outside).expect(rt, "no memory");
-    told_in(&stage, rt, alloc, lines, &scope, subject)
+    let told = told_in(&stage, rt, alloc, lines, &scope, subject);
+    drop(scope);
+    drop(stage);
+    told
 }
 
 fn assignments_of<'src>(
@@ -55,7 +60,10 @@ fn assignments_of<'src>(
     alloc: Global,
     lines: &'src [Line<'src>],
 ) -> Table<Assignment<'src>> {
-    build(alloc, lines).expect(rt, "no case").assignments
+    let mut case = build(alloc, lines).expect(rt, "no case");
+    let assignments = mem::replace(&mut case.assignments, Table::new(alloc));
+    drop(case);
+    assignments
 }
 
 // What is told in a scope of a stage, which is that of a case of these lines.
@@ -67,9 +75,25 @@ fn told_in<'src>(
     scope: &Scope<'src, '_>,
     subject: Subject,
 ) -> String {
-    match stage.evaluate(alloc, scope) {
-        Ok(evaluator) => told_by(&evaluator, rt, alloc, lines, subject),
-        Err(error) => said(rt, alloc, &error),
+    let outcome = stage.evaluate(alloc, scope);
+    let told = told_after(&outcome, rt, alloc, lines, subject);
+    drop(outcome);
+    told
+}
+
+// The same where the assignments were evaluated.
+fn told_after<'src>(
+    outcome: &Result<Evaluator<'src, '_>, CompileError<'src>>,
+    rt: &impl Abort,
+    alloc: Global,
+    lines: &'src [Line<'src>],
+    subject: Subject,
+) -> String
+    requires before_runs { IfOk outcome.now IsConst }
+{
+    match outcome {
+        Ok(evaluator) => told_by(evaluator, rt, alloc, lines, subject),
+        Err(error) => said(rt, alloc, error),
     }
 }
 

@@ -187,7 +187,9 @@ fn add_asked<'src>(
     let mut host = Recorder::new(alloc, NoHost);
     let value = value_with(evaluator, alloc, &mut host, expression);
     add_value(rt, text, &value);
+    drop(value);
     let asked = host.questions().len();
+    drop(host);
     write!(text, "{asked}; ").expect(rt, "no memory");
 }
 

@@ -20,13 +20,14 @@ pub(crate) fn interpreter<'src>(
     rt: &impl Abort,
     list: Expression<'src>,
 ) -> Interpreter<Expression<'src>> {
-    let mut elements = elements_of(rt, list);
+    let (command, arguments) = first_and_others(rt, elements_of(rt, list));
+    Interpreter { arguments, command }
+}
+
+fn first_and_others<T: Drop>(rt: &impl Abort, mut elements: Vec<T>) -> (T, Vec<T>) {
     assert!(rt; !elements.is_empty(), "no command");
-    let command = elements.remove(0);
-    Interpreter {
-        arguments: elements,
-        command,
-    }
+    let first = elements.remove(0);
+    (first, elements)
 }
 
 fn elements_of<'src>(rt: &impl Abort, list: Expression<'src>) -> Vec<Expression<'src>> {
@@ -81,7 +82,9 @@ pub(crate) fn told_by<'src>(
     requires before_runs { IsConst evaluator.now }
 {
     let list = interpreter(rt, first_of(rt, assignments));
-    told_of(evaluator, rt, alloc, &list)
+    let told = told_of(evaluator, rt, alloc, &list);
+    drop(list);
+    told
 }
 
 // The same of an interpreter.
@@ -94,17 +97,21 @@ fn told_of<'src>(
     requires before_runs { IsConst evaluator.now }
 {
     match evaluator.evaluate_interpreter(alloc, list, name("shell")) {
-        Ok(interpreter) => printed(rt, alloc, &interpreter),
+        Ok(interpreter) => {
+            let told = printed(rt, alloc, &interpreter);
+            drop(interpreter);
+            told
+        }
         Err(error) => said(rt, alloc, &error),
     }
 }
 
 // The expression of the assignment `e`, which is the first by its name.
 fn first_of<'src>(rt: &impl Abort, assignments: Table<Assignment<'src>>) -> Expression<'src> {
-    match assignments.into_iter().next() {
-        Some(assignment) => expression_of(rt, assignment),
-        None => panic!(rt; "no assignment"),
-    }
+    let mut assignments = assignments.into_iter();
+    let first = assignments.next();
+    drop(assignments);
+    expression_of(rt, first.expect(rt, "no assignment"))
 }
 
 // The expression of an assignment, which is `e`.

@@ -1,8 +1,10 @@
 // Settings that no expression gives: the flags, the indentation and the least version.
 
+ghost use Rattle.std.specs.Prelude.{IfOk};
 ghost use Rattle.just_eval.specs.View.{IsConst};
 
 use crate::compared::{counts, is_so};
+use crate::settings::add;
 use crate::stage::Stage;
 use just_case_lines::token::{name, token};
 use just_eval::evaluator::Evaluator;
@@ -41,7 +43,7 @@ const FLAGS: &[&str] = &[
 ];
 
 // A flag that is on, by its name.
-fn flag(rt: &impl Abort, name: &str) -> Setting<'static> {
+fn flag<'src>(rt: &impl Abort, name: &'src str) -> Setting<'src> {
     match name {
         "allow-duplicate-recipes" => Setting::AllowDuplicateRecipes(true),
         "allow-duplicate-variables" => Setting::AllowDuplicateVariables(true),
@@ -69,7 +71,9 @@ fn flag(rt: &impl Abort, name: &str) -> Setting<'static> {
 // What these settings come to where nothing is settled and nothing is open.
 fn settings_of<'src>(rt: &impl Abort, alloc: Global, sets: Table<Set<'src>>) -> Settings {
     let scope = Scope::root(alloc, &[]).expect(rt, "no memory");
-    settings_in(rt, alloc, sets, &scope)
+    let settings = settings_in(rt, alloc, sets, &scope);
+    drop(scope);
+    settings
 }
 
 fn settings_in<'src>(
@@ -79,9 +83,35 @@ fn settings_in<'src>(
     scope: &Scope<'src, '_>,
 ) -> Settings {
     let stage = Stage::of_nothing(alloc);
-    match stage.evaluate(alloc, scope) {
-        Ok(evaluator) => settings_by(&evaluator, rt, alloc, sets),
-        Err(error) => no_settings(rt, &error),
+    let settings = settings_at(&stage, rt, alloc, sets, scope);
+    drop(stage);
+    settings
+}
+
+fn settings_at<'src>(
+    stage: &Stage<'src>,
+    rt: &impl Abort,
+    alloc: Global,
+    sets: Table<Set<'src>>,
+    scope: &Scope<'src, '_>,
+) -> Settings {
+    let outcome = stage.evaluate(alloc, scope);
+    let settings = settings_by(evaluator_of(&outcome, rt), rt, alloc, sets);
+    drop(outcome);
+    settings
+}
+
+// The evaluator, where the assignments were evaluated.
+fn evaluator_of<'all, 'src, 'run>(
+    outcome: &'all Result<Evaluator<'src, 'run>, CompileError<'src>>,
+    rt: &impl Abort,
+) -> &'all Evaluator<'src, 'run>
+    requires before_runs { IfOk outcome.now IsConst }
+    ensures before_runs { IsConst result.now }
+{
+    match outcome {
+        Ok(evaluator) => evaluator,
+        Err(error) => panic!(rt; "{error}"),
     }
 }
 
@@ -108,32 +138,49 @@ fn no_settings(rt: &impl Abort, error: &CompileError) -> Settings {
 #[test]
 fn flags(rt: HostRuntime) {
     for left_out in FLAGS {
-        is_off_alone(&rt, rt.alloc(), left_out);
+        is_off_alone(&rt, rt.alloc(), FLAGS, left_out);
     }
 }
 
-fn is_off_alone(rt: &impl Abort, alloc: Global, left_out: &str) {
-    let flags = flags_without(rt, alloc, left_out);
-    for (lexeme, is_on) in FLAGS.iter().zip(&flags) {
-        assert_eq!(rt; *is_on, *lexeme != left_out, "{left_out} {lexeme}");
+fn is_off_alone<'src>(rt: &impl Abort, alloc: Global, all: &'src [&'src str], left_out: &str) {
+    let flags = flags_without(rt, alloc, all, left_out);
+    for (lexeme, is_on) in all.iter().zip(&flags) {
+        is_on_or_left_out(rt, left_out, lexeme, *is_on);
     }
+}
+
+// A flag is on, unless it is the one that is left out.
+fn is_on_or_left_out(rt: &impl Abort, left_out: &str, lexeme: &str, is_on: bool) {
+    assert_eq!(rt; is_on, lexeme != left_out, "{left_out} {lexeme}");
 }
 
 // What each flag is where all but one of them are turned on.
-fn flags_without(rt: &impl Abort, alloc: Global, left_out: &str) -> [bool; 19] {
-    let sets = sets_without(rt, alloc, left_out);
-    flags_of(&settings_of(rt, alloc, sets))
+fn flags_without<'src>(
+    rt: &impl Abort,
+    alloc: Global,
+    all: &'src [&'src str],
+    left_out: &str,
+) -> [bool; 19] {
+    let mut sets = Table::new(alloc);
+    add_others(&mut sets, rt, all, left_out);
+    let settings = settings_of(rt, alloc, sets);
+    let flags = flags_of(&settings);
+    drop(settings);
+    flags
 }
 
-fn sets_without(rt: &impl Abort, alloc: Global, left_out: &str) -> Table<Set<'static>> {
-    let mut sets = Table::new(alloc);
-    for lexeme in FLAGS {
+// Adds all flags but one.
+fn add_others<'src>(
+    sets: &mut Table<Set<'src>>,
+    rt: &impl Abort,
+    all: &'src [&'src str],
+    left_out: &str,
+) {
+    for lexeme in all {
         if *lexeme != left_out {
-            sets.insert(named(lexeme, flag(rt, lexeme)))
-                .expect(rt, "no memory");
+            add(sets, rt, name(lexeme), flag(rt, lexeme));
         }
     }
-    sets
 }
 
 // Each flag, in the order of `FLAGS`.
@@ -164,9 +211,17 @@ fn flags_of(settings: &Settings) -> [bool; 19] {
 // A setting that is set twice has its last value; the least version changes nothing.
 #[test]
 fn kept_settings(rt: HostRuntime) {
-    let sets = sets_set_twice(&rt, rt.alloc());
-    counts(&rt, "settings", sets.len(), 3);
-    indents_by_two(&rt, rt.alloc(), &settings_of(&rt, rt.alloc(), sets));
+    are_kept(&rt, rt.alloc(), "1.58.0", "'1.58.0'");
+}
+
+fn are_kept<'src>(rt: &impl Abort, alloc: Global, version: &'src str, written: &'src str) {
+    let mut sets = Table::new(alloc);
+    add_version(&mut sets, rt, alloc, version, written);
+    add_twice(&mut sets, rt, "tabs", "2");
+    counts(rt, "settings", sets.len(), 3);
+    let settings = settings_of(rt, alloc, sets);
+    indents_by_two(rt, alloc, &settings);
+    drop(settings);
 }
 
 // Whether nothing is set but the indentation: to two spaces.
@@ -176,36 +231,43 @@ fn indents_by_two(rt: &impl Abort, alloc: Global, settings: &Settings) {
     is_so(rt, "indentation", *settings == wanted);
 }
 
-fn sets_set_twice(rt: &impl Abort, alloc: Global) -> Table<Set<'static>> {
-    let version = minimum_version(rt, alloc);
-    let mut sets = Table::new(alloc);
-    sets.insert(version).expect(rt, "no memory");
-    sets.insert(indentation("tabs", Indentation::Tabs))
-        .expect(rt, "no memory");
-    sets.insert(indentation("2", Indentation::Spaces(2)))
-        .expect(rt, "no memory");
-    sets.insert(quiet(true)).expect(rt, "no memory");
-    sets.insert(quiet(false)).expect(rt, "no memory");
-    sets
+// Adds the least version, as it is written.
+fn add_version<'src>(
+    sets: &mut Table<Set<'src>>,
+    rt: &impl Abort,
+    alloc: Global,
+    version: &'src str,
+    written: &'src str,
+) {
+    let version = StringLiteral::new(alloc, version, written).expect(rt, "no memory");
+    add(
+        sets,
+        rt,
+        name("minimum-version"),
+        Setting::MinimumVersion(version),
+    );
 }
 
-fn minimum_version(rt: &impl Abort, alloc: Global) -> Set<'static> {
-    let version = StringLiteral::new(alloc, "1.58.0", "'1.58.0'");
-    let value = Setting::MinimumVersion(version.expect(rt, "no memory"));
-    named("minimum-version", value)
+// Adds two indentations, as they are written, and whether it is quiet, each twice.
+fn add_twice<'src>(
+    sets: &mut Table<Set<'src>>,
+    rt: &impl Abort,
+    tabs: &'src str,
+    spaces: &'src str,
+) {
+    add_indentation(sets, rt, tabs, Indentation::Tabs);
+    add_indentation(sets, rt, spaces, Indentation::Spaces(2));
+    add(sets, rt, name("quiet"), Setting::Quiet(true));
+    add(sets, rt, name("quiet"), Setting::Quiet(false));
 }
 
-// The indentation, as it is written.
-fn indentation(written: &'static str, indentation: Indentation) -> Set<'static> {
+// Adds the indentation, as it is written.
+fn add_indentation<'src>(
+    sets: &mut Table<Set<'src>>,
+    rt: &impl Abort,
+    written: &'src str,
+    indentation: Indentation,
+) {
     let value = Setting::Indentation(token(written), indentation);
-    named("indentation", value)
-}
-
-fn quiet(is_quiet: bool) -> Set<'static> {
-    named("quiet", Setting::Quiet(is_quiet))
-}
-
-fn named(lexeme: &'static str, value: Setting<'static>) -> Set<'static> {
-    let name = name(lexeme);
-    Set { name, value }
+    add(sets, rt, name("indentation"), value);
 }

@@ -10,6 +10,7 @@ use just_host::settings::Settings;
 use just_syntax::assignment::Assignment;
 use just_syntax::expression::Expression;
 use just_syntax::interpreter::Interpreter;
+use just_syntax::name::Name;
 use just_syntax::out_of_memory::OutOfMemory;
 use just_syntax::set::Set;
 use just_syntax::setting::Setting;
@@ -67,33 +68,44 @@ fn setting<'src>(rt: &impl Abort, kind: Kind, value: Expression<'src>) -> Settin
     }
 }
 
-// The settings that a case's assignments are, by their names; those with other names are none.
-fn sets_of<'src>(
+// Adds the settings that a case's assignments are, by their names; those with other names are none.
+fn add_sets<'src>(
+    sets: &mut Table<Set<'src>>,
     rt: &impl Abort,
-    alloc: Global,
     assignments: Table<Assignment<'src>>,
-) -> Table<Set<'src>> {
-    let mut sets = Table::new(alloc);
+) {
     for assignment in assignments {
-        if let Some(kind) = kind_of(assignment.name.lexeme()) {
-            add_set(rt, &mut sets, kind, assignment);
-        }
+        add_named(sets, rt, assignment);
     }
-    sets
+}
+
+// Adds the setting that an assignment is, if its name is that of one.
+fn add_named<'src>(sets: &mut Table<Set<'src>>, rt: &impl Abort, assignment: Assignment<'src>) {
+    match kind_of(assignment.name.lexeme()) {
+        Some(kind) => add_set(sets, rt, kind, assignment),
+        None => drop(assignment),
+    }
 }
 
 // Adds the setting that an assignment is.
 fn add_set<'src>(
-    rt: &impl Abort,
     sets: &mut Table<Set<'src>>,
+    rt: &impl Abort,
     kind: Kind,
     assignment: Assignment<'src>,
 ) {
-    let set = Set {
-        name: assignment.name,
-        value: setting(rt, kind, assignment.value),
-    };
-    sets.insert(set).expect(rt, "no memory");
+    let value = setting(rt, kind, assignment.value);
+    add(sets, rt, assignment.name, value);
+}
+
+/// Adds a setting of this name.
+pub(crate) fn add<'src>(
+    sets: &mut Table<Set<'src>>,
+    rt: &impl Abort,
+    name: Name<'src>,
+    value: Setting<'src>,
+) {
+    sets.insert(Set { name, value }).expect(rt, "no memory");
 }
 
 /// What a case's settings come to: a line for each that is set to something, or what they are refused with.
@@ -105,8 +117,14 @@ pub(crate) fn told_by<'src>(
 ) -> String
     requires before_runs { IsConst evaluator.now }
 {
-    match evaluator.evaluate_sets(alloc, sets_of(rt, alloc, assignments)) {
-        Ok(settings) => printed(rt, alloc, &settings),
+    let mut sets = Table::new(alloc);
+    add_sets(&mut sets, rt, assignments);
+    match evaluator.evaluate_sets(alloc, sets) {
+        Ok(settings) => {
+            let told = printed(rt, alloc, &settings);
+            drop(settings);
+            told
+        }
         Err(error) => refusal_told(rt, alloc, &error),
     }
 }
