@@ -13,7 +13,8 @@ use just_host::execution_context::ExecutionContext;
 use just_script::fail_at::How;
 use just_syntax::expression::Expression;
 use just_syntax::string_context::StringContext;
-use just_value::error::CommandFault;
+use just_value::error::{CommandFault, Error};
+use just_value::value::Value;
 use std::alloc::Global;
 use std::collections::BTreeMap;
 use std::process::Abort;
@@ -28,6 +29,7 @@ fn a_command_a_value_and_a_text(rt: HostRuntime) {
         &host.told,
         "? run A=x ();<run>;? c A=x () ();\"<c>\";? c A=x () ();<c>;",
     );
+    drop(host);
 }
 
 // What each call asks, and what comes of it.
@@ -53,6 +55,8 @@ fn calls_fail(rt: &impl Abort, alloc: Global, failing: Failing) {
     call(rt, alloc, "c", &mut host);
     let wanted = wanted(rt, alloc, failing);
     same_failing(rt, "the calls", failing, &host.told, &wanted);
+    drop(wanted);
+    drop(host);
 }
 
 // What is told of the calls where so many questions are passed on.
@@ -79,6 +83,8 @@ fn call<'src>(rt: &impl Abort, alloc: Global, text: &'src str, host: &mut Tellin
     let command = command(rt, alloc, text);
     let around = Around::of_nothing(rt, alloc);
     call_in(&around, rt, alloc, host, &command);
+    drop(around);
+    drop(command);
 }
 
 fn command<'src>(rt: &impl Abort, alloc: Global, text: &'src str) -> Expression<'src> {
@@ -96,8 +102,22 @@ fn call_in<'src>(
     command: &Expression<'src>,
 ) {
     let context = around.context();
-    run(rt, alloc, &context, host, &env(rt, alloc));
-    evaluate(&context, rt, alloc, host, command);
+    call_with(&context, rt, alloc, host, command);
+}
+
+fn call_with<'src>(
+    context: &ExecutionContext<'src, '_>,
+    rt: &impl Abort,
+    alloc: Global,
+    host: &mut TellingHost,
+    command: &Expression<'src>,
+)
+    requires room { 0 < context.now.recursion_limit }
+{
+    let env = env(rt, alloc);
+    run(context, rt, alloc, host, &env);
+    drop(env);
+    evaluate(context, rt, alloc, host, command);
 }
 
 // The environment of each call.
@@ -110,9 +130,9 @@ fn env(rt: &impl Abort, alloc: Global) -> BTreeMap<String, String> {
 
 // Runs the command `run`. A dry run runs no command.
 fn run<'src>(
+    context: &ExecutionContext<'src, '_>,
     rt: &impl Abort,
     alloc: Global,
-    context: &ExecutionContext<'src, '_>,
     host: &mut TellingHost,
     env: &BTreeMap<String, String>,
 ) {
@@ -138,6 +158,7 @@ fn evaluate<'src>(
 {
     let evaluator = evaluator(context, rt, alloc, env(rt, alloc), context.scope);
     evaluate_both(&evaluator, rt, alloc, host, command);
+    drop(evaluator);
 }
 
 // Evaluates the command as a value, and then as a text.
@@ -163,9 +184,16 @@ fn evaluate_value<'src>(
 )
     requires room { HasRoom evaluator.now }
 {
-    match evaluator.evaluate_value(alloc, host, command) {
-        Ok(value) => write!(host.told, "{value};").expect(rt, "no memory"),
-        Err(error) => write!(host.told, "{};", refusal(&error)).expect(rt, "no memory"),
+    let outcome = evaluator.evaluate_value(alloc, host, command);
+    tell_value(&outcome, rt, &mut host.told);
+    drop(outcome);
+}
+
+// Tells a value that was evaluated, or its refusal.
+fn tell_value(outcome: &Result<Value, Error>, rt: &impl Abort, told: &mut String) {
+    match outcome {
+        Ok(value) => write!(told, "{value};").expect(rt, "no memory"),
+        Err(error) => write!(told, "{};", refusal(error)).expect(rt, "no memory"),
     }
 }
 
@@ -181,5 +209,6 @@ fn evaluate_text<'src>(
     let place = StringContext::Setting(name("set"));
     let outcome = evaluator.evaluate_string(alloc, host, command, place);
     host.tell_outcome(rt, &outcome);
+    drop(outcome);
     host.tell(rt, ";");
 }

@@ -32,6 +32,7 @@ fn row_ends_at_first(rt: &impl Abort, alloc: Global, row: &Row<'static>, check: 
         ),
         None => same(rt, whole, &host.told, whole),
     }
+    drop(host);
 }
 
 // What is told ends so, and asks first what is asked first in `whole`, or no parameter is checked.
@@ -95,4 +96,5 @@ fn asks_and_ends(rt: &impl Abort, alloc: Global, check: Check, wanted: &str) {
     let mut host = TellingHost::new(alloc, NEVER);
     tell_row(rt, alloc, &mut host, &ASKING, check);
     same(rt, "what asks", &host.told, wanted);
+    drop(host);
 }

@@ -45,6 +45,8 @@ fn line_tells(rt: &impl Abort, alloc: Global, called: &str, whole: &str, failing
     call(rt, alloc, &mut host, called);
     let wanted = told_failing(rt, alloc, whole, failing);
     same_failing(rt, called, failing, &host.told, &wanted);
+    drop(wanted);
+    drop(host);
 }
 
 fn call(rt: &impl Abort, alloc: Global, host: &mut TellingHost, called: &str) {
@@ -54,6 +56,8 @@ fn call(rt: &impl Abort, alloc: Global, host: &mut TellingHost, called: &str) {
     );
     let lines = parse_lines(alloc, case.as_bytes()).expect(rt, "no memory");
     tell_case(rt, alloc, &lines, host);
+    drop(lines);
+    drop(case);
 }
 
 // Tells the line of a case's assignment `c`, behind what is asked, where `a` and `b` give an attribute.
@@ -67,6 +71,9 @@ fn tell_case<'src>(
     let called = called_of(rt, alloc, lines);
     let line = interpolation(rt, alloc, named(rt, alloc, lines, "c"));
     tell_called(&around, rt, alloc, host, &called, &line);
+    drop(line);
+    drop(called);
+    drop(around);
 }
 
 // A recipe with an attribute of the key `b` and the value `a`.
@@ -111,8 +118,15 @@ fn tell_in<'src>(
     requires room { 0 < context.now.recursion_limit }
 {
     match called.evaluate(alloc, host, context) {
-        Ok((scope, _words, env)) => tell_line(context, rt, alloc, host, env, &scope, line, false),
-        Err(error) => host.tell(rt, refusal(&error)),
+        Ok((scope, words, env)) => {
+            drop(words);
+            tell_line(context, rt, alloc, host, env, &scope, line, false);
+            drop(scope);
+        }
+        Err(error) => {
+            host.tell(rt, refusal(&error));
+            drop(error);
+        }
     }
 }
 
@@ -123,12 +137,14 @@ fn environment_of_assignments(rt: HostRuntime) {
     let case = "cmd who\nfun g\ncall g 0\nassign a\nrun";
     tell_assignments(&rt, rt.alloc(), &mut host, case);
     same(&rt, case, &host.told, "? who () () ();");
+    drop(host);
 }
 
 // Tells what the assignments of a case ask.
 fn tell_assignments(rt: &impl Abort, alloc: Global, host: &mut TellingHost, case: &str) {
     let lines = parse_lines(alloc, case.as_bytes()).expect(rt, "no memory");
     evaluate(rt, alloc, &lines, host);
+    drop(lines);
 }
 
 fn evaluate<'src>(
@@ -138,7 +154,11 @@ fn evaluate<'src>(
     host: &mut TellingHost,
 ) {
     let around = Around::of_lines(rt, alloc, lines);
-    if Around::evaluate(alloc, host, &around).is_err() {
+    let outcome = Around::evaluate(alloc, host, &around);
+    let refused = outcome.is_err();
+    drop(outcome);
+    drop(around);
+    if refused {
         host.tell(rt, "refused");
     }
 }

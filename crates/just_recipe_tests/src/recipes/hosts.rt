@@ -137,9 +137,13 @@ pub(crate) fn tell_environment(
 // Adds the frames, innermost first, each in parentheses.
 fn tell_frames(scope: &Scope, told: &mut String) -> Result<(), OutOfMemory> {
     tell_frame(scope.frame(), told)?;
-    let Some(outer) = scope.parent() else {
-        return Ok(());
-    };
+    match scope.parent() {
+        Some(outer) => tell_outer(outer, told),
+        None => Ok(()),
+    }
+}
+
+fn tell_outer<'call>(outer: &'call [&'call Frame], told: &mut String) -> Result<(), OutOfMemory> {
     for frame in outer {
         tell_frame(frame, told)?;
     }

@@ -23,6 +23,7 @@ use just_value::value::Value;
 use std::alloc::Global;
 use std::collections::BTreeMap;
 use std::process::Abort;
+use std::vec;
 
 // A piece of a line: text, or the value of the case's next assignment, by the bytes of their names.
 #[derive(Clone, Copy)]
@@ -110,6 +111,7 @@ fn line_tells(
     let mut host = TellingHost::new(alloc, NEVER);
     tell_case(rt, alloc, &mut host, case, pieces, continued);
     same(rt, case, &host.told, wanted);
+    drop(host);
 }
 
 #[test]
@@ -135,6 +137,8 @@ fn row_fails(rt: &impl Abort, alloc: Global, row: &Row, failing: Failing) {
     tell_case(rt, alloc, &mut host, case, pieces, continued);
     let wanted = told_failing(rt, alloc, whole, failing);
     same_failing(rt, case, failing, &host.told, &wanted);
+    drop(wanted);
+    drop(host);
 }
 
 // `g` runs a command, `f` puts what it gives behind a parameter, and `r` tells the recipe's name.
@@ -163,6 +167,7 @@ fn frames_from_a_line(rt: HostRuntime) {
 fn call_tells(rt: &impl Abort, alloc: Global, call: &str, wanted: &str) {
     let case = format!(in alloc; "{FUNCTIONS}{call}").expect(rt, "no memory");
     line_tells(rt, alloc, &case, (&[Interpolated], false), wanted);
+    drop(case);
 }
 
 // Tells a line of pieces, behind what is asked.
@@ -176,6 +181,7 @@ fn tell_case(
 ) {
     let lines = parse_lines(alloc, case.as_bytes()).expect(rt, "no memory");
     tell_pieces(rt, alloc, &lines, host, pieces, continued);
+    drop(lines);
 }
 
 fn tell_pieces<'src>(
@@ -187,8 +193,10 @@ fn tell_pieces<'src>(
     continued: bool,
 ) {
     let around = Around::of_lines(rt, alloc, lines);
-    let line = line_of(rt, alloc, pieces, expressions_of(rt, alloc, lines));
+    let line = line_of(rt, alloc, expressions_of(rt, alloc, lines), pieces);
     tell_around(&around, rt, alloc, host, &line, continued);
+    drop(line);
+    drop(around);
 }
 
 /// Tells a line that calls no function of a file, behind what is asked.
@@ -200,6 +208,7 @@ pub(crate) fn tell<'src>(
 ) {
     let around = Around::of_nothing(rt, alloc);
     tell_around(&around, rt, alloc, host, line, false);
+    drop(around);
 }
 
 // The same where the recipe's scope binds `p` to `z`.
@@ -213,6 +222,7 @@ fn tell_around<'src>(
 ) {
     let scope = scope_of(around, rt, alloc);
     tell_in(&around.context(), rt, alloc, host, &scope, line, continued);
+    drop(scope);
 }
 
 // A scope that binds `p` to `z`.
@@ -262,6 +272,7 @@ pub(crate) fn tell_line<'src>(
 {
     let evaluator = evaluator(context, rt, alloc, env, scope);
     tell_text(&evaluator, rt, alloc, host, line, continued);
+    drop(evaluator);
 }
 
 fn tell_text<'src>(
@@ -276,29 +287,40 @@ fn tell_text<'src>(
 {
     let outcome = evaluator.evaluate_line(alloc, host, line, continued);
     host.tell_outcome(rt, &outcome);
+    drop(outcome);
 }
 
 // A line of pieces, of which each interpolated one takes the next expression.
 fn line_of<'src>(
     rt: &impl Abort,
     alloc: Global,
-    pieces: &[Piece],
     expressions: Vec<Expression<'src>>,
+    pieces: &[Piece],
 ) -> Line<'src> {
     let mut fragments = Vec::new(alloc);
     let mut left = expressions.into_iter();
     for piece in pieces {
-        let fragment = match piece {
-            Written(lexeme) => Fragment::Text {
-                token: token(lexeme),
-            },
-            Interpolated => Fragment::Interpolation {
-                expression: left.next().expect(rt, "no expression"),
-            },
-        };
+        let fragment = fragment_of(&mut left, rt, *piece);
         fragments.push(fragment).expect(rt, "no memory");
     }
+    drop(left);
     Line { fragments }
+}
+
+// A piece of a line. One that is interpolated takes the next expression.
+fn fragment_of<'src>(
+    left: &mut vec::IntoIter<Expression<'src>>,
+    rt: &impl Abort,
+    piece: Piece,
+) -> Fragment<'src> {
+    match piece {
+        Written(lexeme) => Fragment::Text {
+            token: token(lexeme),
+        },
+        Interpolated => Fragment::Interpolation {
+            expression: left.next().expect(rt, "no expression"),
+        },
+    }
 }
 
 /// A line of one interpolation.

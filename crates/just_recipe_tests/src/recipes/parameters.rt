@@ -3,7 +3,7 @@
 ghost use Rattle.std.specs.Prelude.{◌<◌};
 
 use crate::recipes::around::{Around, expression_of};
-use crate::recipes::called::{Called, Check};
+use crate::recipes::called::{Called, Check, Given};
 use crate::recipes::failing::{Failing, WAYS, questions, told_failing};
 use crate::recipes::hosts::{TellingHost, refusal, tell_environment, tell_frame};
 use crate::recipes::parameter_rows::{BODY_ENVIRONMENT, ROWS, Row};
@@ -56,6 +56,8 @@ fn row_fails(rt: &impl Abort, alloc: Global, row: &Row<'static>, failing: Failin
     tell_row(rt, alloc, &mut host, row, Check::RefusesNo);
     let wanted = told_failing(rt, alloc, whole, failing);
     same_failing(rt, case, failing, &host.told, &wanted);
+    drop(wanted);
+    drop(host);
 }
 
 /// Tells what a recipe's parameters come to where they are checked so, behind what is asked.
@@ -69,6 +71,7 @@ pub(crate) fn tell_row(
     let (case, _, _, _, _) = *row;
     let lines = parse_lines(alloc, case.as_bytes()).expect(rt, "no memory");
     tell_lines(rt, alloc, &lines, host, row, check);
+    drop(lines);
 }
 
 fn tell_lines<'src>(
@@ -80,8 +83,10 @@ fn tell_lines<'src>(
     check: Check,
 ) {
     let around = Around::of_lines(rt, alloc, lines);
-    let called = called_of(rt, alloc, row, check, lines);
+    let called = called_of(rt, alloc, lines, row, check);
     tell_around(&around, rt, alloc, host, &called);
+    drop(called);
+    drop(around);
 }
 
 /// Tells what a recipe's parameters come to that calls no function of a file.
@@ -93,28 +98,29 @@ pub(crate) fn tell<'src>(
 ) {
     let around = Around::of_nothing(rt, alloc);
     tell_around(&around, rt, alloc, host, called);
+    drop(around);
 }
 
 // The recipe of a row.
 fn called_of<'src>(
     rt: &impl Abort,
     alloc: Global,
+    lines: &'src [CaseLine<'src>],
     row: &Row<'static>,
     check: Check,
-    lines: &'src [CaseLine<'src>],
 ) -> Called<'src> {
     let (_, parameters, arguments, is_dependency, _) = *row;
     let mut called = Called::new(alloc);
     called.check = check;
     called.is_dependency = is_dependency;
-    add_arguments(rt, alloc, &mut called, arguments);
-    add_parameters(rt, alloc, &mut called, parameters, lines);
-    add_attributes(rt, alloc, &mut called, lines);
+    add_arguments(&mut called, rt, alloc, arguments);
+    add_parameters(&mut called, rt, alloc, parameters, lines);
+    add_attributes(&mut called, rt, alloc, lines);
     called
 }
 
 // Adds an argument a row, of its elements.
-fn add_arguments(rt: &impl Abort, alloc: Global, called: &mut Called, arguments: &[&[&str]]) {
+fn add_arguments(called: &mut Called, rt: &impl Abort, alloc: Global, arguments: &[&[&str]]) {
     for elements in arguments {
         let argument = argument_of(rt, alloc, elements);
         called.arguments.push(argument).expect(rt, "no memory");
@@ -131,9 +137,9 @@ fn argument_of(rt: &impl Abort, alloc: Global, elements: &[&str]) -> Value {
 
 // Adds the parameters that words describe. Their numbers are their places.
 fn add_parameters<'src>(
+    called: &mut Called<'src>,
     rt: &impl Abort,
     alloc: Global,
-    called: &mut Called<'src>,
     words: &'static str,
     lines: &'src [CaseLine<'src>],
 ) {
@@ -173,23 +179,23 @@ fn parameter_of<'src>(
 
 // Adds at most two attributes that set an environment variable.
 fn add_attributes<'src>(
+    called: &mut Called<'src>,
     rt: &impl Abort,
     alloc: Global,
-    called: &mut Called<'src>,
     lines: &'src [CaseLine<'src>],
 ) {
     for place in ["1", "2"] {
         if let Some(key) = expression_of(rt, alloc, lines, "k-", place) {
             let value = expression_of(rt, alloc, lines, "e-", place);
-            push_pair(rt, called, key, value.expect(rt, "no value"));
+            push_pair(called, rt, key, value.expect(rt, "no value"));
         }
     }
 }
 
 // Adds an attribute of a key and a value, and one of another kind before it.
 fn push_pair<'src>(
-    rt: &impl Abort,
     called: &mut Called<'src>,
+    rt: &impl Abort,
     key: Expression<'src>,
     value: Expression<'src>,
 ) {
@@ -207,9 +213,6 @@ fn tell_around<'src>(
     called: &Called<'src>,
 ) {
     let context = around.context();
-    if !is_resolved(alloc, &context, called).expect(rt, "no memory") {
-        host.tell(rt, "unresolved;");
-    }
     tell_in(&context, rt, alloc, host, called);
 }
 
@@ -230,6 +233,7 @@ fn is_resolved<'src>(
     )
 }
 
+// The same in a context. The recipe is resolved.
 fn tell_in<'src>(
     context: &ExecutionContext<'src, '_>,
     rt: &impl Abort,
@@ -239,11 +243,19 @@ fn tell_in<'src>(
 )
     requires room { 0 < context.now.recursion_limit }
 {
-    let told = match called.evaluate(alloc, host, context) {
-        Ok((scope, words, env)) => tell_given(&scope, &mut host.told, &words, &env),
-        Err(error) => tell_refusal(&mut host.told, &error),
-    };
-    told.expect(rt, "no memory");
+    if !is_resolved(alloc, context, called).expect(rt, "no memory") {
+        host.tell(rt, "unresolved;");
+    }
+    let given = called.evaluate(alloc, host, context);
+    tell_outcome(&given, &mut host.told).expect(rt, "no memory");
+    drop(given);
+}
+
+fn tell_outcome(given: &Given, told: &mut String) -> Result<(), OutOfMemory> {
+    match given {
+        Ok((scope, words, env)) => tell_given(scope, told, words, env),
+        Err(error) => tell_refusal(told, error),
+    }
 }
 
 fn tell_given(

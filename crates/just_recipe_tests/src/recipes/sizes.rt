@@ -29,25 +29,32 @@ fn variable<'src>(number: u64) -> Expression<'src> {
 fn in_a_row<'src>(rt: &impl Abort, alloc: Global, count: u64) -> Called<'src> {
     let mut called = Called::new(alloc);
     let argument = Value::from_text(alloc, "a").expect(rt, "no memory");
-    push(rt, &mut called, parameter(0, None), argument);
+    push(&mut called, rt, parameter(0, None), argument);
     for number in 1..count {
         let default = variable(number.saturating_sub(1));
         let parameter = parameter(number, Some(default));
-        push(rt, &mut called, parameter, Value::new(alloc));
+        push(&mut called, rt, parameter, Value::new(alloc));
     }
     called
 }
 
 fn parameter<'src>(number: u64, default: Option<Expression<'src>>) -> Parameter<'src> {
-    let mut parameter = Parameter::new(name("x"), Number::new(number), ParameterKind::Singular);
-    parameter.default = default;
-    parameter
+    Parameter {
+        default,
+        export: false,
+        flag: false,
+        kind: ParameterKind::Singular,
+        multiple: false,
+        name: name("x"),
+        number: Number::new(number),
+        value: None,
+    }
 }
 
 // Adds a parameter and its argument.
 fn push<'src>(
-    rt: &impl Abort,
     called: &mut Called<'src>,
+    rt: &impl Abort,
     parameter: Parameter<'src>,
     argument: Value,
 ) {
@@ -75,9 +82,13 @@ fn wanted_in_a_row(rt: &impl Abort, alloc: Global, count: u64) -> String {
 // The argument of the first parameter comes to be the value of each.
 fn reads_the_one_before(rt: &impl Abort, alloc: Global, count: u64) {
     let mut host = TellingHost::new(alloc, NEVER);
-    parameters::tell(&in_a_row(rt, alloc, count), rt, alloc, &mut host);
+    let called = in_a_row(rt, alloc, count);
+    parameters::tell(&called, rt, alloc, &mut host);
+    drop(called);
     let wanted = wanted_in_a_row(rt, alloc, count);
     same(rt, "parameters in a row", &host.told, &wanted);
+    drop(wanted);
+    drop(host);
 }
 
 #[test]
@@ -96,13 +107,13 @@ fn line_of<'src>(rt: &impl Abort, alloc: Global, count: u64) -> Line<'src> {
         fragments: Vec::new(alloc),
     };
     for _ in 0..count {
-        push_pair(rt, &mut line);
+        push_pair(&mut line, rt);
     }
     line
 }
 
 // Adds a text and an interpolation.
-fn push_pair<'src>(rt: &impl Abort, line: &mut Line<'src>) {
+fn push_pair<'src>(line: &mut Line<'src>, rt: &impl Abort) {
     let token = token("{{{{x");
     let pushed = line.fragments.push(Fragment::Text { token });
     pushed.expect(rt, "no memory");
@@ -114,10 +125,14 @@ fn push_pair<'src>(rt: &impl Abort, line: &mut Line<'src>) {
 // A line of so many texts and interpolations is all of them.
 fn line_of_many(rt: &impl Abort, alloc: Global, count: u64) {
     let mut host = TellingHost::new(alloc, NEVER);
-    lines::tell(&line_of(rt, alloc, count), rt, alloc, &mut host);
+    let line = line_of(rt, alloc, count);
+    lines::tell(&line, rt, alloc, &mut host);
+    drop(line);
     let mut wanted = String::new(alloc);
     repeat(rt, &mut wanted, "{{xz", count);
     same(rt, "a line of many", &host.told, &wanted);
+    drop(wanted);
+    drop(host);
 }
 
 #[test]
