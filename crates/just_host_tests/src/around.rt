@@ -1,6 +1,6 @@
 // What commands and calls are run in.
 
-use crate::texts::owned;
+use crate::texts::{is_either, owned};
 use just_host::config::Config;
 use just_host::execution_context::ExecutionContext;
 use just_host::justfile::Justfile;
@@ -92,6 +92,11 @@ pub fn module(
     module.settings = settings;
     module.submodule = submodule;
     module
+}
+
+/// Settings are equal, or are not.
+pub fn compares(rt: &impl Abort, settings: &Settings, others: &Settings, equal: bool) {
+    is_either(rt, "equal", *settings == *others, equal);
 }
 
 /// Texts behind their keys.

@@ -13,7 +13,7 @@ use answers::{ANSWERS, Answers, KINDS, wanted_of};
 use around::{Around, answer};
 use just_builtins::function::{Function, functions, get, is_left_out};
 use just_builtins::path;
-use names::{NAMES, Names};
+use names::NAMES;
 use questions::{COMMANDS, DRY_COMMANDS, FILES, FILES_WITH_LISTS, NUMBERS, Question, VARIABLES};
 use rows::{
     CALLS, CALLS_WITHOUT_LISTS, IN_NO_FILE, OTHER_SURROUNDINGS, Row, SHAPES, SURROUNDINGS,
@@ -25,8 +25,8 @@ use std::process::Abort;
 
 #[test]
 fn each_name(rt: HostRuntime) {
-    for names in NAMES {
-        stand_for(&rt, names);
+    for (function, left_out, names) in NAMES {
+        stand_for(&rt, *function, *left_out, names);
     }
 }
 
@@ -36,11 +36,11 @@ fn all_names(rt: HostRuntime) {
 }
 
 // Each of these names stands for the function or for none, also in the list of all, and is left out or not.
-fn stand_for(rt: &impl Abort, (function, left_out, names): &Names) {
-    for name in *names {
-        stands_for(rt, name, get(name), *function);
-        stands_for(rt, name, listed(name), *function);
-        is_either(rt, name, is_left_out(name), *left_out);
+fn stand_for(rt: &impl Abort, function: Option<Function>, left_out: bool, names: &[&str]) {
+    for name in names {
+        stands_for(rt, name, get(name), function);
+        stands_for(rt, name, listed(name), function);
+        is_either(rt, name, is_left_out(name), left_out);
     }
 }
 
@@ -88,17 +88,27 @@ fn wants_texts(rt: &impl Abort, function: Function, wanted: [bool; 3]) {
 
 // Compares what functions ask and answer with what is wanted.
 fn compare(rt: &impl Abort, alloc: Global, around: Around, rows: &[Question]) {
+    compare_in(rt, alloc, &around, rows);
+    drop(around);
+}
+
+fn compare_in(rt: &impl Abort, alloc: Global, around: &Around, rows: &[Question]) {
     for (function, arguments, given, asked, wanted) in rows {
         let call = (*function, *arguments);
-        asks_and_answers(rt, alloc, &around, call, *given, asked, wanted);
+        asks_and_answers(rt, alloc, around, call, *given, asked, wanted);
     }
 }
 
 // Compares what functions that ask nothing answer with what is wanted.
 fn compare_rows(rt: &impl Abort, alloc: Global, around: Around, rows: &[Row]) {
+    compare_rows_in(rt, alloc, &around, rows);
+    drop(around);
+}
+
+fn compare_rows_in(rt: &impl Abort, alloc: Global, around: &Around, rows: &[Row]) {
     for (function, arguments, wanted) in rows {
         let call = (*function, *arguments);
-        asks_and_answers(rt, alloc, &around, call, Given::OutOfMemory, "", wanted);
+        asks_and_answers(rt, alloc, around, call, Given::OutOfMemory, "", wanted);
     }
 }
 
@@ -143,10 +153,14 @@ fn is_as_wanted(rt: &impl Abort, function: &str, given: Given, told: &str, wante
 
 #[test]
 fn each_kind_of_answer(rt: HostRuntime) {
-    let alloc = rt.alloc();
-    let around = Around::new(&rt, alloc, true);
+    let around = Around::new(&rt, rt.alloc(), true);
+    compare_all_answers(&rt, rt.alloc(), &around);
+    drop(around);
+}
+
+fn compare_all_answers(rt: &impl Abort, alloc: Global, around: &Around) {
     for row in ANSWERS {
-        compare_answers(&rt, alloc, &around, row);
+        compare_answers(rt, alloc, around, row);
     }
 }
 

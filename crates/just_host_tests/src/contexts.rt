@@ -1,6 +1,6 @@
 // What a context is made of where nothing else is said.
 
-use crate::around::{Around, config, map, module_at, search};
+use crate::around::{Around, compares, config, map, module_at, search};
 use crate::texts::{gives, is_either, owned, same, same_if_any};
 use just_host::config::Config;
 use just_host::execution_context::{ExecutionContext, RECURSION_LIMIT};
@@ -40,10 +40,13 @@ fn module_with_nothing(rt: HostRuntime) {
     let module = module_at(&rt, rt.alloc(), "/work/a.just", "/work");
     holds_nothing(&rt, &module);
     sets_nothing(&rt, rt.alloc(), &module.settings);
+    drop(module);
 }
 
 fn sets_nothing(rt: &impl Abort, alloc: Global, settings: &Settings) {
-    is_either(rt, "settings", *settings == Settings::new(alloc), true);
+    let unset = Settings::new(alloc);
+    compares(rt, settings, &unset, true);
+    drop(unset);
 }
 
 // A module is the root in the file `/work/a.just`, with nothing in it.
@@ -60,7 +63,9 @@ fn holds_nothing<'call>(rt: &'call impl Abort, module: &'call Justfile) {
 
 #[test]
 fn context_of_its_parts(rt: HostRuntime) {
-    has_its_parts(&rt, rt.alloc(), &around(&rt, rt.alloc()));
+    let around = around(&rt, rt.alloc());
+    has_its_parts(&rt, rt.alloc(), &around);
+    drop(around);
 }
 
 // With a variable of a dotenv file, another that is given from outside, and one that is bound.
@@ -96,11 +101,11 @@ fn has_its_parts(rt: &impl Abort, alloc: Global, around: &Around) {
         &around.scope,
         &around.search,
     );
-    gives(rt, context.working_directory(alloc), "/work");
-    is_made_of_them(rt, &context);
+    is_made_of_them(&context, rt, alloc);
 }
 
-fn is_made_of_them<'call>(rt: &'call impl Abort, context: &'call ExecutionContext) {
+fn is_made_of_them(context: &ExecutionContext, rt: &impl Abort, alloc: Global) {
+    gives(rt, context.working_directory(alloc), "/work");
     assert_eq!(rt; [context.recursion_limit, RECURSION_LIMIT], [100; 2]);
     same(rt, &context.config.invocation_directory, "/called/here");
     same(rt, &context.module.working_directory, "/module");

@@ -50,59 +50,57 @@ fn exported_variables(rt: HostRuntime) {
 }
 
 // These frames make these changes.
-fn export(rt: &impl Abort, alloc: Global, [outermost, outer, own]: &[&[Bound]; 3], printed: &str) {
+fn export(rt: &impl Abort, alloc: Global, frames: &[&[Bound]; 3], printed: &str) {
     let mut scope = Scope::root(alloc, &[]).expect(rt, "no memory");
-    bind_all(rt, alloc, &mut scope, outermost);
-    export_outer(rt, alloc, &scope, outer, own, printed);
+    export_all(&mut scope, rt, alloc, frames, printed);
+    drop(scope);
 }
 
-// The same of two frames in front of a scope.
-fn export_outer(
+// The same, the outermost in a scope that binds nothing yet.
+fn export_all(
+    root: &mut Scope,
     rt: &impl Abort,
     alloc: Global,
-    scope: &Scope<'static, '_>,
-    outer: &[Bound],
-    own: &[Bound],
+    [outermost, outer, own]: &[&[Bound]; 3],
     printed: &str,
 ) {
-    let scope = child(rt, alloc, scope, outer);
-    export_own(rt, alloc, &scope, own, printed);
+    bind_all(root, rt, alloc, outermost);
+    let scope = child(&*root, rt, alloc, outer);
+    export_own(&scope, rt, alloc, own, printed);
+    drop(scope);
 }
 
-// The same of one.
-fn export_own(
-    rt: &impl Abort,
-    alloc: Global,
-    scope: &Scope<'static, '_>,
-    own: &[Bound],
-    printed: &str,
-) {
-    let scope = child(rt, alloc, scope, own);
+// The same of one frame in front of a scope.
+fn export_own(scope: &Scope, rt: &impl Abort, alloc: Global, own: &[Bound], printed: &str) {
+    let scope = child(scope, rt, alloc, own);
     let unexports = all_owned(rt, alloc, &["u", "v"]);
-    gives(rt, exported(alloc, &scope, &unexports), printed);
+    let given = exported(alloc, &scope, &unexports);
+    drop(unexports);
+    drop(scope);
+    gives(rt, given, printed);
 }
 
 // A frame with these bindings in front of a scope.
-fn child<'out>(
+fn child<'out, 'src>(
+    outer: &'out Scope<'src, '_>,
     rt: &impl Abort,
     alloc: Global,
-    outer: &'out Scope<'static, '_>,
     bindings: &[Bound],
-) -> Scope<'static, 'out> {
+) -> Scope<'src, 'out> {
     let mut scope = outer.child(alloc).expect(rt, "no memory");
-    bind_all(rt, alloc, &mut scope, bindings);
+    bind_all(&mut scope, rt, alloc, bindings);
     scope
 }
 
 // Binds these to 0, 1 and so on.
-fn bind_all(rt: &impl Abort, alloc: Global, scope: &mut Scope<'static, '_>, bindings: &[Bound]) {
+fn bind_all(scope: &mut Scope, rt: &impl Abort, alloc: Global, bindings: &[Bound]) {
     for (number, bound) in bindings.iter().enumerate() {
         let binding = binding(rt, alloc, Number::new(number as u64), bound);
         scope.bind(binding).expect(rt, "no memory");
     }
 }
 
-fn binding(rt: &impl Abort, alloc: Global, number: Number, bound: &Bound) -> Binding<'static> {
+fn binding<'src>(rt: &impl Abort, alloc: Global, number: Number, bound: &Bound) -> Binding<'src> {
     let (lexeme, texts, export) = *bound;
     let value = Value::from_elements(all_owned(rt, alloc, texts));
     Binding {

@@ -65,7 +65,9 @@ fn working_directories(rt: HostRuntime) {
 
 // Commands run in this directory.
 pub(crate) fn works_in(rt: &impl Abort, alloc: Global, around: Around, directory: &str) {
-    gives(rt, around.context().working_directory(alloc), directory);
+    let given = around.context().working_directory(alloc);
+    drop(around);
+    gives(rt, given, directory);
 }
 
 // Settings of which at most the working directory is set.
@@ -100,10 +102,15 @@ const COMMANDS: &[(&str, Result<&str, &str>)] = &[
 
 #[test]
 fn commands_from_a_map(rt: HostRuntime) {
-    let alloc = rt.alloc();
-    let around = bare(&rt, alloc, Settings::new(alloc));
+    let around = bare(&rt, rt.alloc(), Settings::new(rt.alloc()));
+    all_write(&rt, rt.alloc(), &around.context());
+    drop(around);
+}
+
+// Each command writes its text, or has its fault.
+fn all_write<'call>(rt: &'call impl Abort, alloc: Global, context: &'call ExecutionContext) {
     for (command, wanted) in COMMANDS {
-        writes(&rt, alloc, &around.context(), command, *wanted);
+        writes(rt, alloc, context, command, *wanted);
     }
 }
 
@@ -242,12 +249,9 @@ pub(crate) fn answer_under<H: Host>(
     arguments: Option<&[String]>,
 ) -> String {
     let around = bare(rt, alloc, settings);
-    let context = around.context();
-    told(
-        rt,
-        alloc,
-        &answer_in(rt, alloc, host, &context, command, arguments),
-    )
+    let answer = answer_in(rt, alloc, host, &around.context(), command, arguments);
+    drop(around);
+    told(rt, alloc, &answer)
 }
 
 // What a host answers to a command and its arguments in a context.
@@ -306,9 +310,15 @@ fn no_answer(rt: HostRuntime) {
 
 #[test]
 fn submodules(rt: HostRuntime) {
-    let alloc = rt.alloc();
     for submodule in [false, true] {
-        let module = module(&rt, alloc, submodule, Settings::new(alloc));
-        is_either(&rt, "submodule", module.is_submodule(), submodule);
+        is_submodule(&rt, rt.alloc(), submodule);
     }
+}
+
+// A module that is a submodule, or is none, says so.
+fn is_submodule(rt: &impl Abort, alloc: Global, submodule: bool) {
+    let module = module(rt, alloc, submodule, Settings::new(alloc));
+    let said = module.is_submodule();
+    drop(module);
+    is_either(rt, "submodule", said, submodule);
 }

@@ -1,8 +1,8 @@
 // Calls at large sizes that no case reaches. Where memory is there each must succeed: no clause forbids one that gives up.
 
-use crate::around::{Around, config, module, search};
+use crate::around::{Around, compares, config, module, search};
 use crate::host::works_in;
-use crate::texts::{is_either, owned, same};
+use crate::texts::{owned, same};
 use just_host::config::Config;
 use just_host::justfile::Justfile;
 use just_host::settings::Settings;
@@ -103,13 +103,20 @@ fn large_settings(rt: &impl Abort, alloc: Global) -> Settings {
     settings
 }
 
-// The shell of these settings where the program is called so is this one, with a thousand times this argument.
+// A shell, and the argument that it has a thousand times.
+type Shell = (Long, &'static str);
+
+const SET: Shell = (("", "sh", 1000, ""), "-c");
+
+const CALLED: Shell = (("", "zsh", 1000, ""), "-x");
+
+// The shell of these settings where the program is called so is this one.
 fn chooses(
     rt: &impl Abort,
     alloc: Global,
     settings: &Settings,
     config: &Config,
-    (shell, argument): (Long, &str),
+    (shell, argument): Shell,
 ) {
     let wanted = long(rt, alloc, shell);
     let (command, arguments) = settings.shell(alloc, config).expect(rt, "no memory");
@@ -128,11 +135,13 @@ fn are_a_thousand(rt: &impl Abort, arguments: &[&str], wanted: &str) {
 fn shells_with_a_thousand_arguments(rt: HostRuntime) {
     let alloc = rt.alloc();
     let settings = large_settings(&rt, alloc);
-    let expected = (("", "sh", 1000, ""), "-c");
-    chooses(&rt, alloc, &settings, &config(&rt, alloc), expected);
-    let config = called_with_a_thousand(&rt, alloc);
-    let expected = (("", "zsh", 1000, ""), "-x");
-    chooses(&rt, alloc, &settings, &config, expected);
+    let plain = config(&rt, alloc);
+    chooses(&rt, alloc, &settings, &plain, SET);
+    drop(plain);
+    let called = called_with_a_thousand(&rt, alloc);
+    chooses(&rt, alloc, &settings, &called, CALLED);
+    drop(called);
+    drop(settings);
 }
 
 // Called with a long shell and a thousand arguments.
@@ -148,7 +157,14 @@ fn large_settings_are_compared(rt: HostRuntime) {
     let alloc = rt.alloc();
     let mut settings = large_settings(&rt, alloc);
     let others = large_settings(&rt, alloc);
-    is_either(&rt, "equal", settings == others, true);
-    settings.dotenv_command.push("").expect(&rt, "no memory");
-    is_either(&rt, "equal", settings == others, false);
+    compares(&rt, &settings, &others, true);
+    lengthen(&rt, &mut settings.dotenv_command);
+    compares(&rt, &settings, &others, false);
+    drop(others);
+    drop(settings);
+}
+
+// One more element.
+fn lengthen(rt: &impl Abort, value: &mut Value) {
+    value.push("").expect(rt, "no memory");
 }

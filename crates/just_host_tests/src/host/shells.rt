@@ -1,6 +1,7 @@
 // Which shell commands are given to.
 
-use crate::texts::{all_owned, is_either, owned, same};
+use crate::around::compares;
+use crate::texts::{all_owned, owned, same};
 use just_host::config::Config;
 use just_host::settings::Settings;
 use just_syntax::interpreter::Interpreter;
@@ -87,8 +88,21 @@ fn shells(rt: HostRuntime) {
 fn chooses(rt: &impl Abort, alloc: Global, choice: &Choice) {
     let config = called_with(rt, alloc, choice);
     let settings = set_by(rt, alloc, choice);
-    let (command, arguments) = settings.shell(alloc, &config).expect(rt, "no memory");
-    is_chosen(rt, command, &arguments, choice.chosen);
+    has_shell(rt, alloc, &settings, &config, choice.chosen);
+    drop(settings);
+    drop(config);
+}
+
+// These settings have this shell, where the program is called so.
+fn has_shell(
+    rt: &impl Abort,
+    alloc: Global,
+    settings: &Settings,
+    config: &Config,
+    chosen: (&str, &str),
+) {
+    let (command, arguments) = settings.shell(alloc, config).expect(rt, "no memory");
+    is_chosen(rt, command, &arguments, chosen);
 }
 
 // This is the command, and this its one argument.
@@ -129,7 +143,9 @@ fn settings_are_compared(rt: HostRuntime) {
     let alloc = rt.alloc();
     let mut settings = Settings::new(alloc);
     let unset = Settings::new(alloc);
-    is_either(&rt, "equal", settings == unset, true);
+    compares(&rt, &settings, &unset, true);
     settings.shell = interpreter(&rt, alloc, &["sh", "-cu"]);
-    is_either(&rt, "equal", settings == unset, false);
+    compares(&rt, &settings, &unset, false);
+    drop(unset);
+    drop(settings);
 }
