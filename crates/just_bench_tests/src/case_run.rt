@@ -96,10 +96,22 @@ impl<'src> CaseRun<'src> {
         if !resolved(alloc, &self.module, parent, self.references.as_ref())? {
             text.push_str("unresolved\n")?;
         }
-        match self.evaluate(alloc, host, parent) {
-            Ok(scope) => print_bindings(text, &scope),
-            Err(error) => print_refusal(alloc, text, &error),
-        }
+        let outcome = self.evaluate(alloc, host, parent);
+        let printed = print_outcome(alloc, text, &outcome);
+        drop(outcome);
+        printed
+    }
+}
+
+// Adds the bindings or the refusal.
+fn print_outcome<'call>(
+    alloc: Global,
+    text: &'call mut String,
+    outcome: &'call Result<Scope, Error>,
+) -> Result<(), OutOfMemory> {
+    match outcome {
+        Ok(scope) => print_bindings(text, scope),
+        Err(error) => print_refusal(alloc, text, error),
     }
 }
 
@@ -113,8 +125,9 @@ pub(crate) fn told_by_run<'call, 'src, H: Host>(
 ) -> String {
     let run = CaseRun::new(rt, alloc, case);
     let mut text = String::new(alloc);
-    run.print(alloc, &mut text, host, parent)
-        .expect(rt, "no memory");
+    let printed = run.print(alloc, &mut text, host, parent);
+    printed.expect(rt, "no memory");
+    drop(run);
     text
 }
 

@@ -16,7 +16,7 @@ use just_syntax::number::Number;
 use just_syntax::string_literal::StringLiteral;
 use just_syntax::table::Table;
 use just_value::binding::Binding;
-use just_value::error::CommandFault;
+use just_value::error::{CommandFault, Error};
 use just_value::scope::Scope;
 use just_value::value::Value;
 use std::alloc::Global;
@@ -73,6 +73,7 @@ pub(crate) fn answers_outside_nothing(
     let case = build(alloc, &lines).expect(rt, "no case");
     let parent = outer(rt, alloc, Value::new(alloc));
     answers_in(rt, alloc, case, &parent, answer, status);
+    drop(parent);
 }
 
 // A case of an operator on a list of no element, its answer and its status.
@@ -120,6 +121,7 @@ fn answers_without_memory(rt: &impl Abort, alloc: Global, mut case: Case, answer
 fn answers_outside(rt: &impl Abort, alloc: Global, case: Case, answer: &str, status: u8) {
     let parent = Scope::root(alloc, &[]).expect(rt, "no memory");
     answers_in(rt, alloc, case, &parent, answer, status);
+    drop(parent);
 }
 
 // A number that is bound outside is neither evaluated nor overridden.
@@ -130,7 +132,9 @@ fn bound_outside(rt: HostRuntime) {
     let lines = parse_lines(alloc, case).expect(&rt, "no memory");
     let case = build(alloc, &lines).expect(&rt, "no case");
     let value = Value::from_text(alloc, "o").expect(&rt, "no memory");
-    keeps_the_outer_value(&rt, alloc, case, &outer(&rt, alloc, value));
+    let parent = outer(&rt, alloc, value);
+    keeps_the_outer_value(&rt, alloc, case, &parent);
+    drop(parent);
 }
 
 // The same before any run, where a number that is bound outside has the value from there.
@@ -154,15 +158,22 @@ fn keeps_the_outer_value<'src>(
 ) {
     let run = CaseRun::new(rt, alloc, case);
     let mut host = Recorder::new(alloc, NoHost);
-    match run.evaluate(alloc, &mut host, parent) {
-        Ok(scope) => has_the_outer_value_alone(rt, alloc, &scope),
-        Err(_) => panic!(rt; "a refusal"),
-    }
+    let outcome = run.evaluate(alloc, &mut host, parent);
+    has_the_outer_value_alone(rt, alloc, &outcome);
+    drop(outcome);
+    drop(run);
     is_so(rt, "asks nothing", host.questions().is_empty());
 }
 
-// A scope binds nothing of its own, and the first number has the value `o`.
-fn has_the_outer_value_alone<'call>(rt: &'call impl Abort, alloc: Global, scope: &'call Scope) {
+// A run gives a scope that binds nothing of its own, and the first number has the value `o`.
+fn has_the_outer_value_alone<'call>(
+    rt: &'call impl Abort,
+    alloc: Global,
+    outcome: &'call Result<Scope, Error>,
+) {
+    let Ok(scope) = outcome else {
+        panic!(rt; "a refusal");
+    };
     assert_eq!(rt; scope.bindings().count(), 0);
     match scope.value(Number::new(0)) {
         Some(value) => prints(rt, alloc, value, "\"o\""),

@@ -29,6 +29,7 @@ fn shows_frames(rt: &impl Abort, alloc: Global, case: &str, shown: &str) {
     let parent = outer(rt, alloc, Value::new(alloc));
     let mut host = FrameHost::new(alloc);
     told_by_run(rt, alloc, &mut host, described, &parent);
+    drop(parent);
     same(rt, case, host.shown(), shown);
 }
 

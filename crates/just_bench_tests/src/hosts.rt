@@ -125,6 +125,8 @@ fn script_in_order(rt: HostRuntime) {
         let told = asking.told(&rt, alloc, &mut host, command, None);
         same(&rt, command, &told, expected);
     }
+    drop(asking);
+    drop(host);
 }
 
 // The answers of the other kinds, in their order.
@@ -147,6 +149,7 @@ fn other_answers_in_order(rt: HostRuntime) {
     for expected in NUMBERS {
         numbers(&rt, alloc, &mut host, *expected);
     }
+    drop(host);
 }
 
 // A host says that something stands at a path, or not.
@@ -202,6 +205,7 @@ fn fails_from_a_question_on(rt: HostRuntime) {
 fn fails(rt: &impl Abort, alloc: Global, passed: usize, how: How, expected: &str) {
     let mut host = FailAt::new(script(rt, alloc), passed, how);
     let told = all_kinds_told(rt, alloc, &mut host);
+    drop(host);
     assert_eq!(rt; told.as_str(), expected, "{passed}");
 }
 
@@ -218,6 +222,7 @@ fn two_commands_told<H: Host>(rt: &impl Abort, alloc: Global, host: &mut H) -> S
     let asking = Asking::new(rt, alloc);
     let one = asking.told(rt, alloc, host, "c", None);
     let other = asking.told(rt, alloc, host, "c", None);
+    drop(asking);
     format!(in alloc; "{one} {other}").expect(rt, "no memory")
 }
 
@@ -237,12 +242,14 @@ fn records_each_question(rt: HostRuntime) {
         let told = told_with(&rt, alloc, &asking, &mut host, *arguments);
         same(&rt, "answer", &told, expected);
     }
+    drop(asking);
     same(
         &rt,
         "questions",
         &questions_of(&rt, alloc, &host),
         "? command \"c\\t\" \"a b\" \"\\\"\"\n? command \"c\\t\"\n? command \"c\\t\"\n",
     );
+    drop(host);
 }
 
 // What a host answers a command with these arguments.

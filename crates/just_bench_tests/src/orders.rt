@@ -17,6 +17,7 @@ fn asks_and_binds(rt: &impl Abort, alloc: Global, case: &str, asked: &str, bound
     let mut host = Recorder::new(alloc, always_y(rt, alloc));
     binds(rt, alloc, &mut host, case, bound);
     same(rt, case, &questions_of(rt, alloc, &host), asked);
+    drop(host);
 }
 
 // A host that answers `c` with `y`.
@@ -39,6 +40,7 @@ fn binds<H: Host>(rt: &impl Abort, alloc: Global, host: &mut H, case: &str, boun
     let described = build(alloc, &lines).expect(rt, "no case");
     let parent = Scope::root(alloc, &[]).expect(rt, "no memory");
     let told = told_by_run(rt, alloc, host, described, &parent);
+    drop(parent);
     same(rt, case, &told, bound);
 }
 

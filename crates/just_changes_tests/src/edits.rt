@@ -172,19 +172,23 @@ pub(crate) fn changed_numbers(
     after: &str,
     outer: &Scope,
 ) -> Result<BTreeSet<Number>, Fail> {
-    let before_lines = parse_lines(alloc, before.as_bytes())?;
-    let after_lines = parse_lines(alloc, after.as_bytes())?;
-    changed_in_lines(alloc, &before_lines, &after_lines, outer)
+    let before = parse_lines(alloc, before.as_bytes());
+    let (before, after) = both(before, parse_lines(alloc, after.as_bytes()))?;
+    changed_in_lines(alloc, &before, &after, outer)
+}
+
+// What both came to, or the first refusal.
+fn both<T: Drop, E: Drop>(one: Result<T, E>, other: Result<T, E>) -> Result<(T, T), E> {
+    Ok((one?, other?))
 }
 
 fn changed_in_lines<'src>(
     alloc: Global,
-    before_lines: &'src [Line<'src>],
-    after_lines: &'src [Line<'src>],
+    before: &'src [Line<'src>],
+    after: &'src [Line<'src>],
     outer: &Scope,
 ) -> Result<BTreeSet<Number>, Fail> {
-    let before = build(alloc, before_lines)?;
-    let after = build(alloc, after_lines)?;
+    let (before, after) = both(build(alloc, before), build(alloc, after))?;
     Ok(changed_between(alloc, before, after, outer)?)
 }
 
@@ -194,39 +198,53 @@ fn changed_between<'src>(
     after: Case<'src>,
     outer: &Scope,
 ) -> Result<BTreeSet<Number>, OutOfMemory> {
-    let (before, before_overrides) = module_of(alloc, before);
-    let (after, after_overrides) = module_of(alloc, after);
-    changed(
+    let before = Module::new(alloc, before);
+    let after = Module::new(alloc, after);
+    let numbers = changed(
         alloc,
-        &before,
-        &before_overrides,
-        &after,
-        &after_overrides,
+        &before.justfile,
+        &before.overrides,
+        &after.justfile,
+        &after.overrides,
         outer,
-    )
+    );
+    drop(before);
+    drop(after);
+    numbers
 }
 
 // A module with what a case describes, and its overrides.
-fn module_of<'src>(alloc: Global, case: Case<'src>) -> (Justfile<'src>, HashMap<Number, String>) {
-    let Case {
-        assignments,
-        evaluation_order,
-        functions,
-        overrides,
-        ..
-    } = case;
-    let justfile = Justfile {
-        assignments,
-        evaluation_order,
-        functions,
-        module_path: String::new(alloc),
-        settings: Settings::new(alloc),
-        source: String::new(alloc),
-        submodule: false,
-        unexports: Vec::new(alloc),
-        working_directory: String::new(alloc),
-    };
-    (justfile, overrides)
+#[derive(Drop)]
+struct Module<'src> {
+    justfile: Justfile<'src>,
+    overrides: HashMap<Number, String>,
+}
+
+impl<'src> Module<'src> {
+    fn new(alloc: Global, case: Case<'src>) -> Module<'src> {
+        let Case {
+            assignments,
+            evaluation_order,
+            functions,
+            overrides,
+            ..
+        } = case;
+        let justfile = Justfile {
+            assignments,
+            evaluation_order,
+            functions,
+            module_path: String::new(alloc),
+            settings: Settings::new(alloc),
+            source: String::new(alloc),
+            submodule: false,
+            unexports: Vec::new(alloc),
+            working_directory: String::new(alloc),
+        };
+        Module {
+            justfile,
+            overrides,
+        }
+    }
 }
 
 // The numbers that an edit changes, a space behind each.
@@ -255,7 +273,9 @@ fn told_of(alloc: Global, numbers: &BTreeSet<Number>) -> Result<String, OutOfMem
 #[test]
 fn edits(rt: HostRuntime) -> Result<(), Fail> {
     let outer = Scope::root(rt.alloc(), &[])?;
-    each_tells(&rt, rt.alloc(), EDITS, &outer)
+    let told = each_tells(&rt, rt.alloc(), EDITS, &outer);
+    drop(outer);
+    told
 }
 
 // Each edit changes these numbers.
@@ -275,8 +295,11 @@ fn each_tells(
 #[test]
 fn bound_outside(rt: HostRuntime) -> Result<(), Fail> {
     let mut outer = Scope::root(rt.alloc(), &[])?;
-    outer.bind(binding(rt.alloc()))?;
-    each_tells(&rt, rt.alloc(), BOUND_OUTSIDE, &outer)
+    let bound = outer.bind(binding(rt.alloc()));
+    bound.expect(&rt, "no memory");
+    let told = each_tells(&rt, rt.alloc(), BOUND_OUTSIDE, &outer);
+    drop(outer);
+    told
 }
 
 // Binds `a` to no element.

@@ -23,8 +23,9 @@ fn row(alloc: Global, first: &str, last: &str) -> Result<String, Fail> {
 // How many variables an edit of such a row changes.
 fn count(alloc: Global, before: &str, after: &str) -> Result<usize, Fail> {
     let outer = Scope::root(alloc, &[])?;
-    let numbers = changed_numbers(alloc, before, after, &outer)?;
-    Ok(numbers.len())
+    let numbers = changed_numbers(alloc, before, after, &outer);
+    drop(outer);
+    Ok(numbers?.len())
 }
 
 #[test]

@@ -29,7 +29,9 @@ pub(crate) fn explain(alloc: Global, words: &str) -> Result<String, OutOfMemory>
 // Adds what the recipe comes to that is called with these words.
 fn explain_words(alloc: Global, text: &mut String, words: &str) -> Result<(), OutOfMemory> {
     let invocation = Invocation::new(alloc)?;
-    explain_in(alloc, &invocation.context(), text, words)
+    let explained = explain_in(alloc, &invocation.context(), text, words);
+    drop(invocation);
+    explained
 }
 
 // The same in a context.
@@ -42,7 +44,9 @@ fn explain_in(
     requires room { 0 < context.now.recursion_limit }
 {
     let called = Called::new(alloc, words)?;
-    explain_called(alloc, context, &called, text)
+    let explained = explain_called(alloc, context, &called, text);
+    drop(called);
+    explained
 }
 
 // The same of what is called: its parameters first, and then its lines.

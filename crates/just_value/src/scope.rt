@@ -59,9 +59,7 @@ impl<'src, 'run> Scope<'src, 'run> {
     pub fn child<'inner>(&'inner self, alloc: Global) -> Result<Scope<'src, 'inner>, OutOfMemory>
         ensures { IfOk result (λ scope. frames_view scope ≡ [] ∷ frames_view self.now) }
     {
-        let mut outer = Vec::with_capacity(alloc, self.outer.len().saturating_add(1))?;
-        outer.push(&self.frame)?;
-        outer.extend_from_slice(&self.outer)?;
+        let outer = in_front(alloc, &self.frame, &self.outer)?;
         Ok(Scope {
             frame: Frame::new(alloc),
             outer,
@@ -85,9 +83,8 @@ impl<'src, 'run> Scope<'src, 'run> {
     pub fn binding(&self, number: Number) -> Option<&Binding<'src>>
         ensures { option_map (λ b. bound_view b.now) result ≡ innermost number (frames_view self.now) }
     {
-        let own = self.frame.binding(number);
-        if own.is_some() {
-            return own;
+        if let Some(own) = self.frame.binding(number) {
+            return Some(own);
         }
         binding_in(&self.outer, number)
     }
@@ -129,6 +126,16 @@ impl<'src, 'run> Scope<'src, 'run> {
     }
 }
 
+// One value, and others behind it.
+fn in_front<T: Copy>(alloc: Global, first: T, others: &Vec<T>) -> Result<Vec<T>, OutOfMemory>
+    ensures { IfOk result (λ all. all.items ≡ first ∷ others.now.items) }
+{
+    let mut all = Vec::with_capacity(alloc, others.len().saturating_add(1))?;
+    all.push(first)?;
+    all.extend_from_slice(others)?;
+    Ok(all)
+}
+
 // The binding of a number in the first frame that has one.
 fn binding_in<'frame, 'src>(
     frames: &[&'frame Frame<'src>],
@@ -137,9 +144,8 @@ fn binding_in<'frame, 'src>(
     ensures { option_map (λ b. bound_view b.now) result ≡ innermost number (map (λ f. frame_view f.now) frames.now) }
 {
     for frame in frames {
-        let found = frame.binding(number);
-        if found.is_some() {
-            return found;
+        if let Some(found) = frame.binding(number) {
+            return Some(found);
         }
     }
     None
@@ -173,11 +179,20 @@ fn constant<'src>(alloc: Global, number: Number, key: &'src str, value: Value) -
 // The frames, innermost first. A reader is promised no bytes.
 impl fmt::Debug for Scope<'_, '_> {
     fn fmt<W: fmt::Write>(&self, f: &mut fmt::Formatter<W>) -> fmt::Result {
-        let mut frames = f.debug_list();
-        frames.entry(self.frame());
-        for frame in &self.outer {
-            frames.entry(*frame);
-        }
-        frames.finish()
+        write_in_front(f, self.frame(), &self.outer)
     }
+}
+
+// Writes the list of one value, and others behind it.
+fn write_in_front<T: fmt::Debug, W: fmt::Write>(
+    f: &mut fmt::Formatter<W>,
+    first: &T,
+    others: &Vec<&T>,
+) -> fmt::Result {
+    let mut list = f.debug_list();
+    list.entry(first);
+    for other in others {
+        list.entry(*other);
+    }
+    list.finish()
 }

@@ -1,4 +1,4 @@
-use Rattle.std.proofs.Common.{map, nat_cmp, rules, sym, ◌∙◌}
+use Rattle.std.proofs.Common.{nat_cmp, rules, sym, ◌∙◌}
 use Rattle.std.proofs.lemmas.Cmp.{nat_cmp_total}
 use Rattle.std.proofs.lemmas.List.Sorted.{answers_always}
 use Rattle.just_value.proofs.Framed.{past_last}
