@@ -126,7 +126,7 @@ impl<'src, 'run> Scope<'src, 'run> {
     }
 }
 
-// One value, and others behind it.
+// One value, and others behind it. They are lent as a vector, so that the caller makes no slice of it, in a call of its own.
 fn in_front<T: Copy>(alloc: Global, first: T, others: &Vec<T>) -> Result<Vec<T>, OutOfMemory>
     ensures { IfOk result (λ all. all.items ≡ first ∷ others.now.items) }
 {
@@ -179,20 +179,9 @@ fn constant<'src>(alloc: Global, number: Number, key: &'src str, value: Value) -
 // The frames, innermost first. A reader is promised no bytes.
 impl fmt::Debug for Scope<'_, '_> {
     fn fmt<W: fmt::Write>(&self, f: &mut fmt::Formatter<W>) -> fmt::Result {
-        write_in_front(f, self.frame(), &self.outer)
+        f.debug_list()
+            .entry(self.frame())
+            .entries(&self.outer)
+            .finish()
     }
-}
-
-// Writes the list of one value, and others behind it.
-fn write_in_front<T: fmt::Debug, W: fmt::Write>(
-    f: &mut fmt::Formatter<W>,
-    first: &T,
-    others: &Vec<&T>,
-) -> fmt::Result {
-    let mut list = f.debug_list();
-    list.entry(first);
-    for other in others {
-        list.entry(*other);
-    }
-    list.finish()
 }
