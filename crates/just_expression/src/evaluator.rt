@@ -3,12 +3,13 @@
 ghost use Rattle.std.specs.Prelude.{[], ◌∷◌};
 ghost use Rattle.std.specs.Option.{option_map};
 ghost use Rattle.just_syntax.specs.View.{name_view, token_view, view};
-ghost use Rattle.just_syntax.specs.declared.list_operator.ListOperator.TheVariants.{Concatenate, Join};
+ghost use Rattle.just_syntax.specs.declared.list_operator.ListOperator.TheVariants.{Join};
 ghost use Rattle.just_host.specs.Interaction.{gives};
 ghost use Rattle.just_meaning.specs.Meaning.{assertion, assertion_text, branch, choice, combination, comparison, conjunction, disjunction, negation, succession};
 ghost use Rattle.just_expression.specs.View.{Answers, deeper, meaning, program, situation};
 
 mod call;
+mod combination;
 mod leaf;
 mod row;
 
@@ -106,7 +107,8 @@ impl<'src, 'run, 'here> ExpressionEvaluator<'src, 'run, 'here> {
             }
             Expression::Concatenation { lhs, operator, rhs } => {
                 let room = room - stack::CONCATENATION;
-                self.evaluate_concatenation(alloc, host, lhs, operator, rhs, room)
+                let list_operator = ListOperator::Concatenate;
+                self.evaluate_combination(alloc, host, lhs, list_operator, operator, rhs, room)
             }
             Expression::Conditional {
                 condition,
@@ -126,7 +128,9 @@ impl<'src, 'run, 'here> ExpressionEvaluator<'src, 'run, 'here> {
             }
             Expression::Join { lhs, operator, rhs } => match lhs {
                 Some(lhs) => {
-                    self.evaluate_join(alloc, host, lhs, operator, rhs, room - stack::JOIN)
+                    let room = room - stack::JOIN;
+                    let list_operator = ListOperator::Join;
+                    self.evaluate_combination(alloc, host, lhs, list_operator, operator, rhs, room)
                 }
                 None => self.evaluate_root(alloc, host, operator, rhs, room - stack::ROOT),
             },
@@ -276,44 +280,6 @@ impl<'src, 'run, 'here> ExpressionEvaluator<'src, 'run, 'here> {
             Some(taken) => self.evaluate_value(alloc, host, taken, room),
             None => Ok(Value::new(alloc)),
         }
-    }
-
-    // The value of `lhs + rhs`.
-    #[cycle(evaluate)]
-    #[inline(never)]
-    fn evaluate_concatenation<H: Host>(
-        &self,
-        alloc: Global,
-        host: &mut H,
-        lhs: &Expression<'src>,
-        operator: &Token<'src>,
-        rhs: &Expression<'src>,
-        room: usize,
-    ) -> Result<Value, Error<'src>>
-        ensures { Answers self.now H.step host.old (combination Concatenate (meaning self.now (view lhs.now)) (token_view operator.now) (meaning self.now (view rhs.now))) result host.new }
-    {
-        let left = self.evaluate_value(alloc, host, lhs, room)?;
-        let right = self.evaluate_value(alloc, host, rhs, room)?;
-        left.apply(alloc, &right, ListOperator::Concatenate, *operator)
-    }
-
-    // The value of `lhs / rhs`.
-    #[cycle(evaluate)]
-    #[inline(never)]
-    fn evaluate_join<H: Host>(
-        &self,
-        alloc: Global,
-        host: &mut H,
-        lhs: &Expression<'src>,
-        operator: &Token<'src>,
-        rhs: &Expression<'src>,
-        room: usize,
-    ) -> Result<Value, Error<'src>>
-        ensures { Answers self.now H.step host.old (combination Join (meaning self.now (view lhs.now)) (token_view operator.now) (meaning self.now (view rhs.now))) result host.new }
-    {
-        let left = self.evaluate_value(alloc, host, lhs, room)?;
-        let right = self.evaluate_value(alloc, host, rhs, room)?;
-        left.apply(alloc, &right, ListOperator::Join, *operator)
     }
 
     // The value of `/ rhs`, whose left side is one empty text.

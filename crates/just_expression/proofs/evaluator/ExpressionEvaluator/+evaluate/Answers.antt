@@ -130,32 +130,18 @@ evaluate_conditional-returns g t c = elim c.if-is_truthy.branch [
 
 -- ---- two values put together
 
-pub evaluate_concatenation-returns-in_err-left : goal.evaluate_concatenation-returns-in_err-left
-evaluate_concatenation-returns-in_err-left g t c =
+pub evaluate_combination-returns-in_err-left : goal.evaluate_combination-returns-in_err-left
+evaluate_combination-returns-in_err-left g t c =
     let p = err_from_is_err_and c.from_residual.result c.from_residual.ensures.1 in
     runs_exit _ _ _ _ _ _ p.1 p.2 c.in_err-left.ensures
 
-pub evaluate_concatenation-returns-in_err-right : goal.evaluate_concatenation-returns-in_err-right
-evaluate_concatenation-returns-in_err-right g t c =
+pub evaluate_combination-returns-in_err-right : goal.evaluate_combination-returns-in_err-right
+evaluate_combination-returns-in_err-right g t c =
     let p = err_from_is_err_and c.from_residual-in_err-right.result c.from_residual-in_err-right.ensures.1 in
     runs_on _ _ c.in_ok-left.ensures (runs_exit _ _ _ _ _ _ p.1 p.2 c.in_err-right.ensures)
 
-pub evaluate_concatenation-returns : goal.evaluate_concatenation-returns
-evaluate_concatenation-returns g t c =
-    runs_on _ _ c.in_ok-left.ensures (runs_on _ _ c.in_ok-right.ensures (runs_done _ _ c.apply.ensures))
-
-pub evaluate_join-returns-in_err-left : goal.evaluate_join-returns-in_err-left
-evaluate_join-returns-in_err-left g t c =
-    let p = err_from_is_err_and c.from_residual.result c.from_residual.ensures.1 in
-    runs_exit _ _ _ _ _ _ p.1 p.2 c.in_err-left.ensures
-
-pub evaluate_join-returns-in_err-right : goal.evaluate_join-returns-in_err-right
-evaluate_join-returns-in_err-right g t c =
-    let p = err_from_is_err_and c.from_residual-in_err-right.result c.from_residual-in_err-right.ensures.1 in
-    runs_on _ _ c.in_ok-left.ensures (runs_exit _ _ _ _ _ _ p.1 p.2 c.in_err-right.ensures)
-
-pub evaluate_join-returns : goal.evaluate_join-returns
-evaluate_join-returns g t c =
+pub evaluate_combination-returns : goal.evaluate_combination-returns
+evaluate_combination-returns g t c =
     runs_on _ _ c.in_ok-left.ensures (runs_on _ _ c.in_ok-right.ensures (runs_done _ _ c.apply.ensures))
 
 pub evaluate_list_concatenation-returns-in_err-left : goal.evaluate_list_concatenation-returns-in_err-left

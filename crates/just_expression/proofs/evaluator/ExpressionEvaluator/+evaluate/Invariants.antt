@@ -27,8 +27,8 @@ decreases-evaluate_call g l = suc (suc (3 * l.room))
 abbrev pub decreases-evaluate_comparison : goal.decreases-evaluate_comparison
 decreases-evaluate_comparison g l = suc (suc (3 * l.room))
 
-abbrev pub decreases-evaluate_concatenation : goal.decreases-evaluate_concatenation
-decreases-evaluate_concatenation g l = suc (suc (3 * l.room))
+abbrev pub decreases-evaluate_combination : goal.decreases-evaluate_combination
+decreases-evaluate_combination g l = suc (suc (3 * l.room))
 
 abbrev pub decreases-evaluate_conditional : goal.decreases-evaluate_conditional
 decreases-evaluate_conditional g l = suc (suc (3 * l.room))
@@ -38,9 +38,6 @@ decreases-evaluate_format_string g l = suc (suc (3 * l.room))
 
 abbrev pub decreases-evaluate_group : goal.decreases-evaluate_group
 decreases-evaluate_group g l = suc (suc (3 * l.room))
-
-abbrev pub decreases-evaluate_join : goal.decreases-evaluate_join
-decreases-evaluate_join g l = suc (suc (3 * l.room))
 
 abbrev pub decreases-evaluate_root : goal.decreases-evaluate_root
 decreases-evaluate_root g l = suc (suc (3 * l.room))

@@ -1,0 +1,36 @@
+// Evaluates `lhs + rhs` and `lhs / rhs`.
+
+ghost use Rattle.just_syntax.specs.View.{token_view, view};
+ghost use Rattle.just_meaning.specs.Meaning.{combination};
+ghost use Rattle.just_expression.specs.View.{Answers, meaning};
+
+use super::ExpressionEvaluator;
+use just_host::host::Host;
+use just_syntax::expression::Expression;
+use just_syntax::list_operator::ListOperator;
+use just_syntax::token::Token;
+use just_value::error::Error;
+use just_value::value::Value;
+use std::alloc::Global;
+
+impl<'src, 'run, 'here> ExpressionEvaluator<'src, 'run, 'here> {
+    // The value of two operands, combined by what their token stands for.
+    #[cycle(evaluate)]
+    #[inline(never)]
+    pub(crate) fn evaluate_combination<H: Host>(
+        &self,
+        alloc: Global,
+        host: &mut H,
+        lhs: &Expression<'src>,
+        operator: ListOperator,
+        token: &Token<'src>,
+        rhs: &Expression<'src>,
+        room: usize,
+    ) -> Result<Value, Error<'src>>
+        ensures { Answers self.now H.step host.old (combination operator (meaning self.now (view lhs.now)) (token_view token.now) (meaning self.now (view rhs.now))) result host.new }
+    {
+        let left = self.evaluate_value(alloc, host, lhs, room)?;
+        let right = self.evaluate_value(alloc, host, rhs, room)?;
+        left.apply(alloc, &right, operator, *token)
+    }
+}
