@@ -3,8 +3,8 @@ use Rattle.std.proofs.Common.{ℕ, IfSome, Option, Some, None, []}
 use Rattle.just_syntax.specs.Plain.{Text}
 use Rattle.just_value.specs.Frames.{Frames}
 use Rattle.just_meaning.specs.Module.{Module}
-use Rattle.just_case_lines.specs.Case.{Case, Evaluation, Run, Const, Blocks}
-use Rattle.just_case_lines.specs.Reading.{Described, Describes, BadLine}
+use Rattle.just_case_reader.specs.Case.{Case, Evaluation, Run, Const, Blocks}
+use Rattle.just_case_reader.specs.Reading.{Described, Describes, BadLine}
 use Rattle.just_script.specs.Script.{Script}
 use Rattle.just_bench.specs.Answer.{AnswersLines, Evaluated}
 use Rattle.just_bench.specs.Run.{CaseRuns, RunPrints, Step, recording}

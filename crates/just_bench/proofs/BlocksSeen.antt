@@ -5,7 +5,7 @@ use Rattle.just_value.specs.Frames.{Frames}
 use Rattle.just_value.specs.Outcome.{Outcome}
 use Rattle.just_host.specs.Recorded.{Kept}
 use Rattle.just_meaning.specs.Module.{Closing, Module}
-use Rattle.just_case_lines.specs.Case.{Case}
+use Rattle.just_case_reader.specs.Case.{Case}
 use Rattle.just_script.specs.Script.{Script}
 use Rattle.just_bench.specs.Blocks.{BlocksPrints, BothPrint, FirstRefused, SecondRefused, Compared, Extends, Found, OrderPrints, Turn, Turns, Finished, Goes, Breaks}
 use Rattle.just_bench.specs.Run.{Step, recording}

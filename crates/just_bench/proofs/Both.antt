@@ -3,7 +3,7 @@ use Rattle.std.proofs.Common.{◌≡◌, ℕ, List, [], ◌++◌, Option, Some, 
 use Rattle.just_syntax.specs.Plain.{Text, Token}
 use Rattle.just_value.specs.Frames.{Frames}
 use Rattle.just_meaning.specs.Module.{Module}
-use Rattle.just_case_lines.specs.Case.{Case}
+use Rattle.just_case_reader.specs.Case.{Case}
 use Rattle.just_script.specs.View.{script_view}
 use Rattle.just_script.specs.declared.scripted_host.ScriptedHost.{ScriptedHost}
 use Rattle.just_bench.specs.Hosts.{MadeOf, case_script, without_answers}

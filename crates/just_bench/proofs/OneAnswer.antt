@@ -3,9 +3,9 @@ use Rattle.std.proofs.Common.{◌≡◌, ◌≢◌, ◌↔◌, ℕ, Bool, true, 
 use Rattle.just_syntax.specs.Plain.{Text, Token}
 use Rattle.just_value.specs.Frames.{Frames}
 use Rattle.just_value.specs.Outcome.{Stopped}
-use Rattle.just_case_lines.specs.Case.{Case, Evaluation, Run, Const, Blocks}
+use Rattle.just_case_reader.specs.Case.{Case, Evaluation, Run, Const, Blocks}
 use Rattle.just_case_lines.specs.Line.{line_of, lines_of}
-use Rattle.just_case_lines.specs.Reading.{Described, Describes, BadLine, described}
+use Rattle.just_case_reader.specs.Reading.{Described, Describes, BadLine, described}
 use Rattle.just_meaning.specs.Module.{Module, dynamically, events_of}
 use Rattle.just_script.specs.Script.{Script}
 use Rattle.just_answer.specs.Answer.{question_lines, refusal_line}

@@ -7,7 +7,7 @@ use Rattle.just_host.specs.Recorded.{Kept}
 use Rattle.just_meaning.specs.Module.{Module, Ran, dynamically, lexically}
 use Rattle.just_meaning.specs.Resolved.{IsResolved}
 use Rattle.just_answer.specs.Answer.{question_lines}
-use Rattle.just_case_lines.specs.Case.{Case}
+use Rattle.just_case_reader.specs.Case.{Case}
 use Rattle.just_script.specs.View.{script_view}
 use Rattle.just_script.specs.declared.scripted_host.ScriptedHost.{ScriptedHost}
 use Rattle.just_bench.specs.Hosts.{MadeOf, case_script, without_answers}

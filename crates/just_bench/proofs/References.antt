@@ -3,7 +3,7 @@ use Rattle.std.proofs.Common.{◌≡◌, ℕ, Option, Some, None, refl, ap, ◌�
 use Rattle.std.specs.Borrow.{Bor}
 use Rattle.std.specs.HashSet.{HashSet}
 use Rattle.std.specs.Option.{option_copied, option_map}
-use Rattle.just_case_lines.specs.View.{set_view}
+use Rattle.just_case_reader.specs.View.{set_view}
 use Rattle.just_meaning.specs.View.{is_referenced_in}
 use Rattle.just_bench.specs.Module.{referenced_in}
 

@@ -3,7 +3,7 @@ use Rattle.std.proofs.Common.{◌≡◌, ℕ, zero, suc, ap, ◌∙◌, Option, 
 use Rattle.just_syntax.specs.Plain.{Text}
 use Rattle.just_value.specs.Frames.{Frames}
 use Rattle.just_host.specs.Question.{Question, Answer, Blind, CommandOf, TextOf, ExistsAt, NumberOf}
-use Rattle.just_case_lines.specs.Case.{Case}
+use Rattle.just_case_reader.specs.Case.{Case}
 use Rattle.just_script.specs.Failing.{Failing, Fails, Faults, PassesOr, PassesOrFails}
 use Rattle.just_script.specs.Script.{Script, AnswersByScript}
 use Rattle.just_script.specs.View.{failing_view, script_view}

@@ -3,7 +3,7 @@ use Rattle.std.proofs.Common.{◌≡◌, ◌↔◌, ◌++◌, ℕ, Bool, IsTrue,
 use Rattle.just_syntax.specs.Plain.{Text}
 use Rattle.just_value.specs.Frames.{Frames}
 use Rattle.just_value.specs.Outcome.{Outcome}
-use Rattle.just_case_lines.specs.Case.{Case}
+use Rattle.just_case_reader.specs.Case.{Case}
 use Rattle.just_meaning.specs.Resolved.{IsResolvedConst}
 use Rattle.just_meaning.specs.Stage.{Constants, Standing, Staged, at_start}
 use Rattle.just_bench.specs.Run.{status_of, unresolved_line}

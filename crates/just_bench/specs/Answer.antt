@@ -3,9 +3,9 @@ use Rattle.std.specs.Prelude.{◌≡◌, ℕ, [], ◌∷◌, ◌++◌, map, code
 use Rattle.just_syntax.specs.Plain.{Text}
 use Rattle.just_value.specs.Frames.{Frames}
 use Rattle.just_answer.specs.Answer.{line}
-use Rattle.just_case_lines.specs.Case.{Case, Evaluation, Run, Const, Blocks}
+use Rattle.just_case_reader.specs.Case.{Case, Evaluation, Run, Const, Blocks}
 use Rattle.just_case_lines.specs.Line.{line_of, lines_of}
-use Rattle.just_case_lines.specs.Reading.{Described, Describes, BadLine, described}
+use Rattle.just_case_reader.specs.Reading.{Described, Describes, BadLine, described}
 use Rattle.just_script.specs.Script.{Script}
 use Rattle.just_bench.specs.Blocks.{BlocksPrints}
 use Rattle.just_bench.specs.Run.{CaseRuns, Step}

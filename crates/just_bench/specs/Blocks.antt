@@ -10,7 +10,7 @@ use Rattle.just_value.specs.Outcome.{Outcome, Gave, Refused, Stopped, and_then, 
 use Rattle.just_value.specs.Refusal.{Refusal}
 use Rattle.just_value.specs.Value.{is_same}
 use Rattle.just_host.specs.Recorded.{Kept}
-use Rattle.just_case_lines.specs.Case.{Case}
+use Rattle.just_case_reader.specs.Case.{Case}
 use Rattle.just_meaning.specs.Module.{Closing, Module, Ran, dynamically, lexically}
 use Rattle.just_meaning.specs.Resolved.{IsResolved}
 use Rattle.just_script.specs.Script.{Script}

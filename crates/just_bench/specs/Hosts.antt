@@ -2,7 +2,7 @@
 use Rattle.std.specs.Prelude.{◌≡◌, List, [], map}
 use Rattle.just_syntax.specs.Plain.{Text}
 use Rattle.just_host.specs.Question.{Answer, Replied, Failed}
-use Rattle.just_case_lines.specs.Case.{Case, Reply, Output, Broken}
+use Rattle.just_case_reader.specs.Case.{Case, Reply, Output, Broken}
 use Rattle.just_script.specs.Script.{Script}
 use Rattle.just_script.specs.View.{script_view}
 use Rattle.just_script.specs.declared.scripted_host.ScriptedHost.{ScriptedHost}

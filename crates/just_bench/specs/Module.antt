@@ -1,6 +1,6 @@
 -- The module of a case, and what it is evaluated in.
 use Rattle.std.specs.Prelude.{ℕ, max, Bool, true, false, [], Option, Some, None, codes}
-use Rattle.just_case_lines.specs.Case.{Case}
+use Rattle.just_case_reader.specs.Case.{Case}
 use Rattle.just_host.specs.Fixed.{Fixed}
 use Rattle.just_host.specs.Settings.{Config, Settings, called_in, unset}
 use Rattle.just_meaning.specs.Module.{Module}

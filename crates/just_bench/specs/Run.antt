@@ -4,7 +4,7 @@ use Rattle.std.specs.Map.{values_of}
 use Rattle.just_syntax.specs.Plain.{Text}
 use Rattle.just_value.specs.Frames.{Frames, own_frame}
 use Rattle.just_value.specs.Outcome.{Outcome, Gave, Refused, Stopped}
-use Rattle.just_case_lines.specs.Case.{Case}
+use Rattle.just_case_reader.specs.Case.{Case}
 use Rattle.just_host.specs.Question.{Question, Answer}
 use Rattle.just_host.specs.Recorded.{Kept, RecordsAndAsks}
 use Rattle.just_meaning.specs.Module.{Module, Ran, dynamically, lexically}

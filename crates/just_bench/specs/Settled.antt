@@ -5,7 +5,7 @@ use Rattle.just_syntax.specs.Plain.{Text, Token, Assignment}
 use Rattle.just_value.specs.Frames.{Frames, value_in}
 use Rattle.just_value.specs.Outcome.{Outcome, Gave, Refused, Stopped}
 use Rattle.just_value.specs.Value.{Value}
-use Rattle.just_case_lines.specs.Case.{Case}
+use Rattle.just_case_reader.specs.Case.{Case}
 use Rattle.just_meaning.specs.Resolved.{IsResolvedConst}
 use Rattle.just_meaning.specs.Stage.{Constants, Standing, Staged, at_start}
 use Rattle.just_answer.specs.Answer.{const_refusal_line, open_line, value_line}

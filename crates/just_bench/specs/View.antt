@@ -3,7 +3,7 @@ use Rattle.std.specs.Prelude.{List, max, map, string_bytes}
 use Rattle.std.specs.Option.{option_map}
 use Rattle.just_syntax.specs.View.{assignment_view, function_view, name_view, pairs_view, text_numbered}
 use Rattle.just_value.specs.View.{frames_view}
-use Rattle.just_case_lines.specs.View.{set_view}
+use Rattle.just_case_reader.specs.View.{set_view}
 use Rattle.just_host.specs.Recorded.{Kept}
 use Rattle.just_host.specs.View.{config_view, inner_host, records_view, settings_view}
 use Rattle.just_host.specs.declared.recorder.Recorder.{Recorder}

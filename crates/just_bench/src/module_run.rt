@@ -9,14 +9,14 @@ ghost use Rattle.just_value.specs.Outcome.{Outcome};
 ghost use Rattle.just_value.specs.View.{bound_view, ended, frames_view};
 ghost use Rattle.just_meaning.specs.Module.{Ran, dynamically, lexically};
 ghost use Rattle.just_meaning.specs.Resolved.{IsResolved};
-ghost use Rattle.just_case_lines.specs.View.{case_view};
+ghost use Rattle.just_case_reader.specs.View.{case_view};
 ghost use Rattle.just_bench.specs.Blocks.{Extends, in_order};
 ghost use Rattle.just_bench.specs.FirstBinding.{first_bound, first_given, without_attributes};
 ghost use Rattle.just_bench.specs.Module.{case_module};
 ghost use Rattle.just_bench.specs.View.{run_view};
 
 use crate::context::{case_config, case_module, case_search};
-use just_case_lines::case::Case;
+use just_case_reader::case::Case;
 use just_eval::evaluator::Evaluator;
 use just_eval::resolved;
 use just_host::config::Config;

@@ -2,7 +2,7 @@
 
 ghost use Rattle.std.specs.Prelude.{◌≡◌, ◌∷◌, ◌<◌, ◌≤◌, [], IfOk, IfSome, IsErr, length, string_bytes};
 ghost use Rattle.just_value.specs.View.{frames_view};
-ghost use Rattle.just_case_lines.specs.View.{case_view};
+ghost use Rattle.just_case_reader.specs.View.{case_view};
 ghost use Rattle.just_script.specs.Failing.{PassesOrFails};
 ghost use Rattle.just_bench.specs.Answer.{Answers, Evaluated};
 ghost use Rattle.just_bench.specs.Hosts.{MadeOf};
@@ -15,9 +15,9 @@ use crate::blocks::evaluate_blocks;
 use crate::run::evaluate_run;
 use crate::settled::evaluate_const;
 use crate::stream::{StreamError, read_case, write_text};
-use just_case_lines::case::{Case, CaseError, build};
-use just_case_lines::evaluation::Evaluation;
 use just_case_lines::line::parse_lines;
+use just_case_reader::case::{Case, CaseError, build};
+use just_case_reader::evaluation::Evaluation;
 use just_script::fail_at::How;
 use just_syntax::out_of_memory::OutOfMemory;
 use just_value::scope::Scope;

@@ -3,7 +3,7 @@
 ghost use Rattle.std.specs.Prelude.{◌≡◌, ◌≤◌, ◌++◌, [], IfOk, OnOk, string_bytes};
 ghost use Rattle.just_value.specs.View.{ended, frames_view};
 ghost use Rattle.just_host.specs.View.{inner_host, records_view};
-ghost use Rattle.just_case_lines.specs.View.{case_view};
+ghost use Rattle.just_case_reader.specs.View.{case_view};
 ghost use Rattle.just_bench.specs.Hosts.{MadeOf};
 ghost use Rattle.just_bench.specs.Run.{CaseRuns, RunPrints, outcome_lines, status_of, unresolved_line};
 ghost use Rattle.just_bench.specs.Written.{Added};
@@ -13,7 +13,7 @@ use crate::around::Around;
 use crate::module_run::ModuleRun;
 use crate::script::case_script;
 use just_answer::print::{print_bindings, print_questions, print_refusal};
-use just_case_lines::case::Case;
+use just_case_reader::case::Case;
 use just_host::host::Host;
 use just_host::recorder::Recorder;
 use just_syntax::out_of_memory::OutOfMemory;

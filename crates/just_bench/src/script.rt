@@ -2,12 +2,12 @@
 
 ghost use Rattle.std.specs.Prelude.{◌≡◌, IfOk, map};
 ghost use Rattle.just_syntax.specs.View.{pair_view};
-ghost use Rattle.just_case_lines.specs.View.{case_view, reply_view};
+ghost use Rattle.just_case_reader.specs.View.{case_view, reply_view};
 ghost use Rattle.just_script.specs.View.{script_view};
 ghost use Rattle.just_bench.specs.Hosts as cases;
 ghost use Rattle.just_bench.specs.Hosts.{script_of, without_answers};
 
-use just_case_lines::case::Case;
+use just_case_reader::case::Case;
 use just_script::scripted_host::ScriptedHost;
 use just_syntax::out_of_memory::OutOfMemory;
 use just_value::error::CommandFault;

@@ -2,7 +2,7 @@
 
 use crate::texts::owned;
 use just_answer::print::{print_bindings, print_refusal};
-use just_case_lines::case::Case;
+use just_case_reader::case::Case;
 use just_eval::evaluator::Evaluator;
 use just_eval::resolved;
 use just_host::config::Config;

@@ -3,8 +3,8 @@
 use crate::case_run::told_by_run;
 use crate::frame_host::FrameHost;
 use crate::texts::{owned, questions_of, same};
-use just_case_lines::case::build;
 use just_case_lines::line::parse_lines;
+use just_case_reader::case::build;
 use just_host::host::Host;
 use just_host::recorder::Recorder;
 use just_script::scripted_host::ScriptedHost;

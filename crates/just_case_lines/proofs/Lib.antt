@@ -1,6 +1,5 @@
 mod Split
-mod Counts
-mod Stacks
+pub mod Stacks
 pub mod Lines
 pub mod Texts
 pub mod Names

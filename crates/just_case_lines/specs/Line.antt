@@ -37,6 +37,10 @@ pub data Line : Type 0 where
   Const : Line
   Blocks : Text → Line
 
+abbrev pub says_nothing : Line → Bool
+says_nothing Skipped = true
+says_nothing _ = false
+
 -- a line whose word has nothing behind it, and which puts expressions together
 abbrev pub operator_line : Text → Line
 operator_line word =

@@ -1,14 +1,17 @@
 -- The numbers of names.
-use Rattle.std.specs.Prelude.{ℕ, suc, List, [], ◌∷◌, Option, Some, unwrap_or, if◌then◌else◌}
+use Rattle.std.specs.Prelude.{ℕ, suc, List, [], ◌∷◌, Option, Some, None, unwrap_or, if◌then◌else◌}
 use Rattle.std.specs.Option.{is_some}
 use Rattle.std.specs.Str.{bytes_eq}
 use Rattle.just_syntax.specs.Plain.{Text, Token}
-use Rattle.just_case_lines.specs.Case.{token_of}
+use Rattle.just_case_lines.specs.Token.{token_of}
 
 -- the number of each name that came, and how many came
 pub record Names : Type 0 where
   pub number : Text → Option ℕ
   pub count : ℕ
+
+abbrev pub no_names : Names
+no_names = record { number = λ name. None; count = 0 }
 
 -- the number that a name has, or the next one if it did not come
 abbrev pub number_of : Names → Text → ℕ

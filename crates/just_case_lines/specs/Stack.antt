@@ -8,7 +8,7 @@ use Rattle.just_case_lines.specs.declared.operator.UnaryOperator.{UnaryOperator}
 use Rattle.just_case_lines.specs.declared.operator.UnaryOperator.TheVariants.{Root, Not, Group, Assert}
 use Rattle.just_case_lines.specs.declared.operator.BinaryOperator.{BinaryOperator}
 use Rattle.just_case_lines.specs.declared.operator.BinaryOperator.TheVariants.{Add, Join, Cat, And, Or, Equal, NotEqual, Match, Mismatch, AssertMessage, When}
-use Rattle.just_case_lines.specs.Case.{token_of}
+use Rattle.just_case_lines.specs.Token.{token_of}
 use Rattle.just_case_lines.specs.Line.{Line, Literal, Command, Variable, Unary, Binary, If, ListOf, Call, Assign, Function, Run, Const, Blocks}
 use Rattle.just_case_lines.specs.Numbering.{Names, number_of}
 

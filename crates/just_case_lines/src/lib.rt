@@ -1,13 +1,11 @@
-// Cases: the lines of one, and what they describe. It leans on syntax and values: no host is needed to read a case.
+// The lines of a case: what each says, the expressions that they put together, and the numbers of their names. It leans on
+// syntax and values alone.
 #![tactic(auto)]
 
-mod builder;
-pub mod case;
-pub mod evaluation;
 pub mod line;
-mod line_error;
-mod numbering;
+pub mod line_error;
+pub mod numbering;
 pub mod operator;
-mod rest;
-mod stack;
+pub mod rest;
+pub mod stack;
 pub mod token;

@@ -2,8 +2,7 @@
 
 ghost use Rattle.std.specs.Prelude.{◌≡◌, ◌==◌, Some, IfOk, codes, if◌then◌else◌, length, map, position};
 ghost use Rattle.std.specs.List.{after_first, before_first};
-ghost use Rattle.just_case_lines.specs.Line.{Assign, Bad, Call, Dotenv, Fail, ListOf, Override, Variable, bare_line, is_skipped, led, limit, line_of, line_of_text, line_of_word, lines_of, named, numbered, operator_line, rare_line};
-ghost use Rattle.just_case_lines.specs.Reading as reading;
+ghost use Rattle.just_case_lines.specs.Line.{Assign, Bad, Call, Dotenv, Fail, ListOf, Override, Variable, bare_line, is_skipped, led, limit, line_of, line_of_text, line_of_word, lines_of, named, numbered, operator_line, rare_line, says_nothing};
 ghost use Rattle.just_case_lines.specs.Rest.{number, rest_of, word_of};
 ghost use Rattle.just_case_lines.specs.View.{line_view};
 
@@ -70,8 +69,8 @@ pub enum Line<'case> {
 
 impl<'case> Line<'case> {
     /// Whether it says nothing.
-    pub(crate) fn is_skipped(&self) -> bool
-        ensures { result ≡ reading.is_skipped (line_view self.now) }
+    pub fn is_skipped(&self) -> bool
+        ensures { result ≡ says_nothing (line_view self.now) }
     {
         matches!(self, Line::Skipped)
     }

@@ -8,7 +8,7 @@ use std::alloc::{AllocError, AllocFailed};
 
 /// Why a line was not done.
 #[derive(Debug, Drop)]
-pub(crate) enum LineError {
+pub enum LineError {
     /// It does not go with the lines before it.
     Bad,
     /// Memory was asked for and refused, or an expression nests deeper than the stack has room for.

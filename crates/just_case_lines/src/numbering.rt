@@ -10,29 +10,31 @@ use std::collections::BTreeMap;
 /// Names and their numbers: each name's is its place among the different names, from 0, in the order in which
 /// they first came.
 #[derive(Drop)]
-pub(crate) struct Numbering<'src> {
+pub struct Numbering<'src> {
     numbers: BTreeMap<&'src str, Number>,
 }
 
 impl<'src> Numbering<'src> {
     ghost use Rattle.std.specs.Prelude.{◌≡◌, IfOk, OnOk, OnErr, map};
     ghost use Rattle.just_syntax.specs.View.{parameter_view};
-    ghost use Rattle.just_case_lines.specs.Numbering.{number_of, numbers_of, parameters_of, with_name, with_names};
-    ghost use Rattle.just_case_lines.specs.Reading.{nothing};
+    ghost use Rattle.just_case_lines.specs.Numbering.{no_names, number_of, numbers_of, parameters_of, with_name, with_names};
     ghost use Rattle.just_case_lines.specs.View.{numbering_view};
 
     /// No name. It takes no memory.
-    pub(crate) fn new(alloc: Global) -> Numbering<'src>
-        ensures { numbering_view result ≡ nothing.names }
+    pub fn new(alloc: Global) -> Numbering<'src>
+        ensures { numbering_view result ≡ no_names }
     {
         Numbering {
             numbers: BTreeMap::new(alloc),
         }
     }
 
-    /// The number of a name, which is the next one for a name that did not come before. For want of memory
-    /// the names stay as they were.
-    pub(crate) fn number_of(&mut self, name: &'src str) -> Result<Number, OutOfMemory>
+    /// The number of a name, which is the next one for a name that did not come before.
+    ///
+    /// # Errors
+    ///
+    /// `OutOfMemory`, where memory was asked for and refused: the names stay as they were.
+    pub fn number_of(&mut self, name: &'src str) -> Result<Number, OutOfMemory>
         ensures number { IfOk result (λ number. number ≡ number_of (numbering_view self.old) name.now) }
         ensures ok { OnOk result (numbering_view self.new ≡ with_name (numbering_view self.old) name.now) }
         ensures err { OnErr result (numbering_view self.new ≡ numbering_view self.old) }
@@ -48,7 +50,11 @@ impl<'src> Numbering<'src> {
     }
 
     /// The numbers of names, in their order.
-    pub(crate) fn numbers_of(
+    ///
+    /// # Errors
+    ///
+    /// `OutOfMemory`, where memory was asked for and refused: the names before the one that found none have come.
+    pub fn numbers_of(
         &mut self,
         alloc: Global,
         names: &[&'src str],
@@ -62,8 +68,13 @@ impl<'src> Numbering<'src> {
         }
         Ok(numbers)
     }
+
     /// Parameters of these names, in their order.
-    pub(crate) fn parameters_of(
+    ///
+    /// # Errors
+    ///
+    /// `OutOfMemory`, where memory was asked for and refused: the names before the one that found none have come.
+    pub fn parameters_of(
         &mut self,
         alloc: Global,
         names: &[&'src str],

@@ -86,7 +86,11 @@ fn space_place(bytes: &[u8]) -> Option<usize>
 }
 
 /// The names that stand in a text with a space between two, if there is nothing else. The empty text has none.
-pub(crate) fn parse_names<'case>(
+///
+/// # Errors
+///
+/// `OutOfMemory`, where memory was asked for and refused.
+pub fn parse_names<'case>(
     alloc: Global,
     text: &'case str,
 ) -> Result<Option<Vec<&'case str>>, OutOfMemory>

@@ -3,7 +3,7 @@
 ghost use Rattle.std.specs.Prelude.{◌≡◌, ◌∷◌, ◌++◌, ◌==◌, [], Some, None, IfErr, IfOk, OnOk, codes, length, map, option_map};
 ghost use Rattle.just_syntax.specs.Plain as plain;
 ghost use Rattle.just_syntax.specs.View.{assertion, view, views};
-ghost use Rattle.just_case_lines.specs.Case.{token_of};
+ghost use Rattle.just_case_lines.specs.Token.{token_of};
 ghost use Rattle.just_case_lines.specs.Done.{Done, IfBad};
 ghost use Rattle.just_case_lines.specs.Line as lines;
 ghost use Rattle.just_case_lines.specs.Numbering.{Names, number_of};
@@ -27,7 +27,7 @@ const MOST_LEVELS: usize = 54_000;
 /// The expressions that are not yet assigned. A line takes its operands from the top, of which the uppermost is
 /// the rightmost.
 #[derive(Drop)]
-pub(crate) struct Stack<'src> {
+pub struct Stack<'src> {
     expressions: Vec<Nested<Expression<'src>>>,
 }
 
@@ -41,7 +41,7 @@ struct Nested<T> {
 
 impl<'src> Stack<'src> {
     /// No expression. It takes no memory.
-    pub(crate) fn new(alloc: Global) -> Stack<'src>
+    pub fn new(alloc: Global) -> Stack<'src>
         ensures { stack_view result ≡ [] }
     {
         Stack {
@@ -50,14 +50,18 @@ impl<'src> Stack<'src> {
     }
 
     /// Whether each expression is assigned.
-    pub(crate) fn is_empty(&self) -> bool
+    pub fn is_empty(&self) -> bool
         ensures { result ≡ (length (stack_view self.now) == 0) }
     {
         self.expressions.is_empty()
     }
 
     /// Takes the expression on top.
-    pub(crate) fn pop(&mut self) -> Result<Expression<'src>, LineError>
+    ///
+    /// # Errors
+    ///
+    /// `Bad`, where there is none.
+    pub fn pop(&mut self) -> Result<Expression<'src>, LineError>
         ensures ok { IfOk result (λ e. stack_view self.old ≡ view e ∷ stack_view self.new) }
         ensures bad { IfErr result (λ e. IfBad e (stack_view self.old ≡ [])) }
     {
@@ -68,50 +72,57 @@ impl<'src> Stack<'src> {
     }
 
     /// Pushes a literal.
-    pub(crate) fn literal(
-        &mut self,
-        alloc: Global,
-        text: &str,
-        lexeme: &'src str,
-    ) -> Result<(), LineError>
+    ///
+    /// # Errors
+    ///
+    /// `OutOfMemory`, where memory was asked for and refused.
+    pub fn literal(&mut self, alloc: Global, text: &str, lexeme: &'src str) -> Result<(), LineError>
         ensures { (names : Names) → Done result (stack_after (lines.Literal text.now lexeme.now) names (stack_view self.old)) (stack_view self.new) }
     {
         self.push(Expression::literal(alloc, text, lexeme)?, 0)
     }
 
     /// Pushes a command.
-    pub(crate) fn command(
-        &mut self,
-        alloc: Global,
-        text: &str,
-        lexeme: &'src str,
-    ) -> Result<(), LineError>
+    ///
+    /// # Errors
+    ///
+    /// `OutOfMemory`, where memory was asked for and refused.
+    pub fn command(&mut self, alloc: Global, text: &str, lexeme: &'src str) -> Result<(), LineError>
         ensures { (names : Names) → Done result (stack_after (lines.Command text.now lexeme.now) names (stack_view self.old)) (stack_view self.new) }
     {
         self.push(Expression::backtick(alloc, text, token(lexeme))?, 0)
     }
 
     /// Pushes a variable.
-    pub(crate) fn variable(&mut self, lexeme: &'src str, number: Number) -> Result<(), LineError>
+    ///
+    /// # Errors
+    ///
+    /// `OutOfMemory`, where memory was asked for and refused.
+    pub fn variable(&mut self, lexeme: &'src str, number: Number) -> Result<(), LineError>
         ensures { (names : Names) → number ≡ number_of names lexeme.now → Done result (stack_after (lines.Variable lexeme.now) names (stack_view self.old)) (stack_view self.new) }
     {
         self.push(Expression::variable(name(lexeme), number), 0)
     }
 
-    /// Puts one expression in its place with what is made of it.
-    pub(crate) fn unary(&mut self, alloc: Global, operator: UnaryOperator) -> Result<(), LineError>
+    /// Puts what is made of the expression on top in its place.
+    ///
+    /// # Errors
+    ///
+    /// `Bad`, where there is none; `OutOfMemory`, where memory was asked for and refused or the expression would nest deeper
+    /// than the stack has room for. Then what was taken from the top may be gone.
+    pub fn unary(&mut self, alloc: Global, operator: UnaryOperator) -> Result<(), LineError>
         ensures { (names : Names) → Done result (stack_after (lines.Unary operator) names (stack_view self.old)) (stack_view self.new) }
     {
         let (operand, levels) = self.pop_boxed(alloc)?;
         self.push(of_operand(operator, operand), deeper(levels))
     }
 
-    /// Puts two expressions together.
-    pub(crate) fn binary(
-        &mut self,
-        alloc: Global,
-        operator: BinaryOperator,
-    ) -> Result<(), LineError>
+    /// Puts the two expressions on top together, of which the uppermost is the right one.
+    ///
+    /// # Errors
+    ///
+    /// As those of `unary`, where there are fewer than two.
+    pub fn binary(&mut self, alloc: Global, operator: BinaryOperator) -> Result<(), LineError>
         ensures { (names : Names) → Done result (stack_after (lines.Binary operator) names (stack_view self.old)) (stack_view self.new) }
     {
         let (rhs, right) = self.pop_boxed(alloc)?;
@@ -119,8 +130,12 @@ impl<'src> Stack<'src> {
         self.push(together(operator, lhs, rhs), deeper(left.max(right)))
     }
 
-    /// Puts a condition, a consequence and an otherwise together.
-    pub(crate) fn conditional(&mut self, alloc: Global) -> Result<(), LineError>
+    /// Puts a condition, a consequence and, on top, an otherwise together.
+    ///
+    /// # Errors
+    ///
+    /// As those of `unary`, where there are fewer than three.
+    pub fn conditional(&mut self, alloc: Global) -> Result<(), LineError>
         ensures { (names : Names) → Done result (stack_after lines.If names (stack_view self.old)) (stack_view self.new) }
     {
         let (otherwise, third) = self.pop_boxed(alloc)?;
@@ -134,21 +149,24 @@ impl<'src> Stack<'src> {
         self.push(conditional, deeper(first.max(second).max(third)))
     }
 
-    /// Makes a list of so many expressions.
-    pub(crate) fn list(&mut self, alloc: Global, count: usize) -> Result<(), LineError>
+    /// Makes a list of so many expressions from the top, in the order in which they were pushed.
+    ///
+    /// # Errors
+    ///
+    /// As those of `unary`, where there are fewer.
+    pub fn list(&mut self, alloc: Global, count: usize) -> Result<(), LineError>
         ensures { (names : Names) → Done result (stack_after (lines.ListOf count) names (stack_view self.old)) (stack_view self.new) }
     {
         let (elements, levels) = self.pop_several(alloc, count)?;
         self.push(Expression::list(elements, token("[")), deeper(levels))
     }
 
-    /// Makes a call, with so many expressions as its arguments.
-    pub(crate) fn call(
-        &mut self,
-        alloc: Global,
-        lexeme: &'src str,
-        count: usize,
-    ) -> Result<(), LineError>
+    /// Makes a call, whose arguments are so many expressions from the top, in the order in which they were pushed.
+    ///
+    /// # Errors
+    ///
+    /// As those of `unary`, where there are fewer.
+    pub fn call(&mut self, alloc: Global, lexeme: &'src str, count: usize) -> Result<(), LineError>
         ensures { (names : Names) → Done result (stack_after (lines.Call lexeme.now count) names (stack_view self.old)) (stack_view self.new) }
     {
         let (arguments, levels) = self.pop_several(alloc, count)?;

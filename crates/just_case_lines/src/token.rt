@@ -2,7 +2,7 @@
 
 ghost use Rattle.std.specs.Prelude.{◌≡◌, IfOk, map};
 ghost use Rattle.just_syntax.specs.View.{name_view, parameter_view, token_view};
-ghost use Rattle.just_case_lines.specs.Case.{token_of};
+ghost use Rattle.just_case_lines.specs.Token.{token_of};
 
 use just_syntax::name::Name;
 use just_syntax::number::Number;
@@ -26,10 +26,11 @@ pub fn name(lexeme: &str) -> Name<'_>
 }
 
 /// Names of a case, in their order.
-pub(crate) fn names<'src>(
-    alloc: Global,
-    lexemes: &[&'src str],
-) -> Result<Vec<Name<'src>>, OutOfMemory>
+///
+/// # Errors
+///
+/// `OutOfMemory`, where memory was asked for and refused.
+pub fn names<'src>(alloc: Global, lexemes: &[&'src str]) -> Result<Vec<Name<'src>>, OutOfMemory>
     ensures { IfOk result (λ names. map name_view names.items ≡ map token_of (map (λ lexeme. lexeme.now) lexemes.now)) }
 {
     let mut names = Vec::with_capacity(alloc, lexemes.len())?;
@@ -40,7 +41,7 @@ pub(crate) fn names<'src>(
 }
 
 /// A parameter of a case: a name with its number.
-pub(crate) fn parameter(lexeme: &str, number: Number) -> (Name<'_>, Number)
+pub fn parameter(lexeme: &str, number: Number) -> (Name<'_>, Number)
     ensures { parameter_view result ≡ (token_of lexeme.now, number) }
 {
     (name(lexeme), number)

@@ -1,8 +1,8 @@
 // Pairs of modules, and the variables that the edit from one to the other changes.
 
-use just_case_lines::case::{Case, build};
 use just_case_lines::line::{Line, parse_lines};
 use just_case_lines::token::name;
+use just_case_reader::case::{Case, build};
 use just_changes::changed::changed;
 use just_host::justfile::Justfile;
 use just_host::settings::Settings;

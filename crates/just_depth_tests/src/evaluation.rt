@@ -1,6 +1,6 @@
 // Evaluates the assignments of a case.
 
-use just_case_lines::case::Case;
+use just_case_reader::case::Case;
 use just_eval::evaluator::Evaluator;
 use just_host::config::Config;
 use just_host::host::Host;

@@ -3,8 +3,8 @@
 use crate::evaluation::wants_memory;
 use crate::silent::Silent;
 use crate::towers::{FORMS, tower};
-use just_case_lines::case::build;
 use just_case_lines::line::parse_lines;
+use just_case_reader::case::build;
 use just_host::host::STACK_ROOM;
 use just_syntax::out_of_memory::OutOfMemory;
 use std::alloc::Global;

@@ -3,8 +3,8 @@
 use crate::evaluation::wants_memory;
 use crate::silent::Silent;
 use crate::towers::tower;
-use just_case_lines::case::build;
 use just_case_lines::line::parse_lines;
+use just_case_reader::case::build;
 use just_host::host::Host;
 use just_host::recorder::Recorder;
 use just_script::fail_at::{FailAt, How};

@@ -5,8 +5,8 @@ ghost use Rattle.just_eval.specs.View.{IsConst};
 
 use crate::stage::Stage;
 use crate::{constants, interpreters, settings};
-use just_case_lines::case::build;
 use just_case_lines::line::{Line, parse_lines};
+use just_case_reader::case::build;
 use just_eval::evaluator::Evaluator;
 use just_syntax::assignment::Assignment;
 use just_syntax::table::Table;

@@ -3,8 +3,8 @@
 ghost use Rattle.std.specs.Prelude.{IfOk};
 ghost use Rattle.just_eval.specs.View.{IsConst};
 
-use just_case_lines::case::{Case, build};
 use just_case_lines::line::Line;
+use just_case_reader::case::{Case, build};
 use just_eval::evaluator::Evaluator;
 use just_syntax::assignment::Assignment;
 use just_syntax::name::Name;

@@ -5,9 +5,9 @@ ghost use Rattle.std.specs.Prelude.{◌<◌, ◌≡◌};
 
 use crate::recipes::RECIPE;
 use crate::recipes::texts::owned;
-use just_case_lines::case::{Case, build};
 use just_case_lines::line::Line;
 use just_case_lines::token::name;
+use just_case_reader::case::{Case, build};
 use just_eval::evaluator::Evaluator;
 use just_host::config::Config;
 use just_host::execution_context::ExecutionContext;

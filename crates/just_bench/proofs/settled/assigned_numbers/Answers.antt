@@ -3,7 +3,7 @@ use Rattle.std.specs.Map.Iter.{deref}
 use Rattle.std.proofs.lemmas.Map.Iter.{rest_more}
 use Rattle.just_syntax.specs.View.{assignment_view}
 use Rattle.just_syntax.specs.declared.assignment.Assignment.{Assignment}
-use Rattle.just_case_lines.specs.View.{set_view}
+use Rattle.just_case_reader.specs.View.{set_view}
 use Rattle.just_bench.specs.Settled.{assigned_in}
 use Rattle.just_bench.proofs.Places.{one_fewer}
 use Rattle.just_bench.proofs.settled.assigned_numbers.Goals as goal

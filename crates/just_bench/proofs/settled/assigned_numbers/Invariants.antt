@@ -1,6 +1,6 @@
 use Rattle.std.proofs.Common.{◌≡◌, ◌||◌, ℕ, map}
 use Rattle.just_syntax.specs.View.{assignment_view}
-use Rattle.just_case_lines.specs.View.{set_view}
+use Rattle.just_case_reader.specs.View.{set_view}
 use Rattle.just_bench.specs.Settled.{assigned_in}
 use Rattle.just_bench.proofs.settled.assigned_numbers.Given as goal
 

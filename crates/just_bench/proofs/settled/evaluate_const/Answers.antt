@@ -1,6 +1,6 @@
 use Rattle.std.proofs.Common.{string_bytes}
 use Rattle.just_value.specs.View.{const_ended, frames_view}
-use Rattle.just_case_lines.specs.View.{case_view}
+use Rattle.just_case_reader.specs.View.{case_view}
 use Rattle.just_eval.specs.View.{standing_of}
 use Rattle.just_bench.specs.View.{stage_view}
 use Rattle.just_bench.proofs.Stages.{status_printed}

@@ -1,6 +1,6 @@
 use Rattle.std.proofs.Common.{◌≡◌, take, map}
 use Rattle.just_syntax.specs.View.{name_view}
-use Rattle.just_case_lines.specs.Case.{token_of}
+use Rattle.just_case_lines.specs.Token.{token_of}
 use Rattle.just_case_lines.proofs.token.names.Given as goal
 
 abbrev pub invariant-loop-lexeme : goal.invariant-loop-lexeme

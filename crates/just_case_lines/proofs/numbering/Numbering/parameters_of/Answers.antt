@@ -1,7 +1,7 @@
 use Rattle.std.proofs.Common.{map, take, rules, ◌∷◌, []}
 use Rattle.std.proofs.lemmas.List.{map_more, map-append}
 use Rattle.just_syntax.specs.View.{parameter_view}
-use Rattle.just_case_lines.specs.Case.{token_of}
+use Rattle.just_case_lines.specs.Token.{token_of}
 use Rattle.just_case_lines.specs.View.{numbering_view}
 use Rattle.just_case_lines.proofs.Numbers.{one_more}
 use Rattle.just_case_lines.proofs.numbering.Numbering.parameters_of.Goals as goal

@@ -1,5 +1,0 @@
-use Rattle.std.proofs.Common.{refl}
-use Rattle.just_case_lines.proofs.builder.Builder.new.Goals as goal
-
-pub returns : goal.returns
-returns c = rw (c.new.ensures, c.new-2.ensures, c.new-3.ensures) refl

@@ -1,0 +1,114 @@
+// What a case describes.
+
+ghost use Rattle.std.specs.Prelude.{◌≡◌, ◌+◌, [], IfOk, OnOk, length, map};
+ghost use Rattle.just_case_reader.specs.Reading.{Describes, BadLine, described, described_from, nothing};
+ghost use Rattle.just_case_lines.specs.View.{line_view};
+ghost use Rattle.just_case_reader.specs.View.{case_view, reading_view};
+
+use crate::builder::Builder;
+use crate::evaluation::Evaluation;
+use just_case_lines::line::Line;
+use just_case_lines::line_error::LineError;
+use just_syntax::assignment::Assignment;
+use just_syntax::function_definition::FunctionDefinition;
+use just_syntax::name::Name;
+use just_syntax::number::Number;
+use just_syntax::table::Table;
+use just_value::error::CommandFault;
+use std::alloc::Global;
+use std::collections::{BTreeMap, HashMap, HashSet};
+
+// How many calls may be pending, and one more, where a case does not say it.
+const RECURSION_LIMIT: usize = 100;
+
+/// What a case describes.
+#[derive(Drop)]
+pub struct Case<'src> {
+    pub assignments: Table<Assignment<'src>>,
+    /// The names of assignments, in the order in which they are evaluated.
+    pub evaluation_order: Vec<Name<'src>>,
+    pub functions: Table<FunctionDefinition<'src>>,
+    pub overrides: HashMap<Number, String>,
+    /// The numbers of the variables that are referenced, where they are told.
+    pub references: Option<HashSet<Number>>,
+    pub dotenv: BTreeMap<String, String>,
+    /// Commands, and the texts that they are always answered with. Of one command the last pair counts.
+    pub always: Vec<(String, String)>,
+    /// How other commands are answered, in their order.
+    pub replies: Vec<Result<String, CommandFault>>,
+    pub lists: bool,
+    pub dry_run: bool,
+    /// How many calls may be pending, and one more.
+    pub recursion_limit: usize,
+    /// What the case ends with, `run`, `const` or `blocks`.
+    pub evaluation: Evaluation<'src>,
+}
+
+impl<'src> Case<'src> {
+    /// A case that describes nothing. It takes no memory.
+    pub(crate) fn new(alloc: Global) -> Case<'src>
+        ensures { case_view result ≡ nothing.case }
+    {
+        Case {
+            assignments: Table::new(alloc),
+            evaluation_order: Vec::new(alloc),
+            functions: Table::new(alloc),
+            overrides: HashMap::new(alloc),
+            references: None,
+            dotenv: BTreeMap::new(alloc),
+            always: Vec::new(alloc),
+            replies: Vec::new(alloc),
+            lists: false,
+            dry_run: false,
+            recursion_limit: RECURSION_LIMIT,
+            evaluation: Evaluation::Run,
+        }
+    }
+}
+
+/// Why there is no case.
+#[derive(Debug, Drop)]
+pub enum CaseError {
+    /// The place of the first bad line, from 1.
+    BadLine(usize),
+    /// Memory was asked for and refused, or an expression has more than 54,000 levels of nesting: it could not be let go
+    /// on a stack of 8 MiB.
+    OutOfMemory,
+}
+
+/// The case that lines describe.
+///
+/// # Errors
+///
+/// `BadLine` with the place of the first bad line. A case that ends with none of `run`, `const` and `blocks` is
+/// bad at the line after its last. `OutOfMemory` where memory was asked for and refused, or where an expression nests
+/// deeper than the stack has room for.
+pub fn build<'src>(alloc: Global, lines: &'src [Line<'src>]) -> Result<Case<'src>, CaseError>
+    ensures case { IfOk result (λ case. described (map line_view lines.now) ≡ Describes (case_view case)) }
+    ensures bad { (place : _) → result ≡ Err (CaseError.BadLine place) → described (map line_view lines.now) ≡ BadLine place }
+{
+    let mut builder = Builder::new(alloc);
+    take_all(&mut builder, alloc, lines)?;
+    builder
+        .finished()
+        .ok_or(CaseError::BadLine(lines.len().saturating_add(1)))
+}
+
+// Does what lines say, up to the first bad one.
+fn take_all<'src>(
+    builder: &mut Builder<'src>,
+    alloc: Global,
+    lines: &'src [Line<'src>],
+) -> Result<(), CaseError>
+    ensures ok { OnOk result (described_from 1 (reading_view builder.old) (map line_view lines.now) ≡ described_from (length lines.now + 1) (reading_view builder.new) []) }
+    ensures bad { (place : _) → result ≡ Err (CaseError.BadLine place) → described_from 1 (reading_view builder.old) (map line_view lines.now) ≡ BadLine place }
+{
+    for (index, line) in lines.iter().enumerate() {
+        match builder.take(alloc, line) {
+            Ok(()) => {}
+            Err(LineError::Bad) => return Err(CaseError::BadLine(index.saturating_add(1))),
+            Err(LineError::OutOfMemory) => return Err(CaseError::OutOfMemory),
+        }
+    }
+    Ok(())
+}
