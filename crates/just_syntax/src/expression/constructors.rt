@@ -160,7 +160,7 @@ impl<'src> Expression<'src> {
         ensures { IfOk result (λ e. view e ≡ plain.Group (view contents.entry)) }
     {
         Ok(Expression::Group {
-            contents: boxed(alloc, contents)?,
+            contents: Box::new(alloc, contents)?,
         })
     }
 
@@ -230,7 +230,7 @@ impl<'src> Expression<'src> {
         ensures { IfOk result (λ e. view e ≡ plain.Not (view operand.entry)) }
     {
         Ok(Expression::Not {
-            operand: boxed(alloc, operand)?,
+            operand: Box::new(alloc, operand)?,
         })
     }
 
@@ -261,14 +261,7 @@ impl<'src> Expression<'src> {
     }
 }
 
-// A part in its box. What is boxed here and below is of any type, so that no expression has to be dropped where a box is refused.
-fn boxed<T: Drop>(alloc: Global, part: T) -> Result<Box<T>, OutOfMemory>
-    ensures { IfOk result (λ boxed. boxed.value ≡ part) }
-{
-    Ok(Box::new(alloc, part)?)
-}
-
-// Two parts, each in its box.
+// Two parts, each in its box. What is boxed here is of any type, so that no expression has to be dropped where a box is refused.
 fn boxed_pair<T: Drop>(alloc: Global, first: T, second: T) -> Result<(Box<T>, Box<T>), OutOfMemory>
     ensures first { IfOk result (λ boxed. boxed.0.value ≡ first) }
     ensures second { IfOk result (λ boxed. boxed.1.value ≡ second) }
