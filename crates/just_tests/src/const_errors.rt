@@ -1,11 +1,11 @@
 // What constant evaluation is refused with: what each refusal says, and where it stands.
 
-use crate::compared::{is_so, same_token};
+use crate::compared::{equal, is_so};
+use crate::errors::says;
 use crate::parts::{name, shows, token, value};
 use just_syntax::list_operator::ListOperator;
 use just_syntax::out_of_memory::OutOfMemory;
 use just_syntax::string_context::StringContext;
-use just_syntax::token::Token;
 use just_value::compile_error::CompileError;
 use just_value::const_error::ConstError;
 use just_value::const_eval_error::ConstEvalError;
@@ -14,41 +14,21 @@ use std::alloc::Global;
 use std::process::Abort;
 use std::test::Fail;
 
-// Whether a refusal says this text and stands at this token, and both are kept where it ends the compilation.
+// Whether a refusal says this text and stands at the token of this lexeme, and so does what ends the compilation by it.
 fn expect(
     rt: &impl Abort,
     alloc: Global,
     error: ConstEvalError,
     text: &str,
-    at: Token,
-) -> Result<(), Fail> {
-    let shown = shows(rt, alloc, &error, text);
-    same_token(rt, text, error.context(), at);
-    let ended = error.into_compile_error();
-    let kept = expect_kept(rt, alloc, &ended, text, at);
-    drop(ended);
-    shown?;
-    Ok(kept?)
-}
-
-// Whether what ends the compilation holds a refusal that says this text and stood at this token.
-fn expect_kept(
-    rt: &impl Abort,
-    alloc: Global,
-    ended: &CompileError,
-    text: &str,
-    at: Token,
+    at: &str,
 ) -> Result<(), OutOfMemory> {
-    match ended {
-        CompileError::ConstEval { token, error } => {
-            same_token(rt, text, *token, at);
-            shows(rt, alloc, error, text)
-        }
-        CompileError::OutOfMemory => {
-            is_so(rt, text, false);
-            Ok(())
-        }
-    }
+    let shown = shows(rt, alloc, &error, text);
+    equal(rt, text, error.context(), token(at));
+    let ended = error.into_compile_error();
+    let place = ended.token();
+    let said = says(rt, alloc, ended, text, place, Some(at));
+    shown?;
+    said
 }
 
 fn expect_const(
@@ -57,9 +37,10 @@ fn expect_const(
     error: ConstError,
     text: &str,
     at: &str,
-) -> Result<(), Fail> {
+) -> Result<(), OutOfMemory> {
     shows(rt, alloc, &error, text)?;
-    expect(rt, alloc, ConstEvalError::Const(error), text, token(at))
+    equal(rt, text, error.context(), token(at));
+    expect(rt, alloc, ConstEvalError::Const(error), text, at)
 }
 
 #[test]
@@ -73,36 +54,33 @@ fn const_errors_say(rt: HostRuntime) -> Result<(), Fail> {
     expect_const(&rt, alloc, call, text, "uuid")?;
     let variable = ConstError::Variable(name("x"));
     let text = "cannot access non-const variable `x` in const context";
-    expect_const(&rt, alloc, variable, text, "x")
-}
-
-#[test]
-fn refusals_that_hold_a_message(rt: HostRuntime) -> Result<(), Fail> {
-    let alloc = rt.alloc();
-    let assert = ConstEvalError::Assert {
-        message: String::from_str(alloc, "no bar")?,
-        name: name("assert"),
-    };
-    expect(&rt, alloc, assert, "assert failed: no bar", token("assert"))?;
-    let internal = ConstEvalError::Internal {
-        message: String::from_str(alloc, "no such assignment")?,
-        token: token("foo"),
-    };
-    let text = "internal error: no such assignment";
-    expect(&rt, alloc, internal, text, token("foo"))
+    expect_const(&rt, alloc, variable, text, "x")?;
+    Ok(())
 }
 
 #[test]
 fn refusals_say(rt: HostRuntime) -> Result<(), Fail> {
     let alloc = rt.alloc();
+    let assert = ConstEvalError::Assert {
+        message: String::from_str(alloc, "no bar")?,
+        name: name("assert"),
+    };
+    expect(&rt, alloc, assert, "assert failed: no bar", "assert")?;
+    let internal = ConstEvalError::Internal {
+        message: String::from_str(alloc, "no such assignment")?,
+        token: token("foo"),
+    };
+    let text = "internal error: no such assignment";
+    expect(&rt, alloc, internal, text, "foo")?;
     let interpreter = ConstEvalError::EmptyInterpreter {
         setting: name("shell"),
     };
     let text = "`shell` setting requires at least one element but evaluated to empty list";
-    expect(&rt, alloc, interpreter, text, token("shell"))?;
+    expect(&rt, alloc, interpreter, text, "shell")?;
     let regex = ConstEvalError::LeftOutRegex { token: token("=~") };
     let text = "regular expression operators are left out";
-    expect(&rt, alloc, regex, text, token("=~"))
+    expect(&rt, alloc, regex, text, "=~")?;
+    Ok(())
 }
 
 fn expect_list(
@@ -112,10 +90,10 @@ fn expect_list(
     context: StringContext,
     text: &str,
     at: &str,
-) -> Result<(), Fail> {
+) -> Result<(), OutOfMemory> {
     let value = value(alloc, elements)?;
     let error = ConstEvalError::ListInStringContext { context, value };
-    expect(rt, alloc, error, text, token(at))
+    expect(rt, alloc, error, text, at)
 }
 
 #[test]
@@ -131,7 +109,8 @@ fn lists_where_one_text_is_wanted(rt: HostRuntime) -> Result<(), Fail> {
     let text = "list value [] in argument to function `quote`\n\
         the behavior of lists with many built-in functions is undecided\n\
         see https://github.com/casey/just#lists";
-    expect_list(&rt, alloc, &[], function, text, "quote")
+    expect_list(&rt, alloc, &[], function, text, "quote")?;
+    Ok(())
 }
 
 // Two lists with an operator between them, and what its refusal says.
@@ -156,81 +135,60 @@ const ILL_MATCHED: &[(&[&str], ListOperator, &[&str], &str)] = &[
     ),
 ];
 
-fn refusal_of<'src>(
+// Whether the refusal of an operator between these lists says this.
+fn refuses(
+    rt: &impl Abort,
     alloc: Global,
     lhs: &[&str],
     operator: ListOperator,
     rhs: &[&str],
-) -> Result<ConstEvalError<'src>, OutOfMemory> {
-    Ok(ConstEvalError::ListOperation {
-        lhs: value(alloc, lhs)?,
+    text: &str,
+) -> Result<(), OutOfMemory> {
+    let lhs = value(alloc, lhs)?;
+    let rhs = value(alloc, rhs)?;
+    let error = ConstEvalError::ListOperation {
+        lhs,
         operator,
-        rhs: value(alloc, rhs)?,
+        rhs,
         token: token("/"),
-    })
+    };
+    expect(rt, alloc, error, text, "/")
 }
 
 #[test]
 fn lists_that_do_not_go_together(rt: HostRuntime) -> Result<(), Fail> {
-    let alloc = rt.alloc();
     for (lhs, operator, rhs, text) in ILL_MATCHED {
-        let error = refusal_of(alloc, lhs, *operator, rhs)?;
-        expect(&rt, alloc, error, text, token("/"))?;
+        refuses(&rt, rt.alloc(), lhs, *operator, rhs, text)?;
     }
     Ok(())
 }
 
 // Whether compilation ends so.
 fn ends(rt: &impl Abort, given: CompileError, wanted: CompileError) {
-    ends_so(rt, &given, &wanted);
+    let is_same = given == wanted;
     drop(given);
     drop(wanted);
-}
-
-fn ends_so(rt: &impl Abort, given: &CompileError, wanted: &CompileError) {
-    assert_eq!(rt; given, wanted);
+    is_so(rt, "compilation ends so", is_same);
 }
 
 #[test]
-fn assertion_that_fails_before_a_run(rt: HostRuntime) -> Result<(), Fail> {
+fn refusals_before_a_run(rt: HostRuntime) -> Result<(), Fail> {
     let alloc = rt.alloc();
-    let assert = Error::Assert {
-        message: String::from_str(alloc, "no bar")?,
-        name: name("assert"),
-    };
+    let message = String::from_str(alloc, "no bar")?;
+    let same_message = String::from_str(alloc, "no bar")?;
+    let name = name("assert");
     let same = ConstEvalError::Assert {
-        message: String::from_str(alloc, "no bar")?,
-        name: name("assert"),
+        message: same_message,
+        name,
     };
+    let assert = Error::Assert { message, name };
     ends(&rt, assert.unwrap_const(), same.into_compile_error());
+    let variable = ConstError::Variable(name);
+    let same = ConstEvalError::Const(variable).into_compile_error();
+    ends(&rt, Error::Const(variable).unwrap_const(), same);
+    let wanted = CompileError::OutOfMemory;
+    ends(&rt, Error::OutOfMemory.unwrap_const(), wanted);
+    let given = CompileError::from(OutOfMemory);
+    ends(&rt, given, CompileError::OutOfMemory);
     Ok(())
-}
-
-#[test]
-fn refusals_before_a_run(rt: HostRuntime) {
-    ends_at(&rt, ConstError::Variable(name("x")));
-    wants_memory(&rt, Error::OutOfMemory.unwrap_const());
-    wants_memory(&rt, CompileError::from(OutOfMemory));
-}
-
-// Whether compilation ends with the same refusal.
-fn ends_at(rt: &impl Abort, error: ConstError) {
-    let same = ConstEvalError::Const(error).into_compile_error();
-    ends(rt, Error::Const(error).unwrap_const(), same);
-}
-
-// Whether compilation ends for want of memory.
-fn wants_memory(rt: &impl Abort, given: CompileError) {
-    ends(rt, given, CompileError::OutOfMemory);
-}
-
-#[test]
-fn context_of_const_errors(rt: HostRuntime) {
-    for error in [
-        ConstError::Backtick(token("`x`")),
-        ConstError::FunctionCall(name("`x`")),
-        ConstError::Variable(name("`x`")),
-    ] {
-        same_token(&rt, "context", error.context(), token("`x`"));
-    }
 }

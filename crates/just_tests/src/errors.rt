@@ -1,6 +1,6 @@
 // What errors say, and where they stand.
 
-use crate::compared::{is_so, tells};
+use crate::compared::{equal, is_so, tells};
 use crate::parts::{name, shows, token, value};
 use just_syntax::list_operator::ListOperator;
 use just_syntax::out_of_memory::OutOfMemory;
@@ -16,35 +16,36 @@ use std::fmt::Display;
 use std::process::Abort;
 use std::test::Fail;
 
-// Whether an error says this text, with and without options, and stands at the token of this lexeme, if it stands anywhere.
+// Whether `Display` writes this text, with and without options, and what is said stands at the token of this lexeme, if
+// it stands anywhere.
+pub(crate) fn says<T: Display + Drop>(
+    rt: &impl Abort,
+    alloc: Global,
+    error: T,
+    text: &str,
+    given: Option<Token>,
+    at: Option<&str>,
+) -> Result<(), OutOfMemory> {
+    shows(rt, alloc, &error, text)?;
+    tells(rt, format!(in alloc; "{error:#120}")?, text);
+    tells(rt, format!(in alloc; "{error:>40}")?, text);
+    let wanted = match at {
+        Some(lexeme) => Some(token(lexeme)),
+        None => None,
+    };
+    equal(rt, text, given, wanted);
+    Ok(())
+}
+
 fn expect(
     rt: &impl Abort,
     alloc: Global,
     error: Error,
     text: &str,
     at: Option<&str>,
-) -> Result<(), Fail> {
-    let said = says(rt, alloc, &error, text);
-    stands_at(rt, text, error.token(), at);
-    drop(error);
-    Ok(said?)
-}
-
-// Whether `Display` writes this text, with and without options.
-fn says<T: Display>(
-    rt: &impl Abort,
-    alloc: Global,
-    error: &T,
-    text: &str,
 ) -> Result<(), OutOfMemory> {
-    shows(rt, alloc, error, text)?;
-    tells(rt, format!(in alloc; "{error:#120}")?, text);
-    Ok(())
-}
-
-// Whether it is the token of this lexeme, and there is none where no lexeme is given.
-fn stands_at(rt: &impl Abort, text: &str, token_of: Option<Token>, at: Option<&str>) {
-    assert_eq!(rt; token_of, at.map(|lexeme| token(lexeme)), "{text}");
+    let given = error.token();
+    says(rt, alloc, error, text, given, at)
 }
 
 #[test]
@@ -60,7 +61,20 @@ fn refusals_that_hold_a_message(rt: HostRuntime) -> Result<(), Fail> {
         token: token("a"),
     };
     let text = "internal error: unknown assignment `a`";
-    expect(&rt, alloc, error, text, Some("a"))
+    expect(&rt, alloc, error, text, Some("a"))?;
+    let error = Error::FunctionCall {
+        function: name("env"),
+        message: String::from_str(alloc, "environment variable `X` not present")?,
+    };
+    let text = "call to function `env` failed: environment variable `X` not present";
+    expect(&rt, alloc, error, text, Some("env"))?;
+    let error = Error::Check {
+        parameter: "target",
+        message: String::from_str(alloc, "`../x` leads out")?,
+    };
+    let text = "argument of parameter `target` was refused: `../x` leads out";
+    expect(&rt, alloc, error, text, None)?;
+    Ok(())
 }
 
 #[test]
@@ -74,7 +88,28 @@ fn refusals_of_expressions(rt: HostRuntime) -> Result<(), Fail> {
     expect(&rt, alloc, error, text, Some("=~"))?;
     let text = "out of memory";
     expect(&rt, alloc, Error::OutOfMemory, text, None)?;
-    expect(&rt, alloc, Error::from(OutOfMemory), text, None)
+    expect(&rt, alloc, Error::from(OutOfMemory), text, None)?;
+    Ok(())
+}
+
+#[test]
+fn refusals_of_calls(rt: HostRuntime) -> Result<(), Fail> {
+    let alloc = rt.alloc();
+    let error = Error::LeftOut {
+        function: name("uuid"),
+    };
+    let text = "function `uuid` is left out";
+    expect(&rt, alloc, error, text, Some("uuid"))?;
+    let error = Error::RecursionLimit { last: name("f") };
+    let text = "call to function `f` reached the recursion limit";
+    expect(&rt, alloc, error, text, Some("f"))?;
+    let error = Error::EmptyListArgument {
+        parameter: "files",
+        recipe: "pack",
+    };
+    let text = "parameter `files` of recipe `pack` requires at least one element";
+    expect(&rt, alloc, error, text, None)?;
+    Ok(())
 }
 
 fn expect_fault(
@@ -82,7 +117,7 @@ fn expect_fault(
     alloc: Global,
     output_error: CommandFault,
     text: &str,
-) -> Result<(), Fail> {
+) -> Result<(), OutOfMemory> {
     let token = token("`exit`");
     let error = Error::Backtick {
         token,
@@ -101,56 +136,8 @@ fn refusals_of_commands(rt: HostRuntime) -> Result<(), Fail> {
     let fault = CommandFault::Fault(String::from_str(alloc, "no shell")?);
     expect_fault(&rt, alloc, fault, "backtick failed: no shell")?;
     let text = "backtick failed: out of memory";
-    expect_fault(&rt, alloc, CommandFault::OutOfMemory, text)
-}
-
-#[test]
-fn refusals_of_calls(rt: HostRuntime) -> Result<(), Fail> {
-    let alloc = rt.alloc();
-    let error = Error::FunctionCall {
-        function: name("env"),
-        message: String::from_str(alloc, "environment variable `X` not present")?,
-    };
-    let text = "call to function `env` failed: environment variable `X` not present";
-    expect(&rt, alloc, error, text, Some("env"))?;
-    let error = Error::LeftOut {
-        function: name("uuid"),
-    };
-    let text = "function `uuid` is left out";
-    expect(&rt, alloc, error, text, Some("uuid"))?;
-    let error = Error::RecursionLimit { last: name("f") };
-    let text = "call to function `f` reached the recursion limit";
-    expect(&rt, alloc, error, text, Some("f"))
-}
-
-#[test]
-fn refusals_of_arguments(rt: HostRuntime) -> Result<(), Fail> {
-    let alloc = rt.alloc();
-    let error = Error::Check {
-        parameter: "target",
-        message: String::from_str(alloc, "`../x` leads out")?,
-    };
-    let text = "argument of parameter `target` was refused: `../x` leads out";
-    expect(&rt, alloc, error, text, None)?;
-    let error = Error::EmptyListArgument {
-        parameter: "files",
-        recipe: "pack",
-    };
-    let text = "parameter `files` of recipe `pack` requires at least one element";
-    expect(&rt, alloc, error, text, None)
-}
-
-#[test]
-fn refusal_of_a_list_where_a_text_is_wanted(rt: HostRuntime) -> Result<(), Fail> {
-    let alloc = rt.alloc();
-    let error = Error::ListInStringContext {
-        context: StringContext::Function(name("quote")),
-        value: value(alloc, &["a", "b"])?,
-    };
-    let text = "list value [\"a\", \"b\"] in argument to function `quote`\n\
-        the behavior of lists with many built-in functions is undecided\n\
-        see https://github.com/casey/just#lists";
-    expect(&rt, alloc, error, text, Some("quote"))
+    expect_fault(&rt, alloc, CommandFault::OutOfMemory, text)?;
+    Ok(())
 }
 
 // What is beside `+` and `c`, `d` and `e`, and what its refusal says.
@@ -162,34 +149,43 @@ const ILL_MATCHED: &[(&[&str], &str)] = &[
     ),
 ];
 
-fn refusal_of<'src>(alloc: Global, lhs: &[&str], rhs: &[&str]) -> Result<Error<'src>, OutOfMemory> {
-    Ok(Error::ListOperation {
-        lhs: value(alloc, lhs)?,
+fn refuses(rt: &impl Abort, alloc: Global, lhs: &[&str], text: &str) -> Result<(), OutOfMemory> {
+    let lhs = value(alloc, lhs)?;
+    let rhs = value(alloc, &["c", "d", "e"])?;
+    let error = Error::ListOperation {
+        lhs,
         operator: ListOperator::Concatenate,
-        rhs: value(alloc, rhs)?,
+        rhs,
         token: token("+"),
-    })
+    };
+    expect(rt, alloc, error, text, Some("+"))
 }
 
 #[test]
 fn refusals_of_lists(rt: HostRuntime) -> Result<(), Fail> {
     let alloc = rt.alloc();
     for (lhs, text) in ILL_MATCHED {
-        let error = refusal_of(alloc, lhs, &["c", "d", "e"])?;
-        expect(&rt, alloc, error, text, Some("+"))?;
+        refuses(&rt, alloc, lhs, text)?;
     }
+    let error = Error::ListInStringContext {
+        context: StringContext::Function(name("quote")),
+        value: value(alloc, &["a", "b"])?,
+    };
+    let text = "list value [\"a\", \"b\"] in argument to function `quote`\n\
+        the behavior of lists with many built-in functions is undecided\n\
+        see https://github.com/casey/just#lists";
+    expect(&rt, alloc, error, text, Some("quote"))?;
     Ok(())
 }
 
-// Whether `Display` writes this text, whatever the width.
+// Whether a fault, which stands nowhere, says this text.
 fn fault_says<T: Display + Drop>(
     rt: &impl Abort,
     alloc: Global,
     fault: T,
     text: &str,
 ) -> Result<(), OutOfMemory> {
-    tells(rt, format!(in alloc; "{fault:>40}")?, text);
-    Ok(())
+    says(rt, alloc, fault, text, None, None)
 }
 
 #[test]
@@ -199,41 +195,20 @@ fn faults_say(rt: HostRuntime) -> Result<(), Fail> {
     fault_says(&rt, alloc, CommandFault::Code(1), text)?;
     let fault = CommandFault::Fault(String::from_str(alloc, "not UTF-8")?);
     fault_says(&rt, alloc, fault, "not UTF-8")?;
-    fault_says(&rt, alloc, CommandFault::from(OutOfMemory), "out of memory")?;
     let fault = CheckFault::Refused(String::from_str(alloc, "no digit")?);
     fault_says(&rt, alloc, fault, "no digit")?;
-    fault_says(&rt, alloc, CheckFault::OutOfMemory, "out of memory")?;
     Ok(())
 }
 
-// The same as `expect` of an error that ends the compilation.
-fn expect_compile(
-    rt: &impl Abort,
-    alloc: Global,
-    error: CompileError,
-    text: &str,
-    at: Option<&str>,
-) -> Result<(), Fail> {
-    let said = says(rt, alloc, &error, text);
-    stands_at(rt, text, error.token(), at);
-    drop(error);
-    Ok(said?)
-}
-
 #[test]
-fn compile_errors_say(rt: HostRuntime) -> Result<(), Fail> {
+fn want_of_memory_says(rt: HostRuntime) -> Result<(), Fail> {
     let alloc = rt.alloc();
-    let interpreter = ConstEvalError::EmptyInterpreter {
-        setting: name("shell"),
-    };
-    let error = interpreter.into_compile_error();
-    let text = "`shell` setting requires at least one element but evaluated to empty list";
-    expect_compile(&rt, alloc, error, text, Some("shell"))?;
-    let variable = ConstEvalError::Const(ConstError::Variable(name("x")));
-    let error = variable.into_compile_error();
-    let text = "cannot access non-const variable `x` in const context";
-    expect_compile(&rt, alloc, error, text, Some("x"))?;
-    expect_compile(&rt, alloc, CompileError::OutOfMemory, "out of memory", None)
+    let text = "out of memory";
+    fault_says(&rt, alloc, CommandFault::from(OutOfMemory), text)?;
+    fault_says(&rt, alloc, CheckFault::OutOfMemory, text)?;
+    let place = CompileError::OutOfMemory.token();
+    says(&rt, alloc, CompileError::OutOfMemory, text, place, None)?;
+    Ok(())
 }
 
 // What becomes of an error that a program passes on.
@@ -263,7 +238,12 @@ fn errors_are_passed_on(rt: HostRuntime) -> Result<(), Fail> {
     };
     expect_passed_on(&rt, alloc, error, "function `uuid` is left out")?;
     expect_passed_on(&rt, alloc, CompileError::OutOfMemory, "out of memory")?;
-    expect_passed_on(&rt, alloc, OutOfMemory, "out of memory")?;
+    expect_passed_on(&rt, alloc, OutOfMemory, "out of memory")
+}
+
+#[test]
+fn faults_are_passed_on(rt: HostRuntime) -> Result<(), Fail> {
+    let alloc = rt.alloc();
     let text = "process exited with status code 2";
     expect_passed_on(&rt, alloc, CommandFault::Code(2), text)?;
     expect_passed_on(&rt, alloc, CheckFault::OutOfMemory, "out of memory")?;

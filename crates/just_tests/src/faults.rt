@@ -1,22 +1,20 @@
-// Why modules are not resolved: the first fault, and its place.
+// Why modules are not resolved: what each fault says, and its place.
 
-use crate::compared::{same_token, tells};
+use crate::compared::{equal, tells};
 use crate::modules::Part::{Call, Read, Unnumbered};
-use crate::modules::{Function, OUTER, Sketch, Variable, module, name_at, outer_scope, references};
+use crate::modules::{Function, OUTER, Variable, name_at};
 use crate::parts::name;
-use just_host::justfile::Justfile;
+use crate::resolution::{Group, expect_all};
 use just_resolution::fault::Fault;
-use just_resolution::first_fault::first_fault;
 use just_syntax::name::Name;
 use just_syntax::out_of_memory::OutOfMemory;
-use just_value::scope::Scope;
 use std::alloc::Global;
 use std::process::Abort;
 use std::test::Fail;
 
 // A fault in short: assignments, functions and parameters by their names, and parts of an expression by their places.
 #[derive(Clone, Copy)]
-enum Short<'a> {
+pub(crate) enum Short<'a> {
     // A parameter that is bound outside.
     Bound(&'a str),
     // A variable with the number of another.
@@ -35,7 +33,7 @@ enum Short<'a> {
 
 use Short::{Bound, Duplicate, Miscounted, Uncallable, Undefined, Unknown, Untaken};
 
-fn whole(short: Short<'_>) -> Fault<'_> {
+pub(crate) fn in_full(short: Short<'_>) -> Fault<'_> {
     match short {
         Bound(lexeme) => Fault::BoundParameter {
             parameter: name(lexeme),
@@ -61,77 +59,6 @@ fn whole(short: Short<'_>) -> Fault<'_> {
             variable: name_at("v", offset),
         },
     }
-}
-
-// The first fault of a module, where these numbers are referenced: each, where none are given.
-fn found<'a>(
-    alloc: Global,
-    sketch: &Sketch<'a>,
-    referenced: Option<&[u64]>,
-) -> Result<Option<Fault<'a>>, OutOfMemory> {
-    let module = module(alloc, sketch)?;
-    let found = found_in(alloc, &module, referenced);
-    drop(module);
-    found
-}
-
-fn found_in<'a>(
-    alloc: Global,
-    module: &Justfile<'a>,
-    referenced: Option<&[u64]>,
-) -> Result<Option<Fault<'a>>, OutOfMemory> {
-    let outer = outer_scope(alloc)?;
-    let found = found_within(&outer, alloc, module, referenced);
-    drop(outer);
-    found
-}
-
-fn found_within<'a>(
-    outer: &Scope<'a, '_>,
-    alloc: Global,
-    module: &Justfile<'a>,
-    referenced: Option<&[u64]>,
-) -> Result<Option<Fault<'a>>, OutOfMemory> {
-    let parent = outer.child(alloc)?;
-    let found = found_below(alloc, module, &parent, referenced);
-    drop(parent);
-    found
-}
-
-fn found_below<'a>(
-    alloc: Global,
-    module: &Justfile<'a>,
-    parent: &Scope<'a, '_>,
-    referenced: Option<&[u64]>,
-) -> Result<Option<Fault<'a>>, OutOfMemory> {
-    match referenced {
-        Some(numbers) => first_fault(alloc, module, parent, Some(&references(alloc, numbers)?)),
-        None => first_fault(alloc, module, parent, None),
-    }
-}
-
-fn expect(
-    rt: &impl Abort,
-    alloc: Global,
-    sketch: Sketch,
-    referenced: Option<&[u64]>,
-    expected: Option<Short>,
-) -> Result<(), OutOfMemory> {
-    let found = found(alloc, &sketch, referenced)?;
-    let (_, _, order) = sketch;
-    same_fault(rt, order, referenced, found, expected);
-    Ok(())
-}
-
-// Whether what was found in a module with this order is the fault that is wanted.
-fn same_fault(
-    rt: &impl Abort,
-    order: &[&str],
-    referenced: Option<&[u64]>,
-    found: Option<Fault>,
-    expected: Option<Short>,
-) {
-    assert_eq!(rt; found, expected.map(whole), "{order:?} {referenced:?}");
 }
 
 // Faults, what each says, and the name and the offset where it stands.
@@ -178,7 +105,7 @@ fn says(
     at: Name,
 ) -> Result<(), OutOfMemory> {
     tells(rt, fault.to_string(alloc)?, text);
-    same_token(rt, text, fault.token(), at.token);
+    equal(rt, text, fault.token(), at.token);
     Ok(())
 }
 
@@ -186,7 +113,7 @@ fn says(
 fn faults_say(rt: HostRuntime) -> Result<(), Fail> {
     for (short, text, lexeme, offset) in SAID {
         let at = name_at(lexeme, *offset);
-        says(&rt, rt.alloc(), whole(*short), text, at)?;
+        says(&rt, rt.alloc(), in_full(*short), text, at)?;
     }
     Ok(())
 }
@@ -203,25 +130,6 @@ const OF_PARAMETER: &[Function] = &[("f", &[8], &[]), ("g", &[9, 8], &[])];
 
 const BOUND: &[Function] = &[("f", &[9, OUTER], &[])];
 
-const NUMBERS: &[(&[Function], &[Variable], Option<Short>)] = &[
-    (&[], PLAIN, None),
-    (&[], SAME_NUMBER, Some(Duplicate("b"))),
-    (OF_ASSIGNMENT, PLAIN, Some(Duplicate("p"))),
-    (OF_PARAMETER, PLAIN, Some(Duplicate("p"))),
-    (BOUND, PLAIN, Some(Bound("p"))),
-    (BOUND, SAME_NUMBER, Some(Duplicate("b"))),
-];
-
-// Numbers that stand there twice, or are bound outside.
-#[test]
-fn numbers(rt: HostRuntime) -> Result<(), Fail> {
-    for (functions, variables, expected) in NUMBERS {
-        let sketch: Sketch = (functions, variables, &["a", "b"]);
-        expect(&rt, rt.alloc(), sketch, None, *expected)?;
-    }
-    Ok(())
-}
-
 const UNNUMBERED_BODY: &[Function] = &[("f", &[9], &[Read(9), Unnumbered])];
 
 const KNOWN: &[Variable] = &[("a", 1, &[Call("f", &[OUTER]), Call("sha256", &[])])];
@@ -233,26 +141,6 @@ const UNKNOWN: &[Variable] = &[("a", 1, &[Call("nope", &[]), Unnumbered])];
 const MISCOUNTED: &[Variable] = &[("a", 1, &[Call("f", &[OUTER, OUTER])])];
 
 const BUILT_IN: &[Variable] = &[("a", 1, &[]), ("b", 2, &[Read(1), Call("len", &[])])];
-
-const NAMES: &[(&[Function], &[Variable], Option<Short>)] = &[
-    (ONE_PARAMETER, KNOWN, None),
-    (ONE_PARAMETER, UNNUMBERED, Some(Undefined(1))),
-    (ONE_PARAMETER, UNKNOWN, Some(Uncallable("nope", 0))),
-    (ONE_PARAMETER, MISCOUNTED, Some(Miscounted("f", 0, 2))),
-    (ONE_PARAMETER, BUILT_IN, Some(Miscounted("len", 1, 0))),
-    (UNNUMBERED_BODY, KNOWN, Some(Undefined(1))),
-    (UNNUMBERED_BODY, BUILT_IN, Some(Miscounted("len", 1, 0))),
-];
-
-// Variables without a number, and calls that their names do not take.
-#[test]
-fn names(rt: HostRuntime) -> Result<(), Fail> {
-    for (functions, variables, expected) in NAMES {
-        let sketch: Sketch = (functions, variables, &[]);
-        expect(&rt, rt.alloc(), sketch, None, *expected)?;
-    }
-    Ok(())
-}
 
 const READS_SECOND: &[Function] = &[
     ("f", &[9], &[Read(9), Call("g", &[])]),
@@ -266,30 +154,6 @@ const READERS: &[Variable] = &[
     ("d", 4, &[Call("g", &[]), Read(1)]),
 ];
 
-const ORDERS: &[(&[&str], Option<&[u64]>, Option<Short>)] = &[
-    (&["b", "a", "c", "d"], None, None),
-    (&["b", "e", "c"], None, Some(Unknown("e"))),
-    (&["b", "c", "e"], None, Some(Untaken("c", 2))),
-    (&["c", "b"], None, Some(Untaken("c", 1))),
-    // In the body of a function that is reached, unless something is read too early by itself.
-    (&["a", "b"], None, Some(Untaken("a", 1))),
-    (&["d", "b"], None, Some(Untaken("d", 1))),
-    // What is not referenced is not taken, and may read what it wants.
-    (&["a", "b"], Some(&[2]), None),
-    (&["b", "d"], Some(&[4]), Some(Untaken("d", 1))),
-    (&["e"], Some(&[2]), Some(Unknown("e"))),
-];
-
-// Names of an order that are no assignments', and variables that are read too early.
-#[test]
-fn orders(rt: HostRuntime) -> Result<(), Fail> {
-    for (order, referenced, expected) in ORDERS {
-        let sketch = (READS_SECOND, READERS, *order);
-        expect(&rt, rt.alloc(), sketch, *referenced, *expected)?;
-    }
-    Ok(())
-}
-
 const BOUND_AND_UNNUMBERED: &[Function] = &[("f", &[OUTER], &[Unnumbered])];
 
 const UNNUMBERED_ALONE: &[Function] = &[("f", &[9], &[Unnumbered])];
@@ -300,20 +164,124 @@ const UNKNOWN_AND_EARLY: &[Variable] = &[("a", 1, &[Call("nope", &[])]), ("b", 2
 
 const EARLY: &[Variable] = &[("a", 1, &[]), ("b", 2, &[Read(3)])];
 
-const SEVERAL: &[(&[Function], &[Variable], Short)] = &[
-    (BOUND_AND_UNNUMBERED, TWICE, Duplicate("b")),
-    (BOUND_AND_UNNUMBERED, UNKNOWN_AND_EARLY, Bound("p")),
-    (UNNUMBERED_ALONE, UNKNOWN_AND_EARLY, Uncallable("nope", 0)),
-    (UNNUMBERED_ALONE, EARLY, Undefined(0)),
-    (ONE_PARAMETER, EARLY, Untaken("b", 0)),
+const FAULTS: &[Group] = &[
+    (
+        &[],
+        PLAIN,
+        &[
+            // Numbers that stand there twice, or are bound outside.
+            (&["a", "b"], None, None, None),
+        ],
+    ),
+    (
+        &[],
+        SAME_NUMBER,
+        &[(&["a", "b"], None, Some(Duplicate("b")), None)],
+    ),
+    (
+        OF_ASSIGNMENT,
+        PLAIN,
+        &[(&["a", "b"], None, Some(Duplicate("p")), None)],
+    ),
+    (
+        OF_PARAMETER,
+        PLAIN,
+        &[(&["a", "b"], None, Some(Duplicate("p")), None)],
+    ),
+    (BOUND, PLAIN, &[(&["a", "b"], None, Some(Bound("p")), None)]),
+    (
+        BOUND,
+        SAME_NUMBER,
+        &[(&["a", "b"], None, Some(Duplicate("b")), None)],
+    ),
+    (
+        ONE_PARAMETER,
+        KNOWN,
+        &[
+            // Variables without a number, and calls that their names do not take.
+            (&[], None, None, None),
+        ],
+    ),
+    (
+        ONE_PARAMETER,
+        UNNUMBERED,
+        &[(&[], None, Some(Undefined(1)), None)],
+    ),
+    (
+        ONE_PARAMETER,
+        UNKNOWN,
+        &[(&[], None, Some(Uncallable("nope", 0)), None)],
+    ),
+    (
+        ONE_PARAMETER,
+        MISCOUNTED,
+        &[(&[], None, Some(Miscounted("f", 0, 2)), None)],
+    ),
+    (
+        ONE_PARAMETER,
+        BUILT_IN,
+        &[(&[], None, Some(Miscounted("len", 1, 0)), None)],
+    ),
+    (
+        UNNUMBERED_BODY,
+        KNOWN,
+        &[(&[], None, Some(Undefined(1)), None)],
+    ),
+    (
+        UNNUMBERED_BODY,
+        BUILT_IN,
+        &[(&[], None, Some(Miscounted("len", 1, 0)), None)],
+    ),
+    (
+        READS_SECOND,
+        READERS,
+        &[
+            // Names of an order that are no assignments', and variables that are read too early.
+            (&["b", "a", "c", "d"], None, None, None),
+            (&["b", "e", "c"], None, Some(Unknown("e")), None),
+            (&["b", "c", "e"], None, Some(Untaken("c", 2)), None),
+            (&["c", "b"], None, Some(Untaken("c", 1)), None),
+            // In the body of a function that is reached, unless something is read too early by itself.
+            (&["a", "b"], None, Some(Untaken("a", 1)), None),
+            (&["d", "b"], None, Some(Untaken("d", 1)), None),
+            // What is not referenced is not taken, and may read what it wants.
+            (&["a", "b"], Some(&[2]), None, Some(true)),
+            (&["b", "d"], Some(&[4]), Some(Untaken("d", 1)), Some(false)),
+            (&["e"], Some(&[2]), Some(Unknown("e")), Some(false)),
+        ],
+    ),
+    (
+        BOUND_AND_UNNUMBERED,
+        TWICE,
+        &[
+            // Several faults: the first in the order in which they are looked for.
+            (&["a", "b", "c"], None, Some(Duplicate("b")), None),
+        ],
+    ),
+    (
+        BOUND_AND_UNNUMBERED,
+        UNKNOWN_AND_EARLY,
+        &[(&["a", "b", "c"], None, Some(Bound("p")), None)],
+    ),
+    (
+        UNNUMBERED_ALONE,
+        UNKNOWN_AND_EARLY,
+        &[(&["a", "b", "c"], None, Some(Uncallable("nope", 0)), None)],
+    ),
+    (
+        UNNUMBERED_ALONE,
+        EARLY,
+        &[(&["a", "b", "c"], None, Some(Undefined(0)), None)],
+    ),
+    (
+        ONE_PARAMETER,
+        EARLY,
+        &[(&["a", "b", "c"], None, Some(Untaken("b", 0)), None)],
+    ),
 ];
 
-// Modules with several faults: the first in the order in which they are looked for.
 #[test]
-fn several_faults(rt: HostRuntime) -> Result<(), Fail> {
-    for (functions, variables, expected) in SEVERAL {
-        let sketch: Sketch = (functions, variables, &["a", "b", "c"]);
-        expect(&rt, rt.alloc(), sketch, None, Some(*expected))?;
-    }
+fn first_faults(rt: HostRuntime) -> Result<(), Fail> {
+    expect_all(&rt, rt.alloc(), FAULTS)?;
     Ok(())
 }

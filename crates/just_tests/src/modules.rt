@@ -1,12 +1,13 @@
 // Modules that tests are made of.
 
-use crate::parts::{name, token, whole};
+use crate::parts::{name, numbered, token, whole};
 use crate::scope::bind;
 use just_host::justfile::Justfile;
 use just_host::settings::Settings;
 use just_syntax::assignment::Assignment;
 use just_syntax::expression::Expression;
 use just_syntax::function_definition::FunctionDefinition;
+use just_syntax::keyed::Keyed;
 use just_syntax::name::Name;
 use just_syntax::number::Number;
 use just_syntax::out_of_memory::OutOfMemory;
@@ -49,7 +50,7 @@ pub(crate) fn name_at(lexeme: &str, offset: usize) -> Name<'_> {
 fn variable<'a>(number: Option<u64>, offset: usize) -> Expression<'a> {
     Expression::Variable {
         name: name_at("v", offset),
-        number: number.map(Number::new),
+        number: numbered(number),
     }
 }
 
@@ -57,17 +58,31 @@ fn made<'a>(alloc: Global, part: Part<'a>, offset: usize) -> Result<Expression<'
     match part {
         Part::Read(number) => Ok(variable(Some(number), offset)),
         Part::Unnumbered => Ok(variable(None, offset)),
-        Part::Call(callee, numbers) => {
-            let mut arguments = Vec::new(alloc);
-            for number in numbers {
-                arguments.push(variable(Some(*number), offset))?;
-            }
-            Ok(Expression::Call {
-                arguments,
-                name: name_at(callee, offset),
-            })
-        }
+        Part::Call(callee, numbers) => called(alloc, name_at(callee, offset), numbers, offset),
     }
+}
+
+// A call, and variables with these numbers as its arguments.
+fn called<'a>(
+    alloc: Global,
+    callee: Name<'a>,
+    numbers: &[u64],
+    offset: usize,
+) -> Result<Expression<'a>, OutOfMemory> {
+    let mut arguments = Vec::new(alloc);
+    let filled = read(&mut arguments, numbers, offset);
+    Ok(Expression::call(callee, whole(arguments, filled)?))
+}
+
+fn read(
+    arguments: &mut Vec<Expression>,
+    numbers: &[u64],
+    offset: usize,
+) -> Result<(), OutOfMemory> {
+    for number in numbers {
+        arguments.push(variable(Some(*number), offset))?;
+    }
+    Ok(())
 }
 
 // A list of these parts, each at its place among them.
@@ -80,13 +95,28 @@ fn expression<'a>(alloc: Global, parts: &[Part<'a>]) -> Result<Expression<'a>, O
     })
 }
 
+// Adds what may have been made to a row.
+fn put<T: Drop>(row: &mut Vec<T>, made: Result<T, OutOfMemory>) -> Result<(), OutOfMemory> {
+    row.push(made?)?;
+    Ok(())
+}
+
+// Adds what may have been made to a table.
+fn file<T: Drop + Keyed>(
+    table: &mut Table<T>,
+    made: Result<T, OutOfMemory>,
+) -> Result<(), OutOfMemory> {
+    table.insert(made?)?;
+    Ok(())
+}
+
 fn make<'a>(
     alloc: Global,
     elements: &mut Vec<Expression<'a>>,
     parts: &[Part<'a>],
 ) -> Result<(), OutOfMemory> {
     for (offset, part) in parts.iter().enumerate() {
-        elements.push(made(alloc, *part, offset)?)?;
+        put(elements, made(alloc, *part, offset))?;
     }
     Ok(())
 }
@@ -115,7 +145,7 @@ fn define<'a>(
     all: &[Function<'a>],
 ) -> Result<(), OutOfMemory> {
     for of in all {
-        table.insert(function(alloc, of)?)?;
+        file(table, function(alloc, of))?;
     }
     Ok(())
 }
@@ -142,7 +172,7 @@ fn assign<'a>(
     all: &[Variable<'a>],
 ) -> Result<(), OutOfMemory> {
     for of in all {
-        table.insert(assignment(alloc, of)?)?;
+        file(table, assignment(alloc, of))?;
     }
     Ok(())
 }

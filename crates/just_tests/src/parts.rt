@@ -2,6 +2,7 @@
 
 use crate::compared::tells;
 use just_syntax::name::Name;
+use just_syntax::number::Number;
 use just_syntax::out_of_memory::OutOfMemory;
 use just_syntax::place::Place;
 use just_syntax::token::Token;
@@ -24,6 +25,14 @@ pub(crate) fn token(lexeme: &str) -> Token<'_> {
 
 pub(crate) fn name(lexeme: &str) -> Name<'_> {
     Name::new(lexeme, Some(PLACE))
+}
+
+// A variable's number, if it has one.
+pub(crate) fn numbered(number: Option<u64>) -> Option<Number> {
+    match number {
+        Some(number) => Some(Number::new(number)),
+        None => None,
+    }
 }
 
 pub(crate) fn value(alloc: Global, elements: &[&str]) -> Result<Value, OutOfMemory> {
@@ -53,6 +62,16 @@ pub(crate) fn is_written<T: Display + Drop>(
     text: &str,
 ) -> Result<(), OutOfMemory> {
     shows(rt, alloc, &made, text)
+}
+
+// Whether what may have been made is written so.
+pub(crate) fn made_is_written<T: Display + Drop>(
+    rt: &impl Abort,
+    alloc: Global,
+    made: Result<T, OutOfMemory>,
+    text: &str,
+) -> Result<(), OutOfMemory> {
+    shows(rt, alloc, &made?, text)
 }
 
 // What was made, unless memory gave out while it was filled.

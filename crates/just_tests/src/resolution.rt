@@ -1,90 +1,134 @@
-// Modules that are resolved, and modules that are not.
+// Modules that are resolved, and modules that are not: by `resolved`, by `first_fault` and by `resolved_const`.
 
-use crate::modules::Part::{Call, Read, Unnumbered};
-use crate::modules::{
-    Function, OUTER, Part, Sketch, Variable, assignments, module, names, outer_scope, references,
+use crate::faults::Short::{
+    self, Bound, Duplicate, Miscounted, Uncallable, Undefined, Unknown, Untaken,
 };
+use crate::faults::in_full;
+use crate::modules::Part::{Call, Read, Unnumbered};
+use crate::modules::{Function, OUTER, Sketch, Variable, module, outer_scope, references};
 use just_host::justfile::Justfile;
+use just_resolution::fault::Fault;
+use just_resolution::first_fault::first_fault;
 use just_resolution::resolved::resolved;
 use just_resolution::resolved_const::resolved_const;
-use just_syntax::assignment::Assignment;
-use just_syntax::name::Name;
+use just_syntax::number::Number;
 use just_syntax::out_of_memory::OutOfMemory;
-use just_syntax::table::Table;
 use just_value::scope::Scope;
 use std::alloc::Global;
+use std::collections::HashSet;
 use std::process::Abort;
 use std::test::Fail;
 
-// Whether a module is resolved, where these numbers are referenced: each, where none are given.
-fn is_resolved(
+// An order, the numbers that are referenced (each, where none are given), the first fault of a module with this order, if
+// it is not resolved, and whether its assignments are resolved before any run, which is not asked where each number is
+// referenced.
+type Case<'a> = (
+    &'a [&'a str],
+    Option<&'a [u64]>,
+    Option<Short<'a>>,
+    Option<bool>,
+);
+
+// Functions and assignments, and what is wanted of a module of them in several cases.
+pub(crate) type Group<'a> = (&'a [Function<'a>], &'a [Variable<'a>], &'a [Case<'a>]);
+
+// Whether a module is resolved, its first fault, and whether its assignments are resolved before any run.
+type Answer<'a> = (bool, Option<Fault<'a>>, Option<bool>);
+
+fn answer<'a>(
     alloc: Global,
-    sketch: &Sketch,
+    sketch: &Sketch<'a>,
     referenced: Option<&[u64]>,
-) -> Result<bool, OutOfMemory> {
+) -> Result<Answer<'a>, OutOfMemory> {
     let module = module(alloc, sketch)?;
-    let answer = is_resolved_in(alloc, &module, referenced);
+    let answer = answer_in(alloc, &module, referenced);
     drop(module);
     answer
 }
 
-fn is_resolved_in(
+fn answer_in<'a>(
     alloc: Global,
-    module: &Justfile,
+    module: &Justfile<'a>,
     referenced: Option<&[u64]>,
-) -> Result<bool, OutOfMemory> {
+) -> Result<Answer<'a>, OutOfMemory> {
     let outer = outer_scope(alloc)?;
-    let answer = is_resolved_within(&outer, alloc, module, referenced);
+    let answer = answer_within(&outer, alloc, module, referenced);
     drop(outer);
     answer
 }
 
-fn is_resolved_within<'a>(
+fn answer_within<'a>(
     outer: &Scope<'a, '_>,
     alloc: Global,
     module: &Justfile<'a>,
     referenced: Option<&[u64]>,
-) -> Result<bool, OutOfMemory> {
+) -> Result<Answer<'a>, OutOfMemory> {
     let parent = outer.child(alloc)?;
-    let answer = is_resolved_below(alloc, module, &parent, referenced);
+    let answer = answer_below(alloc, module, &parent, referenced);
     drop(parent);
     answer
 }
 
-fn is_resolved_below<'a>(
+fn answer_below<'a>(
     alloc: Global,
     module: &Justfile<'a>,
     parent: &Scope<'a, '_>,
     referenced: Option<&[u64]>,
-) -> Result<bool, OutOfMemory> {
+) -> Result<Answer<'a>, OutOfMemory> {
     match referenced {
-        Some(numbers) => resolved(alloc, module, parent, Some(&references(alloc, numbers)?)),
-        None => resolved(alloc, module, parent, None),
+        Some(numbers) => answer_of(alloc, module, parent, &references(alloc, numbers)?),
+        None => {
+            let answer = resolved(alloc, module, parent, None)?;
+            Ok((answer, first_fault(alloc, module, parent, None)?, None))
+        }
     }
 }
 
-fn expect(
+fn answer_of<'a>(
+    alloc: Global,
+    module: &Justfile<'a>,
+    parent: &Scope<'a, '_>,
+    referenced: &HashSet<Number>,
+) -> Result<Answer<'a>, OutOfMemory> {
+    let answer = resolved(alloc, module, parent, Some(referenced))?;
+    let fault = first_fault(alloc, module, parent, Some(referenced))?;
+    let order = &module.evaluation_order;
+    let before = resolved_const(alloc, &module.assignments, order, parent, referenced)?;
+    Ok((answer, fault, Some(before)))
+}
+
+pub(crate) fn expect_all(
     rt: &impl Abort,
     alloc: Global,
-    sketch: Sketch,
-    referenced: Option<&[u64]>,
-    expected: bool,
+    groups: &[Group],
 ) -> Result<(), OutOfMemory> {
-    let answer = is_resolved(alloc, &sketch, referenced)?;
-    let (_, _, order) = sketch;
-    same_answer(rt, order, referenced, answer, expected);
+    for group in groups {
+        expect(rt, alloc, group)?;
+    }
     Ok(())
 }
 
-// Whether what is answered of this order, where these numbers are referenced, is what is wanted.
-fn same_answer(
-    rt: &impl Abort,
-    order: &[&str],
-    referenced: Option<&[u64]>,
-    answer: bool,
-    expected: bool,
-) {
-    assert_eq!(rt; answer, expected, "{order:?} {referenced:?}");
+fn expect(rt: &impl Abort, alloc: Global, group: &Group) -> Result<(), OutOfMemory> {
+    let (functions, variables, cases) = *group;
+    for case in cases {
+        let (order, referenced, _, _) = *case;
+        same_answer(
+            rt,
+            case,
+            answer(alloc, &(functions, variables, order), referenced)?,
+        );
+    }
+    Ok(())
+}
+
+fn same_answer(rt: &impl Abort, case: &Case, answer: Answer) {
+    let (order, referenced, short, before) = *case;
+    let fault = match short {
+        Some(short) => Some(in_full(short)),
+        None => None,
+    };
+    let wanted = (fault.is_none(), fault, before);
+    assert_eq!(rt; answer, wanted, "{order:?} {referenced:?}");
 }
 
 const CHAIN: &[Variable] = &[
@@ -100,31 +144,6 @@ const ITSELF: &[Variable] = &[("a", 1, &[Read(1)])];
 const SAME_NUMBER: &[Variable] = &[("a", 1, &[]), ("b", 1, &[])];
 
 const UNNUMBERED: &[Variable] = &[("a", 1, &[Unnumbered])];
-
-// Assignments, their order, and whether the module is resolved.
-const ORDERS: &[(&[Variable], &[&str], bool)] = &[
-    (CHAIN, &["a", "b", "c"], true),
-    (CHAIN, &["a", "b", "a", "c", "b"], true),
-    (CHAIN, &["a"], true),
-    (CHAIN, &[], true),
-    (CHAIN, &["b", "a", "c"], false),
-    (CHAIN, &["a", "c", "b"], false),
-    (CHAIN, &["a", "d"], false),
-    (CYCLE, &["a", "b"], false),
-    (CYCLE, &["b", "a"], false),
-    (ITSELF, &["a"], false),
-    (SAME_NUMBER, &[], false),
-    (UNNUMBERED, &[], false),
-];
-
-#[test]
-fn orders(rt: HostRuntime) -> Result<(), Fail> {
-    for (variables, order, expected) in ORDERS {
-        let sketch: Sketch = (&[], variables, order);
-        expect(&rt, rt.alloc(), sketch, None, *expected)?;
-    }
-    Ok(())
-}
 
 const READS_FIRST: &[Function] = &[
     ("f", &[9], &[Read(9), Call("g", &[])]),
@@ -143,25 +162,6 @@ const NO_ARGUMENT: &[Variable] = &[("a", 1, &[]), ("b", 2, &[Call("f", &[])])];
 
 const PLAIN: &[Variable] = &[("a", 1, &[])];
 
-const FUNCTIONS_AND_ORDERS: &[(Sketch, bool)] = &[
-    ((&[], PLAIN, &["a"]), true),
-    ((READS_FIRST, ONE_ARGUMENT, &["a", "b"]), true),
-    ((READS_FIRST, ONE_ARGUMENT, &["b", "a"]), false),
-    ((READS_FIRST, NO_ARGUMENT, &["a", "b"]), false),
-    ((&[], NO_ARGUMENT, &["a", "b"]), false),
-    ((FOREVER, NO_ARGUMENT, &["a", "b"]), true),
-    ((CALLERS, ONE_ARGUMENT, &["a", "b"]), false),
-    ((BOUND, PLAIN, &["a"]), false),
-];
-
-#[test]
-fn functions_and_orders(rt: HostRuntime) -> Result<(), Fail> {
-    for (sketch, expected) in FUNCTIONS_AND_ORDERS {
-        expect(&rt, rt.alloc(), *sketch, None, *expected)?;
-    }
-    Ok(())
-}
-
 const READER: &[Function] = &[("f", &[], &[Read(1)])];
 
 const READERS: &[Variable] = &[
@@ -170,92 +170,21 @@ const READERS: &[Variable] = &[
     ("c", 3, &[Call("f", &[])]),
 ];
 
-// Assignments, their order, the numbers that are referenced, and whether the module is resolved.
-const UNREFERENCED: &[(&[Variable], &[&str], &[u64], bool)] = &[
-    // What is not referenced may read what is not taken, by itself or through a function.
-    (READERS, &["b", "a"], &[1], true),
-    (READERS, &["b", "a"], &[1, 2], false),
-    (READERS, &["b", "a"], &[], true),
-    (READERS, &["c", "a"], &[1], true),
-    (READERS, &["c", "a"], &[1, 3], false),
-    // It is not taken, so what is referenced may not read it.
-    (READERS, &["a", "b"], &[1, 2], true),
-    (READERS, &["a", "b"], &[2], false),
-    (READERS, &["a", "c"], &[1, 3], true),
-    (READERS, &["a", "c"], &[3], false),
-    // All else is asked of it too.
-    (READERS, &["d"], &[], false),
-    (UNNUMBERED, &["a"], &[], false),
-];
-
-#[test]
-fn unreferenced_assignments(rt: HostRuntime) -> Result<(), Fail> {
-    for (variables, order, referenced, expected) in UNREFERENCED {
-        let sketch = (READER, *variables, *order);
-        expect(&rt, rt.alloc(), sketch, Some(referenced), *expected)?;
-    }
-    Ok(())
-}
-
 const HIDDEN: &[Function] = &[("len", &[8, 9], &[])];
 
-const LEN: &[Part] = &[Call("len", &[1])];
+const LEN: &[Variable] = &[("a", 1, &[]), ("b", 2, &[Call("len", &[1])])];
 
-const LEN_OF_TWO: &[Part] = &[Call("len", &[1, 1])];
+const LEN_OF_TWO: &[Variable] = &[("a", 1, &[]), ("b", 2, &[Call("len", &[1, 1])])];
 
-// What functions the file defines, what stands in a value, and whether the module is resolved.
-const BUILT_IN_NAMES: &[(&[Function], &[Part], bool)] = &[
-    (&[], LEN, true),
-    (&[], LEN_OF_TWO, false),
-    (HIDDEN, LEN, false),
-    (HIDDEN, LEN_OF_TWO, true),
-    // Another name of a function.
-    (&[], &[Call("justfile_dir", &[])], true),
-    (&[], &[Call("shell", &[1, 1, 1])], true),
-    (&[], &[Call("shell", &[])], false),
-    // A function that is left out.
-    (&[], &[Call("sha256", &[1, 1])], true),
-    (&[], &[Call("nope", &[])], false),
-];
+const OTHER_NAME: &[Variable] = &[("a", 1, &[]), ("b", 2, &[Call("justfile_dir", &[])])];
 
-// Calls of names that the file does not define, and of a built-in function's name that it does.
-#[test]
-fn built_in_names(rt: HostRuntime) -> Result<(), Fail> {
-    for (functions, value, expected) in BUILT_IN_NAMES {
-        let variables: &[Variable] = &[("a", 1, &[]), ("b", 2, value)];
-        let sketch: Sketch = (functions, variables, &["a", "b"]);
-        expect(&rt, rt.alloc(), sketch, None, *expected)?;
-    }
-    Ok(())
-}
+const SHELL_OF_THREE: &[Variable] = &[("a", 1, &[]), ("b", 2, &[Call("shell", &[1, 1, 1])])];
 
-// Whether assignments are resolved before any run, where these numbers are referenced.
-fn is_resolved_const<'a>(
-    alloc: Global,
-    all: &Table<Assignment<'a>>,
-    order: &[Name<'a>],
-    referenced: &[u64],
-) -> Result<bool, OutOfMemory> {
-    let outer = outer_scope(alloc)?;
-    let scope = outer.child(alloc)?;
-    let references = references(alloc, referenced)?;
-    resolved_const(alloc, all, order, &scope, &references)
-}
+const SHELL_OF_NONE: &[Variable] = &[("a", 1, &[]), ("b", 2, &[Call("shell", &[])])];
 
-fn expect_const<'a>(
-    rt: &impl Abort,
-    alloc: Global,
-    variables: &[Variable<'a>],
-    order: &[&'a str],
-    referenced: &[u64],
-    expected: bool,
-) -> Result<(), OutOfMemory> {
-    let all = assignments(alloc, variables)?;
-    let names = names(alloc, order)?;
-    let answer = is_resolved_const(alloc, &all, &names, referenced)?;
-    same_answer(rt, order, Some(referenced), answer, expected);
-    Ok(())
-}
+const LEFT_OUT: &[Variable] = &[("a", 1, &[]), ("b", 2, &[Call("sha256", &[1, 1])])];
+
+const NOPE: &[Variable] = &[("a", 1, &[]), ("b", 2, &[Call("nope", &[])])];
 
 const READS_OUTER: &[Variable] = &[("a", 1, &[Read(OUTER)])];
 
@@ -265,33 +194,208 @@ const CALLED: &[Variable] = &[("a", 1, &[Call("len", &[2])]), ("b", 2, &[])];
 
 const PAIR: &[Variable] = &[("a", 1, &[]), ("b", 2, &[Read(1)])];
 
-// Assignments, their order, the numbers that are referenced, and whether these are resolved before any run.
-const BEFORE_ANY_RUN: &[(&[Variable], &[&str], &[u64], bool)] = &[
-    (&[], &[], &[], true),
-    (&[], &["a"], &[], false),
-    (READS_OUTER, &["a"], &[1], true),
-    (ITSELF, &["a"], &[1], false),
-    // A number is asked of each variable, also where nothing is taken.
-    (UNNUMBERED, &["a"], &[1], false),
-    (UNNUMBERED, &["a"], &[], false),
-    (UNNUMBERED, &[], &[], false),
-    // Nothing is asked of called names, and all of their arguments.
-    (UNKNOWN, &["a"], &[1], true),
-    (CALLED, &["b", "a"], &[1, 2], true),
-    (CALLED, &["a", "b"], &[1, 2], false),
-    (PAIR, &["a", "b"], &[1, 2], true),
-    (PAIR, &["a", "b", "a"], &[1, 2], true),
-    (PAIR, &["b", "a"], &[1, 2], false),
-    (PAIR, &["b", "a"], &[1], true),
-    (PAIR, &["a", "b"], &[2], false),
-    (PAIR, &["a", "c"], &[1, 2], false),
-    (SAME_NUMBER, &[], &[], false),
+const MODULES: &[Group] = &[
+    (
+        &[],
+        CHAIN,
+        &[
+            // Orders.
+            (&["a", "b", "c"], None, None, None),
+            (&["a", "b", "a", "c", "b"], None, None, None),
+            (&["a"], None, None, None),
+            (&[], None, None, None),
+            (&["b", "a", "c"], None, Some(Untaken("b", 0)), None),
+            (&["a", "c", "b"], None, Some(Untaken("c", 0)), None),
+            (&["a", "d"], None, Some(Unknown("d")), None),
+        ],
+    ),
+    (
+        &[],
+        CYCLE,
+        &[
+            (&["a", "b"], None, Some(Untaken("a", 0)), None),
+            (&["b", "a"], None, Some(Untaken("b", 0)), None),
+        ],
+    ),
+    (
+        &[],
+        ITSELF,
+        &[
+            (&["a"], None, Some(Untaken("a", 0)), None),
+            (&["a"], Some(&[1]), Some(Untaken("a", 0)), Some(false)),
+        ],
+    ),
+    (
+        &[],
+        SAME_NUMBER,
+        &[
+            (&[], None, Some(Duplicate("b")), None),
+            (&[], Some(&[]), Some(Duplicate("b")), Some(false)),
+        ],
+    ),
+    (
+        &[],
+        UNNUMBERED,
+        &[
+            (&[], None, Some(Undefined(0)), None),
+            // A number is asked of each variable, also where nothing is taken.
+            (&["a"], Some(&[1]), Some(Undefined(0)), Some(false)),
+            (&["a"], Some(&[]), Some(Undefined(0)), Some(false)),
+            (&[], Some(&[]), Some(Undefined(0)), Some(false)),
+        ],
+    ),
+    (
+        &[],
+        PLAIN,
+        &[
+            // Functions and orders.
+            (&["a"], None, None, None),
+        ],
+    ),
+    (
+        READS_FIRST,
+        ONE_ARGUMENT,
+        &[
+            (&["a", "b"], None, None, None),
+            (&["b", "a"], None, Some(Untaken("b", 0)), None),
+        ],
+    ),
+    (
+        READS_FIRST,
+        NO_ARGUMENT,
+        &[(&["a", "b"], None, Some(Miscounted("f", 0, 0)), None)],
+    ),
+    (
+        &[],
+        NO_ARGUMENT,
+        &[(&["a", "b"], None, Some(Uncallable("f", 0)), None)],
+    ),
+    (FOREVER, NO_ARGUMENT, &[(&["a", "b"], None, None, None)]),
+    (
+        CALLERS,
+        ONE_ARGUMENT,
+        &[(&["a", "b"], None, Some(Untaken("b", 0)), None)],
+    ),
+    (BOUND, PLAIN, &[(&["a"], None, Some(Bound("p")), None)]),
+    (
+        &[],
+        LEN,
+        &[
+            // Calls of names that the file does not define, and of a built-in function's name that it does.
+            (&["a", "b"], None, None, None),
+        ],
+    ),
+    (
+        &[],
+        LEN_OF_TWO,
+        &[(&["a", "b"], None, Some(Miscounted("len", 0, 2)), None)],
+    ),
+    (
+        HIDDEN,
+        LEN,
+        &[(&["a", "b"], None, Some(Miscounted("len", 0, 1)), None)],
+    ),
+    (HIDDEN, LEN_OF_TWO, &[(&["a", "b"], None, None, None)]),
+    (&[], OTHER_NAME, &[(&["a", "b"], None, None, None)]),
+    (&[], SHELL_OF_THREE, &[(&["a", "b"], None, None, None)]),
+    (
+        &[],
+        SHELL_OF_NONE,
+        &[(&["a", "b"], None, Some(Miscounted("shell", 0, 0)), None)],
+    ),
+    (&[], LEFT_OUT, &[(&["a", "b"], None, None, None)]),
+    (
+        &[],
+        NOPE,
+        &[(&["a", "b"], None, Some(Uncallable("nope", 0)), None)],
+    ),
+    (
+        READER,
+        READERS,
+        &[
+            // What is not referenced may read what is not taken, by itself or through a function.
+            (&["b", "a"], Some(&[1]), None, Some(true)),
+            (
+                &["b", "a"],
+                Some(&[1, 2]),
+                Some(Untaken("b", 0)),
+                Some(false),
+            ),
+            (&["b", "a"], Some(&[]), None, Some(true)),
+            (&["c", "a"], Some(&[1]), None, Some(true)),
+            // Before any run no function is entered.
+            (
+                &["c", "a"],
+                Some(&[1, 3]),
+                Some(Untaken("c", 0)),
+                Some(true),
+            ),
+            // It is not taken, so what is referenced may not read it.
+            (&["a", "b"], Some(&[1, 2]), None, Some(true)),
+            (&["a", "b"], Some(&[2]), Some(Untaken("b", 0)), Some(false)),
+            (&["a", "c"], Some(&[1, 3]), None, Some(true)),
+            (&["a", "c"], Some(&[3]), Some(Untaken("c", 0)), Some(true)),
+            // All else is asked of it too.
+            (&["d"], Some(&[]), Some(Unknown("d")), Some(false)),
+        ],
+    ),
+    (
+        READER,
+        UNNUMBERED,
+        &[(&["a"], Some(&[]), Some(Undefined(0)), Some(false))],
+    ),
+    (
+        &[],
+        &[],
+        &[
+            // Assignments before any run.
+            (&[], Some(&[]), None, Some(true)),
+            (&["a"], Some(&[]), Some(Unknown("a")), Some(false)),
+        ],
+    ),
+    (&[], READS_OUTER, &[(&["a"], Some(&[1]), None, Some(true))]),
+    (
+        &[],
+        UNKNOWN,
+        &[
+            // Nothing is asked of called names, and all of their arguments.
+            (&["a"], Some(&[1]), Some(Uncallable("nope", 0)), Some(true)),
+        ],
+    ),
+    (
+        &[],
+        CALLED,
+        &[
+            (&["b", "a"], Some(&[1, 2]), None, Some(true)),
+            (
+                &["a", "b"],
+                Some(&[1, 2]),
+                Some(Untaken("a", 0)),
+                Some(false),
+            ),
+        ],
+    ),
+    (
+        &[],
+        PAIR,
+        &[
+            (&["a", "b"], Some(&[1, 2]), None, Some(true)),
+            (&["a", "b", "a"], Some(&[1, 2]), None, Some(true)),
+            (
+                &["b", "a"],
+                Some(&[1, 2]),
+                Some(Untaken("b", 0)),
+                Some(false),
+            ),
+            (&["b", "a"], Some(&[1]), None, Some(true)),
+            (&["a", "b"], Some(&[2]), Some(Untaken("b", 0)), Some(false)),
+            (&["a", "c"], Some(&[1, 2]), Some(Unknown("c")), Some(false)),
+        ],
+    ),
 ];
 
 #[test]
-fn before_any_run(rt: HostRuntime) -> Result<(), Fail> {
-    for (variables, order, referenced, expected) in BEFORE_ANY_RUN {
-        expect_const(&rt, rt.alloc(), variables, order, referenced, *expected)?;
-    }
+fn modules_and_their_faults(rt: HostRuntime) -> Result<(), Fail> {
+    expect_all(&rt, rt.alloc(), MODULES)?;
     Ok(())
 }

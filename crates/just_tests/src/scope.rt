@@ -1,13 +1,15 @@
 // Expression contexts, scopes and their bindings.
 
-use crate::compared::{counts, is_so, numbered, same, same_if_any, stands, tells};
-use crate::parts::name;
+use crate::compared::{equal, tells};
+use crate::modules::Variable;
+use crate::parts::{name, numbered};
 use just_syntax::attribute_set::AttributeSet;
 use just_syntax::number::Number;
 use just_syntax::out_of_memory::OutOfMemory;
 use just_syntax::parameter::Parameter;
 use just_syntax::parameter_kind::ParameterKind;
 use just_value::binding::Binding;
+use just_value::bindings::Bindings;
 use just_value::expression_context::ExpressionContext;
 use just_value::scope::Scope;
 use just_value::value::Value;
@@ -15,32 +17,19 @@ use std::alloc::Global;
 use std::process::Abort;
 use std::test::Fail;
 
-fn binding<'src>(alloc: Global, lexeme: &'src str, number: u64, value: Value) -> Binding<'src> {
-    Binding {
-        attributes: AttributeSet::new(alloc),
-        eager: false,
-        export: false,
-        file_depth: 0,
-        name: name(lexeme),
-        number: Number::new(number),
-        prelude: false,
-        private: false,
-        value,
-    }
-}
-
 // Whether a context gives a name this number.
 pub(crate) fn gives(rt: &impl Abort, context: &ExpressionContext, name: &str, number: Option<u64>) {
-    numbered(rt, name, context.lookup(name), number);
+    equal(rt, name, context.lookup(name), numbered(number));
 }
 
-#[test]
-fn names_of_no_context(rt: HostRuntime) {
-    let empty = ExpressionContext::new(rt.alloc());
-    for name in ["n", "m", "x", ""] {
-        gives(&rt, &empty, name, None);
+// Whether a context gives each name its number.
+fn gives_all(rt: &impl Abort, context: &ExpressionContext, wanted: &[(&str, Option<u64>)]) {
+    for (name, number) in wanted {
+        gives(rt, context, name, *number);
     }
 }
+
+const OF_NO_CONTEXT: &[(&str, Option<u64>)] = &[("n", None), ("m", None), ("x", None), ("", None)];
 
 const FROM_PAIRS: &[(&str, Option<u64>)] = &[
     ("n", Some(2)),
@@ -49,39 +38,70 @@ const FROM_PAIRS: &[(&str, Option<u64>)] = &[
     ("", None),
 ];
 
+const LAST_OF_THREE: &[(&str, Option<u64>)] = &[("n", Some(8)), ("m", None)];
+
 #[test]
 fn names_and_numbers(rt: HostRuntime) -> Result<(), Fail> {
+    let alloc = rt.alloc();
+    gives_all(&rt, &ExpressionContext::new(alloc), OF_NO_CONTEXT);
     let pairs = [
         (name("n"), Number::new(1)),
         (name("m"), Number::new(3)),
         (name("n"), Number::new(2)),
     ];
-    let context = ExpressionContext::from_pairs(rt.alloc(), &pairs)?;
-    for (name, number) in FROM_PAIRS {
-        gives(&rt, &context, name, *number);
-    }
+    gives_all(
+        &rt,
+        &ExpressionContext::from_pairs(alloc, &pairs)?,
+        FROM_PAIRS,
+    );
+    let pairs = [
+        (name("n"), Number::new(7)),
+        (name("n"), Number::new(9)),
+        (name("n"), Number::new(8)),
+    ];
+    gives_all(
+        &rt,
+        &ExpressionContext::from_pairs(alloc, &pairs)?,
+        LAST_OF_THREE,
+    );
     Ok(())
 }
+
+const PARAMETERS: &[Variable] = &[("x", 5, &[]), ("y", 6, &[]), ("x", 7, &[])];
 
 const FROM_PARAMETERS: &[(&str, Option<u64>)] = &[("x", Some(7)), ("y", Some(6)), ("n", None)];
 
 #[test]
 fn parameters_and_numbers(rt: HostRuntime) -> Result<(), Fail> {
-    let parameters = [parameter("x", 5), parameter("y", 6), parameter("x", 7)];
-    let context = ExpressionContext::from_parameters(rt.alloc(), &parameters);
-    drop(parameters);
-    gives_all(&rt, &context?);
+    let context = from_parameters(rt.alloc(), PARAMETERS)?;
+    gives_all(&rt, &context, FROM_PARAMETERS);
     Ok(())
 }
 
-// Whether a context gives each name of parameters its number.
-fn gives_all(rt: &impl Abort, context: &ExpressionContext) {
-    for (name, number) in FROM_PARAMETERS {
-        gives(rt, context, name, *number);
-    }
+// The context of parameters with these names and numbers.
+pub(crate) fn from_parameters<'a>(
+    alloc: Global,
+    variables: &[Variable<'a>],
+) -> Result<ExpressionContext<'a>, OutOfMemory> {
+    let parameters = parameters(alloc, variables)?;
+    let context = ExpressionContext::from_parameters(alloc, &parameters);
+    drop(parameters);
+    context
 }
 
-pub(crate) fn parameter(lexeme: &str, number: u64) -> Parameter<'_> {
+// Parameters with these names and numbers.
+fn parameters<'a>(
+    alloc: Global,
+    variables: &[Variable<'a>],
+) -> Result<Vec<Parameter<'a>>, OutOfMemory> {
+    let mut parameters = Vec::new(alloc);
+    for (lexeme, number, _) in variables {
+        parameters.push(parameter(lexeme, *number))?;
+    }
+    Ok(parameters)
+}
+
+fn parameter(lexeme: &str, number: u64) -> Parameter<'_> {
     Parameter {
         default: None,
         export: false,
@@ -94,80 +114,6 @@ pub(crate) fn parameter(lexeme: &str, number: u64) -> Parameter<'_> {
     }
 }
 
-// The bindings of a root, each by its name and its value.
-fn told_root(alloc: Global, root: &Scope) -> Result<String, OutOfMemory> {
-    let mut told = String::new(alloc);
-    for binding in root.bindings() {
-        let name = binding.name;
-        let value = &binding.value;
-        write!(told, "{name}={value};")?;
-    }
-    Ok(told)
-}
-
-const CONSTANTS: &[(&str, &str)] = &[("HEX", "0123"), ("RED", "\u{1b}[31m")];
-
-#[test]
-fn root_binds_constants(rt: HostRuntime) -> Result<(), Fail> {
-    let root = Scope::root(rt.alloc(), CONSTANTS)?;
-    let bound = binds_constants(&root, &rt, rt.alloc());
-    drop(root);
-    Ok(bound?)
-}
-
-// Whether a root binds the constants, and nothing else.
-fn binds_constants(root: &Scope, rt: &impl Abort, alloc: Global) -> Result<(), OutOfMemory> {
-    tells(
-        rt,
-        told_root(alloc, root)?,
-        "HEX=\"0123\";RED=\"\u{1b}[31m\";",
-    );
-    is_so(rt, "no parent", outer_length(root).is_none());
-    same_if_any(rt, "second", name_of(root, 1), Some("RED"));
-    holds(root, rt, alloc, 2, "not bound")?;
-    are_constants(root, rt);
-    Ok(())
-}
-
-// How many bindings the parent of a scope has, if it has one.
-fn outer_length(scope: &Scope) -> Option<u64> {
-    match scope.parent() {
-        Some(outer) => Some(outer.len() as u64),
-        None => None,
-    }
-}
-
-// The name that a number is bound to.
-fn name_of<'src>(scope: &Scope<'src, '_>, number: u64) -> Option<&'src str> {
-    match scope.binding(Number::new(number)) {
-        Some(binding) => Some(binding.name.lexeme()),
-        None => None,
-    }
-}
-
-// Whether each own binding of a scope is that of a constant.
-fn are_constants(scope: &Scope, rt: &impl Abort) {
-    for binding in scope.bindings() {
-        is_constant(rt, binding);
-    }
-}
-
-// Whether a binding is that of a constant.
-fn is_constant(rt: &impl Abort, binding: &Binding) {
-    let plain = binding.prelude && !binding.eager && !binding.export && !binding.private;
-    is_so(rt, "plain", plain);
-    same(rt, binding.name.token.path, "PRELUDE");
-    counts(rt, "file depth", binding.file_depth as usize, 0);
-}
-
-// The value of a number in a scope, joined.
-pub(crate) fn told_value(alloc: Global, scope: &Scope, number: u64) -> Result<String, OutOfMemory> {
-    match scope.value(Number::new(number)) {
-        Some(value) => value.join(alloc),
-        None => Ok(String::from_str(alloc, "not bound")?),
-    }
-}
-
 // Binds a number to a text.
 pub(crate) fn bind<'src>(
     alloc: Global,
@@ -177,19 +123,56 @@ pub(crate) fn bind<'src>(
     text: &str,
 ) -> Result<(), OutOfMemory> {
     let value = Value::from_text(alloc, text)?;
-    scope.bind(binding(alloc, lexeme, number, value))
+    scope.bind(Binding {
+        attributes: AttributeSet::new(alloc),
+        eager: false,
+        export: false,
+        file_depth: 0,
+        name: name(lexeme),
+        number: Number::new(number),
+        prelude: false,
+        private: false,
+        value,
+    })
 }
 
-// Binds 2 and 1.
-fn bind_two(alloc: Global, scope: &mut Scope) -> Result<(), OutOfMemory> {
-    bind(alloc, scope, "x", 2, "two")?;
-    bind(alloc, scope, "y", 1, "one")
+// Names, numbers and texts, which are bound one behind the other.
+type Bound = &'static [(&'static str, u64, &'static str)];
+
+fn bind_all(alloc: Global, scope: &mut Scope, all: Bound) -> Result<(), OutOfMemory> {
+    for (lexeme, number, text) in all {
+        bind(alloc, scope, lexeme, *number, text)?;
+    }
+    Ok(())
 }
 
-// Binds 1 and 3.
-fn bind_own(alloc: Global, scope: &mut Scope) -> Result<(), OutOfMemory> {
-    bind(alloc, scope, "y", 1, "own")?;
-    bind(alloc, scope, "z", 3, "three")
+// The value of a number in a scope, joined, or `-`.
+pub(crate) fn told_value(alloc: Global, scope: &Scope, number: u64) -> Result<String, OutOfMemory> {
+    match scope.value(Number::new(number)) {
+        Some(value) => value.join(alloc),
+        None => Ok(String::from_str(alloc, "-")?),
+    }
+}
+
+// The name that a number is bound to, or `-`.
+pub(crate) fn name_of<'src>(scope: &Scope<'src, '_>, number: u64) -> &'src str {
+    if let Some(binding) = scope.binding(Number::new(number)) {
+        return binding.name.lexeme();
+    }
+    "-"
+}
+
+// Whether a scope itself binds a number.
+fn binds_itself(scope: &Scope, number: u64) -> bool {
+    scope.frame().binding(Number::new(number)).is_some()
+}
+
+// How many frames stand around that of a scope; -1, where it is a root.
+fn told_outer(scope: &Scope) -> i64 {
+    if let Some(outer) = scope.parent() {
+        return outer.len() as i64;
+    }
+    -1
 }
 
 // Whether a number has this value in a scope.
@@ -200,118 +183,202 @@ pub(crate) fn holds(
     number: u64,
     wanted: &str,
 ) -> Result<(), OutOfMemory> {
-    same_value(rt, number, &told_value(alloc, scope, number)?, wanted);
+    tells(rt, told_value(alloc, scope, number)?, wanted);
     Ok(())
 }
 
-fn same_value(rt: &impl Abort, number: u64, told: &str, wanted: &str) {
-    assert_eq!(rt; told, wanted, "{number}");
+// Adds each binding, its name and its value, which is joined.
+fn walk(bindings: Bindings, told: &mut String, alloc: Global) -> Result<(), OutOfMemory> {
+    for binding in bindings {
+        tell(binding, told, alloc)?;
+    }
+    Ok(())
 }
 
-// Numbers, and their values in the child and in its parent.
-const IN_BOTH: &[(u64, &str, &str)] = &[
-    (1, "own", "one"),
-    (2, "two", "two"),
-    (3, "three", "not bound"),
-    (4, "not bound", "not bound"),
+fn tell(binding: &Binding, told: &mut String, alloc: Global) -> Result<(), OutOfMemory> {
+    let name = binding.name.lexeme();
+    let mark = mark(binding);
+    let value = binding.value.join(alloc)?;
+    write!(told, "{name}={value}{mark};")?;
+    Ok(())
+}
+
+// Nothing for a binding as `bind` makes it, `!` for that of a constant, and `?` for any other.
+fn mark(binding: &Binding) -> &'static str {
+    let says_more = binding.eager || binding.export || binding.private;
+    let path = binding.name.token.path;
+    if says_more || binding.file_depth != 0 {
+        return "?";
+    }
+    if binding.prelude && path == "PRELUDE" {
+        return "!";
+    }
+    if !binding.prelude && path == "justfile" {
+        ""
+    } else {
+        "?"
+    }
+}
+
+// The own bindings of a scope, twice: those of the scope, and those of its frame.
+pub(crate) fn told_own(alloc: Global, scope: &Scope) -> Result<String, OutOfMemory> {
+    let mut told = String::new(alloc);
+    walk(scope.bindings(), &mut told, alloc)?;
+    walk(scope.frame().bindings(), &mut told, alloc)?;
+    Ok(told)
+}
+
+// What the numbers below 8 mean in a scope, each as its name, its value and `!`, where the scope itself binds it; and then
+// its own bindings, and how many frames stand around it.
+fn told(alloc: Global, scope: &Scope) -> Result<String, OutOfMemory> {
+    let mut told = String::new(alloc);
+    for number in 0..8 {
+        let name = name_of(scope, number);
+        let value = told_value(alloc, scope, number)?;
+        let own = if binds_itself(scope, number) { "!" } else { "" };
+        write!(told, "{number} {name} {value}{own}; ")?;
+    }
+    let own = told_own(alloc, scope)?;
+    let outer = told_outer(scope);
+    write!(told, "{own} {outer}")?;
+    Ok(told)
+}
+
+const CONSTANTS: &[(&str, &str)] = &[("HEX", "0123"), ("RED", "\u{1b}[31m")];
+
+const TOLD_CONSTANTS: &str =
+    "0 HEX 0123!; 1 RED \u{1b}[31m!; 2 - -; 3 - -; 4 - -; 5 - -; 6 - -; 7 - -; \
+    HEX=0123!;RED=\u{1b}[31m!;HEX=0123!;RED=\u{1b}[31m!; -1";
+
+#[test]
+fn root_binds_constants(rt: HostRuntime) -> Result<(), Fail> {
+    let root = Scope::root(rt.alloc(), CONSTANTS)?;
+    let told = told(rt.alloc(), &root);
+    drop(root);
+    tells(&rt, told?, TOLD_CONSTANTS);
+    Ok(())
+}
+
+// What a scope binds, then what its child binds, and what is told of the child and of its parent.
+const SCOPES: &[(Bound, Bound, &str, &str)] = &[
+    // Where nothing is bound.
+    (
+        &[],
+        &[],
+        "0 - -; 1 - -; 2 - -; 3 - -; 4 - -; 5 - -; 6 - -; 7 - -;  1",
+        "0 - -; 1 - -; 2 - -; 3 - -; 4 - -; 5 - -; 6 - -; 7 - -;  -1",
+    ),
+    // A child gives 1 the value of its parent, until it binds it itself.
+    (
+        &[("x", 2, "two"), ("y", 1, "one")],
+        &[],
+        "0 - -; 1 y one; 2 x two; 3 - -; 4 - -; 5 - -; 6 - -; 7 - -;  1",
+        "0 - -; 1 y one!; 2 x two!; 3 - -; 4 - -; 5 - -; 6 - -; 7 - -; y=one;x=two;y=one;x=two; -1",
+    ),
+    (
+        &[("x", 2, "two"), ("y", 1, "one")],
+        &[("y", 1, "own"), ("z", 3, "three")],
+        "0 - -; 1 y own!; 2 x two; 3 z three!; 4 - -; 5 - -; 6 - -; 7 - -; y=own;z=three;y=own;z=three; 1",
+        "0 - -; 1 y one!; 2 x two!; 3 - -; 4 - -; 5 - -; 6 - -; 7 - -; y=one;x=two;y=one;x=two; -1",
+    ),
+    // What is bound again.
+    (
+        &[("x", 2, "two")],
+        &[("z", 3, "first"), ("y", 1, "own"), ("z", 3, "three")],
+        "0 - -; 1 y own!; 2 x two; 3 z three!; 4 - -; 5 - -; 6 - -; 7 - -; y=own;z=three;y=own;z=three; 1",
+        "0 - -; 1 - -; 2 x two!; 3 - -; 4 - -; 5 - -; 6 - -; 7 - -; x=two;x=two; -1",
+    ),
+    // Bound in any order, and walked by rising number.
+    (
+        &[
+            ("x", 5, "five"),
+            ("y", 1, "first"),
+            ("z", 3, "three"),
+            ("y", 1, "second"),
+        ],
+        &[],
+        "0 - -; 1 y second; 2 - -; 3 z three; 4 - -; 5 x five; 6 - -; 7 - -;  1",
+        "0 - -; 1 y second!; 2 - -; 3 z three!; 4 - -; 5 x five!; 6 - -; 7 - -; y=second;z=three;x=five;y=second;z=three;x=five; -1",
+    ),
+    // Looked up between and beside what the parent binds.
+    (
+        &[
+            ("o", 6, "outer"),
+            ("o", 2, "outer"),
+            ("o", 1, "outer"),
+            ("o", 0, "outer"),
+        ],
+        &[
+            ("x", 5, "five"),
+            ("y", 1, "first"),
+            ("z", 3, "three"),
+            ("y", 1, "second"),
+        ],
+        "0 o outer; 1 y second!; 2 o outer; 3 z three!; 4 - -; 5 x five!; 6 o outer; 7 - -; y=second;z=three;x=five;y=second;z=three;x=five; 1",
+        "0 o outer!; 1 o outer!; 2 o outer!; 3 - -; 4 - -; 5 - -; 6 o outer!; 7 - -; o=outer;o=outer;o=outer;o=outer;o=outer;o=outer;o=outer;o=outer; -1",
+    ),
 ];
 
 #[test]
 fn child_binds_its_own(rt: HostRuntime) -> Result<(), Fail> {
-    let mut parent = Scope::root(rt.alloc(), &[])?;
-    let hidden = is_hidden(&mut parent, &rt, rt.alloc());
-    drop(parent);
-    Ok(hidden?)
+    scopes_are_told(SCOPES, &rt, rt.alloc())?;
+    Ok(())
 }
 
-fn is_hidden(parent: &mut Scope, rt: &impl Abort, alloc: Global) -> Result<(), OutOfMemory> {
-    bind_two(alloc, parent)?;
-    child_hides(parent, rt, alloc)
-}
-
-// A child gives 1 the value of its parent until it binds it itself.
-fn child_hides(parent: &Scope, rt: &impl Abort, alloc: Global) -> Result<(), OutOfMemory> {
-    let mut child = parent.child(alloc)?;
-    let number = Number::new(1);
-    same_values(rt, child.value(number), parent.value(number));
-    bind_own(alloc, &mut child)?;
-    hold_their_own(&child, rt, alloc, parent)
-}
-
-// Whether two values are the same, or there are none.
-fn same_values(rt: &impl Abort, given: Option<&Value>, wanted: Option<&Value>) {
-    assert_eq!(rt; given, wanted);
-}
-
-fn hold_their_own<'src>(
-    child: &Scope<'src, '_>,
+fn scopes_are_told(
+    scopes: &[(Bound, Bound, &str, &str)],
     rt: &impl Abort,
     alloc: Global,
-    parent: &Scope<'src, '_>,
 ) -> Result<(), OutOfMemory> {
-    for (number, in_child, in_parent) in IN_BOTH {
-        holds(child, rt, alloc, *number, in_child)?;
-        holds(parent, rt, alloc, *number, in_parent)?;
+    for (outer, own, in_child, in_parent) in scopes {
+        are_told(rt, alloc, outer, own, in_child, in_parent)?;
     }
     Ok(())
 }
 
-// The values of the own bindings of a scope, each joined.
-pub(crate) fn told_values(alloc: Global, scope: &Scope) -> Result<String, OutOfMemory> {
-    let mut told = String::new(alloc);
-    for binding in scope.bindings() {
-        told.push_str(&binding.value.join(alloc)?)?;
-        told.push(' ')?;
-    }
-    Ok(told)
-}
-
-// The values of the own bindings of a scope, and then their names.
-fn told_bindings(alloc: Global, scope: &Scope) -> Result<String, OutOfMemory> {
-    let mut told = told_values(alloc, scope)?;
-    for binding in scope.frame().bindings() {
-        told.push_str(binding.name.lexeme())?;
-    }
-    Ok(told)
-}
-
-#[test]
-fn own_bindings(rt: HostRuntime) -> Result<(), Fail> {
-    let mut parent = Scope::root(rt.alloc(), &[])?;
-    let bound = bound_again(&mut parent, &rt, rt.alloc());
+// A scope and its child that bind this are told so.
+fn are_told(
+    rt: &impl Abort,
+    alloc: Global,
+    outer: Bound,
+    own: Bound,
+    in_child: &str,
+    in_parent: &str,
+) -> Result<(), OutOfMemory> {
+    let mut parent = Scope::root(alloc, &[])?;
+    let bound = are_bound(&mut parent, rt, alloc, outer, own, in_child);
+    let told = told(alloc, &parent);
     drop(parent);
-    Ok(bound?)
-}
-
-fn bound_again(parent: &mut Scope, rt: &impl Abort, alloc: Global) -> Result<(), OutOfMemory> {
-    bind(alloc, parent, "x", 2, "two")?;
-    child_binds_again(parent, rt, alloc)
-}
-
-// A child binds 1 and 3, below a parent that has one binding, of 2.
-fn child_binds_again(parent: &Scope, rt: &impl Abort, alloc: Global) -> Result<(), OutOfMemory> {
-    let mut child = parent.child(alloc)?;
-    let bound = binds_again(&mut child, rt, alloc);
-    drop(child);
-    bound
-}
-
-fn binds_again(child: &mut Scope, rt: &impl Abort, alloc: Global) -> Result<(), OutOfMemory> {
-    bind_again(alloc, child)?;
-    tells(rt, told_bindings(alloc, child)?, "own three yz");
-    stands(rt, "outer bindings", outer_length(child), Some(1));
-    is_so(rt, "own", !binds_itself(child, 2));
+    bound?;
+    tells(rt, told?, in_parent);
     Ok(())
 }
 
-// Whether a scope itself binds a number.
-pub(crate) fn binds_itself(scope: &Scope, number: u64) -> bool {
-    scope.frame().binding(Number::new(number)).is_some()
+fn are_bound(
+    parent: &mut Scope,
+    rt: &impl Abort,
+    alloc: Global,
+    outer: Bound,
+    own: Bound,
+    in_child: &str,
+) -> Result<(), OutOfMemory> {
+    bind_all(alloc, parent, outer)?;
+    child_binds(parent, rt, alloc, own, in_child)
 }
 
-// Binds 3, 1 and then 3 again.
-fn bind_again(alloc: Global, scope: &mut Scope) -> Result<(), OutOfMemory> {
-    bind(alloc, scope, "z", 3, "first")?;
-    bind(alloc, scope, "y", 1, "own")?;
-    bind(alloc, scope, "z", 3, "three")
+// A child that binds this is told so.
+fn child_binds(
+    parent: &Scope,
+    rt: &impl Abort,
+    alloc: Global,
+    own: Bound,
+    wanted: &str,
+) -> Result<(), OutOfMemory> {
+    let mut child = parent.child(alloc)?;
+    let bound = bind_all(alloc, &mut child, own);
+    let told = told(alloc, &child);
+    drop(child);
+    bound?;
+    tells(rt, told?, wanted);
+    Ok(())
 }

@@ -5,6 +5,7 @@ mod syntax;
 mod value;
 mod words;
 
+use crate::modules::Variable;
 use just_syntax::out_of_memory::OutOfMemory;
 use std::alloc::Global;
 
@@ -30,11 +31,30 @@ fn texts(alloc: Global, text: &str, times: usize) -> Result<Vec<String>, OutOfMe
     Ok(all)
 }
 
-// The names from `x1000` to the one before this number, in the order of their bytes.
-fn numbered(alloc: Global, end: u64) -> Result<Vec<String>, OutOfMemory> {
+// The names from `x1000` to `x1999`.
+fn thousand(alloc: Global) -> Result<Vec<String>, OutOfMemory> {
     let mut all = Vec::new(alloc);
-    for i in 1000..end {
+    for i in 1000..2000u64 {
         all.push(format!(in alloc; "x{i}")?)?;
+    }
+    Ok(all)
+}
+
+// The texts, borrowed.
+fn borrowed(alloc: Global, texts: &[String]) -> Result<Vec<&str>, OutOfMemory> {
+    let mut all = Vec::new(alloc);
+    for text in texts {
+        all.push(text.as_str())?;
+    }
+    Ok(all)
+}
+
+// Each name, which has its place among them as its number.
+fn variables(alloc: Global, names: &[String]) -> Result<Vec<Variable<'_>>, OutOfMemory> {
+    let mut all = Vec::new(alloc);
+    for (place, lexeme) in names.iter().enumerate() {
+        let variable: Variable = (lexeme, place as u64, &[]);
+        all.push(variable)?;
     }
     Ok(all)
 }
@@ -43,9 +63,4 @@ fn numbered(alloc: Global, end: u64) -> Result<Vec<String>, OutOfMemory> {
 fn twice(alloc: Global, texts: &[String]) -> Result<String, OutOfMemory> {
     let once = texts.join(alloc, "")?;
     Ok(format!(in alloc; "{once}{once}")?)
-}
-
-// Whether there are so many texts, and each is this one.
-fn are_all(found: &[String], text: &str, times: usize) -> bool {
-    found.len() == times && found.iter().all(|one| one.as_str() == text)
 }

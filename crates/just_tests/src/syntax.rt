@@ -1,8 +1,6 @@
 // Tables, what is printed, and the small calls.
 
-use crate::compared::{
-    counts, is_either, is_so, numbered, same, same_token, stands, tells, tells_of,
-};
+use crate::compared::{equal, is_so, same, tells};
 use crate::parts::{name, shows};
 use just_syntax::enclosure::Enclosure;
 use just_syntax::keyed::Keyed;
@@ -34,7 +32,10 @@ impl Keyed for Named<'_> {
 }
 
 // Puts a value behind each of these keys, which holds the place of the key.
-fn table_of<'a>(alloc: Global, keys: &[&'a str]) -> Result<Table<Named<'a>>, OutOfMemory> {
+pub(crate) fn table_of<'a>(
+    alloc: Global,
+    keys: &[&'a str],
+) -> Result<Table<Named<'a>>, OutOfMemory> {
     let mut table = Table::new(alloc);
     for (place, lexeme) in keys.iter().enumerate() {
         table.insert(Named {
@@ -59,57 +60,47 @@ const PLACES: &[(&str, Option<u64>)] = &[
 fn table_keeps_values_by_key(rt: HostRuntime) -> Result<(), Fail> {
     has_length(&rt, &Table::new(rt.alloc()), 0);
     let table = table_of(rt.alloc(), KEYS)?;
-    has_length(&rt, &table, 5);
-    for (key, place) in PLACES {
-        keeps(&rt, &table, key, *place);
-    }
-    Ok(())
-}
-
-pub(crate) fn has_length(rt: &impl Abort, table: &Table<Named>, len: usize) {
-    counts(rt, "length", table.len(), len);
-    is_either(rt, "emptiness", table.is_empty(), len == 0);
-}
-
-// Whether a table has a value at a key, and its place is this one.
-pub(crate) fn keeps(rt: &impl Abort, table: &Table<Named>, key: &str, place: Option<u64>) {
-    stands(rt, key, table.get(key).map(|named| named.place), place);
-}
-
-// The keys of a table, twice.
-pub(crate) fn keys_twice(alloc: Global, table: Table<Named>) -> Result<String, OutOfMemory> {
-    let mut keys = String::new(alloc);
-    add_keys(&mut keys, &table)?;
-    add_own_keys(&mut keys, table)?;
-    Ok(keys)
-}
-
-// Adds the keys that an iterator over references gives.
-fn add_keys(keys: &mut String, table: &Table<Named>) -> Result<(), OutOfMemory> {
-    for named in table.iter() {
-        keys.push_str(named.key())?;
-    }
-    Ok(())
-}
-
-// Adds the keys that an iterator gives that takes the table.
-fn add_own_keys(keys: &mut String, table: Table<Named>) -> Result<(), OutOfMemory> {
-    for named in table {
-        keys.push_str(named.key())?;
-    }
-    Ok(())
-}
-
-#[test]
-fn table_is_gone_over_by_key(rt: HostRuntime) -> Result<(), Fail> {
-    let table = table_of(rt.alloc(), KEYS)?;
+    keeps_all(&rt, &table);
     tells(&rt, keys_twice(rt.alloc(), table)?, "abcéabcé");
     Ok(())
 }
 
+fn keeps_all(rt: &impl Abort, table: &Table<Named>) {
+    has_length(rt, table, 5);
+    for (key, place) in PLACES {
+        keeps(rt, table, key, *place);
+    }
+}
+
+pub(crate) fn has_length(rt: &impl Abort, table: &Table<Named>, len: usize) {
+    equal(rt, "length", table.len(), len);
+    is_so(rt, "emptiness", table.is_empty() == (len == 0));
+}
+
+// Whether a table has a value at a key, and its place is this one.
+pub(crate) fn keeps(rt: &impl Abort, table: &Table<Named>, key: &str, place: Option<u64>) {
+    let given = match table.get(key) {
+        Some(named) => Some(named.place),
+        None => None,
+    };
+    equal(rt, key, given, place);
+}
+
+// The keys of a table, twice: by an iterator over references, and by one that takes the table.
+pub(crate) fn keys_twice(alloc: Global, table: Table<Named>) -> Result<String, OutOfMemory> {
+    let mut keys = String::new(alloc);
+    for named in table.iter() {
+        keys.push_str(named.key())?;
+    }
+    for named in table {
+        keys.push_str(named.key())?;
+    }
+    Ok(keys)
+}
+
 #[test]
 fn numbers_and_names(rt: HostRuntime) {
-    numbered(&rt, "constant", Some(Numerator::constant(7)), Some(7));
+    equal(&rt, "constant", Numerator::constant(7), Number::new(7));
     is_so(&rt, "6 < 7", Number::new(6) < Number::new(7));
     let name = name("x");
     same(&rt, name.lexeme(), "x");
@@ -132,26 +123,19 @@ fn list_operators(rt: HostRuntime) -> Result<(), Fail> {
     Ok(())
 }
 
-// Whether it is the place of `n`, and is written so.
-fn is_where(
-    rt: &impl Abort,
-    alloc: Global,
-    place: StringContext,
-    text: &str,
-) -> Result<(), OutOfMemory> {
-    same_token(rt, text, place.token(), name("n").token);
-    shows(rt, alloc, &place, text)
-}
-
 #[test]
 fn where_texts_are_wanted(rt: HostRuntime) -> Result<(), Fail> {
-    let alloc = rt.alloc();
-    let key = StringContext::EnvKey(name("n"));
-    is_where(&rt, alloc, key, "in key of `n` attribute")?;
-    let function = StringContext::Function(name("n"));
-    is_where(&rt, alloc, function, "in argument to function `n`")?;
-    let setting = StringContext::Setting(name("n"));
-    is_where(&rt, alloc, setting, "in setting `n`")?;
+    for (place, text) in [
+        (StringContext::EnvKey(name("n")), "in key of `n` attribute"),
+        (
+            StringContext::Function(name("n")),
+            "in argument to function `n`",
+        ),
+        (StringContext::Setting(name("n")), "in setting `n`"),
+    ] {
+        equal(&rt, text, place.token(), name("n").token);
+        shows(&rt, rt.alloc(), &place, text)?;
+    }
     Ok(())
 }
 
@@ -173,7 +157,7 @@ const KINDS: &[(ParameterKind, bool)] = &[
 #[test]
 fn parameter_kinds(rt: HostRuntime) {
     for (kind, variadic) in KINDS {
-        is_either(&rt, "several", kind.is_variadic(), *variadic);
+        is_so(&rt, "several", kind.is_variadic() == *variadic);
     }
 }
 
@@ -191,7 +175,7 @@ const UNINDENTED: &[(&str, &str)] = &[
 #[test]
 fn unindented(rt: HostRuntime) -> Result<(), Fail> {
     for (text, expected) in UNINDENTED {
-        tells_of(&rt, text, unindent(rt.alloc(), text)?, expected);
+        tells(&rt, unindent(rt.alloc(), text)?, expected);
     }
     Ok(())
 }

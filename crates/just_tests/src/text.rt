@@ -1,7 +1,7 @@
 // Paths and texts: a call of each public function, and what no stored case can say, which is parents that a built-in
 // function does not tell apart, and texts with a line break.
 
-use crate::compared::{is_so, same, same_if_any, tells};
+use crate::compared::{equal, is_so, same, tells};
 use just_syntax::out_of_memory::OutOfMemory;
 use just_text::affix::{append, prepend};
 use just_text::case::{capitalize, lowercase, uppercase};
@@ -22,11 +22,11 @@ const PARENTS: &[(&str, Option<&str>)] = &[("a//b", Some("a")), (".", Some("")),
 #[test]
 fn parts_of_paths(rt: HostRuntime) {
     for (path, wanted) in PARENTS {
-        same_if_any(&rt, path, parent(path), *wanted);
+        equal(&rt, path, parent(path), *wanted);
     }
-    same_if_any(&rt, "file name", file_name("a//b.c"), Some("b.c"));
-    same_if_any(&rt, "file stem", file_stem("a.tar.gz"), Some("a.tar"));
-    same_if_any(&rt, "extension", extension("a.tar.gz"), Some("gz"));
+    equal(&rt, "file name", file_name("a//b.c"), Some("b.c"));
+    equal(&rt, "file stem", file_stem("a.tar.gz"), Some("a.tar"));
+    equal(&rt, "extension", extension("a.tar.gz"), Some("gz"));
 }
 
 #[test]
@@ -49,7 +49,7 @@ fn texts(rt: HostRuntime) -> Result<(), Fail> {
 
 // Whether there is a text, and it is the wanted one.
 fn expect_some(rt: &impl Abort, text: Option<String>, wanted: &str) {
-    same_if_any(rt, "case", text.as_deref(), Some(wanted));
+    equal(rt, "case", text.as_deref(), Some(wanted));
 }
 
 #[test]

@@ -1,7 +1,7 @@
 // Values.
 
-use crate::compared::{counts, is_either, tells};
-use crate::parts::{is_written, shows, token, value};
+use crate::compared::{is_so, tells};
+use crate::parts::{shows, token, value};
 use just_syntax::list_operator::ListOperator;
 use just_syntax::out_of_memory::OutOfMemory;
 use just_value::element::Element;
@@ -12,112 +12,73 @@ use std::cmp::Ordering;
 use std::process::Abort;
 use std::test::Fail;
 
-// The elements of values, what they are joined to, and whether the value is true.
-const JOINED: &[(&[&str], &str, bool)] = &[
-    (&[], "", false),
-    (&[""], "", true),
-    (&["foo"], "foo", true),
-    (&["foo", "bar"], "foo bar", true),
-    (&["foo bar", "baz"], "foo bar baz", true),
-    (&["", ""], " ", true),
+// The elements of values, and what is told of the value: how many there are, whether it is true, whether it is empty,
+// what it is displayed as, and what it is joined to.
+const VALUES: &[(&[&str], &str)] = &[
+    (&[], "0 false true [] "),
+    (&[""], "1 true false \"\" "),
+    (&["foo"], "1 true false \"foo\" foo"),
+    (&["foo", "bar"], "2 true false [\"foo\", \"bar\"] foo bar"),
+    (
+        &["foo bar", "baz"],
+        "2 true false [\"foo bar\", \"baz\"] foo bar baz",
+    ),
+    (&["", ""], "2 true false [\"\", \"\"]  "),
+    (&["a\tb\"c"], "1 true false \"a\\tb\\\"c\" a\tb\"c"),
+    (&["\\", "\n"], "2 true false [\"\\\\\", \"\\n\"] \\ \n"),
+    (
+        &["\r", "é", ""],
+        "3 true false [\"\\r\", \"é\", \"\"] \r é ",
+    ),
 ];
 
-fn joins(
-    rt: &impl Abort,
-    alloc: Global,
-    elements: &[&str],
-    joined: &str,
-    truthy: bool,
-) -> Result<(), OutOfMemory> {
+fn told_of(alloc: Global, elements: &[&str]) -> Result<String, OutOfMemory> {
     let value = value(alloc, elements)?;
-    is_long_and_true(rt, &value.to_string(alloc)?, &value, elements.len(), truthy);
-    tells(rt, value.join(alloc)?, joined);
-    Ok(())
-}
-
-// Whether a value has so many elements, and is true.
-fn is_long_and_true(rt: &impl Abort, shown: &str, value: &Value, len: usize, truthy: bool) {
-    is_either(rt, shown, value.is_truthy(), truthy);
-    is_either(rt, shown, value.is_empty(), !truthy);
-    counts(rt, shown, value.len(), len);
+    let joined = value.join(alloc)?;
+    let len = value.len();
+    let is_true = value.is_truthy();
+    let is_empty = value.is_empty();
+    Ok(format!(in alloc; "{len} {is_true} {is_empty} {value} {joined}")?)
 }
 
 #[test]
-fn join_and_truth(rt: HostRuntime) -> Result<(), Fail> {
-    for (elements, joined, truthy) in JOINED {
-        joins(&rt, rt.alloc(), elements, joined, *truthy)?;
-    }
-    Ok(())
-}
-
-// The elements of values, and what the value is displayed as.
-const DISPLAYED: &[(&[&str], &str)] = &[
-    (&[], "[]"),
-    (&["foo"], "\"foo\""),
-    (&["foo", "bar"], "[\"foo\", \"bar\"]"),
-    (&["a\tb\"c"], "\"a\\tb\\\"c\""),
-    (&["\\", "\n"], "[\"\\\\\", \"\\n\"]"),
-    (&["\r", "é", ""], "[\"\\r\", \"é\", \"\"]"),
-];
-
-#[test]
-fn displays(rt: HostRuntime) -> Result<(), Fail> {
+fn values(rt: HostRuntime) -> Result<(), Fail> {
     let alloc = rt.alloc();
-    for (elements, text) in DISPLAYED {
-        shows(&rt, alloc, &value(alloc, elements)?, text)?;
+    for (elements, wanted) in VALUES {
+        tells(&rt, told_of(alloc, elements)?, wanted);
     }
     shows(&rt, alloc, &Element("x\ty"), "\"x\\ty\"")?;
     Ok(())
 }
 
-// Whether a value has these elements, in this order.
-fn is_made_of(value: &Value, elements: &[&str]) -> bool {
-    let mut pairs = value.elements().iter().zip(elements);
-    value.len() == elements.len() && pairs.all(|(x, y)| x.as_str() == *y)
-}
-
-// Texts of one's own.
-fn texts(alloc: Global, texts: &[&str]) -> Result<Vec<String>, OutOfMemory> {
-    let mut owned = Vec::new(alloc);
-    for text in texts {
-        owned.push(String::from_str(alloc, text)?)?;
-    }
-    Ok(owned)
-}
-
-// Whether a value is made of these elements.
-fn expect(rt: &impl Abort, value: Value, elements: &[&str]) {
-    expect_elements(rt, &value, elements);
-}
-
-fn expect_elements(rt: &impl Abort, value: &Value, elements: &[&str]) {
-    assert!(rt; is_made_of(value, elements), "{value}");
+// Whether a value has these elements, each with a `.` behind it.
+fn expect(rt: &impl Abort, alloc: Global, value: Value, elements: &str) -> Result<(), OutOfMemory> {
+    tells(rt, told_of_elements(alloc, value)?, elements);
+    Ok(())
 }
 
 #[test]
 fn constructors(rt: HostRuntime) -> Result<(), Fail> {
     let alloc = rt.alloc();
-    expect(&rt, Value::from_text(alloc, "foo bar")?, &["foo bar"]);
+    expect(&rt, alloc, Value::from_text(alloc, "foo bar")?, "foo bar.")?;
     let text = String::from_str(alloc, "foo")?;
-    expect(&rt, Value::from_string(alloc, text)?, &["foo"]);
-    expect(&rt, Value::from_bool(alloc, true)?, &["true"]);
-    expect(&rt, Value::from_bool(alloc, false)?, &[]);
+    expect(&rt, alloc, Value::from_string(alloc, text)?, "foo.")?;
+    expect(&rt, alloc, Value::from_bool(alloc, true)?, "true.")?;
+    expect(&rt, alloc, Value::from_bool(alloc, false)?, "")?;
     Ok(())
 }
 
 #[test]
 fn constructors_from_several(rt: HostRuntime) -> Result<(), Fail> {
     let alloc = rt.alloc();
-    let some = ["a", "b c"];
-    expect(&rt, Value::from_elements(texts(alloc, &some)?), &some);
-    expect(
-        &rt,
-        Value::from_iterator(alloc, texts(alloc, &some)?)?,
-        &some,
-    );
+    let some = value(alloc, &["a", "b c"])?;
+    expect(&rt, alloc, some.try_clone(alloc)?, "a.b c.")?;
+    let texts = some.try_clone(alloc)?.into_elements();
+    expect(&rt, alloc, Value::from_elements(texts), "a.b c.")?;
+    let made = Value::from_iterator(alloc, some.into_elements())?;
+    expect(&rt, alloc, made, "a.b c.")?;
     let one = Some(String::from_str(alloc, "bar")?);
-    expect(&rt, Value::from_iterator(alloc, one)?, &["bar"]);
-    expect(&rt, value(alloc, &some)?.try_clone(alloc)?, &some);
+    expect(&rt, alloc, Value::from_iterator(alloc, one)?, "bar.")?;
     Ok(())
 }
 
@@ -158,13 +119,10 @@ pub(crate) fn told_of_elements(alloc: Global, value: Value) -> Result<String, Ou
 #[test]
 fn iterators(rt: HostRuntime) -> Result<(), Fail> {
     let alloc = rt.alloc();
-    let elements = ["a", "", "bc"];
-    let of_references = told(alloc, &value(alloc, &elements)?)?;
-    tells(&rt, of_references, "a..bc.a..bc.");
-    let of_own = told_of_own(alloc, value(alloc, &elements)?)?;
-    tells(&rt, of_own, "a..bc.");
-    let of_elements = told_of_elements(alloc, value(alloc, &elements)?)?;
-    tells(&rt, of_elements, "a..bc.");
+    let value = value(alloc, &["a", "", "bc"])?;
+    tells(&rt, told(alloc, &value)?, "a..bc.a..bc.");
+    expect(&rt, alloc, value.try_clone(alloc)?, "a..bc.")?;
+    tells(&rt, told_of_own(alloc, value)?, "a..bc.");
     Ok(())
 }
 
@@ -190,14 +148,12 @@ fn compare(
 ) -> Result<(), OutOfMemory> {
     let x = value(alloc, left)?;
     let y = value(alloc, right)?;
-    stand_so(rt, &format!(in alloc; "{x} {y}")?, &x, &y, order);
+    is_so(rt, &format!(in alloc; "{x} {y}")?, stand_so(&x, &y, order));
     Ok(())
 }
 
-fn stand_so(rt: &impl Abort, shown: &str, x: &Value, y: &Value, order: Ordering) {
-    is_either(rt, shown, x == y, order.is_eq());
-    is_either(rt, shown, x < y, order.is_lt());
-    assert_eq!(rt; x.cmp(y), order, "{shown}");
+fn stand_so(x: &Value, y: &Value, order: Ordering) -> bool {
+    (x == y) == order.is_eq() && (x < y) == order.is_lt() && x.cmp(y) == order
 }
 
 #[test]
@@ -210,92 +166,87 @@ fn comparisons(rt: HostRuntime) -> Result<(), Fail> {
     Ok(())
 }
 
-// What is beside `+` and beside `/`, and what that comes to.
-const SUMS: &[(&[&str], &[&str], &str)] = &[
-    (&[], &[], "[]"),
-    (&["a", "b"], &["c", "d"], "[\"ac\", \"bd\"]"),
-    (&["a"], &["b", "c", "d"], "[\"ab\", \"ac\", \"ad\"]"),
-    (&["a", "b", "c"], &["d"], "[\"ad\", \"bd\", \"cd\"]"),
+// What is beside an operator, and what that comes to; `refused`, where the lengths of lists do not go together.
+const APPLIED: &[(&[&str], ListOperator, &[&str], &str)] = &[
+    (&[], ListOperator::Concatenate, &[], "[]"),
+    (
+        &["a", "b"],
+        ListOperator::Concatenate,
+        &["c", "d"],
+        "[\"ac\", \"bd\"]",
+    ),
+    (
+        &["a"],
+        ListOperator::Concatenate,
+        &["b", "c", "d"],
+        "[\"ab\", \"ac\", \"ad\"]",
+    ),
+    (
+        &["a", "b", "c"],
+        ListOperator::Concatenate,
+        &["d"],
+        "[\"ad\", \"bd\", \"cd\"]",
+    ),
+    (&["a"], ListOperator::Join, &["b"], "\"a/b\""),
+    (
+        &["a", "b"],
+        ListOperator::Join,
+        &["c", "d"],
+        "[\"a/c\", \"b/d\"]",
+    ),
+    (
+        &["a", "b"],
+        ListOperator::Join,
+        &["c"],
+        "[\"a/c\", \"b/c\"]",
+    ),
+    (&[], ListOperator::Join, &["a"], "refused"),
+    (&[], ListOperator::Join, &["a", "b"], "refused"),
+    (&["a"], ListOperator::Join, &[], "refused"),
+    (&["a", "b"], ListOperator::Join, &[], "refused"),
+    (&["a", "b"], ListOperator::Join, &["c", "d", "e"], "refused"),
 ];
 
-const JOINS: &[(&[&str], &[&str], &str)] = &[
-    (&["a"], &["b"], "\"a/b\""),
-    (&["a", "b"], &["c", "d"], "[\"a/c\", \"b/d\"]"),
-    (&["a", "b"], &["c"], "[\"a/c\", \"b/c\"]"),
-];
-
-fn applied<'src>(
+// What values come to with an operator between them; `refused`, where it is a refusal of it with these values, at `/`.
+fn told_of_applied(
     alloc: Global,
-    lhs: &[&str],
+    left: &Value,
     operator: ListOperator,
-    rhs: &[&str],
-) -> Result<Value, Error<'src>> {
-    value(alloc, lhs)?.apply(alloc, &value(alloc, rhs)?, operator, token("+"))
-}
-
-#[test]
-fn operator_on_lists(rt: HostRuntime) -> Result<(), Fail> {
-    for row in SUMS {
-        comes_to(&rt, rt.alloc(), ListOperator::Concatenate, row)?;
+    right: &Value,
+) -> Result<String, OutOfMemory> {
+    match left.apply(alloc, right, operator, token("/")) {
+        Ok(value) => Ok(value.to_string(alloc)?),
+        Err(error) => Ok(String::from_str(alloc, refused(error, left, operator, right))?),
     }
-    for row in JOINS {
-        comes_to(&rt, rt.alloc(), ListOperator::Join, row)?;
-    }
-    Ok(())
 }
 
-// Whether what is beside an operator comes to this.
-fn comes_to(
-    rt: &impl Abort,
-    alloc: Global,
-    operator: ListOperator,
-    row: &(&[&str], &[&str], &str),
-) -> Result<(), Fail> {
-    let (lhs, rhs, wanted) = *row;
-    let applied = applied(alloc, lhs, operator, rhs)?;
-    Ok(is_written(rt, alloc, applied, wanted)?)
+fn refused(error: Error, left: &Value, of: ListOperator, right: &Value) -> &'static str {
+    let is_refusal = holds_both(&error, left, of, right);
+    drop(error);
+    if is_refusal { "refused" } else { "other" }
 }
 
-// Lists whose lengths do not go together.
-const ILL_MATCHED: &[(&[&str], &[&str])] = &[
-    (&[], &["a"]),
-    (&[], &["a", "b"]),
-    (&["a"], &[]),
-    (&["a", "b"], &[]),
-    (&["a", "b"], &["c", "d", "e"]),
-];
-
-// Whether it is a refusal of `/` with these lists.
-fn holds_both(refused: &Result<Value, Error>, left: &Value, right: &Value) -> bool {
-    match refused {
-        Err(
-            Error::ListOperation {
-                lhs,
-                operator,
-                rhs,
-                token: at,
-            },
-        ) => { lhs == left && rhs == right && *operator == ListOperator::Join && *at == token("/") }
+// Whether it is a refusal of this operator with these lists.
+fn holds_both(error: &Error, left: &Value, of: ListOperator, right: &Value) -> bool {
+    match error {
+        Error::ListOperation {
+            lhs,
+            operator,
+            rhs,
+            token: at,
+        } => lhs == left && rhs == right && *operator == of && *at == token("/"),
         _ => false,
     }
 }
 
-fn refuses(rt: &impl Abort, alloc: Global, lhs: &[&str], rhs: &[&str]) -> Result<(), OutOfMemory> {
-    let left = value(alloc, lhs)?;
-    let right = value(alloc, rhs)?;
-    let refused = left.apply(alloc, &right, ListOperator::Join, token("/"));
-    expect_both(rt, &refused, &left, &right);
-    Ok(())
-}
-
-fn expect_both(rt: &impl Abort, refused: &Result<Value, Error>, left: &Value, right: &Value) {
-    assert!(rt; holds_both(refused, left, right), "{left} {right}");
-}
-
 #[test]
-fn lists_that_do_not_go_together(rt: HostRuntime) -> Result<(), Fail> {
-    for (lhs, rhs) in ILL_MATCHED {
-        refuses(&rt, rt.alloc(), lhs, rhs)?;
+fn operator_on_lists(rt: HostRuntime) -> Result<(), Fail> {
+    let alloc = rt.alloc();
+    for (lhs, operator, rhs, wanted) in APPLIED {
+        let left = value(alloc, lhs)?;
+        let right = value(alloc, rhs)?;
+        let told = told_of_applied(alloc, &left, *operator, &right)?;
+        tells(&rt, told, wanted);
     }
     Ok(())
 }

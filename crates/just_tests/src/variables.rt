@@ -1,12 +1,10 @@
 // Overrides and references, told by the names of variables.
 
-use crate::compared::{counts, numbered, same_if_any, tells};
-use crate::parts::{name, shows, whole};
-use just_syntax::assignment::Assignment;
-use just_syntax::expression::Expression;
+use crate::compared::{equal, tells};
+use crate::modules::{Variable, assignments};
+use crate::parts::{numbered, shows};
 use just_syntax::number::Number;
 use just_syntax::out_of_memory::OutOfMemory;
-use just_syntax::table::Table;
 use just_syntax::variable_error::VariableError;
 use just_syntax::variables::{number_of, overrides_of, references_of, set_of};
 use std::alloc::Global;
@@ -15,33 +13,7 @@ use std::process::Abort;
 use std::test::Fail;
 
 // Variables and their numbers.
-const VARIABLES: &[(&str, u64)] = &[("b", 2), ("c", 9), ("a", 4)];
-
-fn assignments<'src>(alloc: Global) -> Result<Table<Assignment<'src>>, OutOfMemory> {
-    let mut assignments = Table::new(alloc);
-    let filled = assign(alloc, &mut assignments);
-    whole(assignments, filled)
-}
-
-fn assign<'src>(
-    alloc: Global,
-    assignments: &mut Table<Assignment<'src>>,
-) -> Result<(), OutOfMemory> {
-    for (lexeme, number) in VARIABLES {
-        assignments.insert(assignment(alloc, lexeme, *number)?)?;
-    }
-    Ok(())
-}
-
-// Assigns the empty text.
-pub(crate) fn assignment<'src>(
-    alloc: Global,
-    lexeme: &'src str,
-    number: u64,
-) -> Result<Assignment<'src>, OutOfMemory> {
-    let value = Expression::literal(alloc, "", "''")?;
-    Ok(Assignment::new(name(lexeme), Number::new(number), value))
-}
+const VARIABLES: &[Variable] = &[("b", 2, &[]), ("c", 9, &[]), ("a", 4, &[])];
 
 // Pairs of a name and a text, each `name=text`.
 fn pairs(alloc: Global, words: &[&str]) -> Result<Vec<(String, String)>, OutOfMemory> {
@@ -68,9 +40,9 @@ const NUMBERS: &[(&str, Option<u64>)] = &[
 
 #[test]
 fn numbers_of_names(rt: HostRuntime) -> Result<(), Fail> {
-    let assignments = assignments(rt.alloc())?;
+    let assignments = assignments(rt.alloc(), VARIABLES)?;
     for (name, number) in NUMBERS {
-        numbered(&rt, name, number_of(&assignments, name), *number);
+        equal(&rt, name, number_of(&assignments, name), numbered(*number));
     }
     Ok(())
 }
@@ -85,7 +57,7 @@ const OVERRIDES: &[(&[&str], Option<&str>, Option<&str>, usize)] = &[
 #[test]
 fn overrides_by_number(rt: HostRuntime) -> Result<(), Fail> {
     let alloc = rt.alloc();
-    let assignments = assignments(alloc)?;
+    let assignments = assignments(alloc, VARIABLES)?;
     for (words, a, b, len) in OVERRIDES {
         let pairs = pairs(alloc, words)?;
         overrides(
@@ -108,7 +80,7 @@ fn overrides(
 ) {
     overrides_with(rt, overrides, 4, a);
     overrides_with(rt, overrides, 2, b);
-    counts(rt, "overrides", overrides.len(), len);
+    equal(rt, "overrides", overrides.len(), len);
 }
 
 pub(crate) fn overrides_with(
@@ -117,10 +89,11 @@ pub(crate) fn overrides_with(
     number: u64,
     text: Option<&str>,
 ) {
-    let given = overrides
-        .get(&Number::new(number))
-        .map(|text| text.as_str());
-    same_if_any(rt, "override", given, text);
+    let given = match overrides.get(&Number::new(number)) {
+        Some(text) => Some(text.as_str()),
+        None => None,
+    };
+    equal(rt, "override", given, text);
 }
 
 // Pairs, and the first name in them that no assignment has.
@@ -133,7 +106,7 @@ const UNKNOWN: &[(&[&str], &str)] = &[
 #[test]
 fn overrides_of_no_variable(rt: HostRuntime) -> Result<(), Fail> {
     let alloc = rt.alloc();
-    let assignments = assignments(alloc)?;
+    let assignments = assignments(alloc, VARIABLES)?;
     for (words, unknown) in UNKNOWN {
         let pairs = pairs(alloc, words)?;
         is_unknown(
@@ -156,7 +129,7 @@ const REFERENCES: &[(&[&str], &[u64])] = &[(&[], &[]), (&["c", "b", "c"], &[2, 9
 #[test]
 fn references_by_name(rt: HostRuntime) -> Result<(), Fail> {
     let alloc = rt.alloc();
-    let assignments = assignments(alloc)?;
+    let assignments = assignments(alloc, VARIABLES)?;
     for (names, numbers) in REFERENCES {
         are_numbers(&rt, &references_of(alloc, &assignments, names)?, numbers);
     }
@@ -167,14 +140,19 @@ fn references_by_name(rt: HostRuntime) -> Result<(), Fail> {
 
 // Whether these numbers are referenced, and no others.
 fn are_numbers(rt: &impl Abort, references: &HashSet<Number>, numbers: &[u64]) {
-    counts(rt, "references", references.len(), numbers.len());
+    equal(rt, "references", references.len(), numbers.len());
     for number in numbers {
         contains(rt, references, *number, true);
     }
 }
 
 pub(crate) fn contains(rt: &impl Abort, set: &HashSet<Number>, number: u64, is_there: bool) {
-    assert_eq!(rt; set.contains(&Number::new(number)), is_there, "{number}");
+    equal(
+        rt,
+        "contained",
+        (number, set.contains(&Number::new(number))),
+        (number, is_there),
+    );
 }
 
 #[test]
@@ -183,7 +161,7 @@ fn sets_of_numbers(rt: HostRuntime) -> Result<(), Fail> {
         rt.alloc(),
         &[Number::new(3), Number::new(1), Number::new(3)],
     )?;
-    counts(&rt, "numbers", set.len(), 2);
+    equal(&rt, "numbers", set.len(), 2);
     for (number, is_there) in [(1, true), (2, false), (3, true)] {
         contains(&rt, &set, number, is_there);
     }

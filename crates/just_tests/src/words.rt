@@ -1,7 +1,7 @@
 // Word lists and positional words.
 
-use crate::compared::{counts, is_so, same, tells};
-use crate::parts::is_written;
+use crate::compared::{is_so, tells};
+use crate::parts::made_is_written;
 use just_syntax::out_of_memory::OutOfMemory;
 use just_value::list::List;
 use just_value::positional::Positional;
@@ -58,12 +58,12 @@ const LISTS: &[Lists] = &[
 
 fn list_all(rt: &impl Abort, alloc: Global, lists: &Lists) -> Result<(), OutOfMemory> {
     let numbers = lists.numbers;
-    is_written(rt, alloc, List::or(alloc, numbers)?, lists.or)?;
-    is_written(rt, alloc, List::and(alloc, numbers)?, lists.and)?;
-    let ticked = List::or_ticked(alloc, numbers)?;
-    is_written(rt, alloc, ticked, lists.or_ticked)?;
-    let ticked = List::and_ticked(alloc, numbers)?;
-    is_written(rt, alloc, ticked, lists.and_ticked)
+    made_is_written(rt, alloc, List::or(alloc, numbers), lists.or)?;
+    made_is_written(rt, alloc, List::and(alloc, numbers), lists.and)?;
+    let ticked = List::or_ticked(alloc, numbers);
+    made_is_written(rt, alloc, ticked, lists.or_ticked)?;
+    let ticked = List::and_ticked(alloc, numbers);
+    made_is_written(rt, alloc, ticked, lists.and_ticked)
 }
 
 #[test]
@@ -74,50 +74,50 @@ fn word_lists(rt: HostRuntime) -> Result<(), Fail> {
     Ok(())
 }
 
-// Positional words, and what they are told as: the overrides, each in parentheses, the directory in brackets, and the
+// Positional words, and what they are told as: the overrides, each in parentheses with a `:` in the middle, the directory in brackets, and the
 // arguments in quotes.
 const POSITIONAL: &[(&[&str], &str)] = &[
     (&[], ""),
     (&["foo", "bar"], "'foo''bar'"),
-    (&["foo=bar", "bar=foo"], "(foo=bar)(bar=foo)"),
+    (&["foo=bar", "bar=foo"], "(foo:bar)(bar:foo)"),
     (&["the-dir/", "baz", "bzzd"], "[the-dir/]'baz''bzzd'"),
     (
         &["foo=bar", "bar=foo", "baz", "bzzd"],
-        "(foo=bar)(bar=foo)'baz''bzzd'",
+        "(foo:bar)(bar:foo)'baz''bzzd'",
     ),
     (
         &["foo=bar", "bar=foo", "the-dir/"],
-        "(foo=bar)(bar=foo)[the-dir/]",
+        "(foo:bar)(bar:foo)[the-dir/]",
     ),
     (
         &["foo=bar", "bar=foo", ".", "garnor"],
-        "(foo=bar)(bar=foo)[.]'garnor'",
+        "(foo:bar)(bar:foo)[.]'garnor'",
     ),
     (
         &["foo=bar", "bar=foo", "..", "garnor"],
-        "(foo=bar)(bar=foo)[..]'garnor'",
+        "(foo:bar)(bar:foo)[..]'garnor'",
     ),
     (
         &["foo=bar", "bar=foo", "/", "garnor"],
-        "(foo=bar)(bar=foo)[/]'garnor'",
+        "(foo:bar)(bar:foo)[/]'garnor'",
     ),
     (
         &["foo=bar", "bar=foo", "baz", "bzzd", "bar/"],
-        "(foo=bar)(bar=foo)'baz''bzzd''bar/'",
+        "(foo:bar)(bar:foo)'baz''bzzd''bar/'",
     ),
     (&["..", "a=b"], "[..]'a=b'"),
     (&["a", "a=b"], "'a''a=b'"),
-    (&["=x", ".", "=y"], "(=x)[.]'=y'"),
-    (&["./x=1", "a/b", "c=d"], "(./x=1)[a/]'b''c=d'"),
-    (&["a/b=c"], "(a/b=c)"),
-    (&["a=b=c", "x/y/z"], "(a=b=c)[x/y/]'z'"),
+    (&["=x", ".", "=y"], "(:x)[.]'=y'"),
+    (&["./x=1", "a/b", "c=d"], "(./x:1)[a/]'b''c=d'"),
+    (&["a/b=c"], "(a/b:c)"),
+    (&["a=b=c", "x/y/z"], "(a:b=c)[x/y/]'z'"),
     (&["...", "."], "'...''.'"),
 ];
 
 fn told(alloc: Global, positional: &Positional) -> Result<String, OutOfMemory> {
     let mut text = String::new(alloc);
     for (key, value) in &positional.overrides {
-        write!(text, "({key}={value})")?;
+        write!(text, "({key}:{value})")?;
     }
     if let Some(directory) = &positional.search_directory {
         write!(text, "[{directory}]")?;
@@ -138,18 +138,6 @@ fn expect(rt: &impl Abort, alloc: Global, words: &[&str], text: &str) -> Result<
 fn positional_words(rt: HostRuntime) -> Result<(), Fail> {
     for (words, text) in POSITIONAL {
         expect(&rt, rt.alloc(), words, text)?;
-    }
-    Ok(())
-}
-
-#[test]
-fn override_is_cut_at_its_first_equals_sign(rt: HostRuntime) -> Result<(), Fail> {
-    let alloc = rt.alloc();
-    let positional = Positional::from_values(alloc, ["a=b=c"])?;
-    counts(&rt, "overrides", positional.overrides.len(), 1);
-    for (key, value) in &positional.overrides {
-        same(&rt, key, "a");
-        same(&rt, value, "b=c");
     }
     Ok(())
 }

@@ -1,9 +1,8 @@
 // Scopes of a thousand bindings, and of two hundred frames.
 
-use crate::compared::{is_so, same};
-use crate::frames::binds;
-use crate::scope::{bind, holds};
-use crate::sizes::{numbered, twice};
+use crate::compared::same;
+use crate::scope::{bind, holds, name_of, told_own};
+use crate::sizes::thousand;
 use just_syntax::out_of_memory::OutOfMemory;
 use just_value::scope::Scope;
 use std::alloc::Global;
@@ -35,21 +34,18 @@ fn holds_all(
     Ok(())
 }
 
-// The names of the own bindings, twice.
-fn names_twice(alloc: Global, scope: &Scope) -> Result<String, OutOfMemory> {
-    let mut all = String::new(alloc);
-    for binding in scope.bindings() {
-        all.push_str(binding.name.lexeme())?;
+// Each name bound to itself, twice.
+fn themselves_twice(alloc: Global, names: &[String]) -> Result<String, OutOfMemory> {
+    let mut once = String::new(alloc);
+    for name in names {
+        write!(once, "{name}={name};")?;
     }
-    for binding in scope.frame().bindings() {
-        all.push_str(binding.name.lexeme())?;
-    }
-    Ok(all)
+    Ok(format!(in alloc; "{once}{once}")?)
 }
 
 #[test]
 fn a_thousand_bindings(rt: HostRuntime) -> Result<(), Fail> {
-    let names = numbered(rt.alloc(), 2000)?;
+    let names = thousand(rt.alloc())?;
     are_bound(&names, &rt, rt.alloc())?;
     Ok(())
 }
@@ -74,8 +70,12 @@ fn bind_and_hold<'src>(
 ) -> Result<(), OutOfMemory> {
     bind_all(alloc, scope, names)?;
     holds_all(scope, rt, alloc, names)?;
-    is_so(rt, "no more", !binds(scope, 1000));
-    same(rt, &names_twice(alloc, scope)?, &twice(alloc, names)?);
+    same(rt, name_of(scope, 1000), "-");
+    same(
+        rt,
+        &told_own(alloc, scope)?,
+        &themselves_twice(alloc, names)?,
+    );
     Ok(())
 }
 
@@ -91,7 +91,7 @@ fn beside_themselves(alloc: Global, texts: &[String]) -> Result<Vec<(&str, &str)
 #[test]
 fn a_thousand_constants(rt: HostRuntime) -> Result<(), Fail> {
     let alloc = rt.alloc();
-    let names = numbered(alloc, 2000)?;
+    let names = thousand(alloc)?;
     are_constants(&rt, alloc, &names)?;
     Ok(())
 }

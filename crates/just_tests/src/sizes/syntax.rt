@@ -1,11 +1,10 @@
 // Tables of a thousand keys, a thousand names of variables, and texts of hundreds of lines.
 
-use crate::compared::{counts, same};
-use crate::parts::{name, whole};
-use crate::sizes::{Long, long, numbered, twice};
-use crate::syntax::{Named, has_length, keeps, keys_twice};
-use crate::variables::{assignment, contains, overrides_with};
-use just_syntax::assignment::Assignment;
+use crate::compared::{equal, same};
+use crate::modules::assignments;
+use crate::sizes::{Long, borrowed, long, thousand, twice, variables};
+use crate::syntax::{Named, has_length, keeps, keys_twice, table_of};
+use crate::variables::{contains, overrides_with};
 use just_syntax::number::Number;
 use just_syntax::out_of_memory::OutOfMemory;
 use just_syntax::table::Table;
@@ -16,22 +15,20 @@ use std::collections::{HashMap, HashSet};
 use std::process::Abort;
 use std::test::Fail;
 
-// Puts a value behind each key, the last first.
-fn table_of(alloc: Global, keys: &[String]) -> Result<Table<Named<'_>>, OutOfMemory> {
-    let mut table = Table::new(alloc);
-    for (place, key) in keys.iter().rev().enumerate() {
-        table.insert(Named {
-            name: name(key),
-            place: place as u64,
-        })?;
-    }
-    Ok(table)
+// Keys, and a table with a value behind each of them, the last first.
+fn backwards(alloc: Global, keys: &[String]) -> Result<Table<Named<'_>>, OutOfMemory> {
+    let mut all = borrowed(alloc, keys)?;
+    all.reverse();
+    table_of(alloc, &all)
 }
 
 #[test]
 fn table_of_a_thousand_keys(rt: HostRuntime) -> Result<(), Fail> {
-    let keys = numbered(rt.alloc(), 2000)?;
-    keeps_all(&rt, &table_of(rt.alloc(), &keys)?, &keys);
+    let alloc = rt.alloc();
+    let keys = thousand(alloc)?;
+    let table = backwards(alloc, &keys)?;
+    keeps_all(&rt, &table, &keys);
+    same(&rt, &keys_twice(alloc, table)?, &twice(alloc, &keys)?);
     Ok(())
 }
 
@@ -41,15 +38,6 @@ fn keeps_all(rt: &impl Abort, table: &Table<Named>, keys: &[String]) {
     for (place, key) in keys.iter().rev().enumerate() {
         keeps(rt, table, key, Some(place as u64));
     }
-}
-
-#[test]
-fn table_gone_over_by_a_thousand_keys(rt: HostRuntime) -> Result<(), Fail> {
-    let alloc = rt.alloc();
-    let keys = numbered(alloc, 2000)?;
-    let all = keys_twice(alloc, table_of(alloc, &keys)?)?;
-    same(&rt, &all, &twice(alloc, &keys)?);
-    Ok(())
 }
 
 // Long texts, and what they are without their indentation.
@@ -69,24 +57,6 @@ fn hundreds_of_lines_unindented(rt: HostRuntime) -> Result<(), Fail> {
     Ok(())
 }
 
-// Assigns each name, which has its place among them as its number.
-fn assignments(alloc: Global, names: &[String]) -> Result<Table<Assignment<'_>>, OutOfMemory> {
-    let mut assignments = Table::new(alloc);
-    let filled = assign(alloc, &mut assignments, names);
-    whole(assignments, filled)
-}
-
-fn assign<'a>(
-    alloc: Global,
-    assignments: &mut Table<Assignment<'a>>,
-    names: &'a [String],
-) -> Result<(), OutOfMemory> {
-    for (place, lexeme) in names.iter().enumerate() {
-        assignments.insert(assignment(alloc, lexeme, place as u64)?)?;
-    }
-    Ok(())
-}
-
 // Pairs of each name and itself.
 fn pairs(alloc: Global, names: &[String]) -> Result<Vec<(String, String)>, OutOfMemory> {
     let mut pairs = Vec::new(alloc);
@@ -97,49 +67,43 @@ fn pairs(alloc: Global, names: &[String]) -> Result<Vec<(String, String)>, OutOf
 }
 
 #[test]
-fn a_thousand_overrides(rt: HostRuntime) -> Result<(), Fail> {
+fn a_thousand_variables(rt: HostRuntime) -> Result<(), Fail> {
     let alloc = rt.alloc();
-    let names = numbered(alloc, 2000)?;
-    let pairs = pairs(alloc, &names)?;
-    let assignments = assignments(alloc, &names)?;
-    let overrides = overrides_of(alloc, &assignments, &pairs);
-    drop(assignments);
-    override_themselves(&rt, &overrides?, &names);
-    Ok(())
+    let names = thousand(alloc)?;
+    are_overridden(&rt, alloc, &names)?;
+    are_referenced(&rt, alloc, &names)
 }
 
 // Whether each name overrides itself, by its place among them.
+fn are_overridden(rt: &impl Abort, alloc: Global, names: &[String]) -> Result<(), Fail> {
+    let pairs = pairs(alloc, names)?;
+    let assignments = assignments(alloc, &variables(alloc, names)?)?;
+    let overrides = overrides_of(alloc, &assignments, &pairs);
+    drop(assignments);
+    override_themselves(rt, &overrides?, names);
+    Ok(())
+}
+
 fn override_themselves(rt: &impl Abort, overrides: &HashMap<Number, String>, names: &[String]) {
-    counts(rt, "overrides", overrides.len(), 1000);
+    equal(rt, "overrides", overrides.len(), 1000);
     for (place, lexeme) in names.iter().enumerate() {
         overrides_with(rt, overrides, place as u64, Some(lexeme));
     }
 }
 
-// The texts, borrowed.
-fn borrowed(alloc: Global, texts: &[String]) -> Result<Vec<&str>, OutOfMemory> {
-    let mut all = Vec::new(alloc);
-    for text in texts {
-        all.push(text.as_str())?;
-    }
-    Ok(all)
-}
-
-#[test]
-fn a_thousand_references(rt: HostRuntime) -> Result<(), Fail> {
-    let alloc = rt.alloc();
-    let names = numbered(alloc, 2000)?;
-    let lexemes = borrowed(alloc, &names)?;
-    let assignments = assignments(alloc, &names)?;
+// Whether each name is referenced, by its place among them.
+fn are_referenced(rt: &impl Abort, alloc: Global, names: &[String]) -> Result<(), Fail> {
+    let lexemes = borrowed(alloc, names)?;
+    let assignments = assignments(alloc, &variables(alloc, names)?)?;
     let references = references_of(alloc, &assignments, &lexemes);
     drop(assignments);
-    are_referenced(&rt, &references?, 1000);
+    contain_all(rt, &references?, 1000);
     Ok(())
 }
 
 // Whether so many numbers are referenced, from 0 on.
-fn are_referenced(rt: &impl Abort, references: &HashSet<Number>, times: usize) {
-    counts(rt, "references", references.len(), times);
+fn contain_all(rt: &impl Abort, references: &HashSet<Number>, times: usize) {
+    equal(rt, "references", references.len(), times);
     for place in 0..times {
         contains(rt, references, place as u64, true);
     }

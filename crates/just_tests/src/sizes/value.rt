@@ -1,7 +1,7 @@
 // Values of a thousand elements.
 
-use crate::compared::{counts, is_so, same};
-use crate::sizes::{long, numbered, texts};
+use crate::compared::is_so;
+use crate::sizes::{long, texts, thousand};
 use crate::value::{told, told_of_elements, told_of_own};
 use just_syntax::out_of_memory::OutOfMemory;
 use just_value::value::Value;
@@ -10,14 +10,17 @@ use std::process::Abort;
 use std::test::Fail;
 
 // Whether a value has these elements, in this order.
-fn is_made_of(value: &Value, elements: &[String]) -> bool {
-    let mut pairs = value.elements().iter().zip(elements);
-    value.len() == elements.len() && pairs.all(|(x, y)| x.as_str() == y.as_str())
-}
-
-// Whether a value is made of these elements.
-fn expect(rt: &impl Abort, value: Value, elements: &[String]) {
-    is_so(rt, "elements", is_made_of(&value, elements));
+fn expect(
+    rt: &impl Abort,
+    alloc: Global,
+    value: Value,
+    wanted: &[String],
+) -> Result<(), OutOfMemory> {
+    let is_long = value.len() == wanted.len() && value.is_truthy() && !value.is_empty();
+    is_so(rt, "a thousand", is_long);
+    let is_same = value.elements().join(alloc, "|")? == wanted.join(alloc, "|")?;
+    is_so(rt, "elements", is_same);
+    Ok(())
 }
 
 // A value to which each element was added.
@@ -30,31 +33,26 @@ fn pushed(alloc: Global, elements: &[String]) -> Result<Value, OutOfMemory> {
 }
 
 #[test]
-fn a_thousand_elements_added(rt: HostRuntime) -> Result<(), Fail> {
-    let alloc = rt.alloc();
-    let elements = numbered(alloc, 2000)?;
-    let value = pushed(alloc, &elements)?;
-    counts(&rt, "elements", value.len(), 1000);
-    is_so(&rt, "true", value.is_truthy() && !value.is_empty());
-    expect(&rt, value.try_clone(alloc)?, &elements);
-    expect(&rt, value, &elements);
-    Ok(())
-}
-
-#[test]
 fn made_of_a_thousand_elements(rt: HostRuntime) -> Result<(), Fail> {
     let alloc = rt.alloc();
-    let elements = numbered(alloc, 2000)?;
-    expect(&rt, Value::from_elements(numbered(alloc, 2000)?), &elements);
-    let value = Value::from_iterator(alloc, numbered(alloc, 2000)?)?;
-    expect(&rt, value, &elements);
+    let elements = thousand(alloc)?;
+    expect(&rt, alloc, pushed(alloc, &elements)?, &elements)?;
+    expect(
+        &rt,
+        alloc,
+        Value::from_elements(thousand(alloc)?),
+        &elements,
+    )?;
+    let value = Value::from_iterator(alloc, thousand(alloc)?)?;
+    expect(&rt, alloc, value.try_clone(alloc)?, &elements)?;
+    expect(&rt, alloc, value, &elements)?;
     Ok(())
 }
 
 // Whether a text is `ab.` so many times.
 fn repeats(rt: &impl Abort, alloc: Global, text: String, times: usize) -> Result<(), OutOfMemory> {
     let wanted = long(alloc, ("", "ab.", times, ""))?;
-    same(rt, &text, &wanted);
+    is_so(rt, "gone over", text == wanted);
     Ok(())
 }
 
@@ -63,12 +61,8 @@ fn gone_over_a_thousand_elements(rt: HostRuntime) -> Result<(), Fail> {
     let alloc = rt.alloc();
     let value = Value::from_elements(texts(alloc, "ab", 1000)?);
     repeats(&rt, alloc, told(alloc, &value)?, 2000)?;
-    repeats(
-        &rt,
-        alloc,
-        told_of_own(alloc, value.try_clone(alloc)?)?,
-        1000,
-    )?;
+    let own = told_of_own(alloc, value.try_clone(alloc)?)?;
+    repeats(&rt, alloc, own, 1000)?;
     repeats(&rt, alloc, told_of_elements(alloc, value)?, 1000)?;
     Ok(())
 }
@@ -76,20 +70,18 @@ fn gone_over_a_thousand_elements(rt: HostRuntime) -> Result<(), Fail> {
 #[test]
 fn a_thousand_elements_compared(rt: HostRuntime) -> Result<(), Fail> {
     let alloc = rt.alloc();
-    let value = Value::from_elements(numbered(alloc, 2000)?);
+    let value = Value::from_elements(thousand(alloc)?);
     let mut more = value.try_clone(alloc)?;
-    are_equal(&rt, &value, &more);
+    is_so(&rt, "equal", are_equal(&value, &more));
     more.push("")?;
-    is_less(&rt, &value, &more);
+    is_so(&rt, "less", is_less(&value, &more));
     Ok(())
 }
 
-fn are_equal(rt: &impl Abort, value: &Value, same: &Value) {
-    is_so(rt, "equal", value == same && !(value < same));
-    is_so(rt, "compared", value.cmp(same).is_eq());
+fn are_equal(value: &Value, same: &Value) -> bool {
+    value == same && !(value < same) && value.cmp(same).is_eq()
 }
 
-fn is_less(rt: &impl Abort, value: &Value, more: &Value) {
-    is_so(rt, "less", value != more && value < more);
-    is_so(rt, "compared", more.cmp(value).is_gt());
+fn is_less(value: &Value, more: &Value) -> bool {
+    value != more && value < more && more.cmp(value).is_gt()
 }

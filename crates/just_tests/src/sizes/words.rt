@@ -1,13 +1,12 @@
 // Word lists, positional words, and the names of an expression.
 
-use crate::compared::{counts, is_so, same, same_if_any};
+use crate::compared::{equal, same};
 use crate::parts::name;
-use crate::scope::{gives, parameter};
-use crate::sizes::{Long, are_all, long, numbered, texts};
+use crate::scope::{from_parameters, gives};
+use crate::sizes::{Long, long, texts, thousand, variables};
 use just_syntax::name::Name;
 use just_syntax::number::Number;
 use just_syntax::out_of_memory::OutOfMemory;
-use just_syntax::parameter::Parameter;
 use just_value::expression_context::ExpressionContext;
 use just_value::list::List;
 use just_value::positional::Positional;
@@ -64,21 +63,27 @@ fn positional(alloc: Global, directory: &str) -> Result<Positional, OutOfMemory>
 fn thousands_of_positional_words(rt: HostRuntime) -> Result<(), Fail> {
     let alloc = rt.alloc();
     let directory = long(alloc, ("", "up/", 1000, ""))?;
-    are_thousands(&rt, &positional(alloc, &directory)?, &directory);
+    are_thousands(&rt, alloc, &positional(alloc, &directory)?, &directory)?;
     Ok(())
 }
 
 // Whether there are a thousand overrides, this directory, and a thousand arguments.
-fn are_thousands(rt: &impl Abort, positional: &Positional, directory: &str) {
-    counts(rt, "overrides", positional.overrides.len(), 1000);
+fn are_thousands(
+    rt: &impl Abort,
+    alloc: Global,
+    positional: &Positional,
+    directory: &str,
+) -> Result<(), OutOfMemory> {
+    equal(rt, "overrides", positional.overrides.len(), 1000);
     for (key, value) in &positional.overrides {
         same(rt, key, "key");
         same(rt, value, "value");
     }
     let searched = positional.search_directory.as_deref();
-    same_if_any(rt, "directory", searched, Some(directory));
-    let are_words = are_all(&positional.arguments, "word", 1000);
-    is_so(rt, "arguments", are_words);
+    equal(rt, "directory", searched, Some(directory));
+    let arguments = positional.arguments.join(alloc, " ")?;
+    same(rt, &arguments, &long(alloc, ("", "word ", 999, "word"))?);
+    Ok(())
 }
 
 // Whether a context gives each name its place among them.
@@ -98,9 +103,15 @@ fn pairs(alloc: Global, names: &[String]) -> Result<Vec<(Name<'_>, Number)>, Out
 }
 
 #[test]
-fn a_thousand_names_of_an_expression(rt: HostRuntime) -> Result<(), Fail> {
+fn a_thousand_names(rt: HostRuntime) -> Result<(), Fail> {
     let alloc = rt.alloc();
-    gives_pairs(&rt, alloc, &numbered(alloc, 2000)?)?;
+    let names = thousand(alloc)?;
+    gives_pairs(&rt, alloc, &names)?;
+    gives_all(
+        &rt,
+        &from_parameters(alloc, &variables(alloc, &names)?)?,
+        &names,
+    );
     Ok(())
 }
 
@@ -110,29 +121,5 @@ fn gives_pairs(rt: &impl Abort, alloc: Global, names: &[String]) -> Result<(), O
     let context = ExpressionContext::from_pairs(alloc, &pairs)?;
     gives_all(rt, &context, names);
     gives(rt, &context, "x2000", None);
-    Ok(())
-}
-
-// Parameters with these names, and their places among them as numbers.
-fn parameters(alloc: Global, names: &[String]) -> Result<Vec<Parameter<'_>>, OutOfMemory> {
-    let mut parameters = Vec::new(alloc);
-    for (number, lexeme) in names.iter().enumerate() {
-        parameters.push(parameter(lexeme, number as u64))?;
-    }
-    Ok(parameters)
-}
-
-#[test]
-fn a_thousand_names_of_parameters(rt: HostRuntime) -> Result<(), Fail> {
-    let alloc = rt.alloc();
-    gives_parameters(&rt, alloc, &numbered(alloc, 2000)?)?;
-    Ok(())
-}
-
-// A context of parameters gives each name its place.
-fn gives_parameters(rt: &impl Abort, alloc: Global, names: &[String]) -> Result<(), OutOfMemory> {
-    let parameters = parameters(alloc, names)?;
-    let context = ExpressionContext::from_parameters(alloc, &parameters)?;
-    gives_all(rt, &context, names);
     Ok(())
 }
