@@ -12,43 +12,62 @@ use std::alloc::Global;
 use std::collections::{BTreeMap, HashMap};
 use std::process::Abort;
 
+/// The directory of a module, where nothing else is said.
+pub const MODULE: &str = "/module";
+
 /// What a context lends.
 #[derive(Drop)]
-pub struct Around {
+pub struct Around<'src> {
     pub config: Config,
     pub dotenv: BTreeMap<String, String>,
-    pub module: Justfile<'static>,
+    pub module: Justfile<'src>,
     pub overrides: HashMap<Number, String>,
-    pub scope: Scope<'static, 'static>,
+    pub scope: Scope<'src, 'src>,
     pub search: Search,
 }
 
-impl Around {
-    /// Called in `/called/here`, with the justfile `/work/justfile`.
-    pub fn new(rt: &impl Abort, alloc: Global, module: Justfile<'static>) -> Around {
-        let search = search(rt, alloc, "/work/justfile");
-        Around::with(rt, alloc, config(rt, alloc), search, module)
-    }
-
-    /// With no variable of a dotenv file, none from outside, and none that is bound.
-    pub fn with(
+impl<'src> Around<'src> {
+    /// Of this module, called so, with a justfile and the directory that it works in. There is no variable of a dotenv file, none
+    /// from outside, and one constant is bound.
+    pub fn new(
         rt: &impl Abort,
         alloc: Global,
+        module: Justfile<'src>,
         config: Config,
-        search: Search,
-        module: Justfile<'static>,
-    ) -> Around {
+        justfile: &str,
+        directory: &str,
+    ) -> Around<'src> {
         Around {
             config,
             dotenv: BTreeMap::new(alloc),
             module,
             overrides: HashMap::new(alloc),
-            scope: Scope::root(alloc, &[]).expect(rt, "no memory"),
-            search,
+            scope: Scope::root(alloc, &[("HEX", "0123456789abcdef")]).expect(rt, "no memory"),
+            search: Search::new(alloc, justfile, directory).expect(rt, "no memory"),
         }
     }
 
-    pub fn context(&self) -> ExecutionContext<'static, '_> {
+    /// Of a module at a place with these settings and nothing else, called in `/called/here`, with the justfile
+    /// `/work/justfile`.
+    pub fn plain(
+        rt: &impl Abort,
+        alloc: Global,
+        place: &'src str,
+        settings: Settings,
+    ) -> Around<'src> {
+        let mut module = module_at(rt, alloc, place, place);
+        module.settings = settings;
+        Around::new(
+            rt,
+            alloc,
+            module,
+            called(rt, alloc),
+            "/work/justfile",
+            "/work",
+        )
+    }
+
+    pub fn context(&self) -> ExecutionContext<'src, '_> {
         ExecutionContext {
             config: &self.config,
             dotenv: &self.dotenv,
@@ -61,37 +80,19 @@ impl Around {
     }
 }
 
-/// Called in `/called/here`.
-pub fn config(rt: &impl Abort, alloc: Global) -> Config {
+/// Called in `/called/here`, with nothing else said of how.
+pub fn called(rt: &impl Abort, alloc: Global) -> Config {
     Config::new(alloc, "/called/here").expect(rt, "no memory")
 }
 
-/// With this justfile, and the working directory `/work`.
-pub fn search(rt: &impl Abort, alloc: Global, justfile: &str) -> Search {
-    Search::new(alloc, justfile, "/work").expect(rt, "no memory")
-}
-
 /// A module with nothing in it, of this source in this directory.
-pub fn module_at(
+pub fn module_at<'src>(
     rt: &impl Abort,
     alloc: Global,
-    source: &str,
+    source: &'src str,
     directory: &str,
-) -> Justfile<'static> {
+) -> Justfile<'src> {
     Justfile::new(alloc, source, directory).expect(rt, "no memory")
-}
-
-/// A module with nothing in it, in the directory `/module`.
-pub fn module(
-    rt: &impl Abort,
-    alloc: Global,
-    submodule: bool,
-    settings: Settings,
-) -> Justfile<'static> {
-    let mut module = module_at(rt, alloc, "/module/justfile", "/module");
-    module.settings = settings;
-    module.submodule = submodule;
-    module
 }
 
 /// Settings are equal, or are not.

@@ -7,45 +7,51 @@ mod questions;
 mod rows;
 mod scripted;
 
-use crate::around::insert;
-use crate::texts::{gives, is_either, same_if_any};
-use answers::{ANSWERS, Answers, KINDS, wanted_of};
-use around::{Around, answer};
+use crate::around::Around;
+use crate::texts::{gives, same, same_of};
+use answers::{ANSWERS, Answers};
+use around::{Place, answer, around_at};
 use just_builtins::function::{Function, functions, get, is_left_out};
 use just_builtins::path;
-use names::NAMES;
+use just_host::execution_context::ExecutionContext;
+use names::{LEFT_OUT, NAMES, NO_NAMES};
 use questions::{COMMANDS, DRY_COMMANDS, FILES, FILES_WITH_LISTS, NUMBERS, Question, VARIABLES};
 use rows::{
     CALLS, CALLS_WITHOUT_LISTS, IN_NO_FILE, OTHER_SURROUNDINGS, Row, SHAPES, SURROUNDINGS,
     WITHOUT_A_PARENT,
 };
 use scripted::{Given, Scripted};
-use std::alloc::Global;
+use std::alloc::{AllocError, Global};
 use std::process::Abort;
 
 #[test]
 fn each_name(rt: HostRuntime) {
-    for (function, left_out, names) in NAMES {
-        stand_for(&rt, *function, *left_out, names);
+    for row in NAMES {
+        stand_for(&rt, rt.alloc(), row);
     }
-}
-
-#[test]
-fn all_names(rt: HostRuntime) {
+    all_are(&rt, rt.alloc(), LEFT_OUT, "None None true");
+    all_are(&rt, rt.alloc(), NO_NAMES, "None None false");
     assert_eq!(rt; functions().len(), 77);
 }
 
-// Each of these names stands for the function or for none, also in the list of all, and is left out or not.
-fn stand_for(rt: &impl Abort, function: Option<Function>, left_out: bool, names: &[&str]) {
-    for name in names {
-        stands_for(rt, name, get(name), function);
-        stands_for(rt, name, listed(name), function);
-        is_either(rt, name, is_left_out(name), left_out);
+// Each name behind a function stands for it, and is not left out.
+fn stand_for(rt: &impl Abort, alloc: Global, row: &str) {
+    let (function, names) = row.split_once(' ').expect(rt, "no name");
+    let wanted = format!(in alloc; "Some({function}) Some({function}) false");
+    all_are(rt, alloc, names, &wanted.expect(rt, "no memory"));
+}
+
+// What is told of each of these names is this.
+fn all_are(rt: &impl Abort, alloc: Global, names: &str, wanted: &str) {
+    for name in names.split(' ') {
+        let told = told_name(alloc, name).expect(rt, "no memory");
+        same_of(rt, name, &told, wanted);
     }
 }
 
-fn stands_for(rt: &impl Abort, name: &str, given: Option<Function>, wanted: Option<Function>) {
-    assert_eq!(rt; given, wanted, "{name}");
+// What a name stands for by itself and in the list of all, and whether it is left out.
+fn told_name(alloc: Global, name: &str) -> Result<String, AllocError> {
+    format!(in alloc; "{:?} {:?} {}", get(name), listed(name), is_left_out(name))
 }
 
 // What a name stands for in the list of all.
@@ -61,169 +67,210 @@ fn listed(name: &str) -> Option<Function> {
 
 #[test]
 fn shapes(rt: HostRuntime) {
-    for (function, fewest, most, texts) in SHAPES {
-        takes(&rt, *function, *fewest, *most);
-        wants_texts(&rt, *function, *texts);
+    for (function, wanted) in SHAPES {
+        let told = told_shape(rt.alloc(), *function).expect(&rt, "no memory");
+        same(&rt, &told, wanted);
     }
 }
 
-// A function takes so few and so many arguments.
-fn takes(rt: &impl Abort, function: Function, fewest: usize, most: usize) {
-    assert_eq!(rt;
-        function.expected_arguments(),
-        fewest..=most,
-        "{function:?}"
-    );
-}
-
-// Whether a function wants texts at the places 0, 1 and 2.
-fn wants_texts(rt: &impl Abort, function: Function, wanted: [bool; 3]) {
-    let given = [
+// A function, how few and how many arguments it takes, and whether it wants texts at the places 0, 1 and 2.
+fn told_shape(alloc: Global, function: Function) -> Result<String, AllocError> {
+    let texts = [
         function.is_text(0),
         function.is_text(1),
         function.is_text(2),
     ];
-    assert_eq!(rt; given, wanted, "{function:?}");
+    format!(in alloc;
+        "{function:?} {:?} {texts:?}",
+        function.expected_arguments()
+    )
 }
 
-// Compares what functions ask and answer with what is wanted.
-fn compare(rt: &impl Abort, alloc: Global, around: Around, rows: &[Question]) {
-    compare_in(rt, alloc, &around, rows);
+// With lists, outside a recipe.
+const WITH_LISTS: Place = Place {
+    caller: "shared/é.just",
+    dry_run: false,
+    jobs: None,
+    justfile: "/work/justfile",
+    lists: true,
+    module_path: "sub",
+    recipe: None,
+    set: None,
+    source: "/work/sub/mod.just",
+};
+
+const WITHOUT_LISTS: Place = Place {
+    lists: false,
+    ..WITH_LISTS
+};
+
+const WITH_DOTENV: Place = Place {
+    set: Some("dot"),
+    ..WITH_LISTS
+};
+
+const DRY: Place = Place {
+    dry_run: true,
+    ..WITH_LISTS
+};
+
+// In the recipe `build`, which runs as a dependency, with paths that have no parent.
+const AT_THE_ROOT: Place = Place {
+    jobs: Some(12),
+    justfile: "/",
+    module_path: "",
+    recipe: Some("build"),
+    source: "",
+    ..WITH_LISTS
+};
+
+const PARENTLESS: Place = Place {
+    caller: "justfile",
+    justfile: "",
+    source: "/",
+    ..AT_THE_ROOT
+};
+
+const NO_FILE: Place = Place {
+    caller: "",
+    justfile: "/j",
+    source: "/",
+    ..AT_THE_ROOT
+};
+
+// What stands in a place: calls that ask, and calls that ask nothing.
+type Table = (Place, &'static [Question], &'static [Row]);
+
+const TABLES: &[Table] = &[
+    (WITH_LISTS, NUMBERS, CALLS),
+    (WITHOUT_LISTS, FILES, CALLS_WITHOUT_LISTS),
+    (WITH_LISTS, FILES_WITH_LISTS, SURROUNDINGS),
+    (WITH_DOTENV, VARIABLES, &[]),
+    (WITH_LISTS, COMMANDS, &[]),
+    (DRY, DRY_COMMANDS, &[]),
+    (AT_THE_ROOT, &[], OTHER_SURROUNDINGS),
+    (PARENTLESS, &[], WITHOUT_A_PARENT),
+    (NO_FILE, &[], IN_NO_FILE),
+];
+
+#[test]
+fn calls(rt: HostRuntime) {
+    for table in TABLES {
+        compare(&rt, rt.alloc(), table);
+    }
+}
+
+// Compares what the calls of a table ask and answer with what is wanted.
+fn compare<'src>(rt: &impl Abort, alloc: Global, table: &'src Table) {
+    let around = around_at(rt, alloc, &table.0);
+    compare_in(&around, rt, alloc, table);
     drop(around);
 }
 
-fn compare_in(rt: &impl Abort, alloc: Global, around: &Around, rows: &[Question]) {
-    for (function, arguments, given, asked, wanted) in rows {
-        let call = (*function, *arguments);
-        asks_and_answers(rt, alloc, around, call, *given, asked, wanted);
+fn compare_in<'src>(around: &Around<'src>, rt: &impl Abort, alloc: Global, table: &'src Table) {
+    let (place, questions, rows) = table;
+    let context = around.context();
+    for (given, row) in *questions {
+        tells_row(&context, rt, alloc, place, *given, row);
+    }
+    for row in *rows {
+        tells_row(&context, rt, alloc, place, Given::OutOfMemory, row);
     }
 }
 
-// Compares what functions that ask nothing answer with what is wanted.
-fn compare_rows(rt: &impl Abort, alloc: Global, around: Around, rows: &[Row]) {
-    compare_rows_in(rt, alloc, &around, rows);
-    drop(around);
-}
-
-fn compare_rows_in(rt: &impl Abort, alloc: Global, around: &Around, rows: &[Row]) {
-    for (function, arguments, wanted) in rows {
-        let call = (*function, *arguments);
-        asks_and_answers(rt, alloc, around, call, Given::OutOfMemory, "", wanted);
-    }
-}
-
-// Compares what a function makes of each kind of answer with what is wanted.
-fn compare_answers(rt: &impl Abort, alloc: Global, around: &Around, row: &Answers) {
-    let (function, arguments, asked, _) = *row;
-    for given in KINDS {
-        let wanted = wanted_of(row, *given);
-        asks_and_answers(
-            rt,
-            alloc,
-            around,
-            (function, arguments),
-            *given,
-            asked,
-            wanted,
-        );
-    }
+// The call of a row asks and answers as the row says.
+fn tells_row<'src>(
+    context: &ExecutionContext<'src, '_>,
+    rt: &impl Abort,
+    alloc: Global,
+    place: &'src Place,
+    given: Given,
+    row: &'src str,
+) {
+    let (call, told) = row.split_once(" => ").expect(rt, "no answer");
+    tells(context, rt, alloc, place, given, call, "", told);
 }
 
 // A call asks this, where the host gives this, and then answers this.
-fn asks_and_answers(
+fn tells<'src>(
+    context: &ExecutionContext<'src, '_>,
     rt: &impl Abort,
     alloc: Global,
-    around: &Around,
-    (function, arguments): (&'static str, &[&str]),
+    place: &'src Place,
     given: Given,
+    call: &'src str,
     asked: &str,
     wanted: &str,
 ) {
     let mut host = Scripted::new(alloc, given);
-    let answered = answer(rt, alloc, &mut host, around, function, arguments);
-    is_as_wanted(rt, function, given, &host.asked, asked);
-    is_as_wanted(rt, function, given, &answered, wanted);
+    let answer = answer(context, rt, alloc, &mut host, place, call);
+    host.told.push_str(&answer).expect(rt, "no memory");
+    drop(answer);
+    is_told(rt, call, &host.told, asked, wanted);
+    drop(host);
 }
 
-// What is told of a call, where the host gave such an answer, is what is wanted.
-fn is_as_wanted(rt: &impl Abort, function: &str, given: Given, told: &str, wanted: &str) {
-    let kind = given.kind();
-    assert_eq!(rt; told, wanted, "{function} {kind}");
+// What is told of a call is what it asks, and then its answer.
+fn is_told(rt: &impl Abort, call: &str, told: &str, asked: &str, wanted: &str) {
+    assert_eq!(rt; told.strip_prefix(asked), Some(wanted), "{call}");
 }
 
 #[test]
 fn each_kind_of_answer(rt: HostRuntime) {
-    let around = Around::new(&rt, rt.alloc(), true);
-    compare_all_answers(&rt, rt.alloc(), &around);
+    compare_answers(&rt, rt.alloc(), &WITH_LISTS);
+}
+
+fn compare_answers<'src>(rt: &impl Abort, alloc: Global, place: &'src Place) {
+    let around = around_at(rt, alloc, place);
+    compare_all_answers(&around, rt, alloc, place);
     drop(around);
 }
 
-fn compare_all_answers(rt: &impl Abort, alloc: Global, around: &Around) {
+fn compare_all_answers<'src>(
+    around: &Around<'src>,
+    rt: &impl Abort,
+    alloc: Global,
+    place: &'src Place,
+) {
+    let context = around.context();
     for row in ANSWERS {
-        compare_answers(rt, alloc, around, row);
+        compare_kinds(&context, rt, alloc, place, row);
     }
 }
 
-#[test]
-fn numbers(rt: HostRuntime) {
-    let alloc = rt.alloc();
-    compare(&rt, alloc, Around::new(&rt, alloc, true), NUMBERS);
-}
-
-#[test]
-fn files(rt: HostRuntime) {
-    let alloc = rt.alloc();
-    compare(&rt, alloc, Around::new(&rt, alloc, false), FILES);
-    compare(&rt, alloc, Around::new(&rt, alloc, true), FILES_WITH_LISTS);
-}
-
-#[test]
-fn variables(rt: HostRuntime) {
-    let alloc = rt.alloc();
-    let mut around = Around::new(&rt, alloc, true);
-    insert(&rt, alloc, &mut around.lent.dotenv, "set", "dot");
-    compare(&rt, alloc, around, VARIABLES);
-}
-
-#[test]
-fn commands(rt: HostRuntime) {
-    let alloc = rt.alloc();
-    compare(&rt, alloc, Around::new(&rt, alloc, true), COMMANDS);
-    let mut around = Around::new(&rt, alloc, true);
-    around.lent.config.dry_run = true;
-    compare(&rt, alloc, around, DRY_COMMANDS);
-}
-
-#[test]
-fn calls(rt: HostRuntime) {
-    let alloc = rt.alloc();
-    compare_rows(&rt, alloc, Around::new(&rt, alloc, true), CALLS);
-    let around = Around::new(&rt, alloc, false);
-    compare_rows(&rt, alloc, around, CALLS_WITHOUT_LISTS);
-}
-
-#[test]
-fn surroundings(rt: HostRuntime) {
-    let alloc = rt.alloc();
-    compare_rows(&rt, alloc, Around::new(&rt, alloc, true), SURROUNDINGS);
-    let around = Around::at_the_root(&rt, alloc);
-    compare_rows(&rt, alloc, around, OTHER_SURROUNDINGS);
-}
-
-#[test]
-fn surroundings_without_a_parent(rt: HostRuntime) {
-    let alloc = rt.alloc();
-    let around = Around::in_a_recipe(&rt, alloc, "", "/", "justfile");
-    compare_rows(&rt, alloc, around, WITHOUT_A_PARENT);
-    let around = Around::in_a_recipe(&rt, alloc, "/j", "/", "");
-    compare_rows(&rt, alloc, around, IN_NO_FILE);
+// Compares what a call makes of each kind of answer with what is wanted.
+fn compare_kinds<'src>(
+    context: &ExecutionContext<'src, '_>,
+    rt: &impl Abort,
+    alloc: Global,
+    place: &'src Place,
+    row: &'src Answers,
+) {
+    let (call, asked, [absent, not_text, fault]) = *row;
+    let kinds = [
+        (Given::Text("/t"), "/t"),
+        (Given::Absent, absent),
+        (Given::NotText("x"), not_text),
+        (Given::Fault("m"), fault),
+        (Given::OutOfMemory, "OutOfMemory"),
+    ];
+    for (given, wanted) in kinds {
+        tells(context, rt, alloc, place, given, call, asked, wanted);
+    }
 }
 
 #[test]
 fn paths_passed_on(rt: HostRuntime) {
     gives(&rt, path::join(rt.alloc(), "a", "b"), "a/b");
-    same_if_any(&rt, path::parent("a/b"), Some("a"));
-    same_if_any(&rt, path::file_name("a/b.c"), Some("b.c"));
-    same_if_any(&rt, path::file_stem("a/b.c"), Some("b"));
-    same_if_any(&rt, path::extension("a/b.c"), Some("c"));
+    let given = [
+        path::parent("a/b"),
+        path::file_name("a/b.c"),
+        path::file_stem("a/b.c"),
+        path::extension("a/b.c"),
+    ];
+    are_same(&rt, given, [Some("a"), Some("b.c"), Some("b"), Some("c")]);
+}
+
+fn are_same(rt: &impl Abort, given: [Option<&str>; 4], wanted: [Option<&str>; 4]) {
+    assert_eq!(rt; given, wanted);
 }

@@ -1,98 +1,55 @@
 // What a context is made of where nothing else is said.
 
-use crate::around::{Around, compares, config, map, module_at, search};
-use crate::texts::{gives, is_either, owned, same, same_if_any};
-use just_host::config::Config;
+use crate::around::{Around, called, compares, insert, module_at};
+use crate::texts::{gives, is_either, owned, same};
 use just_host::execution_context::{ExecutionContext, RECURSION_LIMIT};
 use just_host::justfile::Justfile;
 use just_host::settings::Settings;
 use just_syntax::number::Number;
 use just_syntax::numerator::Numerator;
-use just_value::scope::Scope;
-use std::alloc::Global;
-use std::collections::HashMap;
+use std::alloc::{AllocError, Global};
+use std::collections::{BTreeMap, HashMap};
 use std::process::Abort;
 
-#[test]
-fn configuration(rt: HostRuntime) {
-    says_only_where(&rt, &config(&rt, rt.alloc()));
-}
-
 // Nothing is said of how the program was called, but that it was in the directory `/called/here`.
-fn says_only_where(rt: &impl Abort, config: &Config) {
-    same(rt, &config.invocation_directory, "/called/here");
-    let has_flag = config.dry_run || config.quiet || config.shell_command;
-    is_either(rt, "a flag", has_flag, false);
-    let has_shell = config.shell.is_some() || config.shell_args.is_some();
-    is_either(rt, "a shell", has_shell, false);
-    is_either(rt, "jobs", config.jobs.is_some(), false);
-}
+const CONFIG: &str =
+    "Config { dry_run: false, invocation_directory: \"/called/here\", jobs: None, quiet: false, \
+    shell: None, shell_args: None, shell_command: false }";
 
-#[test]
-fn what_was_found(rt: HostRuntime) {
-    let search = search(&rt, rt.alloc(), "/work/a.just");
-    same(&rt, &search.justfile, "/work/a.just");
-    same(&rt, &search.working_directory, "/work");
-}
-
-#[test]
-fn module_with_nothing(rt: HostRuntime) {
-    let module = module_at(&rt, rt.alloc(), "/work/a.just", "/work");
-    holds_nothing(&rt, &module);
-    sets_nothing(&rt, rt.alloc(), &module.settings);
-    drop(module);
-}
-
-fn sets_nothing(rt: &impl Abort, alloc: Global, settings: &Settings) {
-    let unset = Settings::new(alloc);
-    compares(rt, settings, &unset, true);
-    drop(unset);
-}
-
-// A module is the root in the file `/work/a.just`, with nothing in it.
-fn holds_nothing<'call>(rt: &'call impl Abort, module: &'call Justfile) {
-    let has_items = !module.assignments.is_empty() || !module.functions.is_empty();
-    is_either(rt, "items", has_items, false);
-    let has_names = !module.evaluation_order.is_empty() || !module.unexports.is_empty();
-    is_either(rt, "names", has_names, false);
-    same(rt, &module.module_path, "");
-    same(rt, &module.source, "/work/a.just");
-    same(rt, &module.working_directory, "/work");
-    is_either(rt, "submodule", module.is_submodule(), false);
-}
+const SEARCH: &str = "Search { justfile: \"/work/justfile\", working_directory: \"/work\" }";
 
 #[test]
 fn context_of_its_parts(rt: HostRuntime) {
-    let around = around(&rt, rt.alloc());
-    has_its_parts(&rt, rt.alloc(), &around);
+    parts_are_told(&rt, rt.alloc(), "/work/a.just");
+}
+
+fn parts_are_told<'src>(rt: &impl Abort, alloc: Global, source: &'src str) {
+    let around = around_of(rt, alloc, source);
+    are_told(&around, rt, alloc);
     drop(around);
 }
 
 // With a variable of a dotenv file, another that is given from outside, and one that is bound.
-fn around(rt: &impl Abort, alloc: Global) -> Around {
-    Around {
-        config: config(rt, alloc),
-        dotenv: map(rt, alloc, &[("K", "v")]),
-        module: module_at(rt, alloc, "/work/a.just", "/module"),
-        overrides: overrides(rt, alloc),
-        scope: constants(rt, alloc),
-        search: search(rt, alloc, "/work/justfile"),
-    }
+fn around_of<'src>(rt: &impl Abort, alloc: Global, source: &'src str) -> Around<'src> {
+    let module = module_at(rt, alloc, source, "/module");
+    let config = called(rt, alloc);
+    let mut around = Around::new(rt, alloc, module, config, "/work/justfile", "/work");
+    insert(rt, alloc, &mut around.dotenv, "K", "v");
+    give(rt, alloc, &mut around.overrides);
+    around
 }
 
-fn overrides(rt: &impl Abort, alloc: Global) -> HashMap<Number, String> {
-    let mut overrides = HashMap::new(alloc);
+// A variable is given from outside.
+fn give(rt: &impl Abort, alloc: Global, overrides: &mut HashMap<Number, String>) {
     let inserted: Result<_, _> = overrides.insert(Number::new(7), owned(rt, alloc, "o"));
     inserted.expect(rt, "no memory");
-    overrides
 }
 
-fn constants(rt: &impl Abort, alloc: Global) -> Scope<'static, 'static> {
-    Scope::root(alloc, &[("HEX", "0123456789abcdef")]).expect(rt, "no memory")
-}
-
-// A context is what it is made of, under the usual limit.
-fn has_its_parts(rt: &impl Abort, alloc: Global, around: &Around) {
+fn are_told<'src>(around: &Around<'src>, rt: &impl Abort, alloc: Global) {
+    is_told(rt, format!(in alloc; "{:?}", around.config), CONFIG);
+    is_told(rt, format!(in alloc; "{:?}", around.search), SEARCH);
+    holds_nothing(&around.module, rt);
+    sets_nothing(rt, alloc, &around.module.settings);
     let context = ExecutionContext::new(
         &around.config,
         &around.dotenv,
@@ -104,15 +61,51 @@ fn has_its_parts(rt: &impl Abort, alloc: Global, around: &Around) {
     is_made_of_them(&context, rt, alloc);
 }
 
-fn is_made_of_them(context: &ExecutionContext, rt: &impl Abort, alloc: Global) {
+fn is_told(rt: &impl Abort, told: Result<String, AllocError>, wanted: &str) {
+    same(rt, &told.expect(rt, "no memory"), wanted);
+}
+
+fn sets_nothing(rt: &impl Abort, alloc: Global, settings: &Settings) {
+    let unset = Settings::new(alloc);
+    compares(rt, settings, &unset, true);
+    drop(unset);
+}
+
+// A module is the root in the file `/work/a.just`, with nothing in it.
+fn holds_nothing<'src>(module: &Justfile<'src>, rt: &impl Abort) {
+    let has_items = !module.assignments.is_empty() || !module.functions.is_empty();
+    let has_names = !module.evaluation_order.is_empty() || !module.unexports.is_empty();
+    is_either(rt, "items", has_items || has_names, false);
+    same(rt, &module.module_path, "");
+    same(rt, &module.source, "/work/a.just");
+    same(rt, &module.working_directory, "/module");
+    is_either(rt, "submodule", module.is_submodule(), false);
+}
+
+// A context is what it is made of, under the usual limit.
+fn is_made_of_them<'src>(context: &ExecutionContext<'src, '_>, rt: &impl Abort, alloc: Global) {
     gives(rt, context.working_directory(alloc), "/work");
     assert_eq!(rt; [context.recursion_limit, RECURSION_LIMIT], [100; 2]);
     same(rt, &context.config.invocation_directory, "/called/here");
     same(rt, &context.module.working_directory, "/module");
-    let loaded = context.dotenv.get("K");
-    same_if_any(rt, loaded.map(|text| text.as_str()), Some("v"));
-    let given = context.overrides.get(&Number::new(7));
-    same_if_any(rt, given.map(|text| text.as_str()), Some("o"));
+    is_told(
+        rt,
+        told_variables(alloc, context.dotenv, context.overrides),
+        "Some(\"v\") Some(\"o\")",
+    );
     let constant = context.scope.value(Numerator::constant(0));
     is_either(rt, "a constant", constant.is_some(), true);
+}
+
+// A variable of a dotenv file, and one that is given from outside.
+fn told_variables(
+    alloc: Global,
+    dotenv: &BTreeMap<String, String>,
+    overrides: &HashMap<Number, String>,
+) -> Result<String, AllocError> {
+    format!(in alloc;
+        "{:?} {:?}",
+        dotenv.get("K"),
+        overrides.get(&Number::new(7))
+    )
 }

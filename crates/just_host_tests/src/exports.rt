@@ -1,7 +1,7 @@
 // What a scope exports.
 
 use crate::texts::{all_owned, gives};
-use just_host::exports::{EnvironmentChange, exports};
+use just_host::exports::exports;
 use just_syntax::attribute_set::AttributeSet;
 use just_syntax::name::Name;
 use just_syntax::number::Number;
@@ -10,7 +10,7 @@ use just_syntax::token::Token;
 use just_value::binding::Binding;
 use just_value::scope::Scope;
 use just_value::value::Value;
-use std::alloc::{AllocError, Global};
+use std::alloc::Global;
 use std::process::Abort;
 
 // A name, its value, and whether it is exported.
@@ -18,7 +18,7 @@ type Bound = (&'static str, &'static [&'static str], bool);
 
 // What three frames bind, the outermost first, and the changes that they make where `u` and `v` are not exported.
 const EXPORTS: &[([&[Bound]; 3], &str)] = &[
-    ([&[], &[], &[]], "-u -v "),
+    ([&[], &[], &[]], "[Remove(\"u\"), Remove(\"v\")]"),
     (
         [
             &[],
@@ -30,7 +30,7 @@ const EXPORTS: &[([&[Bound]; 3], &str)] = &[
                 ("v", &["é"], true),
             ],
         ],
-        "-u -v b=x y;a=;v=é;",
+        "[Remove(\"u\"), Remove(\"v\"), Set { name: \"b\", text: \"x y\" }, Set { name: \"a\", text: \"\" }, Set { name: \"v\", text: \"é\" }]",
     ),
     (
         [
@@ -38,7 +38,7 @@ const EXPORTS: &[([&[Bound]; 3], &str)] = &[
             &[("b", &["3"], false), ("a", &["4"], true)],
             &[("a", &["5"], true)],
         ],
-        "a=1;u=2;a=4;-u -v a=5;",
+        "[Set { name: \"a\", text: \"1\" }, Set { name: \"u\", text: \"2\" }, Set { name: \"a\", text: \"4\" }, Remove(\"u\"), Remove(\"v\"), Set { name: \"a\", text: \"5\" }]",
     ),
 ];
 
@@ -74,7 +74,7 @@ fn export_all(
 fn export_own(scope: &Scope, rt: &impl Abort, alloc: Global, own: &[Bound], printed: &str) {
     let scope = child(scope, rt, alloc, own);
     let unexports = all_owned(rt, alloc, &["u", "v"]);
-    let given = exported(alloc, &scope, &unexports);
+    let given = exported(&scope, alloc, &unexports);
     drop(unexports);
     drop(scope);
     gives(rt, given, printed);
@@ -124,19 +124,10 @@ fn binding<'src>(rt: &impl Abort, alloc: Global, number: Number, bound: &Bound) 
     }
 }
 
-// The changes that a scope makes where these are not exported, written.
-fn exported(alloc: Global, scope: &Scope, unexports: &[String]) -> Result<String, OutOfMemory> {
-    Ok(written(alloc, &exports(alloc, scope, unexports)?)?)
-}
-
-// Changes, written: `-a ` where a variable is taken away, `a=text;` where it is set.
-fn written(alloc: Global, changes: &[EnvironmentChange]) -> Result<String, AllocError> {
-    let mut all = String::new(alloc);
-    for change in changes {
-        match change {
-            EnvironmentChange::Set { name, text } => write!(all, "{name}={text};")?,
-            EnvironmentChange::Remove(name) => write!(all, "-{name} ")?,
-        }
-    }
-    Ok(all)
+// The changes that a scope makes where these are not exported, as they are shown.
+fn exported(scope: &Scope, alloc: Global, unexports: &[String]) -> Result<String, OutOfMemory> {
+    let changes = exports(alloc, scope, unexports)?;
+    let told = format!(in alloc; "{changes:?}");
+    drop(changes);
+    Ok(told?)
 }

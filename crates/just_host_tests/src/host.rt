@@ -5,23 +5,23 @@ mod map_host;
 mod shells;
 mod watched;
 
-use crate::around::{Around, map, module};
-use crate::texts::{gives, is_either, owned, same, same_if_any, text_of};
+use crate::around::{Around, MODULE, called, map, module_at};
+use crate::texts::{gives, is_either, long, owned, same, text_of};
 use echo_host::EchoHost;
 use just_host::ask::ask_command;
 use just_host::directory_kind::DirectoryKind;
 use just_host::execution_context::ExecutionContext;
 use just_host::fault::fault_text;
 use just_host::host::Host;
+use just_host::justfile::Justfile;
 use just_host::no_host::NoHost;
 use just_host::number_question::NumberQuestion;
 use just_host::settings::Settings;
-use just_host::text_answer::TextAnswer;
 use just_host::text_question::TextQuestion;
 use just_syntax::out_of_memory::OutOfMemory;
 use just_value::error::CommandFault;
 use map_host::{MapHost, written};
-use std::alloc::Global;
+use std::alloc::{AllocError, Global};
 use std::collections::BTreeMap;
 use std::process::Abort;
 use watched::Watched;
@@ -43,38 +43,84 @@ fn faults(rt: HostRuntime) {
     gives(&rt, fault_text(alloc, &CommandFault::OutOfMemory), "");
 }
 
-// Whether a module is a submodule, the directory that it sets, and the one that its commands run in.
-const DIRECTORIES: &[(bool, Option<&str>, &str)] = &[
-    (false, None, "/work"),
-    (true, None, "/module"),
-    (false, Some("sub"), "/work/sub"),
-    (true, Some("sub"), "/module/sub"),
-    (false, Some("/rooted"), "/rooted"),
-    (true, Some("/rooted"), "/rooted"),
+// Whether a module is a submodule, the directory that the search and the module have, the one that the module sets, and the
+// one that its commands run in. Each `@` stands for `ab/` five hundred times.
+type Directory = (
+    bool,
+    &'static str,
+    &'static str,
+    Option<&'static str>,
+    &'static str,
+);
+
+const DIRECTORIES: &[Directory] = &[
+    (false, "/work", "/module", None, "/work"),
+    (true, "/work", "/module", None, "/module"),
+    (false, "/work", "/module", Some("sub"), "/work/sub"),
+    (true, "/work", "/module", Some("sub"), "/module/sub"),
+    (false, "/work", "/module", Some("/rooted"), "/rooted"),
+    (true, "/work", "/module", Some("/rooted"), "/rooted"),
+    (false, "/@", "/@", None, "/@"),
+    (true, "/@", "/@", None, "/@"),
+    (false, "/@", "/@", Some("@ab"), "/@@ab"),
+    (true, "/@", "/@", Some("@ab"), "/@@ab"),
 ];
 
+// Short ones, and long ones, where each call must succeed too.
 #[test]
 fn working_directories(rt: HostRuntime) {
-    let alloc = rt.alloc();
-    for (submodule, setting, directory) in DIRECTORIES {
-        let settings = set_to_work_in(&rt, alloc, *setting);
-        let module = module(&rt, alloc, *submodule, settings);
-        works_in(&rt, alloc, Around::new(&rt, alloc, module), directory);
+    for row in DIRECTORIES {
+        works_in(&rt, rt.alloc(), "/module/justfile", row);
     }
 }
 
-// Commands run in this directory.
-pub(crate) fn works_in(rt: &impl Abort, alloc: Global, around: Around, directory: &str) {
-    let given = around.context().working_directory(alloc);
+// Commands run in the wanted directory, and a module says whether it is a submodule.
+fn works_in<'src>(rt: &impl Abort, alloc: Global, source: &'src str, row: &Directory) {
+    let (submodule, of_search, of_module, setting, wanted) = *row;
+    let directory = long(rt, alloc, of_module);
+    let module = module_below(rt, alloc, source, &directory, submodule, setting);
+    drop(directory);
+    let search = long(rt, alloc, of_search);
+    let around = Around::new(
+        rt,
+        alloc,
+        module,
+        called(rt, alloc),
+        "/work/justfile",
+        &search,
+    );
+    drop(search);
+    let said = around.module.is_submodule();
+    let given = directory_of(&around, alloc);
     drop(around);
-    gives(rt, given, directory);
+    is_either(rt, "submodule", said, submodule);
+    gives(rt, given, &long(rt, alloc, wanted));
 }
 
-// Settings of which at most the working directory is set.
-fn set_to_work_in(rt: &impl Abort, alloc: Global, directory: Option<&str>) -> Settings {
+// The directory that commands run in.
+fn directory_of<'src>(around: &Around<'src>, alloc: Global) -> Result<String, OutOfMemory> {
+    around.context().working_directory(alloc)
+}
+
+// A module with nothing in it, of which at most a working directory is set.
+fn module_below<'src>(
+    rt: &impl Abort,
+    alloc: Global,
+    source: &'src str,
+    directory: &str,
+    submodule: bool,
+    setting: Option<&str>,
+) -> Justfile<'src> {
+    let mut module = module_at(rt, alloc, source, directory);
+    module.submodule = submodule;
+    module.settings = set_below(rt, alloc, setting);
+    module
+}
+
+fn set_below(rt: &impl Abort, alloc: Global, directory: Option<&str>) -> Settings {
     let mut settings = Settings::new(alloc);
     if let Some(text) = directory {
-        settings.working_directory = Some(owned(rt, alloc, text));
+        settings.working_directory = Some(long(rt, alloc, text));
     }
     settings
 }
@@ -94,168 +140,109 @@ fn stocked(rt: &impl Abort, alloc: Global) -> MapHost {
 }
 
 // Commands, and what they write or the fault that they have with the stocked host.
-const COMMANDS: &[(&str, Result<&str, &str>)] = &[
-    ("date", Ok("today")),
-    ("true", Ok("")),
-    ("who", Err("unknown command")),
+const COMMANDS: &[(&str, &str)] = &[
+    ("date", "today"),
+    ("true", ""),
+    ("who", "! unknown command"),
 ];
 
 #[test]
 fn commands_from_a_map(rt: HostRuntime) {
-    let around = bare(&rt, rt.alloc(), Settings::new(rt.alloc()));
-    all_write(&rt, rt.alloc(), &around.context());
+    all_write_around(&rt, rt.alloc(), MODULE);
+}
+
+fn all_write_around<'src>(rt: &impl Abort, alloc: Global, place: &'src str) {
+    let around = Around::plain(rt, alloc, place, Settings::new(alloc));
+    all_write(&around, rt, alloc);
     drop(around);
 }
 
+fn all_write<'src>(around: &Around<'src>, rt: &impl Abort, alloc: Global) {
+    let context = around.context();
+    all_write_in(rt, alloc, &context);
+}
+
 // Each command writes its text, or has its fault.
-fn all_write<'call>(rt: &'call impl Abort, alloc: Global, context: &'call ExecutionContext) {
+fn all_write_in<'call>(rt: &'call impl Abort, alloc: Global, context: &'call ExecutionContext) {
     for (command, wanted) in COMMANDS {
-        writes(rt, alloc, context, command, *wanted);
+        writes(rt, alloc, context, command, wanted);
     }
 }
 
-// With a module that has these settings and nothing else.
-fn bare(rt: &impl Abort, alloc: Global, settings: Settings) -> Around {
-    Around::new(rt, alloc, module(rt, alloc, false, settings))
-}
-
-// A command writes a text, or has a fault.
 fn writes<'call>(
     rt: &'call impl Abort,
     alloc: Global,
     context: &'call ExecutionContext,
     command: &str,
-    wanted: Result<&str, &str>,
+    wanted: &str,
 ) {
     assert!(rt; !context.config.dry_run);
     let mut host = stocked(rt, alloc);
-    is_outcome(
-        rt,
-        command,
-        &written(alloc, &mut host, context, command),
-        wanted,
-    );
+    let answer = written(alloc, &mut host, context, command);
+    is_told(rt, alloc, &answer, wanted);
 }
 
-// What a command wrote, or its fault, is what is wanted.
-fn is_outcome(
-    rt: &impl Abort,
-    command: &str,
-    given: &Result<String, CommandFault>,
-    wanted: Result<&str, &str>,
-) {
-    let given = match given {
-        Ok(text) => Ok(text.as_str()),
-        Err(CommandFault::Fault(text)) => Err(text.as_str()),
-        Err(_) => panic!(rt; "{command}"),
-    };
-    assert_eq!(rt; given, wanted, "{command}");
+/// What is asked of a host, but for commands.
+#[derive(Clone, Copy)]
+pub(crate) enum Asked {
+    Text(TextQuestion<'static>),
+    Exists(&'static str),
+    Number(NumberQuestion),
 }
 
-// Questions, and the texts that the stocked host has for them.
-const TEXTS: &[(TextQuestion, Option<&str>)] = &[
-    (TextQuestion::Variable("HOME"), Some("/home/me")),
-    (TextQuestion::Variable("PATH"), None),
-    (TextQuestion::Read("/work/notes"), Some("buy milk")),
-    (TextQuestion::Directory(DirectoryKind::Home), None),
+// What is asked of the stocked host, and its answer.
+const STOCKED_ANSWERS: &[(Asked, &str)] = &[
+    (
+        Asked::Text(TextQuestion::Variable("HOME")),
+        "Text(\"/home/me\")",
+    ),
+    (Asked::Text(TextQuestion::Variable("PATH")), "Absent"),
+    (
+        Asked::Text(TextQuestion::Read("/work/notes")),
+        "Text(\"buy milk\")",
+    ),
+    (
+        Asked::Text(TextQuestion::Directory(DirectoryKind::Home)),
+        "Absent",
+    ),
+    (Asked::Exists("/work/notes"), "Ok(true)"),
+    (Asked::Exists("/work"), "Ok(false)"),
+    (Asked::Number(NumberQuestion::Cpus), "Ok(1)"),
 ];
 
 #[test]
 fn other_answers_from_a_map(rt: HostRuntime) {
-    let alloc = rt.alloc();
     let mut host = Watched {
-        host: stocked(&rt, alloc),
+        host: stocked(&rt, rt.alloc()),
         was_asked: false,
     };
-    answers_from_maps(&rt, alloc, &mut host);
+    answers(&rt, rt.alloc(), &mut host, STOCKED_ANSWERS);
     is_either(&rt, "asked", host.was_asked, true);
 }
 
-// Paths, and whether the stocked host has a file there.
-const PATHS: &[(&str, bool)] = &[("/work/notes", true), ("/work", false)];
-
-// A host that is stocked answers all but commands so.
-fn answers_from_maps<H: Host>(rt: &impl Abort, alloc: Global, host: &mut H) {
-    for (question, text) in TEXTS {
-        answers(rt, alloc, host, *question, *text);
+// A host answers so.
+fn answers<H: Host>(rt: &impl Abort, alloc: Global, host: &mut H, rows: &[(Asked, &str)]) {
+    for (asked, wanted) in rows {
+        let answer = answer_of(alloc, host, *asked).expect(rt, "no memory");
+        same(rt, &answer, wanted);
     }
-    for (path, there) in PATHS {
-        finds(rt, alloc, host, path, *there);
+}
+
+/// What a host answers to a question, as it is shown.
+pub(crate) fn answer_of<H: Host>(
+    alloc: Global,
+    host: &mut H,
+    asked: Asked,
+) -> Result<String, AllocError> {
+    match asked {
+        Asked::Text(question) => format!(in alloc; "{:?}", host.text(alloc, question)),
+        Asked::Exists(path) => format!(in alloc; "{:?}", host.exists(alloc, path)),
+        Asked::Number(question) => format!(in alloc; "{:?}", host.number(alloc, question)),
     }
-    counts(rt, alloc, host, NumberQuestion::Cpus, 1);
 }
 
-// A host answers a question with this text, or that there is none.
-fn answers<H: Host>(
-    rt: &impl Abort,
-    alloc: Global,
-    host: &mut H,
-    question: TextQuestion,
-    wanted: Option<&str>,
-) {
-    is_answer(rt, &host.text(alloc, question), wanted);
-}
-
-fn is_answer(rt: &impl Abort, answer: &TextAnswer, wanted: Option<&str>) {
-    let given = match answer {
-        TextAnswer::Text(text) => Some(text.as_str()),
-        TextAnswer::Absent => None,
-        other => panic!(rt; "{other:?}"),
-    };
-    same_if_any(rt, given, wanted);
-}
-
-// A host answers whether there is a file at a path.
-fn finds<H: Host>(rt: &impl Abort, alloc: Global, host: &mut H, path: &str, there: bool) {
-    is_found(rt, path, host.exists(alloc, path), there);
-}
-
-fn is_found(rt: &impl Abort, path: &str, given: Result<bool, OutOfMemory>, there: bool) {
-    assert_eq!(rt; given, Ok(there), "{path}");
-}
-
-// A host answers a question with this number.
-fn counts<H: Host>(
-    rt: &impl Abort,
-    alloc: Global,
-    host: &mut H,
-    question: NumberQuestion,
-    number: u64,
-) {
-    is_number(rt, question, host.number(alloc, question), number);
-}
-
-fn is_number(
-    rt: &impl Abort,
-    question: NumberQuestion,
-    given: Result<u64, OutOfMemory>,
-    wanted: u64,
-) {
-    assert_eq!(rt; given, Ok(wanted), "{question:?}");
-}
-
-// What a host answers to a command, its fault in its place.
-fn answer_to<H: Host>(rt: &impl Abort, alloc: Global, host: &mut H, command: &str) -> String {
-    answer_under(rt, alloc, host, Settings::new(alloc), command, None)
-}
-
-// What a host answers to a command and its arguments under these settings, its fault in its place.
-pub(crate) fn answer_under<H: Host>(
-    rt: &impl Abort,
-    alloc: Global,
-    host: &mut H,
-    settings: Settings,
-    command: &str,
-    arguments: Option<&[String]>,
-) -> String {
-    let around = bare(rt, alloc, settings);
-    let answer = answer_in(rt, alloc, host, &around.context(), command, arguments);
-    drop(around);
-    told(rt, alloc, &answer)
-}
-
-// What a host answers to a command and its arguments in a context.
-fn answer_in<'call, H: Host>(
+/// What a host answers to a command and its arguments in a context.
+pub(crate) fn answer_in<'call, H: Host>(
     rt: &'call impl Abort,
     alloc: Global,
     host: &'call mut H,
@@ -276,49 +263,73 @@ fn answer_in<'call, H: Host>(
     )
 }
 
-// What a command wrote, or its fault in its place.
+/// What a command wrote, or its fault's text behind `! `, is what is wanted.
+pub(crate) fn is_told(
+    rt: &impl Abort,
+    alloc: Global,
+    answer: &Result<String, CommandFault>,
+    wanted: &str,
+) {
+    same(rt, &told(rt, alloc, answer), wanted);
+}
+
 fn told(rt: &impl Abort, alloc: Global, answer: &Result<String, CommandFault>) -> String {
     match answer {
         Ok(text) => owned(rt, alloc, text),
-        Err(fault) => text_of(rt, fault_text(alloc, fault)),
+        Err(fault) => {
+            let text = text_of(rt, fault_text(alloc, fault));
+            format!(in alloc; "! {text}").expect(rt, "no memory")
+        }
     }
 }
 
-const TEXTS_OF_NO_HOST: &[TextQuestion] = &[
-    TextQuestion::Variable("HOME"),
-    TextQuestion::Read("/work/notes"),
-    TextQuestion::Executable,
+// What is asked of a host that answers nothing, or commands alone, and its answer.
+const NO_ANSWERS: &[(Asked, &str)] = &[
+    (Asked::Text(TextQuestion::Variable("HOME")), "Absent"),
+    (Asked::Text(TextQuestion::Read("/work/notes")), "Absent"),
+    (Asked::Text(TextQuestion::Executable), "Absent"),
+    (Asked::Exists("/"), "Ok(false)"),
+    (Asked::Number(NumberQuestion::ProcessId), "Ok(0)"),
+    (Asked::Number(NumberQuestion::Cpus), "Ok(0)"),
 ];
-
-// A host that answers nothing, or commands alone, answers a command so, and nothing else.
-fn answers_commands_alone<H: Host>(rt: &impl Abort, alloc: Global, host: &mut H, answer: &str) {
-    same(rt, &answer_to(rt, alloc, host, "date"), answer);
-    for question in TEXTS_OF_NO_HOST {
-        answers(rt, alloc, host, *question, None);
-    }
-    finds(rt, alloc, host, "/", false);
-    counts(rt, alloc, host, NumberQuestion::ProcessId, 0);
-    counts(rt, alloc, host, NumberQuestion::Cpus, 0);
-}
 
 #[test]
 fn no_answer(rt: HostRuntime) {
     let alloc = rt.alloc();
-    answers_commands_alone(&rt, alloc, &mut NoHost, "commands are not run");
-    answers_commands_alone(&rt, alloc, &mut EchoHost, "date");
+    answer_commands(&rt, alloc, MODULE);
+    answers(&rt, alloc, &mut NoHost, NO_ANSWERS);
+    answers(&rt, alloc, &mut EchoHost, NO_ANSWERS);
 }
 
-#[test]
-fn submodules(rt: HostRuntime) {
-    for submodule in [false, true] {
-        is_submodule(&rt, rt.alloc(), submodule);
-    }
+// A host that answers nothing, and one that answers commands alone, answer a command so.
+fn answer_commands<'src>(rt: &impl Abort, alloc: Global, place: &'src str) {
+    let around = Around::plain(rt, alloc, place, Settings::new(alloc));
+    answer_commands_in(&around, rt, alloc);
+    drop(around);
 }
 
-// A module that is a submodule, or is none, says so.
-fn is_submodule(rt: &impl Abort, alloc: Global, submodule: bool) {
-    let module = module(rt, alloc, submodule, Settings::new(alloc));
-    let said = module.is_submodule();
-    drop(module);
-    is_either(rt, "submodule", said, submodule);
+fn answer_commands_in<'src>(around: &Around<'src>, rt: &impl Abort, alloc: Global) {
+    let context = around.context();
+    let fault = answer_of_none(rt, alloc, &mut NoHost, &context);
+    is_told(rt, alloc, &fault, "! commands are not run");
+    let echo = echo_of_date(rt, alloc, &mut EchoHost, &context);
+    is_told(rt, alloc, &echo, "date");
+}
+
+fn answer_of_none<'call>(
+    rt: &'call impl Abort,
+    alloc: Global,
+    host: &'call mut NoHost,
+    context: &'call ExecutionContext,
+) -> Result<String, CommandFault> {
+    answer_in(rt, alloc, host, context, "date", None)
+}
+
+fn echo_of_date<'call>(
+    rt: &'call impl Abort,
+    alloc: Global,
+    host: &'call mut EchoHost,
+    context: &'call ExecutionContext,
+) -> Result<String, CommandFault> {
+    answer_in(rt, alloc, host, context, "date", None)
 }

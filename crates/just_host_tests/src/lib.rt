@@ -15,6 +15,4 @@ mod host;
 #[cfg(test)]
 mod questions;
 #[cfg(test)]
-mod sizes;
-#[cfg(test)]
 mod texts;

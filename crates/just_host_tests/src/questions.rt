@@ -1,9 +1,11 @@
 // How questions print, and the words that a command is run with.
 
-use crate::host::answer_under;
-use crate::texts::{all_owned, owned, same};
+use crate::around::{Around, MODULE};
+use crate::host::{Asked, answer_in, answer_of, is_told};
+use crate::texts::{owned, same};
 use just_host::command_question::CommandQuestion;
 use just_host::directory_kind::DirectoryKind;
+use just_host::execution_context::ExecutionContext;
 use just_host::host::Host;
 use just_host::no_host::NoHost;
 use just_host::number_question::NumberQuestion;
@@ -18,112 +20,103 @@ use just_value::error::CommandFault;
 use std::alloc::{AllocError, Global};
 use std::process::Abort;
 
-// Questions for a text, and what they print.
-const TEXTS: &[(TextQuestion, &str)] = &[
-    (TextQuestion::Variable("K\t"), "variable \"K\\t\""),
+// Questions, and what they print.
+const QUESTIONS: &[(Asked, &str)] = &[
     (
-        TextQuestion::Directory(DirectoryKind::ConfigLocal),
+        Asked::Text(TextQuestion::Variable("K\t")),
+        "variable \"K\\t\"",
+    ),
+    (
+        Asked::Text(TextQuestion::Directory(DirectoryKind::ConfigLocal)),
         "directory local config",
     ),
     (
-        TextQuestion::Directory(DirectoryKind::Home),
+        Asked::Text(TextQuestion::Directory(DirectoryKind::Home)),
         "directory home",
     ),
-    (TextQuestion::Canonicalize("é"), "canonicalize \"é\""),
-    (TextQuestion::Read("\""), "read \"\\\"\""),
     (
-        TextQuestion::Which {
+        Asked::Text(TextQuestion::Canonicalize("é")),
+        "canonicalize \"é\"",
+    ),
+    (Asked::Text(TextQuestion::Read("\"")), "read \"\\\"\""),
+    (
+        Asked::Text(TextQuestion::Which {
             name: "n",
             working_directory: "/work",
-        },
+        }),
         "which \"n\"",
     ),
-    (TextQuestion::Executable, "executable"),
-    (TextQuestion::Arch, "arch"),
-    (TextQuestion::Os, "os"),
-    (TextQuestion::OsFamily, "os_family"),
+    (Asked::Text(TextQuestion::Executable), "executable"),
+    (Asked::Text(TextQuestion::Arch), "arch"),
+    (Asked::Text(TextQuestion::Os), "os"),
+    (Asked::Text(TextQuestion::OsFamily), "os_family"),
+    (
+        Asked::Number(NumberQuestion::ProcessId),
+        "number process_id",
+    ),
+    (Asked::Number(NumberQuestion::Cpus), "number cpus"),
+    (Asked::Exists("/a b"), "exists \"/a b\""),
 ];
 
-const NUMBERS: &[(NumberQuestion, &str)] = &[
-    (NumberQuestion::ProcessId, "number process_id"),
-    (NumberQuestion::Cpus, "number cpus"),
-];
-
-// The command `c d` with these arguments, whether the shell takes a name for itself, what the command prints, and its
-// words, with `|` between them.
-struct Command {
-    arguments: Option<&'static [&'static str]>,
-    takes_shell_name: bool,
-    printed: &'static str,
-    words: &'static str,
-}
+// The shell of a module, the arguments of the command `c d`, each behind `;`, whether the shell takes a name for itself,
+// what the command prints, and its words, with `|` between them. The words of a shell have `;` between them.
+type Command = (
+    Option<&'static str>,
+    Option<&'static str>,
+    bool,
+    &'static str,
+    &'static str,
+);
 
 const COMMANDS: &[Command] = &[
-    Command {
-        arguments: None,
-        takes_shell_name: false,
-        printed: "command \"c d\"",
-        words: "sh|-cu|c d",
-    },
-    Command {
-        arguments: None,
-        takes_shell_name: true,
-        printed: "command \"c d\"",
-        words: "sh|-cu|c d",
-    },
-    Command {
-        arguments: Some(&[]),
-        takes_shell_name: false,
-        printed: "command \"c d\"",
-        words: "sh|-cu|c d",
-    },
-    Command {
-        arguments: Some(&[]),
-        takes_shell_name: true,
-        printed: "command \"c d\"",
-        words: "sh|-cu|c d|c d",
-    },
-    Command {
-        arguments: Some(&["a b", "\n"]),
-        takes_shell_name: false,
-        printed: "command \"c d\" \"a b\" \"\\n\"",
-        words: "sh|-cu|c d|a b|\n",
-    },
-    Command {
-        arguments: Some(&["a b", ""]),
-        takes_shell_name: true,
-        printed: "command \"c d\" \"a b\" \"\"",
-        words: "sh|-cu|c d|c d|a b|",
-    },
+    (None, None, false, "command \"c d\"", "sh|-cu|c d"),
+    (None, None, true, "command \"c d\"", "sh|-cu|c d"),
+    (None, Some(""), false, "command \"c d\"", "sh|-cu|c d"),
+    (None, Some(""), true, "command \"c d\"", "sh|-cu|c d|c d"),
+    (
+        None,
+        Some(";a b;\n"),
+        false,
+        "command \"c d\" \"a b\" \"\\n\"",
+        "sh|-cu|c d|a b|\n",
+    ),
+    (
+        None,
+        Some(";a b;"),
+        true,
+        "command \"c d\" \"a b\" \"\"",
+        "sh|-cu|c d|c d|a b|",
+    ),
+    (
+        Some("bash;-e;-c"),
+        None,
+        true,
+        "command \"c d\"",
+        "bash|-e|-c|c d",
+    ),
 ];
 
 #[test]
 fn questions_print(rt: HostRuntime) {
     let alloc = rt.alloc();
     let mut host = Recorder::new(alloc, NoHost);
-    for (question, printed) in TEXTS {
-        prints(&rt, question.to_string(alloc), printed);
-        host.text(alloc, *question);
-        prints_last(&rt, alloc, host.questions(), printed);
+    for (asked, printed) in QUESTIONS {
+        print(&rt, alloc, &mut host, *asked, printed);
     }
-    numbers_print(&rt, alloc, &mut host);
-    existence_prints(&rt, alloc, &mut host);
     prints(&rt, DirectoryKind::Data.to_string(alloc), "data");
+    drop(host);
 }
 
-// Each question for a number prints so, both by itself and as it is kept.
-fn numbers_print<H: Host>(rt: &impl Abort, alloc: Global, host: &mut Recorder<H>) {
-    for (question, printed) in NUMBERS {
-        prints(rt, question.to_string(alloc), printed);
-        host.number(alloc, *question).expect(rt, "no memory");
-        prints_last(rt, alloc, host.questions(), printed);
+// A question prints so, both by itself and as it is kept. No host answers it.
+fn print(rt: &impl Abort, alloc: Global, host: &mut Recorder<NoHost>, asked: Asked, printed: &str) {
+    match asked {
+        Asked::Text(question) => prints(rt, question.to_string(alloc), printed),
+        Asked::Number(question) => prints(rt, question.to_string(alloc), printed),
+        Asked::Exists(_) => {}
     }
-}
-
-// A question for what stands at a path prints so as it is kept.
-fn existence_prints<H: Host>(rt: &impl Abort, alloc: Global, host: &mut Recorder<H>) {
-    host.exists(alloc, "/a b").expect(rt, "no memory");
-    prints_last(rt, alloc, host.questions(), "exists \"/a b\"");
+    let answer = answer_of(alloc, host, asked);
+    answer.expect(rt, "no memory");
+    prints_last(rt, alloc, host.questions(), printed);
 }
 
 // What was printed is what is wanted.
@@ -185,54 +178,70 @@ fn words_of(
 #[test]
 fn commands(rt: HostRuntime) {
     for command in COMMANDS {
-        runs(&rt, rt.alloc(), command);
+        runs(&rt, rt.alloc(), MODULE, command);
     }
 }
 
 // The command `c d` prints so, and is run with these words.
-fn runs(rt: &impl Abort, alloc: Global, command: &Command) {
-    let shell = Shell {
-        takes_shell_name: command.takes_shell_name,
-    };
-    let mut host = Recorder::new(alloc, shell);
-    let words = answer_with(rt, alloc, &mut host, command.arguments);
-    same(rt, &words, command.words);
-    prints_last(rt, alloc, host.questions(), command.printed);
+fn runs<'src>(rt: &impl Abort, alloc: Global, place: &'src str, command: &Command) {
+    let (shell, arguments, takes_shell_name, printed, words) = *command;
+    let mut host = Recorder::new(alloc, Shell { takes_shell_name });
+    let around = Around::plain(rt, alloc, place, set_to(rt, alloc, shell));
+    let answer = answer_around(&around, rt, alloc, &mut host, arguments);
+    drop(around);
+    is_told(rt, alloc, &answer, words);
+    prints_last(rt, alloc, host.questions(), printed);
+    drop(host);
 }
 
-// What a host answers to the command `c d`, with these arguments.
-fn answer_with<H: Host>(
+fn answer_around<'src>(
+    around: &Around<'src>,
     rt: &impl Abort,
     alloc: Global,
-    host: &mut H,
-    arguments: Option<&[&str]>,
-) -> String {
-    let settings = Settings::new(alloc);
-    match arguments {
-        Some(words) => {
-            let words = all_owned(rt, alloc, words);
-            answer_under(rt, alloc, host, settings, "c d", Some(&words))
-        }
-        None => answer_under(rt, alloc, host, settings, "c d", None),
-    }
+    host: &mut Recorder<Shell>,
+    arguments: Option<&str>,
+) -> Result<String, CommandFault> {
+    let context = around.context();
+    answer_with(rt, alloc, host, &context, arguments)
 }
 
-#[test]
-fn command_of_another_shell(rt: HostRuntime) {
-    let alloc = rt.alloc();
-    let mut host = Shell {
-        takes_shell_name: true,
-    };
-    let settings = set_to_bash(&rt, alloc);
-    let words = answer_under(&rt, alloc, &mut host, settings, "c d", None);
-    same(&rt, &words, "bash|-e|-c|c d");
-}
-
-fn set_to_bash(rt: &impl Abort, alloc: Global) -> Settings {
+// Settings of which at most the shell is set.
+fn set_to(rt: &impl Abort, alloc: Global, shell: Option<&str>) -> Settings {
     let mut settings = Settings::new(alloc);
-    settings.shell = Some(Interpreter {
-        arguments: all_owned(rt, alloc, &["-e", "-c"]),
-        command: owned(rt, alloc, "bash"),
-    });
+    if let Some(line) = shell {
+        let command = line.split(';').next().expect(rt, "no command");
+        settings.shell = Some(Interpreter {
+            arguments: behind(rt, alloc, line),
+            command: owned(rt, alloc, command),
+        });
+    }
     settings
+}
+
+// What stands behind each `;` of a line.
+fn behind(rt: &impl Abort, alloc: Global, line: &str) -> Vec<String> {
+    let mut all = Vec::new(alloc);
+    let mut pieces = line.split(';');
+    pieces.next();
+    for piece in pieces {
+        all.push(owned(rt, alloc, piece)).expect(rt, "no memory");
+    }
+    all
+}
+
+// What a host answers to the command `c d`, with the arguments that stand behind each `;`.
+fn answer_with<'call>(
+    rt: &'call impl Abort,
+    alloc: Global,
+    host: &'call mut Recorder<Shell>,
+    context: &'call ExecutionContext,
+    arguments: Option<&str>,
+) -> Result<String, CommandFault> {
+    match arguments {
+        Some(line) => {
+            let words = behind(rt, alloc, line);
+            answer_in(rt, alloc, host, context, "c d", Some(&words))
+        }
+        None => answer_in(rt, alloc, host, context, "c d", None),
+    }
 }

@@ -19,11 +19,6 @@ pub fn gives(rt: &impl Abort, made: Result<String, OutOfMemory>, wanted: &str) {
     same(rt, &text_of(rt, made), wanted);
 }
 
-/// A text is the one that is wanted, or there is none where none is wanted.
-pub fn same_if_any(rt: &impl Abort, given: Option<&str>, wanted: Option<&str>) {
-    assert_eq!(rt; given, wanted);
-}
-
 /// Something is true, or false, of a name.
 pub fn is_either(rt: &impl Abort, name: &str, given: bool, wanted: bool) {
     assert_eq!(rt; given, wanted, "{name}");
@@ -49,4 +44,12 @@ pub fn all_owned(rt: &impl Abort, alloc: Global, texts: &[&str]) -> Vec<String> 
         all.push(owned(rt, alloc, text)).expect(rt, "no memory");
     }
     all
+}
+
+/// A text with `ab/` five hundred times for each `@`.
+pub fn long(rt: &impl Abort, alloc: Global, text: &str) -> String {
+    let piece = "ab/".repeat(alloc, 500).expect(rt, "no memory");
+    let long = text.replace(alloc, "@", &piece).expect(rt, "no memory");
+    drop(piece);
+    long
 }

@@ -3,7 +3,6 @@
 mod around;
 mod called;
 mod calls;
-mod checks;
 mod environment;
 mod failing;
 mod hosts;

@@ -1,52 +1,18 @@
 // What functions that ask for a text make of each kind of answer.
 
-use crate::builtins::scripted::Given;
-
-/// A function's name, its arguments, what it asks, and what becomes of `Absent`, `NotText("x")` and `Fault("m")`, written as in
-/// [`Row`]. Each answers `Text("/t")` by that text, and want of memory by the same.
+/// A call, what it asks, and what becomes of `Absent`, `NotText("x")` and `Fault("m")`, written as in [`Row`]. Each answers
+/// `Text("/t")` by that text, and want of memory by the same.
 ///
 /// [`Row`]: crate::builtins::rows::Row
-pub type Answers = (
-    &'static str,
-    &'static [&'static str],
-    &'static str,
-    [&'static str; 3],
-);
-
-/// What a host may answer where it is asked for a text.
-pub const KINDS: &[Given] = &[
-    Given::Text("/t"),
-    Given::Absent,
-    Given::NotText("x"),
-    Given::Fault("m"),
-    Given::OutOfMemory,
-];
-
-/// What becomes of an answer.
-pub fn wanted_of(row: &Answers, given: Given) -> &'static str {
-    let (_, _, _, [absent, not_text, fault]) = *row;
-    match given {
-        Given::Text(text) => text,
-        Given::Absent => absent,
-        Given::NotText(_) => not_text,
-        Given::Fault(_) => fault,
-        _ => "OutOfMemory",
-    }
-}
+pub type Answers = (&'static str, &'static str, [&'static str; 3]);
 
 /// The rows of the functions that ask for a text, in the order of docs/BUILTINS.md.
 pub const ANSWERS: &[Answers] = &[
-    ("arch", &[], "Arch;", ["! `arch` has no answer"; 3]),
-    ("os", &[], "Os;", ["! `os` has no answer"; 3]),
-    (
-        "os_family",
-        &[],
-        "OsFamily;",
-        ["! `os_family` has no answer"; 3],
-    ),
+    ("arch", "Arch;", ["! `arch` has no answer"; 3]),
+    ("os", "Os;", ["! `os` has no answer"; 3]),
+    ("os_family", "OsFamily;", ["! `os_family` has no answer"; 3]),
     (
         "just_executable",
-        &[],
         "Executable;",
         [
             "! error getting current executable: not found",
@@ -56,7 +22,6 @@ pub const ANSWERS: &[Answers] = &[
     ),
     (
         "cache_directory",
-        &[],
         "Directory(Cache);",
         [
             "! cache directory not found",
@@ -66,7 +31,6 @@ pub const ANSWERS: &[Answers] = &[
     ),
     (
         "config_directory",
-        &[],
         "Directory(Config);",
         [
             "! config directory not found",
@@ -76,7 +40,6 @@ pub const ANSWERS: &[Answers] = &[
     ),
     (
         "config_local_directory",
-        &[],
         "Directory(ConfigLocal);",
         [
             "! local config directory not found",
@@ -86,7 +49,6 @@ pub const ANSWERS: &[Answers] = &[
     ),
     (
         "data_directory",
-        &[],
         "Directory(Data);",
         [
             "! data directory not found",
@@ -96,7 +58,6 @@ pub const ANSWERS: &[Answers] = &[
     ),
     (
         "data_local_directory",
-        &[],
         "Directory(DataLocal);",
         [
             "! local data directory not found",
@@ -106,7 +67,6 @@ pub const ANSWERS: &[Answers] = &[
     ),
     (
         "executable_directory",
-        &[],
         "Directory(Executable);",
         [
             "! executable directory not found",
@@ -116,7 +76,6 @@ pub const ANSWERS: &[Answers] = &[
     ),
     (
         "home_directory",
-        &[],
         "Directory(Home);",
         [
             "! home directory not found",
@@ -126,7 +85,6 @@ pub const ANSWERS: &[Answers] = &[
     ),
     (
         "runtime_directory",
-        &[],
         "Directory(Runtime);",
         [
             "! runtime directory not found",
@@ -135,8 +93,7 @@ pub const ANSWERS: &[Answers] = &[
         ],
     ),
     (
-        "canonicalize",
-        &["a"],
+        "canonicalize;a",
         "Canonicalize(\"/work/sub/a\");",
         [
             "! I/O error canonicalizing `a`: not found",
@@ -145,8 +102,7 @@ pub const ANSWERS: &[Answers] = &[
         ],
     ),
     (
-        "read",
-        &["a"],
+        "read;a",
         "Read(\"/work/sub/a\");",
         [
             "! I/O error reading `a`: not found",
@@ -154,16 +110,14 @@ pub const ANSWERS: &[Answers] = &[
             "! I/O error reading `a`: m",
         ],
     ),
-    ("which", &["a"], WHICH_A, ["[]", "! x", "! m"]),
+    ("which;a", WHICH_A, ["[]", "! x", "! m"]),
     (
-        "require",
-        &["a"],
+        "require;a",
         WHICH_A,
         ["! could not find executable `a`", "! x", "! m"],
     ),
     (
-        "env_var",
-        &["a"],
+        "env_var;a",
         "Variable(\"a\");",
         [
             "! environment variable `a` not present",
@@ -172,8 +126,7 @@ pub const ANSWERS: &[Answers] = &[
         ],
     ),
     (
-        "env_var_or_default",
-        &["a", "y|z"],
+        "env_var_or_default;a;y|z",
         "Variable(\"a\");",
         [
             "y|z",
@@ -182,8 +135,7 @@ pub const ANSWERS: &[Answers] = &[
         ],
     ),
     (
-        "env",
-        &["a"],
+        "env;a",
         "Variable(\"a\");",
         [
             "! environment variable `a` not present",
@@ -192,8 +144,7 @@ pub const ANSWERS: &[Answers] = &[
         ],
     ),
     (
-        "env",
-        &["a", "y|z"],
+        "env;a;y|z",
         "Variable(\"a\");",
         [
             "y|z",

@@ -3,14 +3,13 @@
 ghost use Rattle.std.specs.Prelude.{◌≡◌, true, IfSome, length};
 ghost use Rattle.just_builtins.specs.Argument.{HasTexts, IsExpected};
 
-use crate::around::{self, config, module_at, search};
+use crate::around::{Around, called as called_here, insert, module_at};
 use crate::builtins::scripted::Scripted;
 use crate::texts::owned;
 use just_builtins::call_fault::CallFault;
 use just_builtins::function::{Function, get};
 use just_host::execution_context::ExecutionContext;
 use just_host::function::Context;
-use just_host::justfile::Justfile;
 use just_syntax::name::Name;
 use just_syntax::token::Token;
 use just_value::value::Value;
@@ -18,22 +17,40 @@ use std::alloc::{AllocError, Global};
 use std::collections::BTreeMap;
 use std::process::Abort;
 
-// The file that functions are called in, where no test says otherwise.
-const CALLER: &str = "shared/é.just";
-
-/// What a built-in function is called in, but for its name.
-#[derive(Drop)]
-pub struct Around {
-    /// What its context lends.
-    pub lent: around::Around,
-    pub env: BTreeMap<String, String>,
-    pub is_dependency: bool,
-    pub recipe: Option<Name<'static>>,
-    /// The path of the file that calls it.
+/// Where calls stand: in a submodule in the directory `/work/sub`, which is called in `/called/here`.
+pub struct Place {
+    /// The path of the file that calls.
     pub caller: &'static str,
+    pub dry_run: bool,
+    pub jobs: Option<u64>,
+    pub justfile: &'static str,
+    pub lists: bool,
+    pub module_path: &'static str,
+    /// The recipe, which runs as a dependency, if they stand in one.
+    pub recipe: Option<&'static str>,
+    /// What a dotenv file sets the variable `set` to, if it does.
+    pub set: Option<&'static str>,
+    /// The path of the module's own file.
+    pub source: &'static str,
 }
 
-fn name(lexeme: &'static str, path: &'static str) -> Name<'static> {
+/// What the context of a place lends.
+pub fn around_at<'src>(rt: &impl Abort, alloc: Global, place: &'src Place) -> Around<'src> {
+    let mut config = called_here(rt, alloc);
+    config.dry_run = place.dry_run;
+    config.jobs = place.jobs;
+    let mut module = module_at(rt, alloc, place.source, "/work/sub");
+    module.module_path = owned(rt, alloc, place.module_path);
+    module.settings.lists = place.lists;
+    module.submodule = true;
+    let mut around = Around::new(rt, alloc, module, config, place.justfile, "/work");
+    if let Some(text) = place.set {
+        insert(rt, alloc, &mut around.dotenv, "set", text);
+    }
+    around
+}
+
+fn name<'src>(lexeme: &'src str, path: &'src str) -> Name<'src> {
     Name {
         token: Token {
             column: 0,
@@ -45,78 +62,34 @@ fn name(lexeme: &'static str, path: &'static str) -> Name<'static> {
     }
 }
 
-impl Around {
-    /// Outside a recipe, with the justfile `/work/justfile` and the module's source `/work/sub/mod.just`.
-    pub fn new(rt: &impl Abort, alloc: Global, lists: bool) -> Around {
-        let module = module(rt, alloc, lists, "sub", "/work/sub/mod.just");
-        Around::of(alloc, around::Around::new(rt, alloc, module))
-    }
-
-    // Outside a recipe.
-    fn of(alloc: Global, lent: around::Around) -> Around {
-        Around {
-            lent,
-            env: BTreeMap::new(alloc),
-            is_dependency: false,
-            recipe: None,
-            caller: CALLER,
-        }
-    }
-
-    /// In the recipe `build`, which runs as a dependency, with paths that have no parent.
-    pub fn at_the_root(rt: &impl Abort, alloc: Global) -> Around {
-        Around::in_a_recipe(rt, alloc, "/", "", CALLER)
-    }
-
-    /// The same with these paths of the justfile, of the module's source and of the file that calls.
-    pub fn in_a_recipe(
-        rt: &impl Abort,
-        alloc: Global,
-        justfile: &str,
-        source: &str,
-        caller: &'static str,
-    ) -> Around {
-        let mut config = config(rt, alloc);
-        config.jobs = Some(12);
-        let module = module(rt, alloc, true, "", source);
-        let search = search(rt, alloc, justfile);
-        let lent = around::Around::with(rt, alloc, config, search, module);
-        let mut around = Around::of(alloc, lent);
-        around.is_dependency = true;
-        around.recipe = Some(name("build", "justfile"));
-        around.caller = caller;
-        around
-    }
-
-    // What a function is called in by a name, which stands in the caller's file.
-    fn context<'run>(
-        &'run self,
-        execution_context: &'run ExecutionContext<'static, 'run>,
-        function: &'static str,
-    ) -> Context<'static, 'run> {
-        Context {
-            env: &self.env,
-            execution_context,
-            is_dependency: self.is_dependency,
-            name: name(function, self.caller),
-            recipe: self.recipe,
-            scope: execution_context.scope,
-        }
-    }
-}
-
-fn module(
+/// What a call answers, which is written as in [`Row`]: its value, or its message behind `! `.
+///
+/// [`Row`]: crate::builtins::rows::Row
+pub fn answer<'src>(
+    context: &ExecutionContext<'src, '_>,
     rt: &impl Abort,
     alloc: Global,
-    lists: bool,
-    path: &str,
-    source: &str,
-) -> Justfile<'static> {
-    let mut module = module_at(rt, alloc, source, "/work/sub");
-    module.module_path = owned(rt, alloc, path);
-    module.settings.lists = lists;
-    module.submodule = true;
-    module
+    host: &mut Scripted,
+    place: &'src Place,
+    call: &'src str,
+) -> String {
+    let name = call.split(';').next().expect(rt, "no name");
+    let arguments = arguments(rt, alloc, call);
+    let answer = answer_to(context, alloc, host, place, name, &arguments);
+    drop(arguments);
+    answer.expect(rt, "no memory")
+}
+
+// The arguments of a call, each behind `;`.
+fn arguments(rt: &impl Abort, alloc: Global, call: &str) -> Vec<Value> {
+    let mut arguments = Vec::new(alloc);
+    let mut pieces = call.split(';');
+    pieces.next();
+    for piece in pieces {
+        let argument = value(rt, alloc, piece);
+        arguments.push(argument).expect(rt, "no memory");
+    }
+    arguments
 }
 
 // A list that is written with `|` between its elements, or as `[]`.
@@ -130,40 +103,18 @@ fn value(rt: &impl Abort, alloc: Global, written: &str) -> Value {
     value
 }
 
-fn values(rt: &impl Abort, alloc: Global, arguments: &[&str]) -> Vec<Value> {
-    let mut values = Vec::new(alloc);
-    for argument in arguments {
-        values
-            .push(value(rt, alloc, argument))
-            .expect(rt, "no memory");
-    }
-    values
-}
-
-/// What a function answers, written: its value, or its message behind `! `.
-pub fn answer(
-    rt: &impl Abort,
+fn answer_to<'src>(
+    context: &ExecutionContext<'src, '_>,
     alloc: Global,
     host: &mut Scripted,
-    around: &Around,
-    function: &'static str,
-    arguments: &[&str],
-) -> String {
-    let arguments = values(rt, alloc, arguments);
-    answer_to(alloc, host, around, function, &arguments).expect(rt, "no memory")
-}
-
-fn answer_to(
-    alloc: Global,
-    host: &mut Scripted,
-    around: &Around,
-    name: &'static str,
+    place: &'src Place,
+    name: &'src str,
     arguments: &[Value],
 ) -> Result<String, AllocError> {
     match callable(name, arguments) {
         Some(function) => written(
             alloc,
-            &called(alloc, host, around, name, function, arguments),
+            &called(context, alloc, host, place, name, function, arguments),
         ),
         None => String::from_str(alloc, "not called"),
     }
@@ -179,46 +130,35 @@ fn written(alloc: Global, answer: &Result<Value, CallFault>) -> Result<String, A
 }
 
 // A call of a function by a name.
-fn called(
+fn called<'src>(
+    context: &ExecutionContext<'src, '_>,
     alloc: Global,
     host: &mut Scripted,
-    around: &Around,
-    name: &'static str,
+    place: &'src Place,
+    lexeme: &'src str,
     function: Function,
     arguments: &[Value],
 ) -> Result<Value, CallFault>
     requires count { IsExpected function (length arguments.now) }
     requires texts { HasTexts function arguments.now }
 {
-    let execution_context = around.lent.context();
-    called_in(
-        alloc,
-        host,
-        around,
-        &execution_context,
-        name,
-        function,
-        arguments,
-    )
-}
-
-// The same, in a context.
-fn called_in<'run>(
-    alloc: Global,
-    host: &mut Scripted,
-    around: &'run Around,
-    execution_context: &'run ExecutionContext<'static, 'run>,
-    name: &'static str,
-    function: Function,
-    arguments: &[Value],
-) -> Result<Value, CallFault>
-    requires count { IsExpected function (length arguments.now) }
-    requires texts { HasTexts function arguments.now }
-{
-    let context = around.context(execution_context, name);
+    let env = BTreeMap::new(alloc);
+    let recipe = match place.recipe {
+        Some(recipe) => Some(name(recipe, "justfile")),
+        None => None,
+    };
+    let context = Context {
+        env: &env,
+        execution_context: context,
+        is_dependency: place.recipe.is_some(),
+        name: name(lexeme, place.caller),
+        recipe,
+        scope: context.scope,
+    };
     call(alloc, host, &context, function, arguments)
 }
 
+// The same, where each lifetime has the number that it has in `Function::call`.
 fn call<'call>(
     alloc: Global,
     host: &'call mut Scripted,

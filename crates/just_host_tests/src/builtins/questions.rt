@@ -2,218 +2,112 @@
 
 use crate::builtins::scripted::Given;
 
-/// A function's name, its arguments, what the host gives, what it is asked, and the answer, written as in
-/// [`Row`].
+/// What the host gives, and a call, what it asks and its answer, written as in [`Row`].
 ///
 /// [`Row`]: crate::builtins::rows::Row
-pub type Question = (
-    &'static str,
-    &'static [&'static str],
-    Given,
-    &'static str,
-    &'static str,
-);
+pub type Question = (Given, &'static str);
 
 pub const NUMBERS: &[Question] = &[
-    ("just_pid", &[], Given::Number(12), "ProcessId;", "12"),
+    (Given::Number(12), "just_pid => ProcessId;12"),
+    (Given::OutOfMemory, "just_pid => ProcessId;OutOfMemory"),
+    (Given::Number(0), "num_cpus => Cpus;0"),
     (
-        "just_pid",
-        &[],
-        Given::OutOfMemory,
-        "ProcessId;",
-        "OutOfMemory",
-    ),
-    ("num_cpus", &[], Given::Number(0), "Cpus;", "0"),
-    (
-        "num_cpus",
-        &[],
         Given::Number(u64::MAX),
-        "Cpus;",
-        "18446744073709551615",
+        "num_cpus => Cpus;18446744073709551615",
     ),
 ];
 
 pub const FILES: &[Question] = &[
     (
-        "canonicalize",
-        &["a/b"],
         Given::Text("/x"),
-        "Canonicalize(\"/work/sub/a/b\");",
-        "/x",
+        "canonicalize;a/b => Canonicalize(\"/work/sub/a/b\");/x",
     ),
     (
-        "canonicalize",
-        &["/a"],
         Given::NotText("/x"),
-        "Canonicalize(\"/a\");",
-        "! canonical path is not valid unicode: /x",
+        "canonicalize;/a => Canonicalize(\"/a\");! canonical path is not valid unicode: /x",
     ),
+    (Given::Text("a\n"), "read;é => Read(\"/work/sub/é\");a\n"),
     (
-        "read",
-        &["é"],
-        Given::Text("a\n"),
-        "Read(\"/work/sub/é\");",
-        "a\n",
-    ),
-    (
-        "read",
-        &["/a"],
         Given::NotText("x"),
-        "Read(\"/a\");",
-        "! I/O error reading `/a`: x",
+        "read;/a => Read(\"/a\");! I/O error reading `/a`: x",
     ),
+    (Given::Found(true), "path_exists;a => /work/sub/a;true"),
+    (Given::Found(false), "path_exists;/a => /a;false"),
+    (Given::Found(true), "path_exists; => false"),
     (
-        "path_exists",
-        &["a"],
-        Given::Found(true),
-        "/work/sub/a;",
-        "true",
-    ),
-    ("path_exists", &["/a"], Given::Found(false), "/a;", "false"),
-    ("path_exists", &[""], Given::Found(true), "", "false"),
-    (
-        "path_exists",
-        &["a"],
         Given::OutOfMemory,
-        "/work/sub/a;",
-        "OutOfMemory",
+        "path_exists;a => /work/sub/a;OutOfMemory",
     ),
 ];
 
 pub const FILES_WITH_LISTS: &[Question] = &[
-    (
-        "path_exists",
-        &["a"],
-        Given::Found(true),
-        "/work/sub/a;",
-        "true",
-    ),
-    (
-        "path_exists",
-        &["a"],
-        Given::Found(false),
-        "/work/sub/a;",
-        "[]",
-    ),
-    ("path_exists", &[""], Given::Found(true), "", "[]"),
+    (Given::Found(true), "path_exists;a => /work/sub/a;true"),
+    (Given::Found(false), "path_exists;a => /work/sub/a;[]"),
+    (Given::Found(true), "path_exists; => []"),
 ];
 
 /// The dotenv map has `dot` behind `set`.
 pub const VARIABLES: &[Question] = &[
-    ("env", &["set"], Given::Text("x"), "", "dot"),
-    ("env_var", &["set"], Given::Text("x"), "", "dot"),
+    (Given::Text("x"), "env;set => dot"),
+    (Given::Text("x"), "env_var;set => dot"),
+    (Given::Text("x"), "env_var_or_default;set;y => dot"),
+    (Given::Text("x y"), "env;a => Variable(\"a\");x y"),
+    (Given::Text("x"), "env;a|b => Variable(\"a\");x"),
+    (Given::Absent, "env;a|set|b => Variable(\"a\");dot"),
     (
-        "env_var_or_default",
-        &["set", "y"],
+        Given::Absent,
+        "env;a|b => Variable(\"a\");Variable(\"b\");! environment variables `a` and `b` not present",
+    ),
+    (
+        Given::Absent,
+        "env;a|b|c => Variable(\"a\");Variable(\"b\");Variable(\"c\");! environment variables `a`, `b`, and `c` not present",
+    ),
+    (
+        Given::Absent,
+        "env;a|b;y|z => Variable(\"a\");Variable(\"b\");y|z",
+    ),
+    (
         Given::Text("x"),
-        "",
-        "dot",
+        "env;[] => ! empty environment variable list with no default",
     ),
-    ("env", &["a"], Given::Text("x y"), "Variable(\"a\");", "x y"),
-    ("env", &["a|b"], Given::Text("x"), "Variable(\"a\");", "x"),
+    (Given::Text("x"), "env;[];[] => []"),
     (
-        "env",
-        &["a|set|b"],
-        Given::Absent,
-        "Variable(\"a\");",
-        "dot",
-    ),
-    (
-        "env",
-        &["a|b"],
-        Given::Absent,
-        "Variable(\"a\");Variable(\"b\");",
-        "! environment variables `a` and `b` not present",
-    ),
-    (
-        "env",
-        &["a|b|c"],
-        Given::Absent,
-        "Variable(\"a\");Variable(\"b\");Variable(\"c\");",
-        "! environment variables `a`, `b`, and `c` not present",
-    ),
-    (
-        "env",
-        &["a|b", "y|z"],
-        Given::Absent,
-        "Variable(\"a\");Variable(\"b\");",
-        "y|z",
-    ),
-    (
-        "env",
-        &["[]"],
-        Given::Text("x"),
-        "",
-        "! empty environment variable list with no default",
-    ),
-    ("env", &["[]", "[]"], Given::Text("x"), "", "[]"),
-    (
-        "env_var",
-        &["a|b"],
         Given::NotText("x"),
-        "Variable(\"a\");",
-        "! environment variable `a` is not unicode: `x`",
+        "env_var;a|b => Variable(\"a\");! environment variable `a` is not unicode: `x`",
     ),
     (
-        "env_var_or_default",
-        &["a", "y"],
         Given::Text(""),
-        "Variable(\"a\");",
-        "",
+        "env_var_or_default;a;y => Variable(\"a\");",
     ),
 ];
 
 pub const COMMANDS: &[Question] = &[
     (
-        "shell",
-        &["echo", "a b"],
         Given::Text("out\n"),
-        "echo(a b);",
-        "out\n",
+        "shell;echo;a b => echo Some([\"a b\"]);out\n",
     ),
     (
-        "shell",
-        &["echo", "a", "b"],
         Given::Text(""),
-        "echo(a|b);",
-        "",
+        "shell;echo;a;b => echo Some([\"a\", \"b\"]);",
     ),
     (
-        "shell",
-        &["echo"],
         Given::Code(3),
-        "echo();",
-        "! process exited with status code 3",
+        "shell;echo => echo Some([]);! process exited with status code 3",
     ),
     (
-        "shell",
-        &["echo"],
         Given::Fault("no shell"),
-        "echo();",
-        "! no shell",
+        "shell;echo => echo Some([]);! no shell",
     ),
     (
-        "shell",
-        &["echo"],
         Given::OutOfMemory,
-        "echo();",
-        "OutOfMemory",
+        "shell;echo => echo Some([]);OutOfMemory",
     ),
 ];
 
 pub const DRY_COMMANDS: &[Question] = &[
     (
-        "shell",
-        &["echo", "a b"],
         Given::Text("out"),
-        "",
-        "shell(\"echo\", \"a b\")",
+        "shell;echo;a b => shell(\"echo\", \"a b\")",
     ),
-    (
-        "shell",
-        &["e\"\n"],
-        Given::Text("out"),
-        "",
-        "shell(\"e\\\"\\n\")",
-    ),
+    (Given::Text("out"), "shell;e\"\n => shell(\"e\\\"\\n\")"),
 ];

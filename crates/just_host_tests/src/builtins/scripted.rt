@@ -22,52 +22,19 @@ pub enum Given {
     OutOfMemory,
 }
 
-impl Given {
-    /// The name of its kind.
-    pub fn kind(self) -> &'static str {
-        match self {
-            Given::Text(_) => "Text",
-            Given::Absent => "Absent",
-            Given::NotText(_) => "NotText",
-            Given::Fault(_) => "Fault",
-            Given::Code(_) => "Code",
-            Given::Found(_) => "Found",
-            Given::Number(_) => "Number",
-            Given::OutOfMemory => "OutOfMemory",
-        }
-    }
-}
-
-/// Gives one answer, and keeps what it was asked, each question with `;` behind it.
+/// Gives one answer, and tells what it was asked, each question with `;` behind it.
 #[derive(Drop)]
 pub struct Scripted {
     pub given: Given,
-    pub asked: String,
+    pub told: String,
 }
 
 impl Scripted {
     pub fn new(alloc: Global, given: Given) -> Scripted {
         Scripted {
             given,
-            asked: String::new(alloc),
+            told: String::new(alloc),
         }
-    }
-
-    fn keep_command(
-        &mut self,
-        alloc: Global,
-        command: &str,
-        arguments: Option<&[String]>,
-    ) -> Result<(), AllocError> {
-        let arguments = arguments_of(alloc, arguments)?;
-        write!(self.asked, "{command}({arguments});")
-    }
-}
-
-fn arguments_of(alloc: Global, arguments: Option<&[String]>) -> Result<String, AllocError> {
-    match arguments {
-        Some(words) => words.join(alloc, "|"),
-        None => String::from_str(alloc, "none"),
     }
 }
 
@@ -103,28 +70,28 @@ impl Host for Scripted {
         alloc: Global,
         question: &CommandQuestion,
     ) -> Result<String, CommandFault> {
-        match self.keep_command(alloc, question.command, question.arguments) {
+        match write!(self.told, "{} {:?};", question.command, question.arguments) {
             Ok(()) => command_answer(alloc, self.given),
             Err(AllocError) => Err(CommandFault::OutOfMemory),
         }
     }
 
     fn text(&mut self, alloc: Global, question: TextQuestion) -> TextAnswer {
-        match write!(self.asked, "{question:?};") {
+        match write!(self.told, "{question:?};") {
             Ok(()) => text_answer(alloc, self.given).unwrap_or(TextAnswer::OutOfMemory),
             Err(AllocError) => TextAnswer::OutOfMemory,
         }
     }
 
     fn exists(&mut self, _alloc: Global, path: &str) -> Result<bool, OutOfMemory> {
-        match (write!(self.asked, "{path};"), self.given) {
+        match (write!(self.told, "{path};"), self.given) {
             (Ok(()), Given::Found(there)) => Ok(there),
             _ => Err(OutOfMemory),
         }
     }
 
     fn number(&mut self, _alloc: Global, question: NumberQuestion) -> Result<u64, OutOfMemory> {
-        match (write!(self.asked, "{question:?};"), self.given) {
+        match (write!(self.told, "{question:?};"), self.given) {
             (Ok(()), Given::Number(number)) => Ok(number),
             _ => Err(OutOfMemory),
         }

@@ -1,80 +1,90 @@
-// Which shell commands are given to.
+// Which shell commands are given to, and how settings are compared. Where memory is there each call must succeed, also where
+// what is set is large: no clause forbids one that gives up.
 
 use crate::around::compares;
 use crate::texts::{all_owned, owned, same};
 use just_host::config::Config;
 use just_host::settings::Settings;
 use just_syntax::interpreter::Interpreter;
+use just_value::value::Value;
 use std::alloc::Global;
 use std::process::Abort;
 
-// What the program was called with, what the module sets, and the shell and the one argument that come of it.
+// What the program was called with, what the module sets, and the shell that comes of it: a text, and an argument. Each text
+// stands so often in a shell, and each argument so often behind it.
 struct Choice {
+    times: usize,
     shell: Option<&'static str>,
-    shell_args: Option<&'static [&'static str]>,
-    setting: &'static [&'static str],
+    shell_args: Option<&'static str>,
+    setting: Option<(&'static str, &'static str)>,
     windows_powershell: bool,
     chosen: (&'static str, &'static str),
 }
 
-const NOPE: &[&str] = &["asdf.exe", "-nope"];
+const PLAIN: Choice = Choice {
+    times: 1,
+    shell: None,
+    shell_args: None,
+    setting: None,
+    windows_powershell: false,
+    chosen: ("sh", "-cu"),
+};
+
+const NOPE: Option<(&str, &str)> = Some(("asdf.exe", "-nope"));
 
 const CHOICES: &[Choice] = &[
     Choice {
-        shell: None,
-        shell_args: Some(&["-nice"]),
-        setting: &[],
-        windows_powershell: false,
+        shell_args: Some("-nice"),
         chosen: ("sh", "-nice"),
+        ..PLAIN
     },
     Choice {
         shell: Some("lol"),
-        shell_args: None,
-        setting: &[],
-        windows_powershell: false,
         chosen: ("lol", "-cu"),
+        ..PLAIN
     },
     Choice {
-        shell: None,
-        shell_args: None,
         setting: NOPE,
-        windows_powershell: false,
         chosen: ("asdf.exe", "-nope"),
+        ..PLAIN
     },
+    PLAIN,
     Choice {
-        shell: None,
-        shell_args: None,
-        setting: &[],
-        windows_powershell: false,
-        chosen: ("sh", "-cu"),
-    },
-    Choice {
-        shell: None,
-        shell_args: None,
-        setting: &[],
         windows_powershell: true,
-        chosen: ("sh", "-cu"),
+        ..PLAIN
     },
     Choice {
         shell: Some("lol"),
-        shell_args: Some(&["-nice"]),
-        setting: &[],
-        windows_powershell: false,
+        shell_args: Some("-nice"),
         chosen: ("lol", "-nice"),
+        ..PLAIN
     },
     Choice {
         shell: Some("lol"),
-        shell_args: Some(&["-nice"]),
-        setting: &[],
+        shell_args: Some("-nice"),
         windows_powershell: true,
         chosen: ("lol", "-nice"),
+        ..PLAIN
     },
     Choice {
         shell: Some("lol"),
-        shell_args: None,
         setting: NOPE,
-        windows_powershell: false,
         chosen: ("lol", "-cu"),
+        ..PLAIN
+    },
+    Choice {
+        times: 1000,
+        setting: Some(("sh", "-c")),
+        chosen: ("sh", "-c"),
+        ..PLAIN
+    },
+    Choice {
+        times: 1000,
+        shell: Some("zsh"),
+        shell_args: Some("-x"),
+        setting: Some(("sh", "-c")),
+        chosen: ("zsh", "-x"),
+        ..PLAIN
     },
 ];
 
@@ -88,64 +98,103 @@ fn shells(rt: HostRuntime) {
 fn chooses(rt: &impl Abort, alloc: Global, choice: &Choice) {
     let config = called_with(rt, alloc, choice);
     let settings = set_by(rt, alloc, choice);
-    has_shell(rt, alloc, &settings, &config, choice.chosen);
+    has_shell(rt, alloc, &settings, &config, choice);
     drop(settings);
     drop(config);
 }
 
-// These settings have this shell, where the program is called so.
+// These settings have the chosen shell, where the program is called so.
 fn has_shell(
     rt: &impl Abort,
     alloc: Global,
     settings: &Settings,
     config: &Config,
-    chosen: (&str, &str),
+    choice: &Choice,
 ) {
+    let (text, argument) = choice.chosen;
+    let wanted = repeated(rt, alloc, text, choice.times);
     let (command, arguments) = settings.shell(alloc, config).expect(rt, "no memory");
-    is_chosen(rt, command, &arguments, chosen);
+    same(rt, command, &wanted);
+    are_all(rt, &arguments, argument, choice.times);
 }
 
-// This is the command, and this its one argument.
-fn is_chosen(rt: &impl Abort, command: &str, arguments: &[&str], chosen: (&str, &str)) {
-    same(rt, command, chosen.0);
-    match arguments {
-        [argument] => same(rt, argument, chosen.1),
-        _ => panic!(rt; "{command} has not one argument"),
+// So many arguments are all this one.
+fn are_all(rt: &impl Abort, arguments: &[&str], wanted: &str, times: usize) {
+    assert_eq!(rt; arguments.len(), times);
+    for argument in arguments {
+        same(rt, argument, wanted);
     }
 }
 
 fn called_with(rt: &impl Abort, alloc: Global, choice: &Choice) -> Config {
     let mut config = Config::new(alloc, "").expect(rt, "no memory");
-    config.shell = choice.shell.map(|text| owned(rt, alloc, text));
-    config.shell_args = choice.shell_args.map(|texts| all_owned(rt, alloc, texts));
+    if let Some(text) = choice.shell {
+        config.shell = Some(repeated(rt, alloc, text, choice.times));
+    }
+    if let Some(text) = choice.shell_args {
+        config.shell_args = Some(copies(rt, alloc, text, choice.times));
+    }
     config
 }
 
 fn set_by(rt: &impl Abort, alloc: Global, choice: &Choice) -> Settings {
     let mut settings = Settings::new(alloc);
-    settings.shell = interpreter(rt, alloc, choice.setting);
+    if let Some(line) = choice.setting {
+        settings.shell = Some(interpreter(rt, alloc, line, choice.times));
+    }
     settings.windows_powershell = choice.windows_powershell;
     settings
 }
 
-fn interpreter(rt: &impl Abort, alloc: Global, line: &[&str]) -> Option<Interpreter<String>> {
-    let [command, arguments @ ..] = line else {
-        return None;
-    };
-    Some(Interpreter {
-        arguments: all_owned(rt, alloc, arguments),
-        command: owned(rt, alloc, command),
-    })
+fn interpreter(
+    rt: &impl Abort,
+    alloc: Global,
+    (text, argument): (&str, &str),
+    times: usize,
+) -> Interpreter<String> {
+    Interpreter {
+        arguments: copies(rt, alloc, argument, times),
+        command: repeated(rt, alloc, text, times),
+    }
+}
+
+fn repeated(rt: &impl Abort, alloc: Global, text: &str, times: usize) -> String {
+    text.repeat(alloc, times).expect(rt, "no memory")
+}
+
+fn copies(rt: &impl Abort, alloc: Global, text: &str, times: usize) -> Vec<String> {
+    let mut all = Vec::new(alloc);
+    for _ in 0..times {
+        all.push(owned(rt, alloc, text)).expect(rt, "no memory");
+    }
+    all
 }
 
 #[test]
 fn settings_are_compared(rt: HostRuntime) {
     let alloc = rt.alloc();
     let mut settings = Settings::new(alloc);
-    let unset = Settings::new(alloc);
-    compares(&rt, &settings, &unset, true);
-    settings.shell = interpreter(&rt, alloc, &["sh", "-cu"]);
-    compares(&rt, &settings, &unset, false);
-    drop(unset);
+    let mut others = Settings::new(alloc);
+    compares(&rt, &settings, &others, true);
+    settings.shell = Some(interpreter(&rt, alloc, ("sh", "-cu"), 1));
+    compares(&rt, &settings, &others, false);
+    enlarge(&rt, alloc, &mut settings);
+    enlarge(&rt, alloc, &mut others);
+    compares(&rt, &settings, &others, true);
+    lengthen(&rt, &mut settings.dotenv_command);
+    compares(&rt, &settings, &others, false);
+    drop(others);
     drop(settings);
+}
+
+// Sets a thousand elements and texts of some thousand bytes.
+fn enlarge(rt: &impl Abort, alloc: Global, settings: &mut Settings) {
+    settings.dotenv_command = Value::from_elements(copies(rt, alloc, "env", 1000));
+    settings.shell = Some(interpreter(rt, alloc, ("sh", "-c"), 1000));
+    settings.tempdir = Some(repeated(rt, alloc, "/ab", 1000));
+}
+
+// One more element.
+fn lengthen(rt: &impl Abort, value: &mut Value) {
+    value.push("").expect(rt, "no memory");
 }

@@ -4,7 +4,7 @@ ghost use Rattle.just_eval.specs.View.{HasRoom};
 ghost use Rattle.std.specs.Prelude.{◌<◌, ◌≡◌};
 
 use crate::recipes::RECIPE;
-use crate::recipes::texts::owned;
+use crate::recipes::texts::{owned, push};
 use just_case_lines::line::Line;
 use just_case_lines::token::name;
 use just_case_reader::case::{Case, build};
@@ -54,9 +54,9 @@ impl<'src> Around<'src> {
         Around::new(rt, alloc, module_of(rt, alloc, case_of(rt, alloc, lines)))
     }
 
-    /// The same with a module that has no function and no assignment.
-    pub(crate) fn of_nothing(rt: &impl Abort, alloc: Global) -> Around<'src> {
-        let module = Justfile::new(alloc, JUSTFILE, DIRECTORY).expect(rt, "no memory");
+    /// The same with a module of this source that has no function and no assignment.
+    pub(crate) fn of_nothing(rt: &impl Abort, alloc: Global, source: &'src str) -> Around<'src> {
+        let module = Justfile::new(alloc, source, DIRECTORY).expect(rt, "no memory");
         Around::new(rt, alloc, module)
     }
 
@@ -171,17 +171,26 @@ fn assignments_of<'src>(
     case_of(rt, alloc, lines).assignments
 }
 
-/// The expressions of those, by the bytes of their names.
+// The expressions of assignments, by the bytes of their names.
+fn values_of<'src>(
+    rt: &impl Abort,
+    alloc: Global,
+    assignments: Table<Assignment<'src>>,
+) -> Vec<Expression<'src>> {
+    let mut expressions = Vec::new(alloc);
+    for assignment in assignments {
+        push(rt, &mut expressions, assignment.value);
+    }
+    expressions
+}
+
+/// The expressions of the assignments that lines describe, by the bytes of their names.
 pub(crate) fn expressions_of<'src>(
     rt: &impl Abort,
     alloc: Global,
     lines: &'src [Line<'src>],
 ) -> Vec<Expression<'src>> {
-    let mut expressions = Vec::new(alloc);
-    for assignment in assignments_of(rt, alloc, lines) {
-        expressions.push(assignment.value).expect(rt, "no memory");
-    }
-    expressions
+    values_of(rt, alloc, assignments_of(rt, alloc, lines))
 }
 
 /// The expression of the one whose name is a front and a back.
@@ -193,10 +202,8 @@ pub(crate) fn expression_of<'src>(
     back: &str,
 ) -> Option<Expression<'src>> {
     let assignments = assignments_of(rt, alloc, lines);
-    match place_of(&assignments, front, back) {
-        Some(place) => expression_at(assignments, place),
-        None => None,
-    }
+    let place = place_of(&assignments, front, back);
+    item_at(values_of(rt, alloc, assignments), place)
 }
 
 // The place of that one.
@@ -209,13 +216,11 @@ fn place_of(assignments: &Table<Assignment>, front: &str, back: &str) -> Option<
     None
 }
 
-// The expression of the one at a place.
-fn expression_at<'src>(
-    assignments: Table<Assignment<'src>>,
-    place: usize,
-) -> Option<Expression<'src>> {
-    match assignments.into_iter().nth(place) {
-        Some(assignment) => Some(assignment.value),
+// The item at a place, if there is one.
+fn item_at<T: Drop>(items: Vec<T>, place: Option<usize>) -> Option<T> {
+    let mut left = items.into_iter();
+    match place {
+        Some(place) => left.nth(place),
         None => None,
     }
 }

@@ -4,12 +4,15 @@ ghost use Rattle.std.specs.Prelude.{◌<◌};
 
 use crate::recipes::RECIPE;
 use crate::recipes::hosts::TellingHost;
+use crate::recipes::texts::push;
 use just_case_lines::token::name;
 use just_eval::evaluator::Evaluator;
 use just_host::execution_context::ExecutionContext;
 use just_syntax::attribute::Attribute;
 use just_syntax::expression::Expression;
+use just_syntax::number::Number;
 use just_syntax::parameter::Parameter;
+use just_syntax::parameter_kind::ParameterKind;
 use just_syntax::recipe::Recipe;
 use just_value::check_fault::CheckFault;
 use just_value::error::Error;
@@ -45,6 +48,12 @@ impl<'src> Called<'src> {
             parameters: Vec::new(alloc),
             recipe: Recipe::new(alloc, name(RECIPE)),
         }
+    }
+
+    /// Adds a parameter and its argument.
+    pub(crate) fn push(&mut self, rt: &impl Abort, parameter: Parameter<'src>, argument: Value) {
+        push(rt, &mut self.arguments, argument);
+        push(rt, &mut self.parameters, parameter);
     }
 
     /// Adds the attribute that sets an environment variable: its key and its value.
@@ -83,6 +92,24 @@ impl<'src> Called<'src> {
             &self.recipe,
             context.scope,
         )
+    }
+}
+
+/// A parameter of this number, with a default or none.
+pub(crate) fn parameter<'src>(
+    lexeme: &'src str,
+    number: u64,
+    default: Option<Expression<'src>>,
+) -> Parameter<'src> {
+    Parameter {
+        default,
+        export: false,
+        flag: false,
+        kind: ParameterKind::Singular,
+        multiple: false,
+        name: name(lexeme),
+        number: Number::new(number),
+        value: None,
     }
 }
 

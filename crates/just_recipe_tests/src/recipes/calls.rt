@@ -4,13 +4,12 @@ ghost use Rattle.just_eval.specs.View.{HasRoom};
 ghost use Rattle.std.specs.Prelude.{◌<◌};
 
 use crate::recipes::around::{Around, evaluator};
-use crate::recipes::failing::{Failing, NEVER, WAYS};
+use crate::recipes::failing::{Failing, WAYS, refusal as refused};
 use crate::recipes::hosts::{TellingHost, refusal};
-use crate::recipes::texts::{add, owned, same, same_failing};
+use crate::recipes::texts::{add, owned, same_failing};
 use just_case_lines::token::{name, token};
 use just_eval::evaluator::Evaluator;
 use just_host::execution_context::ExecutionContext;
-use just_script::fail_at::How;
 use just_syntax::expression::Expression;
 use just_syntax::string_context::StringContext;
 use just_value::error::{CommandFault, Error};
@@ -19,29 +18,16 @@ use std::alloc::Global;
 use std::collections::BTreeMap;
 use std::process::Abort;
 
-#[test]
-fn a_command_a_value_and_a_text(rt: HostRuntime) {
-    let mut host = TellingHost::new(rt.alloc(), NEVER);
-    call(&rt, rt.alloc(), "c", &mut host);
-    same(
-        &rt,
-        "the calls",
-        &host.told,
-        "? run A=x ();<run>;? c A=x () ();\"<c>\";? c A=x () ();<c>;",
-    );
-    drop(host);
-}
-
 // What each call asks, and what comes of it.
 const CALLS: &[(&str, &str)] = &[
-    ("? run A=x ();", "<run>;"),
-    ("? c A=x () ();", "\"<c>\";"),
-    ("? c A=x () ();", "<c>;"),
+    ("? run A=x ();", "<run>"),
+    ("? c A=x () ();", "\"<c>\""),
+    ("? c A=x () ();", "<c>"),
 ];
 
-// What is asked of a host that fails is refused, and what was asked before is not.
+// Each call asks and answers. What is asked of a host that fails is refused, and what was asked before is not.
 #[test]
-fn calls_whose_question_fails(rt: HostRuntime) {
+fn calls_and_their_refusals(rt: HostRuntime) {
     for how in WAYS {
         for passed in 0..=CALLS.len() {
             calls_fail(&rt, rt.alloc(), (passed, *how));
@@ -66,22 +52,15 @@ fn wanted(rt: &impl Abort, alloc: Global, (passed, how): Failing) -> String {
         add(rt, &mut wanted, question);
         let fails = place >= passed;
         add(rt, &mut wanted, if fails { refused(how) } else { answer });
+        add(rt, &mut wanted, ";");
     }
     wanted
-}
-
-// How the refusal of a call whose question fails is told.
-fn refused(how: How) -> &'static str {
-    match how {
-        How::Fault => "refused;",
-        How::Memory => "no memory;",
-    }
 }
 
 // Makes the calls, each in an environment of one variable. A value and a text are those of this command.
 fn call<'src>(rt: &impl Abort, alloc: Global, text: &'src str, host: &mut TellingHost) {
     let command = command(rt, alloc, text);
-    let around = Around::of_nothing(rt, alloc);
+    let around = Around::of_nothing(rt, alloc, text);
     call_in(&around, rt, alloc, host, &command);
     drop(around);
     drop(command);
@@ -102,22 +81,10 @@ fn call_in<'src>(
     command: &Expression<'src>,
 ) {
     let context = around.context();
-    call_with(&context, rt, alloc, host, command);
-}
-
-fn call_with<'src>(
-    context: &ExecutionContext<'src, '_>,
-    rt: &impl Abort,
-    alloc: Global,
-    host: &mut TellingHost,
-    command: &Expression<'src>,
-)
-    requires room { 0 < context.now.recursion_limit }
-{
     let env = env(rt, alloc);
-    run(context, rt, alloc, host, &env);
+    run(&context, rt, alloc, host, &env);
     drop(env);
-    evaluate(context, rt, alloc, host, command);
+    evaluate(&context, rt, alloc, host, command);
 }
 
 // The environment of each call.

@@ -51,8 +51,8 @@ pub(crate) fn told_failing(
     expected
 }
 
-// How the refusal of a command that fails is told.
-fn refusal(how: How) -> &'static str {
+/// How the refusal of a command that fails is told.
+pub(crate) fn refusal(how: How) -> &'static str {
     match how {
         How::Fault => "refused",
         How::Memory => "no memory",

@@ -4,20 +4,19 @@ ghost use Rattle.just_eval.specs.View.{HasRoom};
 ghost use Rattle.std.specs.Prelude.{◌<◌};
 
 use crate::recipes::around::{Around, evaluator, expressions_of};
-use crate::recipes::failing::{Failing, NEVER, WAYS, questions, told_failing};
-use crate::recipes::hosts::TellingHost;
-use crate::recipes::texts::{same, same_failing};
+use crate::recipes::called::{Called, parameter};
+use crate::recipes::failing::{Failing, WAYS, questions, told_failing};
+use crate::recipes::hosts::{TellingHost, refusal};
+use crate::recipes::parameters::add_attributes;
+use crate::recipes::texts::{push, same_failing};
 use just_case_lines::line::{Line as CaseLine, parse_lines};
-use just_case_lines::token::{name, token};
+use just_case_lines::token::token;
 use just_eval::evaluator::Evaluator;
 use just_eval::resolved_here;
 use just_host::execution_context::ExecutionContext;
-use just_syntax::attribute_set::AttributeSet;
 use just_syntax::expression::Expression;
 use just_syntax::fragment::Fragment;
 use just_syntax::line::Line;
-use just_syntax::number::Number;
-use just_value::binding::Binding;
 use just_value::scope::Scope;
 use just_value::value::Value;
 use std::alloc::Global;
@@ -25,97 +24,80 @@ use std::collections::BTreeMap;
 use std::process::Abort;
 use std::vec;
 
-// A piece of a line: text, or the value of the case's next assignment, by the bytes of their names.
-#[derive(Clone, Copy)]
-enum Piece {
-    Written(&'static str),
-    Interpolated,
-}
-
-use Piece::{Interpolated, Written};
-
-// A line of the recipe: what gives its interpolations, its pieces, whether it is continued, and what comes of it, behind
-// what was asked.
-type Row = (&'static str, &'static [Piece], bool, &'static str);
+// A line of a recipe with the parameter `p`, whose argument is `z`: what gives its interpolations, its pieces, each behind `~`, whether it is continued, and what comes of
+// it, behind what was asked. A piece is a text, or `@` for the value of the case's next assignment, by the bytes of their names.
+type Row = (&'static str, &'static str, bool, &'static str);
 
 const LINES: &[Row] = &[
-    ("run", &[], false, ""),
-    ("run", &[], true, ""),
-    ("run", &[Written("  {{{{x")], false, "  {{x"),
-    ("run", &[Written("  {{{{x")], true, "{{x"),
-    ("run", &[Written(" \t\u{a0}x  ")], true, "x  "),
-    ("run", &[Written("{{{{{{{{")], false, "{{{{"),
-    ("run", &[Written("{{{"), Written("{{{{{")], false, "{{{{{{"),
+    ("run", "", false, ""),
+    ("run", "", true, ""),
+    ("run", "~  {{{{x", false, "  {{x"),
+    ("run", "~  {{{{x", true, "{{x"),
+    ("run", "~ \t\u{a0}x  ", true, "x  "),
+    ("run", "~{{{{{{{{", false, "{{{{"),
+    ("run", "~{{{~{{{{{", false, "{{{{{{"),
     // Behind the first piece white space stays.
-    (
-        "str a\nassign a\nrun",
-        &[Interpolated, Written("  x")],
-        true,
-        "a  x",
-    ),
-    (
-        "str \nassign a\nrun",
-        &[Interpolated, Written(" x")],
-        true,
-        " x",
-    ),
-    ("str  a\nassign a\nrun", &[Interpolated], true, " a"),
+    ("str a\nassign a\nrun", "~@~  x", true, "a  x"),
+    ("str \nassign a\nrun", "~@~ x", true, " x"),
+    ("str  a\nassign a\nrun", "~@", true, " a"),
     (
         "str a\nstr b\nlist 2\nassign a\nstr c\nassign b\nrun",
-        &[
-            Written("<"),
-            Interpolated,
-            Written("|"),
-            Interpolated,
-            Written(">"),
-        ],
+        "~<~@~|~@~>",
         false,
         "<a b|c>",
     ),
-    (
-        "list 0\nassign a\nrun",
-        &[Written("<"), Interpolated, Written(">")],
-        false,
-        "<>",
-    ),
+    ("list 0\nassign a\nrun", "~<~@~>", false, "<>"),
     // The interpolations are evaluated in their order, and the first refusal ends the line.
     (
         "cmd a\nassign a\ncmd b\nassign b\nrun",
-        &[Interpolated, Interpolated],
+        "~@~@",
         false,
         "? a () (p = \"z\") ();? b () (p = \"z\") ();<a><b>",
     ),
     (
         "cmd a\nassign a\nlist 0\nassert\nassign b\ncmd c\nassign c\nrun",
-        &[Interpolated, Interpolated, Interpolated],
+        "~@~@~@",
         false,
         "? a () (p = \"z\") ();refused",
     ),
+    // A body that a line calls stands on the context's scope: it is shown its callers' frames and no recipe's, and knows the
+    // recipe's name. `g` runs a command, `f` puts what it gives behind a parameter, and `r` tells the recipe's name.
+    (
+        "cmd who\nfun g\nvar n\ncall g 0\nadd\nfun f n\ncall recipe_name 0\nfun r\nstr z\ncall f 1\nassign a\nrun",
+        "~@",
+        false,
+        "? who () (n = \"z\") ();z<who>",
+    ),
+    (
+        "cmd who\nfun g\nvar n\ncall g 0\nadd\nfun f n\ncall recipe_name 0\nfun r\ncall r 0\nassign a\nrun",
+        "~@",
+        false,
+        "build",
+    ),
+    // The recipe's attribute sets `K` to `v`, which the commands of such a body see.
+    (
+        "str v\nassign e-1\nstr K\nassign k-1\ncmd who\nfun g\ncall g 0\nassign c\nrun",
+        "~@",
+        false,
+        "? who K=v () ();<who>",
+    ),
+    (
+        "str v\nassign e-1\nstr K\nassign k-1\ncmd who\nfun g\ncall g 0\nfun f n\nstr z\ncall f 1\nassign c\nrun",
+        "~@",
+        false,
+        "? who K=v () (n = \"z\") ();<who>",
+    ),
+    (
+        "str v\nassign e-1\nstr K\nassign k-1\nstr who\ncall shell 1\nfun g\ncall g 0\nassign c\nrun",
+        "~@",
+        false,
+        "? who K=v () ();<who>",
+    ),
 ];
 
+// Each line comes to what is wanted, also where its questions fail.
 #[test]
-fn text_fragments(rt: HostRuntime) {
-    for (case, pieces, continued, wanted) in LINES {
-        line_tells(&rt, rt.alloc(), case, (pieces, *continued), wanted);
-    }
-}
-
-// A line of these pieces, continued or not, tells this where no question fails.
-fn line_tells(
-    rt: &impl Abort,
-    alloc: Global,
-    case: &str,
-    (pieces, continued): (&[Piece], bool),
-    wanted: &str,
-) {
-    let mut host = TellingHost::new(alloc, NEVER);
-    tell_case(rt, alloc, &mut host, case, pieces, continued);
-    same(rt, case, &host.told, wanted);
-    drop(host);
-}
-
-#[test]
-fn lines_whose_questions_fail(rt: HostRuntime) {
+fn lines_of_fragments(rt: HostRuntime) {
     for row in LINES {
         row_fails_each_way(&rt, rt.alloc(), row);
     }
@@ -132,53 +114,18 @@ fn row_fails_each_way(rt: &impl Abort, alloc: Global, row: &Row) {
 
 // A line is told so where its questions fail in some way.
 fn row_fails(rt: &impl Abort, alloc: Global, row: &Row, failing: Failing) {
-    let (case, pieces, continued, whole) = *row;
+    let (case, _, _, whole) = *row;
     let mut host = TellingHost::new(alloc, failing);
-    tell_case(rt, alloc, &mut host, case, pieces, continued);
+    tell_case(rt, alloc, &mut host, row);
     let wanted = told_failing(rt, alloc, whole, failing);
     same_failing(rt, case, failing, &host.told, &wanted);
     drop(wanted);
     drop(host);
 }
 
-// `g` runs a command, `f` puts what it gives behind a parameter, and `r` tells the recipe's name.
-const FUNCTIONS: &str =
-    "cmd who\nfun g\nvar n\ncall g 0\nadd\nfun f n\ncall recipe_name 0\nfun r\n";
-
-// A line that calls one of them, and what comes of it.
-const CALLS: &[(&str, &str)] = &[
-    (
-        "str z\ncall f 1\nassign a\nrun",
-        "? who () (n = \"z\") ();z<who>",
-    ),
-    ("call r 0\nassign a\nrun", "build"),
-];
-
-// A body that a line calls stands on the context's scope: it is shown its callers' frames and no recipe's, and knows the
-// recipe's name.
-#[test]
-fn frames_from_a_line(rt: HostRuntime) {
-    for (call, wanted) in CALLS {
-        call_tells(&rt, rt.alloc(), call, wanted);
-    }
-}
-
-// A line that calls one of the functions tells this.
-fn call_tells(rt: &impl Abort, alloc: Global, call: &str, wanted: &str) {
-    let case = format!(in alloc; "{FUNCTIONS}{call}").expect(rt, "no memory");
-    line_tells(rt, alloc, &case, (&[Interpolated], false), wanted);
-    drop(case);
-}
-
 // Tells a line of pieces, behind what is asked.
-fn tell_case(
-    rt: &impl Abort,
-    alloc: Global,
-    host: &mut TellingHost,
-    case: &str,
-    pieces: &[Piece],
-    continued: bool,
-) {
+fn tell_case(rt: &impl Abort, alloc: Global, host: &mut TellingHost, row: &Row) {
+    let (case, pieces, continued, _) = *row;
     let lines = parse_lines(alloc, case.as_bytes()).expect(rt, "no memory");
     tell_pieces(rt, alloc, &lines, host, pieces, continued);
     drop(lines);
@@ -189,13 +136,16 @@ fn tell_pieces<'src>(
     alloc: Global,
     lines: &'src [CaseLine<'src>],
     host: &mut TellingHost,
-    pieces: &[Piece],
+    pieces: &'static str,
     continued: bool,
 ) {
     let around = Around::of_lines(rt, alloc, lines);
+    let mut called = called(rt, alloc);
+    add_attributes(&mut called, rt, alloc, lines);
     let line = line_of(rt, alloc, expressions_of(rt, alloc, lines), pieces);
-    tell_around(&around, rt, alloc, host, &line, continued);
+    tell_around(&around, rt, alloc, host, &called, &line, continued);
     drop(line);
+    drop(called);
     drop(around);
 }
 
@@ -204,61 +154,64 @@ pub(crate) fn tell<'src>(
     line: &Line<'src>,
     rt: &impl Abort,
     alloc: Global,
+    source: &'src str,
     host: &mut TellingHost,
 ) {
-    let around = Around::of_nothing(rt, alloc);
-    tell_around(&around, rt, alloc, host, line, false);
+    let around = Around::of_nothing(rt, alloc, source);
+    let called = called(rt, alloc);
+    tell_around(&around, rt, alloc, host, &called, line, false);
+    drop(called);
     drop(around);
 }
 
-// The same where the recipe's scope binds `p` to `z`.
+// The recipe. Its parameter `p` has a number that no name of a case has.
+fn called<'src>(rt: &impl Abort, alloc: Global) -> Called<'src> {
+    let mut called = Called::new(alloc);
+    let argument = Value::from_text(alloc, "z").expect(rt, "no memory");
+    called.push(rt, parameter("p", 1000, None), argument);
+    called
+}
+
 fn tell_around<'src>(
     around: &Around<'src>,
     rt: &impl Abort,
     alloc: Global,
     host: &mut TellingHost,
+    called: &Called<'src>,
     line: &Line<'src>,
     continued: bool,
 ) {
-    let scope = scope_of(around, rt, alloc);
-    tell_in(&around.context(), rt, alloc, host, &scope, line, continued);
-    drop(scope);
+    let context = around.context();
+    tell_in(&context, rt, alloc, host, called, line, continued);
 }
 
-// A scope that binds `p` to `z`.
-fn scope_of<'src, 'run>(
-    around: &'run Around<'src>,
-    rt: &impl Abort,
-    alloc: Global,
-) -> Scope<'src, 'run> {
-    let mut scope = around.scope.child(alloc).expect(rt, "no memory");
-    let bound = scope.bind(binding(rt, alloc));
-    bound.expect(rt, "no memory");
-    scope
-}
-
-// The same in a scope. The line is resolved.
+// Tells a line where the recipe's attributes and parameters are evaluated.
 fn tell_in<'src>(
     context: &ExecutionContext<'src, '_>,
     rt: &impl Abort,
     alloc: Global,
     host: &mut TellingHost,
-    scope: &Scope<'src, '_>,
+    called: &Called<'src>,
     line: &Line<'src>,
     continued: bool,
 )
     requires room { 0 < context.now.recursion_limit }
 {
-    let expressions = interpolated(rt, alloc, line);
-    if !resolved_here(alloc, context, scope, None, &[], expressions).expect(rt, "no memory") {
-        host.tell(rt, "unresolved;");
+    match called.evaluate(alloc, host, context) {
+        Ok((scope, words, env)) => {
+            drop(words);
+            tell_line(context, rt, alloc, host, env, &scope, line, continued);
+            drop(scope);
+        }
+        Err(error) => {
+            host.tell(rt, refusal(&error));
+            drop(error);
+        }
     }
-    let env = BTreeMap::new(alloc);
-    tell_line(context, rt, alloc, host, env, scope, line, continued);
 }
 
-/// Tells a line in a scope and an environment, behind what is asked.
-pub(crate) fn tell_line<'src>(
+// Tells a line in a scope and an environment, behind what is asked. The line is resolved.
+fn tell_line<'src>(
     context: &ExecutionContext<'src, '_>,
     rt: &impl Abort,
     alloc: Global,
@@ -270,6 +223,10 @@ pub(crate) fn tell_line<'src>(
 )
     requires room { 0 < context.now.recursion_limit }
 {
+    let expressions = interpolated(rt, alloc, line);
+    if !resolved_here(alloc, context, scope, None, &[], expressions).expect(rt, "no memory") {
+        host.tell(rt, "unresolved;");
+    }
     let evaluator = evaluator(context, rt, alloc, env, scope);
     tell_text(&evaluator, rt, alloc, host, line, continued);
     drop(evaluator);
@@ -295,13 +252,15 @@ fn line_of<'src>(
     rt: &impl Abort,
     alloc: Global,
     expressions: Vec<Expression<'src>>,
-    pieces: &[Piece],
+    pieces: &'static str,
 ) -> Line<'src> {
     let mut fragments = Vec::new(alloc);
     let mut left = expressions.into_iter();
-    for piece in pieces {
-        let fragment = fragment_of(&mut left, rt, *piece);
-        fragments.push(fragment).expect(rt, "no memory");
+    let mut texts = pieces.split('~');
+    texts.next();
+    for text in texts {
+        let fragment = fragment_of(&mut left, rt, text);
+        push(rt, &mut fragments, fragment);
     }
     drop(left);
     Line { fragments }
@@ -311,27 +270,14 @@ fn line_of<'src>(
 fn fragment_of<'src>(
     left: &mut vec::IntoIter<Expression<'src>>,
     rt: &impl Abort,
-    piece: Piece,
+    text: &'static str,
 ) -> Fragment<'src> {
-    match piece {
-        Written(lexeme) => Fragment::Text {
-            token: token(lexeme),
-        },
-        Interpolated => Fragment::Interpolation {
+    if text == "@" {
+        Fragment::Interpolation {
             expression: left.next().expect(rt, "no expression"),
-        },
-    }
-}
-
-/// A line of one interpolation.
-pub(crate) fn interpolation<'src>(
-    rt: &impl Abort,
-    alloc: Global,
-    expression: Expression<'src>,
-) -> Line<'src> {
-    let fragment = Fragment::Interpolation { expression };
-    Line {
-        fragments: vec![in alloc; fragment].expect(rt, "no memory"),
+        }
+    } else {
+        Fragment::Text { token: token(text) }
     }
 }
 
@@ -348,19 +294,4 @@ fn interpolated<'a, 'src>(
         }
     }
     expressions
-}
-
-// Binds the parameter `p`, which has a number that no name of a case has, to `z`.
-fn binding<'src>(rt: &impl Abort, alloc: Global) -> Binding<'src> {
-    Binding {
-        attributes: AttributeSet::new(alloc),
-        eager: false,
-        export: false,
-        file_depth: 0,
-        name: name("p"),
-        number: Number::new(1000),
-        prelude: false,
-        private: false,
-        value: Value::from_text(alloc, "z").expect(rt, "no memory"),
-    }
 }

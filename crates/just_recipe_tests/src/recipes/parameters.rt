@@ -4,10 +4,10 @@ ghost use Rattle.std.specs.Prelude.{◌<◌};
 
 use crate::recipes::around::{Around, expression_of};
 use crate::recipes::called::{Called, Check, Given};
-use crate::recipes::failing::{Failing, WAYS, questions, told_failing};
+use crate::recipes::failing::{Failing, NEVER, WAYS, questions, told_failing};
 use crate::recipes::hosts::{TellingHost, refusal, tell_environment, tell_frame};
-use crate::recipes::parameter_rows::{BODY_ENVIRONMENT, ROWS, Row};
-use crate::recipes::texts::same_failing;
+use crate::recipes::parameter_rows::{ROWS, Row};
+use crate::recipes::texts::{push, same, same_failing};
 use just_case_lines::line::{Line as CaseLine, parse_lines};
 use just_case_lines::token::name;
 use just_eval::resolved_here;
@@ -25,23 +25,20 @@ use std::alloc::Global;
 use std::collections::BTreeMap;
 use std::process::Abort;
 
+// Defaults and values come to what is wanted, also where questions fail, and a check that refuses all, or has no memory, ends
+// each recipe at its first parameter, which is `p`.
 #[test]
 fn defaults_and_values(rt: HostRuntime) {
     for row in ROWS {
         row_fails_each_way(&rt, rt.alloc(), row);
-    }
-}
-
-#[test]
-fn body_environment(rt: HostRuntime) {
-    for row in BODY_ENVIRONMENT {
-        row_fails_each_way(&rt, rt.alloc(), row);
+        ends_at_first(&rt, rt.alloc(), row, Check::RefusesAll, "check p no");
+        ends_at_first(&rt, rt.alloc(), row, Check::OutOfMemory, "no memory");
     }
 }
 
 // Compares what comes of a recipe with what is wanted, also where its questions fail.
-fn row_fails_each_way(rt: &impl Abort, alloc: Global, row: &Row<'static>) {
-    let (_, _, _, _, whole) = *row;
+fn row_fails_each_way(rt: &impl Abort, alloc: Global, row: &Row) {
+    let (_, _, _, _, _, whole) = *row;
     for passed in 0..=questions(whole) {
         for how in WAYS {
             row_fails(rt, alloc, row, (passed, *how));
@@ -50,8 +47,8 @@ fn row_fails_each_way(rt: &impl Abort, alloc: Global, row: &Row<'static>) {
 }
 
 // A recipe is told so where its questions fail in some way.
-fn row_fails(rt: &impl Abort, alloc: Global, row: &Row<'static>, failing: Failing) {
-    let (case, _, _, _, whole) = *row;
+fn row_fails(rt: &impl Abort, alloc: Global, row: &Row, failing: Failing) {
+    let (case, _, _, _, _, whole) = *row;
     let mut host = TellingHost::new(alloc, failing);
     tell_row(rt, alloc, &mut host, row, Check::RefusesNo);
     let wanted = told_failing(rt, alloc, whole, failing);
@@ -60,15 +57,30 @@ fn row_fails(rt: &impl Abort, alloc: Global, row: &Row<'static>, failing: Failin
     drop(host);
 }
 
-/// Tells what a recipe's parameters come to where they are checked so, behind what is asked.
-pub(crate) fn tell_row(
-    rt: &impl Abort,
-    alloc: Global,
-    host: &mut TellingHost,
-    row: &Row<'static>,
-    check: Check,
-) {
-    let (case, _, _, _, _) = *row;
+// A recipe whose parameters are checked in some way ends so at its first check, behind what is asked before that. Where no
+// parameter is checked it is told as ever.
+fn ends_at_first(rt: &impl Abort, alloc: Global, row: &Row, check: Check, end: &str) {
+    let (case, _, _, _, before, whole) = *row;
+    let mut host = TellingHost::new(alloc, NEVER);
+    tell_row(rt, alloc, &mut host, row, check);
+    match before {
+        Some(asked) => same(rt, case, behind(&host.told, asked), end),
+        None => same(rt, case, &host.told, whole),
+    }
+    drop(host);
+}
+
+// What is told behind what is asked.
+fn behind<'told>(told: &'told str, asked: &str) -> &'told str {
+    match told.strip_prefix(asked) {
+        Some(rest) => rest,
+        None => "something else is asked",
+    }
+}
+
+// Tells what a recipe's parameters come to where they are checked so, behind what is asked.
+fn tell_row(rt: &impl Abort, alloc: Global, host: &mut TellingHost, row: &Row, check: Check) {
+    let (case, _, _, _, _, _) = *row;
     let lines = parse_lines(alloc, case.as_bytes()).expect(rt, "no memory");
     tell_lines(rt, alloc, &lines, host, row, check);
     drop(lines);
@@ -79,7 +91,7 @@ fn tell_lines<'src>(
     alloc: Global,
     lines: &'src [CaseLine<'src>],
     host: &mut TellingHost,
-    row: &Row<'static>,
+    row: &Row,
     check: Check,
 ) {
     let around = Around::of_lines(rt, alloc, lines);
@@ -94,9 +106,10 @@ pub(crate) fn tell<'src>(
     called: &Called<'src>,
     rt: &impl Abort,
     alloc: Global,
+    source: &'src str,
     host: &mut TellingHost,
 ) {
-    let around = Around::of_nothing(rt, alloc);
+    let around = Around::of_nothing(rt, alloc, source);
     tell_around(&around, rt, alloc, host, called);
     drop(around);
 }
@@ -106,10 +119,10 @@ fn called_of<'src>(
     rt: &impl Abort,
     alloc: Global,
     lines: &'src [CaseLine<'src>],
-    row: &Row<'static>,
+    row: &Row,
     check: Check,
 ) -> Called<'src> {
-    let (_, parameters, arguments, is_dependency, _) = *row;
+    let (_, parameters, arguments, is_dependency, _, _) = *row;
     let mut called = Called::new(alloc);
     called.check = check;
     called.is_dependency = is_dependency;
@@ -119,18 +132,23 @@ fn called_of<'src>(
     called
 }
 
-// Adds an argument a row, of its elements.
-fn add_arguments(called: &mut Called, rt: &impl Abort, alloc: Global, arguments: &[&[&str]]) {
-    for elements in arguments {
-        let argument = argument_of(rt, alloc, elements);
-        called.arguments.push(argument).expect(rt, "no memory");
+// Adds an argument for each text behind a `;`.
+fn add_arguments(called: &mut Called, rt: &impl Abort, alloc: Global, arguments: &str) {
+    let mut texts = arguments.split(';');
+    texts.next();
+    for text in texts {
+        let argument = argument_of(rt, alloc, text);
+        push(rt, &mut called.arguments, argument);
     }
 }
 
-fn argument_of(rt: &impl Abort, alloc: Global, elements: &[&str]) -> Value {
+// An argument that is written with `|` between its elements, or as `[]`.
+fn argument_of(rt: &impl Abort, alloc: Global, text: &str) -> Value {
     let mut argument = Value::new(alloc);
-    for element in elements {
-        argument.push(element).expect(rt, "no memory");
+    if text != "[]" {
+        for element in text.split('|') {
+            argument.push(element).expect(rt, "no memory");
+        }
     }
     argument
 }
@@ -145,7 +163,7 @@ fn add_parameters<'src>(
 ) {
     for (place, word) in words.split_whitespace().enumerate() {
         let parameter = parameter_of(rt, alloc, place, word, lines);
-        called.parameters.push(parameter).expect(rt, "no memory");
+        push(rt, &mut called.parameters, parameter);
     }
 }
 
@@ -177,8 +195,8 @@ fn parameter_of<'src>(
     }
 }
 
-// Adds at most two attributes that set an environment variable.
-fn add_attributes<'src>(
+/// Adds at most two attributes that set an environment variable.
+pub(crate) fn add_attributes<'src>(
     called: &mut Called<'src>,
     rt: &impl Abort,
     alloc: Global,

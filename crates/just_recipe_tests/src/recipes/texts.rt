@@ -20,14 +20,14 @@ pub(crate) fn same_failing(
     assert_eq!(rt; told, wanted, "{of} {passed} {how:?}");
 }
 
-/// What is told is so.
-pub(crate) fn is_so(rt: &impl Abort, told: &str, given: bool) {
-    assert!(rt; given, "{told}");
-}
-
 /// A text once more.
 pub(crate) fn owned(rt: &impl Abort, alloc: Global, text: &str) -> String {
     String::from_str(alloc, text).expect(rt, "no memory")
+}
+
+/// Puts an item behind others.
+pub(crate) fn push<T: Drop>(rt: &impl Abort, items: &mut Vec<T>, item: T) {
+    items.push(item).expect(rt, "no memory");
 }
 
 /// Puts a piece behind a text.
