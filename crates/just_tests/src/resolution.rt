@@ -194,7 +194,7 @@ const CALLED: &[Variable] = &[("a", 1, &[Call("len", &[2])]), ("b", 2, &[])];
 
 const PAIR: &[Variable] = &[("a", 1, &[]), ("b", 2, &[Read(1)])];
 
-const MODULES: &[Group] = &[
+const ORDERS: &[Group] = &[
     (
         &[],
         CHAIN,
@@ -277,6 +277,15 @@ const MODULES: &[Group] = &[
         &[(&["a", "b"], None, Some(Untaken("b", 0)), None)],
     ),
     (BOUND, PLAIN, &[(&["a"], None, Some(Bound("p")), None)]),
+];
+
+#[test]
+fn orders_and_functions(rt: HostRuntime) -> Result<(), Fail> {
+    expect_all(&rt, rt.alloc(), ORDERS)?;
+    Ok(())
+}
+
+const BUILT_IN_NAMES: &[Group] = &[
     (
         &[],
         LEN,
@@ -309,6 +318,15 @@ const MODULES: &[Group] = &[
         NOPE,
         &[(&["a", "b"], None, Some(Uncallable("nope", 0)), None)],
     ),
+];
+
+#[test]
+fn built_in_names(rt: HostRuntime) -> Result<(), Fail> {
+    expect_all(&rt, rt.alloc(), BUILT_IN_NAMES)?;
+    Ok(())
+}
+
+const REFERENCED: &[Group] = &[
     (
         READER,
         READERS,
@@ -395,7 +413,7 @@ const MODULES: &[Group] = &[
 ];
 
 #[test]
-fn modules_and_their_faults(rt: HostRuntime) -> Result<(), Fail> {
-    expect_all(&rt, rt.alloc(), MODULES)?;
+fn referenced_assignments(rt: HostRuntime) -> Result<(), Fail> {
+    expect_all(&rt, rt.alloc(), REFERENCED)?;
     Ok(())
 }

@@ -74,8 +74,8 @@ fn word_lists(rt: HostRuntime) -> Result<(), Fail> {
     Ok(())
 }
 
-// Positional words, and what they are told as: the overrides, each in parentheses with a `:` in the middle, the directory in brackets, and the
-// arguments in quotes.
+// Positional words, and what they are told as: the overrides in parentheses, with a `:` behind each key, the directory in
+// brackets, and the arguments in quotes.
 const POSITIONAL: &[(&[&str], &str)] = &[
     (&[], ""),
     (&["foo", "bar"], "'foo''bar'"),
