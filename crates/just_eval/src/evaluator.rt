@@ -14,7 +14,7 @@ ghost use Rattle.just_meaning.specs.Resolved.{IsResolved};
 ghost use Rattle.just_meaning.specs.Stage.{const_value};
 ghost use Rattle.just_meaning.specs.View.{module_view, run_of};
 ghost use Rattle.just_expression.specs.View.{program, program_of, rules, situation};
-ghost use Rattle.just_eval.specs.View.{Assigned, HasRoom, HasRoomIn, IsAtStart, IsConst, IsInRun, IsSame, Resolves, calls_left_of, exports_all, lexical_meaning, meaning, rules_of, situation_of, standing_of};
+ghost use Rattle.just_eval.specs.View.{Assigned, HasRoom, IsAtStart, IsConst, IsInRun, IsSame, Resolves, calls_left_of, exports_all, lexical_meaning, meaning, rules_of, situation_of, standing_of};
 
 mod commands;
 mod constants;
@@ -121,7 +121,7 @@ impl<'src, 'run> Evaluator<'src, 'run> {
         Evaluator::run(
             alloc,
             host,
-            context,
+            &context,
             variable_references,
             &module.evaluation_order,
         )
@@ -131,16 +131,17 @@ impl<'src, 'run> Evaluator<'src, 'run> {
     fn run<H: Host>(
         alloc: Global,
         host: &mut H,
-        context: ExecutionContext<'src, 'run>,
+        context: &ExecutionContext<'src, 'run>,
         references: Option<&HashSet<Number>>,
         names: &[Name<'src>],
     ) -> Result<Scope<'src, 'run>, Error<'src>>
-        requires room { 0 < context.recursion_limit }
-        ensures { Ran H.step host.old dynamically (module_view context.entry references.entry) ([] ∷ frames_view context.entry.scope.now) (map name_view names.entry.now) (ended frames_view result) host.new }
+        requires room { 0 < context.now.recursion_limit }
+        ensures { Ran H.step host.old dynamically (module_view context.now references.entry) ([] ∷ frames_view context.now.scope.now) (map name_view names.entry.now) (ended frames_view result) host.new }
     {
-        let lists = context.module.settings.lists;
         let scope = context.scope.child(alloc)?;
-        let mut evaluator = Evaluator::of_assignments(alloc, Some(context), lists, scope);
+        let lists = context.module.settings.lists;
+        let mut evaluator = Evaluator::of_assignments(alloc, lists, scope);
+        evaluator.context = Some(*context);
         for name in names {
             evaluator.evaluate_named(alloc, host, context, references, *name)?;
         }
@@ -148,23 +149,16 @@ impl<'src, 'run> Evaluator<'src, 'run> {
         Ok(scope)
     }
 
-    // Evaluates assignments in a scope, for no recipe. Nothing is open.
-    fn of_assignments(
-        alloc: Global,
-        context: Option<ExecutionContext<'src, 'run>>,
-        lists: bool,
-        scope: Scope<'src, 'run>,
-    ) -> Evaluator<'src, 'run>
-        requires room { HasRoomIn context }
-        ensures start { IsAtStart result }
-        ensures context { result.context ≡ context.entry }
+    // Evaluates assignments in a scope, for no recipe and before any run. Nothing is open.
+    fn of_assignments(alloc: Global, lists: bool, scope: Scope<'src, 'run>) -> Evaluator<'src, 'run>
+        ensures before_runs { IsConst result }
         ensures lists { result.lists ≡ lists }
         ensures frames { frames_view result.scope ≡ frames_view scope.entry }
         ensures none_open { (n : ℕ) → (standing_of result).is_open n ≡ false }
     {
         Evaluator {
             base: None,
-            context,
+            context: None,
             env: BTreeMap::new(alloc),
             is_dependency: false,
             lists,
@@ -179,15 +173,15 @@ impl<'src, 'run> Evaluator<'src, 'run> {
         &mut self,
         alloc: Global,
         host: &mut H,
-        context: ExecutionContext<'src, 'run>,
+        context: &ExecutionContext<'src, 'run>,
         references: Option<&HashSet<Number>>,
         name: Name<'src>,
     ) -> Result<(), Error<'src>>
         requires start { IsAtStart self.old }
-        requires here { self.old.context ≡ Some context }
-        requires lists { self.old.lists ≡ context.«module».now.settings.lists }
+        requires here { self.old.context ≡ Some context.now }
+        requires lists { self.old.lists ≡ context.now.«module».now.settings.lists }
         ensures same { IsSame self.old self.new × IsAtStart self.new }
-        ensures ran { Ran H.step host.old dynamically (module_view context.entry references.entry) (frames_view self.old.scope) (name_view name.entry ∷ []) (ended (λ _. frames_view self.new.scope) result) host.new }
+        ensures ran { Ran H.step host.old dynamically (module_view context.now references.entry) (frames_view self.old.scope) (name_view name.entry ∷ []) (ended (λ _. frames_view self.new.scope) result) host.new }
     {
         let Some(assignment) = context.module.assignments.get(name.lexeme()) else {
             return Err(internal::unknown_assignment(alloc, &name));

@@ -61,7 +61,7 @@ impl<'src, 'run> Evaluator<'src, 'run> {
         ensures never_internal { let m = constants_of assignments.now evaluation_order.now overrides.now variable_references.now in
             IsResolvedConst m.assignments (frames_view scope.entry.now) → IsNotInternal (const_ended standing_of result) }
     {
-        let mut evaluator = Evaluator::of_assignments(alloc, None, lists, scope.child(alloc)?);
+        let mut evaluator = Evaluator::of_assignments(alloc, lists, scope.child(alloc)?);
         for name in evaluation_order {
             evaluator.evaluate_const_named(
                 alloc,

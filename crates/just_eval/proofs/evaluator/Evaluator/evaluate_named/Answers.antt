@@ -24,4 +24,4 @@ returns-clause-ran g c =
     let b : is_referenced_in c.args.references c.in-Some.assignment.now.number ≡ true = cc in
     ran_assigned (frames_view c.args.self.now.scope) (name_view c.args.name) (assignment_view c.in-Some.assignment.now)
     (found_at assignment_view (λ a. a.name.lexeme) _ _ _ (Some c.in-Some.assignment.now) c.in-Some.ensures (ap (λ l. l.now) c.lexeme.ensures)) b
-    (ran_here c.args.self.now c.requires.start (text_numbered c.args.context.overrides.now c.in-Some.assignment.now.number) (view c.in-Some.assignment.now.value) c.args.context c.requires.here c.requires.lists c.evaluate_assignment.ensures.assigned)
+    (ran_here c.args.self.now c.requires.start (text_numbered c.args.context.now.overrides.now c.in-Some.assignment.now.number) (view c.in-Some.assignment.now.value) c.args.context.now c.requires.here c.requires.lists c.evaluate_assignment.ensures.assigned)

@@ -1,4 +1,4 @@
-use Rattle.std.proofs.Common.{◌∙◌}
+use Rattle.std.proofs.Common.{◌∙◌, refl}
 use Rattle.std.proofs.lemmas.List.{drop_all}
 use Rattle.std.proofs.lemmas.Result.{err_from_is_err_and}
 use Rattle.just_syntax.specs.View.{name_view}
@@ -11,12 +11,15 @@ returns-in_err-scope g c =
     rw (p.1, p.2) (ran_stops _ _)
 
 pub loop-name-init : goal.loop-name-init
-loop-name-init g c = record {
-  here = c.of_assignments-evaluator.ensures.context;
-  lists = c.of_assignments-evaluator.ensures.lists;
-  start = c.of_assignments-evaluator.ensures.start;
-  rest = λ o new r. rw (c.of_assignments-evaluator.ensures.frames, c.in_ok-scope.ensures) at r;
-}
+loop-name-init g c =
+    let made = c.of_assignments-evaluator.ensures in
+    let start = made.before_runs.start in
+    record {
+      here = refl;
+      lists = made.lists;
+      start = record { base = start.base; environment = start.environment; dependency = start.dependency; recipe = start.recipe; room = c.requires.room };
+      rest = λ o new r. rw (made.frames, c.in_ok-scope.ensures) at r;
+    }
 
 pub returns-in_err-evaluate_named : goal.returns-in_err-evaluate_named
 returns-in_err-evaluate_named g c =
