@@ -131,10 +131,10 @@ impl<'src, 'run> Evaluator<'src, 'run> {
     {
         Evaluator::evaluated_parameters(
             alloc,
-            context,
             host,
             check,
             arguments,
+            context,
             is_dependency,
             parameters,
             recipe,
@@ -145,10 +145,10 @@ impl<'src, 'run> Evaluator<'src, 'run> {
     // The same by dynamic scoping.
     fn evaluated_parameters<H: Host, C>(
         alloc: Global,
-        context: &ExecutionContext<'src, 'run>,
         host: &mut H,
         check: &C,
         arguments: &[Value],
+        context: &ExecutionContext<'src, 'run>,
         is_dependency: bool,
         parameters: &[Parameter<'src>],
         recipe: &Recipe<'src>,
