@@ -24,8 +24,9 @@ use std::collections::BTreeMap;
 use std::process::Abort;
 use std::vec;
 
-// A line of a recipe with the parameter `p`, whose argument is `z`: what gives its interpolations, its pieces, each behind `~`, whether it is continued, and what comes of
-// it, behind what was asked. A piece is a text, or `@` for the value of the case's next assignment, by the bytes of their names.
+// A line of a recipe with the parameter `p`, whose argument is `z`: what gives its interpolations, its pieces, each behind `~`,
+// whether it is continued, and what comes of it, behind what was asked. A piece is a text, or `@` for the value of the case's
+// next assignment, by the bytes of their names.
 type Row = (&'static str, &'static str, bool, &'static str);
 
 const LINES: &[Row] = &[
