@@ -1,5 +1,5 @@
 -- Names of variables, one after another.
-use Rattle.std.proofs.Common.{◌≡◌, ℕ, ◌+◌, ◌<◌, true, false, cond, List, [], ◌∷◌, ◌++◌, length, get_or, take, map, Option, Some, None, Bor, option_map, unwrap_or, refl, sym, ap, ◌∙◌}
+use Rattle.std.proofs.Common.{◌≡◌, ℕ, suc, ◌+◌, ◌<◌, true, false, cond, List, [], ◌∷◌, ◌++◌, length, get_or, take, drop, map, Option, Some, None, Bor, option_map, unwrap_or, refl, sym, ap, ◌∙◌, add-one, drop-cons}
 use Rattle.std.specs.Bool.{nat_eq}
 use Rattle.std.specs.List.{list_any}
 use Rattle.std.specs.Option.{option_or}
@@ -7,7 +7,7 @@ use Rattle.std.proofs.lemmas.List.{map_more}
 use Rattle.just_syntax.specs.declared.assignment.Assignment.{Assignment as Declared}
 use Rattle.just_syntax.specs.Keyed.{value_at}
 use Rattle.just_syntax.specs.Plain.{Text, Assignment}
-use Rattle.just_syntax.specs.Variables.{given, has_number, number_named}
+use Rattle.just_syntax.specs.Variables.{first_unknown, given, has_number, number_named}
 use Rattle.just_syntax.specs.View.{assignment_view}
 use Rattle.just_syntax.proofs.Tables.{seen_at}
 
@@ -19,6 +19,19 @@ named name assignments found is = sees found ∙ ap (λ o. option_map (λ a. a.n
     sees : (found : Option (Bor Declared)) → option_map (λ a. a.now.number) found ≡ option_map (λ a. a.number) (option_map assignment_view (option_map (λ a. a.now) found))
     sees None = refl
     sees (Some a) = refl
+
+module _ {A : Type 0} (name_of : A → Text) (assignments : List Assignment) where
+  front : (xs : List A) (i : ℕ) (x : A) → i < length xs → x ≡ get_or xs i x → map name_of (drop i xs) ≡ name_of x ∷ map name_of (drop (i + 1) xs)
+  front xs i x h is =
+      ap (map name_of) (drop-cons xs i x h)
+      ∙ ap (λ y. name_of y ∷ map name_of (drop (suc i) xs)) (sym is)
+      ∙ ap (λ j. name_of x ∷ map name_of (drop j xs)) (sym (add-one i))
+
+  -- a name that a variable has is passed over
+  pub known_on : (xs : List A) (i : ℕ) (x : A) (n : ℕ) → i < length xs → x ≡ get_or xs i x → number_named assignments (name_of x) ≡ Some n
+      → first_unknown assignments (map name_of (drop i xs)) ≡ first_unknown assignments (map name_of xs)
+      → first_unknown assignments (map name_of (drop (i + 1) xs)) ≡ first_unknown assignments (map name_of xs)
+  known_on xs i x n h is known so_far = sym (ap (first_unknown assignments) (front xs i x h is) ∙ rw known refl) ∙ so_far
 
 -- a number is among these exactly if a name has it
 pub is_had : (numbered : Text → Option ℕ) (names : List Text) (numbers : List ℕ) → map Some numbers ≡ map numbered names → (n : ℕ) → list_any (λ number. nat_eq number n) numbers ≡ list_any (λ name. unwrap_or (option_map (λ m. nat_eq m n) (numbered name)) false) names

@@ -21,7 +21,7 @@ module _ {W : Type 0} (took : W → List ℕ → W → Type 0) where
   displays_plain f g r None styled = tt
   displays_plain f g r (Some bs) styled = λ plain ok. plain_of_styled f bs g plain (styled plain.flush ok)
 
-  -- two to four writes in a row, as one
+  -- two to five writes in a row, as one
   pub styled_two : (f g h : Formatter W) (a b all : List ℕ) → HasWrittenStyled took f a g → HasWrittenStyled took g b h → a ++ b ≡ all → HasWrittenStyled took f all h
   styled_two f g h a b all p q is = has_written_styled_of_eq took _ _ all _ is (has_written_styled_append took _ _ _ _ _ p q)
 
@@ -30,6 +30,9 @@ module _ {W : Type 0} (took : W → List ℕ → W → Type 0) where
 
   pub styled_four : (f g h i j : Formatter W) (a b c d all : List ℕ) → HasWrittenStyled took f a g → HasWrittenStyled took g b h → HasWrittenStyled took h c i → HasWrittenStyled took i d j → a ++ (b ++ (c ++ d)) ≡ all → HasWrittenStyled took f all j
   styled_four f g h i j a b c d all p q r s is = styled_three f g h j a b (c ++ d) all p q (has_written_styled_append took _ _ _ _ _ r s) is
+
+  pub styled_five : (f g h i j k : Formatter W) (a b c d e all : List ℕ) → HasWrittenStyled took f a g → HasWrittenStyled took g b h → HasWrittenStyled took h c i → HasWrittenStyled took i d j → HasWrittenStyled took j e k → a ++ (b ++ (c ++ (d ++ e))) ≡ all → HasWrittenStyled took f all k
+  styled_five f g h i j k a b c d e all p q r s t is = styled_four f g h i k a b c (d ++ e) all p q r (has_written_styled_append took _ _ _ _ _ s t) is
 
   -- what one call writes to the formatter within
   abbrev Took : Unstyled W → List ℕ → Unstyled W → Type 0
@@ -52,4 +55,4 @@ module _ {W : Type 0} (took : W → List ℕ → W → Type 0) where
       λ flush ok. has_written_styled_of_eq took _ _ _ _ written.whole (subst (HasWrittenStyled took s.inner.now (concat written.parts)) (sym (back all.0)) (all.1 flush))
   displays_unstyled s t g (Err e) (Some bs) back written = λ flush ok. search rules
 
-pub ruleset styled_steps = (styled_two, styled_three, styled_four, append_assoc)
+pub ruleset styled_steps = (styled_two, styled_three, styled_four, styled_five, append_assoc)

@@ -35,7 +35,8 @@ impl<'src> AttributeSet<'src> {
         ensures ok { OnOk result (attributes_view self.new ≡ attributes_view self.old ++ (attribute_view attribute.entry, name_view name.entry) ∷ []) }
         ensures err { OnErr result (attributes_view self.new ≡ attributes_view self.old) }
     {
-        push_behind(&mut self.attributes, (attribute, name))
+        self.attributes.push((attribute, name))?;
+        Ok(())
     }
 
     /// The attributes, each with its name, in the order handed in.
@@ -44,12 +45,4 @@ impl<'src> AttributeSet<'src> {
     {
         self.attributes.iter()
     }
-}
-
-// Puts a value behind the others. What is pushed here is of any type, so that no attribute has to be dropped where memory is refused.
-fn push_behind<T: Drop>(values: &mut Vec<T>, value: T) -> Result<(), OutOfMemory>
-    ensures ok { OnOk result (values.new.items ≡ values.old.items ++ value ∷ []) }
-    ensures err { OnErr result (values.new.items ≡ values.old.items) }
-{
-    Ok(values.push(value)?)
 }

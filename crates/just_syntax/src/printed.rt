@@ -60,7 +60,10 @@ pub(crate) fn print<W: fmt::Write>(
             operator: _,
             rhs,
         } => print_between(lhs, "++", rhs, f),
-        Expression::Not { operand } => print_behind("!", operand, f),
+        Expression::Not { operand } => {
+            f.write_str("!")?;
+            print(operand, f)
+        }
         Expression::Or { lhs, rhs } => print_between(lhs, "||", rhs, f),
         Expression::StringLiteral { string_literal } => f.write_str(string_literal.lexeme),
         Expression::Variable { name, number: _ } => f.write_str(name.lexeme()),
@@ -80,11 +83,11 @@ fn print_between<W: fmt::Write>(
     print(lhs, f)?;
     f.write_str(" ")?;
     f.write_str(operator)?;
-    print_behind(" ", rhs, f)
+    f.write_str(" ")?;
+    print(rhs, f)
 }
 
 // Prints an expression behind a text.
-#[inline]
 #[cycle(print)]
 fn print_behind<W: fmt::Write>(
     text: &str,
@@ -106,9 +109,11 @@ fn print_assert<W: fmt::Write>(
 ) -> fmt::Result
     ensures { WritesStyledOnOk W.write_str_gives f.old result (printed_assertion (printed (view condition.now)) (option_map (λ e. printed (view e.now)) message.entry)) f.new }
 {
-    print_behind("assert(", condition, f)?;
+    f.write_str("assert(")?;
+    print(condition, f)?;
     if let Some(message) = message {
-        print_behind(", ", message, f)?;
+        f.write_str(", ")?;
+        print(message, f)?;
     }
     f.write_str(")")
 }
@@ -154,7 +159,10 @@ fn print_join<W: fmt::Write>(
 {
     match lhs {
         Some(lhs) => print_between(lhs, "/", rhs, f),
-        None => print_behind("/ ", rhs, f),
+        None => {
+            f.write_str("/ ")?;
+            print(rhs, f)
+        }
     }
 }
 

@@ -1,46 +1,34 @@
-use Rattle.std.proofs.Common.{refl, true, ◌∷◌, [], arith}
+use Rattle.std.proofs.Common.{refl, true, ◌∷◌, [], arith, rules}
 use Rattle.std.proofs.Output.{has_written_styled_append, has_written_styled_of_eq}
 use Rattle.std.proofs.lemmas.Grind.{common_steps}
+use Rattle.std.proofs.lemmas.List.{append_assoc}
 use Rattle.just_syntax.proofs.Printing.{pieces_end, pieces_on, row_end, row_on}
 use Rattle.just_syntax.proofs.Rows.{printed_call_is, printed_format_string, printed_list}
-use Rattle.just_syntax.proofs.Styled.{styled_steps}
+use Rattle.just_syntax.proofs.Styled.{styled_four, styled_steps}
 use Rattle.just_syntax.proofs.printed.+print.Goals as goal
-use Rattle.just_syntax.proofs.printed.+print.Goals.{print_assert-in-Some+in_ok-print_behind-2, print_assert-in_default}
+use Rattle.just_syntax.proofs.printed.+print.Goals.{print_assert-in-Some+in_ok-write_str-2+in_ok-print-2, print_assert-in_default}
 
 pub print_assert-returns : goal.print_assert-returns
 print_assert-returns g t c = λ flush ok.
-    let a = c.in_ok-print_behind.ensures flush (refl {a = true}) in
+    let a = c.in_ok-write_str.ensures.styled flush (refl {a = true}) in
+    let b = c.in_ok-print.ensures a.flush (refl {a = true}) in
     elim c.match-message.branch [
-      | print_assert-in-Some+in_ok-print_behind-2 w ↦
-          let b = w.in_ok-print_behind-2.ensures a.flush (refl {a = true}) in
-          let last = c.write_str.ensures.styled (rw w.f-is b.flush) ok in
+      | print_assert-in-Some+in_ok-write_str-2+in_ok-print-2 w ↦
+          let d = w.in_ok-write_str-2.ensures.styled b.flush (refl {a = true}) in
+          let e = w.in_ok-print-2.ensures d.flush (refl {a = true}) in
+          let last = c.write_str-2.ensures.styled (rw w.f-is e.flush) ok in
           grind (arith, styled_steps, common_steps)
       | print_assert-in_default w ↦
-          let last = c.write_str.ensures.styled (rw w.f-is a.flush) ok in
+          let last = c.write_str-2.ensures.styled (rw w.f-is b.flush) ok in
           grind (arith, styled_steps, common_steps)
     ]
 
--- the check would find these too, but only after a long search in vain
-pub print_between-returns : goal.print_between-returns
-print_between-returns g t c = grind (arith, styled_steps)
-
-pub print_call-returns : goal.print_call-returns
-print_call-returns g t c = grind (arith, styled_steps)
-
-pub print_conditional-returns-in-None : goal.print_conditional-returns-in-None
-print_conditional-returns-in-None g t c = grind (arith, styled_steps)
-
 pub print_conditional-returns-in_ok-print_behind-in-Some : goal.print_conditional-returns-in_ok-print_behind-in-Some
-print_conditional-returns-in_ok-print_behind-in-Some g t c = grind (arith, styled_steps)
-
-pub print_list-returns : goal.print_list-returns
-print_list-returns g t c = grind (arith, styled_steps)
-
-pub print_group-returns : goal.print_group-returns
-print_group-returns g t c = grind (arith, styled_steps)
-
-pub print_behind-returns : goal.print_behind-returns
-print_behind-returns g t c = grind (arith, styled_steps)
+print_conditional-returns-in_ok-print_behind-in-Some g t c = λ flush ok.
+    let a = c.in_ok-print_behind.ensures flush (refl {a = true}) in
+    let b = c.in_ok-print_behind-2.ensures a.flush (refl {a = true}) in
+    let d = c.in_ok-print_behind-in-Some.ensures b.flush (refl {a = true}) in
+    styled_four g.W.Write.write_str_gives _ _ _ _ _ _ _ _ _ _ a b d (c.write_str.ensures.styled d.flush ok) (search (rules, append_assoc))
 
 pub print-returns-in-FormatString : goal.print-returns-in-FormatString
 print-returns-in-FormatString g t c = rw (c.in-FormatString.is, printed_format_string, ← c.deref-in-FormatString.ensures.value) c.print_format_string.ensures

@@ -13,37 +13,37 @@ size_of (Some e) = size-Expression e.now
 
 -- the size of what is left, and one more where there are several parts
 abbrev pub decreases-print : goal.decreases-print
-decreases-print g l = 4 * size-Expression l.expression.now
+decreases-print g l = 3 * size-Expression l.expression.now
 
 abbrev pub decreases-print_behind : goal.decreases-print_behind
-decreases-print_behind g l = suc (4 * size-Expression l.expression.now)
+decreases-print_behind g l = suc (3 * size-Expression l.expression.now)
 
 abbrev pub decreases-print_between : goal.decreases-print_between
-decreases-print_between g l = suc (suc (4 * max (size-Expression l.lhs.now) (size-Expression l.rhs.now)))
+decreases-print_between g l = suc (3 * max (size-Expression l.lhs.now) (size-Expression l.rhs.now))
 
 abbrev pub decreases-print_assert : goal.decreases-print_assert
-decreases-print_assert g l = suc (suc (4 * max (size-Expression l.condition.now) (size_of l.message)))
+decreases-print_assert g l = suc (3 * max (size-Expression l.condition.now) (size_of l.message))
 
 abbrev pub decreases-print_conditional : goal.decreases-print_conditional
-decreases-print_conditional g l = suc (suc (4 * max (max (size-Expression l.condition.now) (size-Expression l.consequence.now)) (size_of l.otherwise)))
+decreases-print_conditional g l = suc (suc (3 * max (max (size-Expression l.condition.now) (size-Expression l.consequence.now)) (size_of l.otherwise)))
 
 abbrev pub decreases-print_join : goal.decreases-print_join
-decreases-print_join g l = suc (suc (suc (4 * max (size_of l.lhs) (size-Expression l.rhs.now))))
+decreases-print_join g l = suc (suc (3 * max (size_of l.lhs) (size-Expression l.rhs.now)))
 
 abbrev pub decreases-print_group : goal.decreases-print_group
-decreases-print_group g l = suc (suc (4 * size-Expression l.contents.now))
+decreases-print_group g l = suc (suc (3 * size-Expression l.contents.now))
 
 abbrev pub decreases-print_list : goal.decreases-print_list
-decreases-print_list g l = suc (suc (4 * goal.size-print_list g l))
+decreases-print_list g l = suc (suc (3 * goal.size-print_list g l))
 
 abbrev pub decreases-print_call : goal.decreases-print_call
-decreases-print_call g l = suc (suc (4 * goal.size-print_call g l))
+decreases-print_call g l = suc (suc (3 * goal.size-print_call g l))
 
 abbrev pub decreases-print_row : goal.decreases-print_row
-decreases-print_row g l = suc (4 * goal.size-print_row g l)
+decreases-print_row g l = suc (3 * goal.size-print_row g l)
 
 abbrev pub decreases-print_format_string : goal.decreases-print_format_string
-decreases-print_format_string g l = suc (4 * goal.size-print_format_string g l)
+decreases-print_format_string g l = suc (3 * goal.size-print_format_string g l)
 
 -- what is written since the loop began, and what is left, is the whole row
 abbrev pub invariant-print_row-loop-expression : goal.invariant-print_row-loop-expression
