@@ -1,5 +1,5 @@
-// Tests of the evaluator's const calls. They stand in a crate of their own since a crate with tests is proved twice, and
-// lean on `just_eval` and, for modules to evaluate, on the reader of cases.
+// Tests of the evaluator's const calls, and of what it does for recipes. They stand in a crate of their own since a crate with
+// tests is proved twice, and lean on `just_eval`, scripted hosts and, for modules to evaluate, on the reader of cases.
 #![tactic(auto)]
 
 #[cfg(test)]
@@ -12,6 +12,8 @@ mod constants;
 mod interpreters;
 #[cfg(test)]
 mod kept;
+#[cfg(test)]
+mod recipes;
 #[cfg(test)]
 mod settings;
 #[cfg(test)]

@@ -13,10 +13,11 @@ mod combination;
 mod leaf;
 mod row;
 
-use crate::{printing, stack};
+use crate::stack;
 use just_forms::form;
 use just_host::execution_context::ExecutionContext;
 use just_host::host::Host;
+use just_printing::condition;
 use just_syntax::conditional_operator::ConditionalOperator;
 use just_syntax::expression::Expression;
 use just_syntax::list_operator::ListOperator;
@@ -341,7 +342,7 @@ impl<'src, 'run, 'here> ExpressionEvaluator<'src, 'run, 'here> {
                 let value = self.evaluate_value(alloc, host, message, room)?;
                 value.join(alloc)?
             }
-            None => printing::in_backticks(alloc, condition, room)?,
+            None => condition::in_backticks(alloc, condition, room)?,
         };
         Err(Error::Assert {
             message,

@@ -3,5 +3,4 @@
 #![tactic(auto)]
 
 pub mod evaluator;
-mod printing;
 mod stack;

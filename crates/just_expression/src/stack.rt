@@ -36,6 +36,3 @@ pub(crate) const ROOT: usize = 720;
 
 // What the body of a called function takes before its expression.
 pub(crate) const BODY: usize = 464;
-
-// What a level of printing takes.
-pub(crate) const PRINTED: usize = 160;

@@ -1,18 +1,16 @@
 // What forms make of the values of their parts.
 
 ghost use Rattle.std.specs.Prelude.{IfOk, [], string_bytes, ◌++◌, ◌∷◌, ◌≡◌};
-ghost use Rattle.just_syntax.specs.Printed.{printed};
-ghost use Rattle.just_syntax.specs.View.{literal_view, view};
+ghost use Rattle.just_syntax.specs.View.{literal_view};
 ghost use Rattle.just_value.specs.Outcome.{Gave, UnlessStopped};
 ghost use Rattle.just_value.specs.Value.{from_condition};
 ghost use Rattle.just_value.specs.View.{ended};
 ghost use Rattle.just_meaning.specs.Meaning.{asserted, compared, is_regex, unindented_if};
 
 use just_syntax::conditional_operator::ConditionalOperator;
-use just_syntax::expression::Expression;
 use just_syntax::out_of_memory::OutOfMemory;
 use just_syntax::string_literal::StringLiteral;
-use just_syntax::unindent::unindent;
+use just_text::unindent::unindent;
 use just_value::error::Error;
 use just_value::value::Value;
 use std::alloc::Global;
@@ -60,14 +58,6 @@ pub fn empty_text(alloc: Global) -> Result<Value, OutOfMemory>
     ensures { IfOk result (λ v. v ≡ [] ∷ []) }
 {
     Value::from_text(alloc, "")
-}
-
-/// What an assertion without a message says: its condition, in backticks.
-#[inline(never)]
-pub fn in_backticks(alloc: Global, condition: &Expression) -> Result<String, OutOfMemory>
-    ensures { IfOk result (λ text. string_bytes text ≡ (96 ∷ printed (view condition.now)) ++ 96 ∷ []) }
-{
-    Ok(format!(in alloc; "`{condition}`")?)
 }
 
 /// A format string's text, unindented if its start is.

@@ -6,7 +6,6 @@ pub mod StringContext
 pub mod Enclosure
 pub mod Keyed
 pub mod Printed
-pub mod Unindented
 pub mod OutOfMemory
 pub mod Variables
 pub mod View

@@ -30,7 +30,6 @@ pub mod string_context;
 pub mod string_literal;
 pub mod table;
 pub mod token;
-pub mod unindent;
 pub mod unstyled;
 pub mod variable_error;
 pub mod variables;

@@ -12,7 +12,6 @@ use just_syntax::out_of_memory::OutOfMemory;
 use just_syntax::parameter_kind::ParameterKind;
 use just_syntax::string_context::StringContext;
 use just_syntax::table::Table;
-use just_syntax::unindent::unindent;
 use std::alloc::Global;
 use std::process::Abort;
 use std::test::Fail;
@@ -159,23 +158,4 @@ fn parameter_kinds(rt: HostRuntime) {
     for (kind, variadic) in KINDS {
         is_so(&rt, "several", kind.is_variadic() == *variadic);
     }
-}
-
-// Texts, and what they are without their indentation.
-const UNINDENTED: &[(&str, &str)] = &[
-    ("", ""),
-    ("  a", "a"),
-    ("a\n  b", "a\n  b"),
-    ("\n  a\n    b\n", "a\n  b\n"),
-    ("\n  a\n  ", "a\n"),
-    ("\t a\n\t b", "a\nb"),
-    ("  a\n   \n  b\n", "a\n\nb\n"),
-];
-
-#[test]
-fn unindented(rt: HostRuntime) -> Result<(), Fail> {
-    for (text, expected) in UNINDENTED {
-        tells(&rt, unindent(rt.alloc(), text)?, expected);
-    }
-    Ok(())
 }

@@ -11,6 +11,7 @@ use just_text::pattern::{trim_end_match, trim_end_matches, trim_start_match, tri
 use just_text::quote::quote;
 use just_text::replace::replace;
 use just_text::split::{split, split_whitespace};
+use just_text::unindent::unindent;
 use just_text::uri::encode_uri_component;
 use std::alloc::Global;
 use std::process::Abort;
@@ -94,5 +95,24 @@ fn words_are_changed(rt: &impl Abort, alloc: Global, words: &[String]) -> Result
     expect_all(rt, alloc, &append(alloc, "!", words)?, "a!|é!|b!")?;
     expect_all(rt, alloc, &prepend(alloc, "x", words)?, "xa|xé|xb")?;
     tells(rt, join_list(alloc, words, ", ")?, "a, é, b");
+    Ok(())
+}
+
+// Texts, and what they are without their indentation.
+const UNINDENTED: &[(&str, &str)] = &[
+    ("", ""),
+    ("  a", "a"),
+    ("a\n  b", "a\n  b"),
+    ("\n  a\n    b\n", "a\n  b\n"),
+    ("\n  a\n  ", "a\n"),
+    ("\t a\n\t b", "a\nb"),
+    ("  a\n   \n  b\n", "a\n\nb\n"),
+];
+
+#[test]
+fn unindented(rt: HostRuntime) -> Result<(), Fail> {
+    for (text, expected) in UNINDENTED {
+        tells(&rt, unindent(rt.alloc(), text)?, expected);
+    }
     Ok(())
 }

@@ -8,4 +8,5 @@ pub mod LastByte
 pub mod Names
 pub mod Pieces
 pub mod Slashes
+mod Unindenting
 pub mod Words

@@ -11,4 +11,5 @@ pub mod pattern;
 pub mod quote;
 pub mod replace;
 pub mod split;
+pub mod unindent;
 pub mod uri;

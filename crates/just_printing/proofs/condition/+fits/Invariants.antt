@@ -1,5 +1,5 @@
 use Rattle.std.proofs.Common.{◌*◌, suc}
-use Rattle.just_expression.proofs.printing.+fits.Given as goal
+use Rattle.just_printing.proofs.condition.+fits.Given as goal
 
 -- each level takes some of the room
 abbrev pub decreases-fits : goal.decreases-fits

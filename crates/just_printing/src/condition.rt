@@ -1,20 +1,26 @@
-// Prints expressions, where the stack has room for it.
+// Prints an assertion's condition, where the stack has room for it.
 
 ghost use Rattle.std.specs.Prelude.{IfOk, string_bytes, ◌++◌, ◌∷◌, [], ◌≡◌};
 ghost use Rattle.just_syntax.specs.Printed.{printed};
 ghost use Rattle.just_syntax.specs.View.{view};
 
-use crate::stack;
-use just_forms::form;
 use just_syntax::expression::Expression;
 use just_syntax::out_of_memory::OutOfMemory;
 use just_syntax::string_literal::StringLiteral;
 use std::alloc::Global;
 
-// What an assertion without a message says: its condition, in backticks. Parts of the condition that were never evaluated
-// are printed too, and they may nest deeper than those that were.
+// What a level of printing takes of the stack, in bytes, as `bench/run depth` measures it.
+const PRINTED: usize = 160;
+
+/// What an assertion without a message says: its condition, in backticks. Parts of the condition that were never evaluated
+/// are printed too, and they may nest deeper than those that were.
+///
+/// # Errors
+///
+/// `OutOfMemory`, where memory was asked for and refused, or where printing might take more than `room` bytes of the stack:
+/// nothing is made.
 #[inline(never)]
-pub(crate) fn in_backticks(
+pub fn in_backticks(
     alloc: Global,
     condition: &Expression,
     room: usize,
@@ -22,19 +28,27 @@ pub(crate) fn in_backticks(
     ensures { IfOk result (λ text. string_bytes text ≡ (96 ∷ printed (view condition.now)) ++ 96 ∷ []) }
 {
     if fits(condition, room) {
-        form::in_backticks(alloc, condition)
+        written(alloc, condition)
     } else {
         Err(OutOfMemory)
     }
 }
 
+// The condition in backticks. It is made out of line, so that its frame is no part of that of its caller.
+#[inline(never)]
+fn written(alloc: Global, condition: &Expression) -> Result<String, OutOfMemory>
+    ensures { IfOk result (λ text. string_bytes text ≡ (96 ∷ printed (view condition.now)) ++ 96 ∷ []) }
+{
+    Ok(format!(in alloc; "`{condition}`")?)
+}
+
 // Whether an expression is printed within so many bytes of stack. It takes less of the stack than printing does.
 #[cycle(fits)]
 fn fits(expression: &Expression, room: usize) -> bool {
-    if room < stack::PRINTED {
+    if room < PRINTED {
         return false;
     }
-    let room = room - stack::PRINTED;
+    let room = room - PRINTED;
     match expression {
         Expression::And { lhs, rhs } => both_fit(lhs, rhs, room),
         Expression::Assert {
