@@ -1,5 +1,5 @@
 -- What the value of a variable rests on, and what two versions of a module have in common.
-use Rattle.std.specs.Prelude.{◌≡◌, ◌⊎◌, ℕ, List, [], ◌∷◌, Option, Some, None}
+use Rattle.std.specs.Prelude.{◌≡◌, ◌↔◌, ◌⊎◌, ℕ, Bool, IsTrue, List, [], ◌∷◌, Option, Some, None}
 use Rattle.just_syntax.specs.Plain.{Text, Assignment, Expr, Function}
 use Rattle.just_value.specs.Frames.{Frames, value_in}
 use Rattle.just_meaning.specs.Reaches.{Mention, VariableOf, CallOf, IsAmong, Stands}
@@ -80,3 +80,12 @@ IsListed (y ∷ ys) x = (y ≡ x) ⊎ IsListed ys x
 pub data IsReached (readers : PlainNode → List PlainNode) (starts : List PlainNode) : PlainNode → Type 0 where
   Starts : {x : PlainNode} → IsListed starts x → IsReached readers starts x
   ReadBy : {y : PlainNode} → (x : PlainNode) → IsReached readers starts x → IsListed (readers x) y → IsReached readers starts y
+
+-- What is touched between two versions: the nodes that differ, and in the first version what reads a touched node.
+pub record IsTouchedBetween (v u : Version) (outer : Frames) (touched : PlainNode → Bool) : Type 0 where
+  pub readers : PlainNode → List PlainNode
+  pub read : (x y : PlainNode) → IsListed (readers x) y ↔ ReadsItself v outer y x
+  pub starts : List PlainNode
+  pub differ : (x : PlainNode) → IsListed starts x → IsSame v u x → ⊥
+  pub all : (x : PlainNode) → IsListed starts x ⊎ IsSame v u x
+  pub reached : (x : PlainNode) → IsTrue (touched x) ↔ IsReached readers starts x

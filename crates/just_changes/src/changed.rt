@@ -6,10 +6,12 @@ ghost use Rattle.just_meaning.specs.Module.{Module};
 ghost use Rattle.just_resolution.specs.Seen.{is_number_in};
 ghost use Rattle.just_value.specs.View.{frames_view};
 ghost use Rattle.just_changes.specs.Changed.{AreAlikeAt, IsOver};
+ghost use Rattle.just_changes.specs.Nodes.{IsTouchedBetween};
+ghost use Rattle.just_changes.specs.View.{IsWhole, is_touched, version_view};
 
 use crate::differences::differences;
 use crate::reading::readers_in;
-use crate::touched::spread;
+use crate::touched::{Touched, spread};
 use crate::version::Version;
 use just_agreement::laws::blocks_agree;
 use just_host::justfile::Justfile;
@@ -54,8 +56,22 @@ pub fn changed<'src>(
     blocks_agree();
     let before = Version::new(alloc, before, before_overrides)?;
     let after = Version::new(alloc, after, after_overrides)?;
-    let readers = readers_in(alloc, &before, parent)?;
-    let nodes = differences(alloc, &before, &after)?;
-    let touched = spread(alloc, readers, nodes)?;
+    let touched = touched_between(alloc, &before, &after, parent)?;
     Ok(touched.variables)
+}
+
+// The nodes that differ between two versions, and what reads them in the first.
+fn touched_between<'src>(
+    alloc: Global,
+    before: &Version<'src, '_>,
+    after: &Version<'src, '_>,
+    parent: &Scope,
+) -> Result<Touched<'src>, OutOfMemory>
+    requires before { IsWhole before.now }
+    requires after { IsWhole after.now }
+    ensures { IfOk result (λ touched. IsTouchedBetween (version_view before.now) (version_view after.now) (frames_view parent.now) (is_touched touched)) }
+{
+    let readers = readers_in(alloc, before, parent)?;
+    let nodes = differences(alloc, before, after)?;
+    spread(alloc, readers, nodes)
 }

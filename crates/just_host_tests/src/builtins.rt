@@ -168,13 +168,22 @@ fn compare<'src>(rt: &impl Abort, alloc: Global, table: &'src Table) {
 }
 
 fn compare_in<'src>(around: &Around<'src>, rt: &impl Abort, alloc: Global, table: &'src Table) {
-    let (place, questions, rows) = table;
     let context = around.context();
+    compare_rows(&context, rt, alloc, table);
+}
+
+fn compare_rows<'src>(
+    context: &ExecutionContext<'src, '_>,
+    rt: &impl Abort,
+    alloc: Global,
+    table: &'src Table,
+) {
+    let (place, questions, rows) = table;
     for (given, row) in *questions {
-        tells_row(&context, rt, alloc, place, *given, row);
+        tells_row(context, rt, alloc, place, *given, row);
     }
     for row in *rows {
-        tells_row(&context, rt, alloc, place, Given::OutOfMemory, row);
+        tells_row(context, rt, alloc, place, Given::OutOfMemory, row);
     }
 }
 
@@ -233,8 +242,17 @@ fn compare_all_answers<'src>(
     place: &'src Place,
 ) {
     let context = around.context();
+    compare_each(&context, rt, alloc, place);
+}
+
+fn compare_each<'src>(
+    context: &ExecutionContext<'src, '_>,
+    rt: &impl Abort,
+    alloc: Global,
+    place: &'src Place,
+) {
     for row in ANSWERS {
-        compare_kinds(&context, rt, alloc, place, row);
+        compare_kinds(context, rt, alloc, place, row);
     }
 }
 

@@ -310,9 +310,13 @@ fn answer_commands<'src>(rt: &impl Abort, alloc: Global, place: &'src str) {
 
 fn answer_commands_in<'src>(around: &Around<'src>, rt: &impl Abort, alloc: Global) {
     let context = around.context();
-    let fault = answer_of_none(rt, alloc, &mut NoHost, &context);
+    answer_a_command(&context, rt, alloc);
+}
+
+fn answer_a_command(context: &ExecutionContext, rt: &impl Abort, alloc: Global) {
+    let fault = answer_of_none(rt, alloc, &mut NoHost, &*context);
     is_told(rt, alloc, &fault, "! commands are not run");
-    let echo = echo_of_date(rt, alloc, &mut EchoHost, &context);
+    let echo = echo_of_date(rt, alloc, &mut EchoHost, &*context);
     is_told(rt, alloc, &echo, "date");
 }
 

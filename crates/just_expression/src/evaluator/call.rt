@@ -1,6 +1,6 @@
 // Evaluates calls.
 
-ghost use Rattle.std.specs.Prelude.{Some, length, ◌≡◌};
+ghost use Rattle.std.specs.Prelude.{Some, length, option_copied, ◌≡◌};
 ghost use Rattle.just_syntax.specs.View.{function_view, name_view};
 ghost use Rattle.just_value.specs.Frames.{value_in};
 ghost use Rattle.just_host.specs.Interaction.{Entered, note};
@@ -25,6 +25,7 @@ use just_syntax::function_definition::FunctionDefinition;
 use just_syntax::name::Name;
 use just_value::const_error::ConstError;
 use just_value::error::Error;
+use just_value::scope::Scope;
 use just_value::value::Value;
 use std::alloc::Global;
 
@@ -87,7 +88,20 @@ impl<'src, 'run, 'here> ExpressionEvaluator<'src, 'run, 'here> {
         }
         let room = room - stack::BODY;
         let scope = called_scope(alloc, &function.parameters, values, self.below)?;
-        let evaluator = ExpressionEvaluator {
+        let evaluator = (&*self).in_body(calls_left, &scope);
+        evaluator.evaluate_value(alloc, host, &function.body, room)
+    }
+
+    // What evaluates a body in a scope, with so many further calls. It is made apart from where it is lent, since the prover
+    // takes twice as long where a struct of references is lent by the function that makes it.
+    fn in_body<'body>(
+        &'body self,
+        calls_left: usize,
+        inner: &'body Scope<'src, 'body>,
+    ) -> ExpressionEvaluator<'src, 'run, 'body>
+        ensures { result ≡ record self.now { calls_left = calls_left; scope = inner.entry; below = inner.entry } }
+    {
+        ExpressionEvaluator {
             context: self.context,
             calls_left,
             env: self.env,
@@ -95,10 +109,9 @@ impl<'src, 'run, 'here> ExpressionEvaluator<'src, 'run, 'here> {
             lists: self.lists,
             non_const_assignments: self.non_const_assignments,
             recipe: self.recipe,
-            scope: &scope,
-            below: &scope,
-        };
-        evaluator.evaluate_value(alloc, host, &function.body, room)
+            scope: inner,
+            below: inner,
+        }
     }
 
     // What a built-in function answers here.
@@ -118,14 +131,25 @@ impl<'src, 'run, 'here> ExpressionEvaluator<'src, 'run, 'here> {
         requires texts { HasTexts function values.items }
         ensures { Answers self.now H.step host.old (built_in_call (program self.now) (situation self.now) (name_view name.now) function values.items) result host.new }
     {
-        let context = Context {
+        let context = self.called_in(context, name);
+        builtin::call(alloc, host, &context, function, &values)
+    }
+
+    // What a built-in function of this name is called in here.
+    fn called_in<'call>(
+        &'call self,
+        context: &'call ExecutionContext<'src, 'run>,
+        name: &Name<'src>,
+    ) -> Context<'src, 'call>
+        ensures { result ≡ record { env = self.now.env; execution_context = context.entry; is_dependency = self.now.is_dependency; name = name.now; recipe = option_copied self.now.recipe; scope = self.now.scope } }
+    {
+        Context {
             env: self.env,
             execution_context: context,
             is_dependency: self.is_dependency,
             name: *name,
             recipe: self.recipe.copied(),
             scope: self.scope,
-        };
-        builtin::call(alloc, host, &context, function, &values)
+        }
     }
 }

@@ -143,19 +143,29 @@ fn called<'src>(
     requires texts { HasTexts function arguments.now }
 {
     let env = BTreeMap::new(alloc);
+    let context = called_in(context, &env, place, lexeme);
+    call(alloc, host, &context, function, arguments)
+}
+
+// What a function of this name is called in.
+fn called_in<'src, 'call>(
+    context: &'call ExecutionContext<'src, '_>,
+    env: &'call BTreeMap<String, String>,
+    place: &'src Place,
+    lexeme: &'src str,
+) -> Context<'src, 'call> {
     let recipe = match place.recipe {
         Some(recipe) => Some(name(recipe, "justfile")),
         None => None,
     };
-    let context = Context {
-        env: &env,
+    Context {
+        env,
         execution_context: context,
         is_dependency: place.recipe.is_some(),
         name: name(lexeme, place.caller),
         recipe,
         scope: context.scope,
-    };
-    call(alloc, host, &context, function, arguments)
+    }
 }
 
 // The same, where each lifetime has the number that it has in `Function::call`.

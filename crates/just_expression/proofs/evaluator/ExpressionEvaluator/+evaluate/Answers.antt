@@ -425,4 +425,4 @@ evaluate_body-returns g t c =
     let function = c.args.function.now in
     let bound : frames_view c.in_ok-scope.scope ≡ with_parameters [] (map parameter_view function.parameters.items) c.args.values.items ∷ frames_view self.below.now = rw (c.in_ok-scope.ensures, c.deref.ensures.value) refl in
     body_runs (program self) c.args.calls_left _ _ (view function.body) _
-    (inside_is (frames_view c.in_ok-scope.scope) (situation self) _ (function_view function) c.args.values.items bound refl) c.evaluate_value.ensures
+    (inside_is (frames_view c.in_ok-scope.scope) (situation self) _ (function_view function) c.args.values.items bound refl) (rw c.in_body-evaluator.ensures at c.evaluate_value.ensures)
