@@ -37,6 +37,7 @@ pub data Line : Type 0 where
   Const : Line
   Blocks : Text → Line
 
+-- whether a line is skipped
 abbrev pub says_nothing : Line → Bool
 says_nothing Skipped = true
 says_nothing _ = false

@@ -10,6 +10,7 @@ pub record Names : Type 0 where
   pub number : Text → Option ℕ
   pub count : ℕ
 
+-- before the first name
 abbrev pub no_names : Names
 no_names = record { number = λ name. None; count = 0 }
 

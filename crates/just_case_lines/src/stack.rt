@@ -25,7 +25,7 @@ use std::alloc::Global;
 const MOST_LEVELS: usize = 54_000;
 
 /// The expressions that are not yet assigned. A line takes its operands from the top, of which the uppermost is
-/// the rightmost.
+/// the rightmost. What it holds after an error is not said.
 #[derive(Drop)]
 pub struct Stack<'src> {
     expressions: Vec<Nested<Expression<'src>>>,

@@ -9,7 +9,7 @@ use just_syntax::out_of_memory::OutOfMemory;
 use just_syntax::string_literal::StringLiteral;
 use std::alloc::Global;
 
-// What a level of printing takes of the stack, in bytes, as `bench/run depth` measures it.
+// A bound on what a level of printing takes of the stack, in bytes, by what `bench/run frames` measures.
 const PRINTED: usize = 160;
 
 /// What an assertion without a message says: its condition, in backticks. Parts of the condition that were never evaluated

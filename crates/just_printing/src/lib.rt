@@ -1,4 +1,5 @@
-// What is printed of an expression while the stack is nearly full. It leans on syntax alone, and not on evaluation.
+// What an assertion without a message says: its condition in backticks, where the stack has room for it. It leans on syntax
+// alone, and not on evaluation.
 #![tactic(auto)]
 
 pub mod condition;

@@ -92,8 +92,8 @@ impl<'src, 'run, 'here> ExpressionEvaluator<'src, 'run, 'here> {
         evaluator.evaluate_value(alloc, host, &function.body, room)
     }
 
-    // What evaluates a body in a scope, with so many further calls. It is made apart from where it is lent, since the prover
-    // takes twice as long where a struct of references is lent by the function that makes it.
+    // What evaluates a body in a scope, with so many further calls. It is made apart from where it is lent: the prover
+    // takes longer over a function that makes a struct of references and lends it than over two functions.
     fn in_body<'body>(
         &'body self,
         calls_left: usize,
