@@ -1,12 +1,14 @@
-// Tests of what no stored case can say: a case that is cut, streams that fail, hosts, and evaluations in a scope that binds
-// something. They stand in a crate of their own since a crate with tests is proved twice, and lean on `just_bench` and what is
-// below it.
+// Tests of what no stored case can say: a case that is cut, streams that fail, hosts, evaluations in a scope that binds
+// something, and what an edit of a module changes. They stand in a crate of their own since a crate with tests is proved twice,
+// and lean on `just_bench` and what is below it, and on `just_changes`.
 #![tactic(auto)]
 
 #[cfg(test)]
 mod blocks;
 #[cfg(test)]
 mod case_run;
+#[cfg(test)]
+mod edits;
 #[cfg(test)]
 mod evaluations;
 #[cfg(test)]

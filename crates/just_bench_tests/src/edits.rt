@@ -1,5 +1,7 @@
 // Pairs of modules, and the variables that the edit from one to the other changes.
 
+mod sizes;
+
 use just_case_lines::line::{Line, parse_lines};
 use just_case_lines::token::name;
 use just_case_reader::case::{Case, build};
