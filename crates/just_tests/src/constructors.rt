@@ -1,9 +1,11 @@
 // Syntax made by hand.
 
-use crate::compared::{equal, is_so};
-use crate::parts::{is_written, made_is_written, name, token};
+use crate::compared::{equal, is_so, same};
+use crate::parts::{made_is_written, name, prints, token};
 use just_syntax::assignment::Assignment;
-use just_syntax::conditional_operator::ConditionalOperator;
+use just_syntax::conditional_operator::ConditionalOperator::{
+    self, Equality, Inequality, RegexMatch, RegexMismatch,
+};
 use just_syntax::expression::Expression;
 use just_syntax::function_definition::FunctionDefinition;
 use just_syntax::name::Name;
@@ -17,18 +19,9 @@ use just_syntax::string_literal::StringLiteral;
 use just_syntax::token::Token;
 use std::alloc::Global;
 use std::process::Abort;
-use std::test::Fail;
 
 fn variable(lexeme: &str) -> Expression<'_> {
     Expression::variable(name(lexeme), Number::new(0))
-}
-
-fn a<'src>() -> Expression<'src> {
-    variable("a")
-}
-
-fn b<'src>() -> Expression<'src> {
-    variable("b")
 }
 
 #[test]
@@ -56,131 +49,128 @@ fn tokens_at_places(rt: HostRuntime) {
     }
 }
 
-#[test]
-fn operators(rt: HostRuntime) -> Result<(), Fail> {
-    let alloc = rt.alloc();
-    made_is_written(&rt, alloc, Expression::and(alloc, a(), b()), "a && b")?;
-    made_is_written(&rt, alloc, Expression::or(alloc, a(), b()), "a || b")?;
-    made_is_written(&rt, alloc, Expression::not(alloc, a()), "!a")?;
-    made_is_written(&rt, alloc, Expression::group(alloc, a()), "(a)")?;
-    Ok(())
+// Whether what is made is written so.
+fn expect(rt: &impl Abort, alloc: Global, made: Result<Expression, OutOfMemory>, text: &str) {
+    made_is_written(rt, alloc, made, text).expect(rt, "no memory");
 }
 
-#[test]
-fn operators_at_tokens(rt: HostRuntime) -> Result<(), Fail> {
-    let alloc = rt.alloc();
-    let sum = Expression::concatenation(alloc, a(), token("+"), b());
-    made_is_written(&rt, alloc, sum, "a + b")?;
-    let both = Expression::list_concatenation(alloc, a(), token("++"), b());
-    made_is_written(&rt, alloc, both, "a ++ b")?;
-    let beside = Expression::join(alloc, Some(a()), token("/"), b());
-    made_is_written(&rt, alloc, beside, "a / b")?;
-    let rooted = Expression::join(alloc, None, token("/"), b());
-    made_is_written(&rt, alloc, rooted, "/ b")?;
-    Ok(())
+// Forms of expressions. One with a part that may be left out stands here with it and without it.
+#[derive(Clone, Copy)]
+enum Form {
+    And,
+    Assert,
+    AssertWithMessage,
+    Backtick,
+    Comparison(ConditionalOperator),
+    Concatenation,
+    Conditional,
+    ConditionalWithElse,
+    Group,
+    Join,
+    JoinAtRoot,
+    ListConcatenation,
+    Not,
+    Or,
 }
 
-// Operators, the tokens of these, and how a comparison is written.
-const COMPARISONS: &[(ConditionalOperator, &str, &str)] = &[
-    (ConditionalOperator::Equality, "==", "a == b"),
-    (ConditionalOperator::Inequality, "!=", "a != b"),
-    (ConditionalOperator::RegexMatch, "=~", "a =~ b"),
-    (ConditionalOperator::RegexMismatch, "!~", "a !~ b"),
+// Forms, the token that each is made with, if it has one, and how it is written, its parts the variables `a`, `b` and `c`.
+const FORMS: &[(Form, &str, &str)] = &[
+    (Form::And, "", "a && b"),
+    (Form::Or, "", "a || b"),
+    (Form::Not, "", "!a"),
+    (Form::Group, "", "(a)"),
+    (Form::Concatenation, "+", "a + b"),
+    (Form::ListConcatenation, "++", "a ++ b"),
+    (Form::Join, "/", "a / b"),
+    (Form::JoinAtRoot, "/", "/ b"),
+    (Form::Comparison(Equality), "==", "a == b"),
+    (Form::Comparison(Inequality), "!=", "a != b"),
+    (Form::Comparison(RegexMatch), "=~", "a =~ b"),
+    (Form::Comparison(RegexMismatch), "!~", "a !~ b"),
+    (Form::ConditionalWithElse, "", "if a { b } else { c }"),
+    (Form::Conditional, "", "if a { b }"),
+    (Form::AssertWithMessage, "assert", "assert(a, b)"),
+    (Form::Assert, "assert", "assert(a)"),
+    (Form::Backtick, "`date -u`", "`date -u`"),
 ];
 
-#[test]
-fn comparisons(rt: HostRuntime) -> Result<(), Fail> {
-    let alloc = rt.alloc();
-    for (operator, lexeme, text) in COMPARISONS {
-        let compared = Expression::comparison(alloc, a(), *operator, b(), token(lexeme));
-        made_is_written(&rt, alloc, compared, text)?;
+// An expression of this form.
+fn made<'src>(alloc: Global, form: Form, at: Token<'src>) -> Result<Expression<'src>, OutOfMemory> {
+    match form {
+        Form::And => Expression::and(alloc, variable("a"), variable("b")),
+        Form::Assert => Expression::assert(alloc, Name { token: at }, variable("a"), None),
+        Form::AssertWithMessage => {
+            let message = Some(variable("b"));
+            Expression::assert(alloc, Name { token: at }, variable("a"), message)
+        }
+        Form::Backtick => Expression::backtick(alloc, "date -u", at),
+        Form::Comparison(operator) => {
+            Expression::comparison(alloc, variable("a"), operator, variable("b"), at)
+        }
+        Form::Concatenation => Expression::concatenation(alloc, variable("a"), at, variable("b")),
+        Form::Conditional => Expression::conditional(alloc, variable("a"), variable("b"), None),
+        Form::ConditionalWithElse => {
+            let otherwise = Some(variable("c"));
+            Expression::conditional(alloc, variable("a"), variable("b"), otherwise)
+        }
+        Form::Group => Expression::group(alloc, variable("a")),
+        Form::Join => Expression::join(alloc, Some(variable("a")), at, variable("b")),
+        Form::JoinAtRoot => Expression::join(alloc, None, at, variable("b")),
+        Form::ListConcatenation => {
+            Expression::list_concatenation(alloc, variable("a"), at, variable("b"))
+        }
+        Form::Not => Expression::not(alloc, variable("a")),
+        Form::Or => Expression::or(alloc, variable("a"), variable("b")),
     }
-    Ok(())
 }
 
 #[test]
-fn parts_that_may_be_left_out(rt: HostRuntime) -> Result<(), Fail> {
+fn forms_of_expressions(rt: HostRuntime) {
     let alloc = rt.alloc();
-    let both = Expression::conditional(alloc, a(), b(), Some(variable("c")));
-    made_is_written(&rt, alloc, both, "if a { b } else { c }")?;
-    let one = Expression::conditional(alloc, a(), b(), None);
-    made_is_written(&rt, alloc, one, "if a { b }")?;
-    let told = Expression::assert(alloc, name("assert"), a(), Some(b()));
-    made_is_written(&rt, alloc, told, "assert(a, b)")?;
-    let untold = Expression::assert(alloc, name("assert"), a(), None);
-    made_is_written(&rt, alloc, untold, "assert(a)")?;
-    Ok(())
+    for (form, lexeme, text) in FORMS {
+        expect(&rt, alloc, made(alloc, *form, token(lexeme)), text);
+    }
 }
 
 #[test]
-fn rows_of_expressions(rt: HostRuntime) -> Result<(), Fail> {
+fn rows_of_expressions(rt: HostRuntime) {
     let alloc = rt.alloc();
-    let call = Expression::call(name("f"), pair(alloc)?);
-    is_written(&rt, alloc, call, "f(a, 'x')")?;
+    let call = Expression::call(name("f"), pair(&rt, alloc));
+    expect(&rt, alloc, Ok(call), "f(a, 'x')");
     let none = Expression::call(name("pid"), Vec::new(alloc));
-    is_written(&rt, alloc, none, "pid()")?;
-    let list = Expression::list(pair(alloc)?, token("["));
-    is_written(&rt, alloc, list, "[a, 'x']")?;
-    let command = Expression::backtick(alloc, "date -u", token("`date -u`"));
-    made_is_written(&rt, alloc, command, "`date -u`")?;
-    Ok(())
-}
-
-#[test]
-fn format_strings(rt: HostRuntime) -> Result<(), Fail> {
-    let alloc = rt.alloc();
-    let first = StringLiteral::new(alloc, "first ", "f'first {{")?;
-    let last = StringLiteral::new(alloc, " last", "}} last'")?;
-    let written = Expression::format_string(first, only(alloc, (a(), last))?);
-    is_written(&rt, alloc, written, "f'first {{a}} last'")?;
-    Ok(())
-}
-
-// The only element of a row.
-fn only<T: Drop>(alloc: Global, element: T) -> Result<Vec<T>, OutOfMemory> {
-    let mut row = Vec::new(alloc);
-    row.push(element)?;
-    Ok(row)
+    expect(&rt, alloc, Ok(none), "pid()");
+    let list = Expression::list(pair(&rt, alloc), token("["));
+    expect(&rt, alloc, Ok(list), "[a, 'x']");
 }
 
 // A variable and a literal.
-fn pair<'src>(alloc: Global) -> Result<Vec<Expression<'src>>, OutOfMemory> {
-    let literal = Expression::literal(alloc, "x", "'x'")?;
-    beside(alloc, variable("a"), literal)
+fn pair<'src>(rt: &impl Abort, alloc: Global) -> Vec<Expression<'src>> {
+    let literal = Expression::literal(alloc, "x", "'x'").expect(rt, "no memory");
+    vec![in alloc; variable("a"), literal].expect(rt, "no memory")
 }
 
-fn beside<T: Drop>(alloc: Global, first: T, second: T) -> Result<Vec<T>, OutOfMemory> {
-    let mut row = Vec::new(alloc);
-    row.push(first)?;
-    row.push(second)?;
-    Ok(row)
+#[test]
+fn format_strings(rt: HostRuntime) {
+    let alloc = rt.alloc();
+    let first = StringLiteral::new(alloc, "first ", "f'first {{").expect(&rt, "no memory");
+    let last = StringLiteral::new(alloc, " last", "}} last'").expect(&rt, "no memory");
+    let pieces = vec![in alloc; (variable("a"), last)].expect(&rt, "no memory");
+    let written = Expression::format_string(first, pieces);
+    expect(&rt, alloc, Ok(written), "f'first {{a}} last'");
 }
 
 // Texts, and how literals of them are written.
 const LITERALS: &[(&str, &str)] = &[("x", "'x'"), ("a\tb", "\"a\\tb\""), ("", "''")];
 
 #[test]
-fn texts_of_literals(rt: HostRuntime) -> Result<(), Fail> {
+fn texts_of_literals(rt: HostRuntime) {
     for (text, lexeme) in LITERALS {
-        let literal = StringLiteral::new(rt.alloc(), text, lexeme)?;
-        is_so(&rt, lexeme, is_literal(&literal, text, lexeme));
+        let literal = StringLiteral::new(rt.alloc(), text, lexeme).expect(&rt, "no memory");
+        same(&rt, literal.cooked.as_str(), text);
+        same(&rt, literal.lexeme, lexeme);
+        is_so(&rt, lexeme, !literal.indented);
+        drop(literal);
     }
-    Ok(())
-}
-
-// Whether a literal has this text, and is written so.
-fn is_literal(literal: &StringLiteral, text: &str, lexeme: &str) -> bool {
-    literal.cooked.as_str() == text && literal.lexeme == lexeme && !literal.indented
-}
-
-#[test]
-fn what_is_plain(rt: HostRuntime) -> Result<(), Fail> {
-    let alloc = rt.alloc();
-    assigns("a", &rt, alloc)?;
-    defines("p", &rt, alloc)?;
-    is_parameter("p", &rt);
-    is_recipe("build", &rt, alloc);
-    Ok(())
 }
 
 // Whether a name is the wanted one, and its number too.
@@ -188,11 +178,13 @@ fn is_numbered(given: Name, number: Number, lexeme: &str, wanted: u64) -> bool {
     given.token == token(lexeme) && number == Number::new(wanted)
 }
 
-// Whether a variable is assigned so, and its value is written as its name.
-fn assigns<'src>(lexeme: &'src str, rt: &impl Abort, alloc: Global) -> Result<(), OutOfMemory> {
-    let assignment = Assignment::new(name("x"), Number::new(3), variable(lexeme));
-    is_so(rt, "assignment", is_plain_assignment(&assignment));
-    is_written(rt, alloc, assignment.value, lexeme)
+#[test]
+fn plain_assignments(rt: HostRuntime) {
+    let alloc = rt.alloc();
+    let assignment = Assignment::new(name("x"), Number::new(3), variable("a"));
+    is_so(&rt, "assignment", is_plain_assignment(&assignment));
+    prints(&rt, alloc, &assignment.value, "a");
+    drop(assignment);
 }
 
 // Whether an assignment is of `x`, whose number is 3, and says nothing else.
@@ -201,12 +193,20 @@ fn is_plain_assignment(assignment: &Assignment) -> bool {
     is_numbered(assignment.name, assignment.number, "x", 3) && !says_more
 }
 
+#[test]
+fn plain_functions(rt: HostRuntime) {
+    defines("p", &rt, rt.alloc());
+}
+
 // Whether a function of one parameter is defined so, and its body is written as the parameter.
-fn defines<'src>(lexeme: &'src str, rt: &impl Abort, alloc: Global) -> Result<(), OutOfMemory> {
-    let parameters = only(alloc, (name(lexeme), Number::new(7)))?;
+fn defines<'src>(lexeme: &'src str, rt: &impl Abort, alloc: Global) {
+    let mut parameters = Vec::new(alloc);
+    let filled = parameters.extend_from_slice(&[(name(lexeme), Number::new(7))]);
+    filled.expect(rt, "no memory");
     let function = FunctionDefinition::new(name("f"), parameters, variable(lexeme));
     is_so(rt, "function", takes_one(&function));
-    is_written(rt, alloc, function.body, lexeme)
+    prints(rt, alloc, &function.body, lexeme);
+    drop(function);
 }
 
 // Whether a function is called `f` and has one parameter, `p`, whose number is 7.
@@ -219,9 +219,10 @@ fn takes_one(function: &FunctionDefinition) -> bool {
     }
 }
 
-fn is_parameter<'src>(lexeme: &'src str, rt: &impl Abort) {
-    let parameter = Parameter::new(name(lexeme), Number::new(5), ParameterKind::Plus);
-    is_so(rt, "parameter", is_plain_parameter(&parameter));
+#[test]
+fn plain_parameters(rt: HostRuntime) {
+    let parameter = Parameter::new(name("p"), Number::new(5), ParameterKind::Plus);
+    is_so(&rt, "parameter", is_plain_parameter(&parameter));
     drop(parameter);
 }
 
@@ -235,9 +236,10 @@ fn is_plain_parameter(parameter: &Parameter) -> bool {
         && !holds_more
 }
 
-fn is_recipe<'src>(lexeme: &'src str, rt: &impl Abort, alloc: Global) {
-    let recipe = Recipe::new(alloc, name(lexeme));
-    is_so(rt, "recipe", is_bare_recipe(&recipe));
+#[test]
+fn plain_recipes(rt: HostRuntime) {
+    let recipe = Recipe::new(rt.alloc(), name("build"));
+    is_so(&rt, "recipe", is_bare_recipe(&recipe));
     drop(recipe);
 }
 

@@ -1,7 +1,7 @@
 // What errors say, and where they stand.
 
-use crate::compared::{equal, is_so, tells};
-use crate::parts::{name, shows, token, value};
+use crate::compared::{equal, tells};
+use crate::parts::{name, owned, prints, token, value};
 use just_syntax::list_operator::ListOperator;
 use just_syntax::out_of_memory::OutOfMemory;
 use just_syntax::string_context::StringContext;
@@ -14,130 +14,118 @@ use just_value::error::{CommandFault, Error};
 use std::alloc::Global;
 use std::fmt::Display;
 use std::process::Abort;
-use std::test::Fail;
 
-// Whether `Display` writes this text, with and without options, and what is said stands at the token of this lexeme, if
-// it stands anywhere.
-pub(crate) fn says<T: Display + Drop>(
-    rt: &impl Abort,
-    alloc: Global,
-    error: T,
-    text: &str,
-    given: Option<Token>,
-    at: Option<&str>,
-) -> Result<(), OutOfMemory> {
-    shows(rt, alloc, &error, text)?;
-    tells(rt, format!(in alloc; "{error:#120}")?, text);
-    tells(rt, format!(in alloc; "{error:>40}")?, text);
+// Whether `Display` writes this text, with and without options.
+pub(crate) fn says<T: Display + Drop>(rt: &impl Abort, alloc: Global, error: T, text: &str) {
+    prints(rt, alloc, &error, text);
+    let told = format!(in alloc; "{error:#120}").expect(rt, "no memory");
+    tells(rt, told, text);
+    let told = format!(in alloc; "{error:>40}").expect(rt, "no memory");
+    tells(rt, told, text);
+    drop(error);
+}
+
+// Whether what is said stands at the token of this lexeme, if it stands anywhere.
+pub(crate) fn stands(rt: &impl Abort, text: &str, given: Option<Token>, at: Option<&str>) {
     let wanted = match at {
         Some(lexeme) => Some(token(lexeme)),
         None => None,
     };
     equal(rt, text, given, wanted);
-    Ok(())
 }
 
-fn expect(
-    rt: &impl Abort,
-    alloc: Global,
-    error: Error,
-    text: &str,
-    at: Option<&str>,
-) -> Result<(), OutOfMemory> {
-    let given = error.token();
-    says(rt, alloc, error, text, given, at)
+fn expect(rt: &impl Abort, alloc: Global, error: Error, text: &str, at: Option<&str>) {
+    stands(rt, text, error.token(), at);
+    says(rt, alloc, error, text);
 }
 
 #[test]
-fn refusals_that_hold_a_message(rt: HostRuntime) -> Result<(), Fail> {
+fn refusals_that_hold_a_message(rt: HostRuntime) {
     let alloc = rt.alloc();
     let error = Error::Assert {
-        message: String::from_str(alloc, "no bar")?,
+        message: owned(&rt, alloc, "no bar"),
         name: name("assert"),
     };
-    expect(&rt, alloc, error, "assert failed: no bar", Some("assert"))?;
+    expect(&rt, alloc, error, "assert failed: no bar", Some("assert"));
     let error = Error::Internal {
-        message: String::from_str(alloc, "unknown assignment `a`")?,
+        message: owned(&rt, alloc, "unknown assignment `a`"),
         token: token("a"),
     };
     let text = "internal error: unknown assignment `a`";
-    expect(&rt, alloc, error, text, Some("a"))?;
+    expect(&rt, alloc, error, text, Some("a"));
     let error = Error::FunctionCall {
         function: name("env"),
-        message: String::from_str(alloc, "environment variable `X` not present")?,
+        message: owned(&rt, alloc, "environment variable `X` not present"),
     };
     let text = "call to function `env` failed: environment variable `X` not present";
-    expect(&rt, alloc, error, text, Some("env"))?;
+    expect(&rt, alloc, error, text, Some("env"));
     let error = Error::Check {
         parameter: "target",
-        message: String::from_str(alloc, "`../x` leads out")?,
+        message: owned(&rt, alloc, "`../x` leads out"),
     };
     let text = "argument of parameter `target` was refused: `../x` leads out";
-    expect(&rt, alloc, error, text, None)?;
-    Ok(())
+    expect(&rt, alloc, error, text, None);
 }
 
 #[test]
-fn refusals_of_expressions(rt: HostRuntime) -> Result<(), Fail> {
+fn refusals_of_expressions(rt: HostRuntime) {
     let alloc = rt.alloc();
     let error = Error::Const(ConstError::Variable(name("x")));
     let text = "cannot access non-const variable `x` in const context";
-    expect(&rt, alloc, error, text, Some("x"))?;
+    expect(&rt, alloc, error, text, Some("x"));
     let error = Error::LeftOutRegex { token: token("=~") };
     let text = "regular expression operators are left out";
-    expect(&rt, alloc, error, text, Some("=~"))?;
-    let text = "out of memory";
-    expect(&rt, alloc, Error::OutOfMemory, text, None)?;
-    expect(&rt, alloc, Error::from(OutOfMemory), text, None)?;
-    Ok(())
+    expect(&rt, alloc, error, text, Some("=~"));
+    let error = Error::ListInStringContext {
+        context: StringContext::Function(name("quote")),
+        value: value(alloc, &["a", "b"]).expect(&rt, "no memory"),
+    };
+    let text = "list value [\"a\", \"b\"] in argument to function `quote`\n\
+        the behavior of lists with many built-in functions is undecided\n\
+        see https://github.com/casey/just#lists";
+    expect(&rt, alloc, error, text, Some("quote"));
 }
 
 #[test]
-fn refusals_of_calls(rt: HostRuntime) -> Result<(), Fail> {
+fn refusals_of_calls(rt: HostRuntime) {
     let alloc = rt.alloc();
     let error = Error::LeftOut {
         function: name("uuid"),
     };
     let text = "function `uuid` is left out";
-    expect(&rt, alloc, error, text, Some("uuid"))?;
+    expect(&rt, alloc, error, text, Some("uuid"));
     let error = Error::RecursionLimit { last: name("f") };
     let text = "call to function `f` reached the recursion limit";
-    expect(&rt, alloc, error, text, Some("f"))?;
+    expect(&rt, alloc, error, text, Some("f"));
     let error = Error::EmptyListArgument {
         parameter: "files",
         recipe: "pack",
     };
     let text = "parameter `files` of recipe `pack` requires at least one element";
-    expect(&rt, alloc, error, text, None)?;
-    Ok(())
+    expect(&rt, alloc, error, text, None);
 }
 
-fn expect_fault(
-    rt: &impl Abort,
-    alloc: Global,
-    output_error: CommandFault,
-    text: &str,
-) -> Result<(), OutOfMemory> {
+// Whether a command that was refused so is said to have failed with this text.
+fn expect_fault(rt: &impl Abort, alloc: Global, output_error: CommandFault, text: &str) {
     let token = token("`exit`");
     let error = Error::Backtick {
         token,
         output_error,
     };
-    expect(rt, alloc, error, text, Some("`exit`"))
+    expect(rt, alloc, error, text, Some("`exit`"));
 }
 
 #[test]
-fn refusals_of_commands(rt: HostRuntime) -> Result<(), Fail> {
+fn refusals_of_commands(rt: HostRuntime) {
     let alloc = rt.alloc();
     let text = "backtick failed: process exited with status code 3";
-    expect_fault(&rt, alloc, CommandFault::Code(3), text)?;
+    expect_fault(&rt, alloc, CommandFault::Code(3), text);
     let text = "backtick failed: process exited with status code -9";
-    expect_fault(&rt, alloc, CommandFault::Code(-9), text)?;
-    let fault = CommandFault::Fault(String::from_str(alloc, "no shell")?);
-    expect_fault(&rt, alloc, fault, "backtick failed: no shell")?;
+    expect_fault(&rt, alloc, CommandFault::Code(-9), text);
+    let fault = CommandFault::Fault(owned(&rt, alloc, "no shell"));
+    expect_fault(&rt, alloc, fault, "backtick failed: no shell");
     let text = "backtick failed: out of memory";
-    expect_fault(&rt, alloc, CommandFault::OutOfMemory, text)?;
-    Ok(())
+    expect_fault(&rt, alloc, CommandFault::OutOfMemory, text);
 }
 
 // What is beside `+` and `c`, `d` and `e`, and what its refusal says.
@@ -149,66 +137,41 @@ const ILL_MATCHED: &[(&[&str], &str)] = &[
     ),
 ];
 
-fn refuses(rt: &impl Abort, alloc: Global, lhs: &[&str], text: &str) -> Result<(), OutOfMemory> {
-    let lhs = value(alloc, lhs)?;
-    let rhs = value(alloc, &["c", "d", "e"])?;
-    let error = Error::ListOperation {
-        lhs,
-        operator: ListOperator::Concatenate,
-        rhs,
-        token: token("+"),
-    };
-    expect(rt, alloc, error, text, Some("+"))
-}
-
 #[test]
-fn refusals_of_lists(rt: HostRuntime) -> Result<(), Fail> {
+fn refusals_of_lists(rt: HostRuntime) {
     let alloc = rt.alloc();
     for (lhs, text) in ILL_MATCHED {
-        refuses(&rt, alloc, lhs, text)?;
+        let error = Error::ListOperation {
+            lhs: value(alloc, lhs).expect(&rt, "no memory"),
+            operator: ListOperator::Concatenate,
+            rhs: value(alloc, &["c", "d", "e"]).expect(&rt, "no memory"),
+            token: token("+"),
+        };
+        expect(&rt, alloc, error, text, Some("+"));
     }
-    let error = Error::ListInStringContext {
-        context: StringContext::Function(name("quote")),
-        value: value(alloc, &["a", "b"])?,
-    };
-    let text = "list value [\"a\", \"b\"] in argument to function `quote`\n\
-        the behavior of lists with many built-in functions is undecided\n\
-        see https://github.com/casey/just#lists";
-    expect(&rt, alloc, error, text, Some("quote"))?;
-    Ok(())
-}
-
-// Whether a fault, which stands nowhere, says this text.
-fn fault_says<T: Display + Drop>(
-    rt: &impl Abort,
-    alloc: Global,
-    fault: T,
-    text: &str,
-) -> Result<(), OutOfMemory> {
-    says(rt, alloc, fault, text, None, None)
 }
 
 #[test]
-fn faults_say(rt: HostRuntime) -> Result<(), Fail> {
+fn faults_say(rt: HostRuntime) {
     let alloc = rt.alloc();
     let text = "process exited with status code 1";
-    fault_says(&rt, alloc, CommandFault::Code(1), text)?;
-    let fault = CommandFault::Fault(String::from_str(alloc, "not UTF-8")?);
-    fault_says(&rt, alloc, fault, "not UTF-8")?;
-    let fault = CheckFault::Refused(String::from_str(alloc, "no digit")?);
-    fault_says(&rt, alloc, fault, "no digit")?;
-    Ok(())
+    says(&rt, alloc, CommandFault::Code(1), text);
+    let fault = CommandFault::Fault(owned(&rt, alloc, "not UTF-8"));
+    says(&rt, alloc, fault, "not UTF-8");
+    let fault = CheckFault::Refused(owned(&rt, alloc, "no digit"));
+    says(&rt, alloc, fault, "no digit");
 }
 
 #[test]
-fn want_of_memory_says(rt: HostRuntime) -> Result<(), Fail> {
+fn want_of_memory_says(rt: HostRuntime) {
     let alloc = rt.alloc();
     let text = "out of memory";
-    fault_says(&rt, alloc, CommandFault::from(OutOfMemory), text)?;
-    fault_says(&rt, alloc, CheckFault::OutOfMemory, text)?;
-    let place = CompileError::OutOfMemory.token();
-    says(&rt, alloc, CompileError::OutOfMemory, text, place, None)?;
-    Ok(())
+    expect(&rt, alloc, Error::OutOfMemory, text, None);
+    expect(&rt, alloc, Error::from(OutOfMemory), text, None);
+    says(&rt, alloc, CommandFault::from(OutOfMemory), text);
+    says(&rt, alloc, CheckFault::OutOfMemory, text);
+    stands(&rt, text, CompileError::OutOfMemory.token(), None);
+    says(&rt, alloc, CompileError::OutOfMemory, text);
 }
 
 // What becomes of an error that a program passes on.
@@ -217,38 +180,26 @@ fn passed_on<E: std::error::Error>(error: E) -> anyhow::Result<()> {
 }
 
 // Whether an error says this text where it is passed on.
-fn expect_passed_on<E: std::error::Error>(
-    rt: &impl Abort,
-    alloc: Global,
-    error: E,
-    text: &str,
-) -> Result<(), Fail> {
-    match passed_on(error) {
-        Ok(()) => is_so(rt, text, false),
-        Err(error) => tells(rt, format!(in alloc; "{error}")?, text),
-    }
-    Ok(())
+fn expect_passed_on<E: std::error::Error>(rt: &impl Abort, alloc: Global, error: E, text: &str) {
+    let error = passed_on(error).expect_err(rt, text);
+    let told = format!(in alloc; "{error}").expect(rt, "no memory");
+    tells(rt, told, text);
 }
 
 #[test]
-fn errors_are_passed_on(rt: HostRuntime) -> Result<(), Fail> {
+fn errors_are_passed_on(rt: HostRuntime) {
     let alloc = rt.alloc();
     let error = Error::LeftOut {
         function: name("uuid"),
     };
-    expect_passed_on(&rt, alloc, error, "function `uuid` is left out")?;
-    expect_passed_on(&rt, alloc, CompileError::OutOfMemory, "out of memory")?;
-    expect_passed_on(&rt, alloc, OutOfMemory, "out of memory")
-}
-
-#[test]
-fn faults_are_passed_on(rt: HostRuntime) -> Result<(), Fail> {
-    let alloc = rt.alloc();
+    expect_passed_on(&rt, alloc, error, "function `uuid` is left out");
+    expect_passed_on(&rt, alloc, CompileError::OutOfMemory, "out of memory");
+    expect_passed_on(&rt, alloc, OutOfMemory, "out of memory");
     let text = "process exited with status code 2";
-    expect_passed_on(&rt, alloc, CommandFault::Code(2), text)?;
-    expect_passed_on(&rt, alloc, CheckFault::OutOfMemory, "out of memory")?;
+    expect_passed_on(&rt, alloc, CommandFault::Code(2), text);
+    expect_passed_on(&rt, alloc, CheckFault::OutOfMemory, "out of memory");
     let refusal = ConstError::FunctionCall(name("f"));
     let text = "cannot call functions in const context";
-    expect_passed_on(&rt, alloc, refusal, text)?;
-    expect_passed_on(&rt, alloc, ConstEvalError::Const(refusal), text)
+    expect_passed_on(&rt, alloc, refusal, text);
+    expect_passed_on(&rt, alloc, ConstEvalError::Const(refusal), text);
 }

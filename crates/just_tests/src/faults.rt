@@ -1,16 +1,11 @@
 // Why modules are not resolved: what each fault says, and its place.
 
-use crate::compared::{equal, tells};
+use crate::compared::equal;
 use crate::modules::Part::{Call, Read, Unnumbered};
 use crate::modules::{Function, OUTER, Variable, name_at};
-use crate::parts::name;
+use crate::parts::{name, prints};
 use crate::resolution::{Group, expect_all};
 use just_resolution::fault::Fault;
-use just_syntax::name::Name;
-use just_syntax::out_of_memory::OutOfMemory;
-use std::alloc::Global;
-use std::process::Abort;
-use std::test::Fail;
 
 // A fault in short: assignments, functions and parameters by their names, and parts of an expression by their places.
 #[derive(Clone, Copy)]
@@ -97,25 +92,13 @@ const SAID: &[(Short, &str, &str, usize)] = &[
     ),
 ];
 
-fn says(
-    rt: &impl Abort,
-    alloc: Global,
-    fault: Fault,
-    text: &str,
-    at: Name,
-) -> Result<(), OutOfMemory> {
-    tells(rt, fault.to_string(alloc)?, text);
-    equal(rt, text, fault.token(), at.token);
-    Ok(())
-}
-
 #[test]
-fn faults_say(rt: HostRuntime) -> Result<(), Fail> {
+fn faults_say(rt: HostRuntime) {
     for (short, text, lexeme, offset) in SAID {
-        let at = name_at(lexeme, *offset);
-        says(&rt, rt.alloc(), in_full(*short), text, at)?;
+        let fault = in_full(*short);
+        prints(&rt, rt.alloc(), &fault, text);
+        equal(&rt, text, fault.token(), name_at(lexeme, *offset).token);
     }
-    Ok(())
 }
 
 const ONE_PARAMETER: &[Function] = &[("f", &[9], &[])];
@@ -164,15 +147,9 @@ const UNKNOWN_AND_EARLY: &[Variable] = &[("a", 1, &[Call("nope", &[])]), ("b", 2
 
 const EARLY: &[Variable] = &[("a", 1, &[]), ("b", 2, &[Read(3)])];
 
-const FAULTS: &[Group] = &[
-    (
-        &[],
-        PLAIN,
-        &[
-            // Numbers that stand there twice, or are bound outside.
-            (&["a", "b"], None, None, None),
-        ],
-    ),
+// Numbers that stand there twice, or are bound outside.
+const NUMBERS: &[Group] = &[
+    (&[], PLAIN, &[(&["a", "b"], None, None, None)]),
     (
         &[],
         SAME_NUMBER,
@@ -194,14 +171,11 @@ const FAULTS: &[Group] = &[
         SAME_NUMBER,
         &[(&["a", "b"], None, Some(Duplicate("b")), None)],
     ),
-    (
-        ONE_PARAMETER,
-        KNOWN,
-        &[
-            // Variables without a number, and calls that their names do not take.
-            (&[], None, None, None),
-        ],
-    ),
+];
+
+// Variables without a number, and calls that their names do not take.
+const CALLS: &[Group] = &[
+    (ONE_PARAMETER, KNOWN, &[(&[], None, None, None)]),
     (
         ONE_PARAMETER,
         UNNUMBERED,
@@ -232,31 +206,33 @@ const FAULTS: &[Group] = &[
         BUILT_IN,
         &[(&[], None, Some(Miscounted("len", 1, 0)), None)],
     ),
-    (
-        READS_SECOND,
-        READERS,
-        &[
-            // Names of an order that are no assignments', and variables that are read too early.
-            (&["b", "a", "c", "d"], None, None, None),
-            (&["b", "e", "c"], None, Some(Unknown("e")), None),
-            (&["b", "c", "e"], None, Some(Untaken("c", 2)), None),
-            (&["c", "b"], None, Some(Untaken("c", 1)), None),
-            // In the body of a function that is reached, unless something is read too early by itself.
-            (&["a", "b"], None, Some(Untaken("a", 1)), None),
-            (&["d", "b"], None, Some(Untaken("d", 1)), None),
-            // What is not referenced is not taken, and may read what it wants.
-            (&["a", "b"], Some(&[2]), None, Some(true)),
-            (&["b", "d"], Some(&[4]), Some(Untaken("d", 1)), Some(false)),
-            (&["e"], Some(&[2]), Some(Unknown("e")), Some(false)),
-        ],
-    ),
+];
+
+// Names of an order that are no assignments', and variables that are read too early.
+const ORDERS: &[Group] = &[(
+    READS_SECOND,
+    READERS,
+    &[
+        (&["b", "a", "c", "d"], None, None, None),
+        (&["b", "e", "c"], None, Some(Unknown("e")), None),
+        (&["b", "c", "e"], None, Some(Untaken("c", 2)), None),
+        (&["c", "b"], None, Some(Untaken("c", 1)), None),
+        // In the body of a function that is reached, unless something is read too early by itself.
+        (&["a", "b"], None, Some(Untaken("a", 1)), None),
+        (&["d", "b"], None, Some(Untaken("d", 1)), None),
+        // What is not referenced is not taken, and may read what it wants.
+        (&["a", "b"], Some(&[2]), None, Some(true)),
+        (&["b", "d"], Some(&[4]), Some(Untaken("d", 1)), Some(false)),
+        (&["e"], Some(&[2]), Some(Unknown("e")), Some(false)),
+    ],
+)];
+
+// Several faults: the first in the order in which they are looked for.
+const SEVERAL: &[Group] = &[
     (
         BOUND_AND_UNNUMBERED,
         TWICE,
-        &[
-            // Several faults: the first in the order in which they are looked for.
-            (&["a", "b", "c"], None, Some(Duplicate("b")), None),
-        ],
+        &[(&["a", "b", "c"], None, Some(Duplicate("b")), None)],
     ),
     (
         BOUND_AND_UNNUMBERED,
@@ -281,7 +257,8 @@ const FAULTS: &[Group] = &[
 ];
 
 #[test]
-fn first_faults(rt: HostRuntime) -> Result<(), Fail> {
-    expect_all(&rt, rt.alloc(), FAULTS)?;
-    Ok(())
+fn first_faults(rt: HostRuntime) {
+    for groups in [NUMBERS, CALLS, ORDERS, SEVERAL] {
+        expect_all(&rt, rt.alloc(), groups).expect(&rt, "no memory");
+    }
 }

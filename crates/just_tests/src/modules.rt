@@ -1,7 +1,6 @@
 // Modules that tests are made of.
 
 use crate::parts::{name, numbered, token, whole};
-use crate::scope::bind;
 use just_host::justfile::Justfile;
 use just_host::settings::Settings;
 use just_syntax::assignment::Assignment;
@@ -13,7 +12,6 @@ use just_syntax::number::Number;
 use just_syntax::out_of_memory::OutOfMemory;
 use just_syntax::table::Table;
 use just_syntax::token::Token;
-use just_value::scope::Scope;
 use std::alloc::Global;
 use std::collections::HashSet;
 
@@ -71,7 +69,7 @@ fn called<'a>(
 ) -> Result<Expression<'a>, OutOfMemory> {
     let mut arguments = Vec::new(alloc);
     let filled = read(&mut arguments, numbers, offset);
-    Ok(Expression::call(callee, whole(arguments, filled)?))
+    whole(Expression::call(callee, arguments), filled)
 }
 
 fn read(
@@ -80,23 +78,23 @@ fn read(
     offset: usize,
 ) -> Result<(), OutOfMemory> {
     for number in numbers {
-        arguments.push(variable(Some(*number), offset))?;
+        put(arguments, Ok(variable(Some(*number), offset)))?;
     }
     Ok(())
 }
 
-// A list of these parts, each at its place among them.
-fn expression<'a>(alloc: Global, parts: &[Part<'a>]) -> Result<Expression<'a>, OutOfMemory> {
-    let mut elements = Vec::new(alloc);
-    let filled = make(alloc, &mut elements, parts);
-    Ok(Expression::List {
-        elements: whole(elements, filled)?,
+fn list(elements: Vec<Expression<'_>>) -> Expression<'_> {
+    Expression::List {
+        elements,
         token: name("[").token,
-    })
+    }
 }
 
 // Adds what may have been made to a row.
-fn put<T: Drop>(row: &mut Vec<T>, made: Result<T, OutOfMemory>) -> Result<(), OutOfMemory> {
+pub(crate) fn put<T: Drop>(
+    row: &mut Vec<T>,
+    made: Result<T, OutOfMemory>,
+) -> Result<(), OutOfMemory> {
     row.push(made?)?;
     Ok(())
 }
@@ -110,6 +108,7 @@ fn file<T: Drop + Keyed>(
     Ok(())
 }
 
+// Adds these parts, each at its place among them.
 fn make<'a>(
     alloc: Global,
     elements: &mut Vec<Expression<'a>>,
@@ -130,31 +129,19 @@ fn parameters<'a>(alloc: Global, numbers: &[u64]) -> Result<Vec<(Name<'a>, Numbe
     Ok(parameters)
 }
 
-fn functions<'a>(
-    alloc: Global,
-    all: &[Function<'a>],
-) -> Result<Table<FunctionDefinition<'a>>, OutOfMemory> {
-    let mut table = Table::new(alloc);
-    let filled = define(alloc, &mut table, all);
-    whole(table, filled)
-}
-
 fn define<'a>(
     alloc: Global,
     table: &mut Table<FunctionDefinition<'a>>,
     all: &[Function<'a>],
 ) -> Result<(), OutOfMemory> {
-    for of in all {
-        file(table, function(alloc, of))?;
+    for (lexeme, numbers, parts) in all {
+        let parameters = parameters(alloc, numbers)?;
+        let mut elements = Vec::new(alloc);
+        let filled = make(alloc, &mut elements, parts);
+        let function = FunctionDefinition::new(name(lexeme), parameters, list(elements));
+        file(table, whole(function, filled))?;
     }
     Ok(())
-}
-
-fn function<'a>(alloc: Global, of: &Function<'a>) -> Result<FunctionDefinition<'a>, OutOfMemory> {
-    let (lexeme, numbers, body) = *of;
-    let parameters = parameters(alloc, numbers)?;
-    let body = expression(alloc, body)?;
-    Ok(FunctionDefinition::new(name(lexeme), parameters, body))
 }
 
 pub(crate) fn assignments<'a>(
@@ -171,45 +158,40 @@ fn assign<'a>(
     table: &mut Table<Assignment<'a>>,
     all: &[Variable<'a>],
 ) -> Result<(), OutOfMemory> {
-    for of in all {
-        file(table, assignment(alloc, of))?;
+    for (lexeme, number, parts) in all {
+        let mut elements = Vec::new(alloc);
+        let filled = make(alloc, &mut elements, parts);
+        let assignment = Assignment::new(name(lexeme), Number::new(*number), list(elements));
+        file(table, whole(assignment, filled))?;
     }
     Ok(())
 }
 
-fn assignment<'a>(alloc: Global, of: &Variable<'a>) -> Result<Assignment<'a>, OutOfMemory> {
-    let (lexeme, number, value) = *of;
-    let value = expression(alloc, value)?;
-    Ok(Assignment::new(name(lexeme), Number::new(number), value))
-}
-
-pub(crate) fn names<'a>(alloc: Global, lexemes: &[&'a str]) -> Result<Vec<Name<'a>>, OutOfMemory> {
-    let mut all = Vec::new(alloc);
-    for lexeme in lexemes {
-        all.push(name(lexeme))?;
-    }
-    Ok(all)
-}
-
 pub(crate) fn module<'a>(alloc: Global, sketch: &Sketch<'a>) -> Result<Justfile<'a>, OutOfMemory> {
-    let (functions_of, variables, order) = *sketch;
-    let evaluation_order = names(alloc, order)?;
-    let functions = functions(alloc, functions_of)?;
-    let assignments = assignments(alloc, variables)?;
-    Ok(made_of(alloc, assignments, evaluation_order, functions))
+    let mut module = empty(alloc);
+    let filled = fill(alloc, &mut module, sketch);
+    whole(module, filled)
 }
 
-// A module that says nothing else.
-fn made_of<'a>(
+fn fill<'a>(
     alloc: Global,
-    assignments: Table<Assignment<'a>>,
-    evaluation_order: Vec<Name<'a>>,
-    functions: Table<FunctionDefinition<'a>>,
-) -> Justfile<'a> {
+    module: &mut Justfile<'a>,
+    sketch: &Sketch<'a>,
+) -> Result<(), OutOfMemory> {
+    let (functions, variables, order) = *sketch;
+    for lexeme in order {
+        module.evaluation_order.push(name(lexeme))?;
+    }
+    define(alloc, &mut module.functions, functions)?;
+    assign(alloc, &mut module.assignments, variables)
+}
+
+// A module that says nothing.
+fn empty<'a>(alloc: Global) -> Justfile<'a> {
     Justfile {
-        assignments,
-        evaluation_order,
-        functions,
+        assignments: Table::new(alloc),
+        evaluation_order: Vec::new(alloc),
+        functions: Table::new(alloc),
         module_path: String::new(alloc),
         settings: Settings::new(alloc),
         source: String::new(alloc),
@@ -221,12 +203,6 @@ fn made_of<'a>(
 
 // The tests' modules stand below a scope that binds this number.
 pub(crate) const OUTER: u64 = 100;
-
-pub(crate) fn outer_scope<'src, 'run>(alloc: Global) -> Result<Scope<'src, 'run>, OutOfMemory> {
-    let mut scope = Scope::root(alloc, &[])?;
-    let filled = bind(alloc, &mut scope, "outer", OUTER, "");
-    whole(scope, filled)
-}
 
 pub(crate) fn references(alloc: Global, numbers: &[u64]) -> Result<HashSet<Number>, OutOfMemory> {
     let mut referenced = HashSet::new(alloc);

@@ -35,6 +35,11 @@ pub(crate) fn numbered(number: Option<u64>) -> Option<Number> {
     }
 }
 
+// A text once more.
+pub(crate) fn owned(rt: &impl Abort, alloc: Global, text: &str) -> String {
+    String::from_str(alloc, text).expect(rt, "no memory")
+}
+
 pub(crate) fn value(alloc: Global, elements: &[&str]) -> Result<Value, OutOfMemory> {
     let mut value = Value::new(alloc);
     for element in elements {
@@ -54,14 +59,9 @@ pub(crate) fn shows<T: Display>(
     Ok(())
 }
 
-// Whether what is made is written so.
-pub(crate) fn is_written<T: Display + Drop>(
-    rt: &impl Abort,
-    alloc: Global,
-    made: T,
-    text: &str,
-) -> Result<(), OutOfMemory> {
-    shows(rt, alloc, &made, text)
+// The same, and memory suffices for it.
+pub(crate) fn prints<T: Display>(rt: &impl Abort, alloc: Global, item: &T, text: &str) {
+    shows(rt, alloc, item, text).expect(rt, "no memory");
 }
 
 // Whether what may have been made is written so.

@@ -1,11 +1,13 @@
 // Modules that are resolved, and modules that are not: by `resolved`, by `first_fault` and by `resolved_const`.
 
+use crate::compared::{equal, is_so};
 use crate::faults::Short::{
     self, Bound, Duplicate, Miscounted, Uncallable, Undefined, Unknown, Untaken,
 };
 use crate::faults::in_full;
 use crate::modules::Part::{Call, Read, Unnumbered};
-use crate::modules::{Function, OUTER, Sketch, Variable, module, outer_scope, references};
+use crate::modules::{Function, OUTER, Variable, module, references};
+use crate::scope::bind;
 use just_host::justfile::Justfile;
 use just_resolution::fault::Fault;
 use just_resolution::first_fault::first_fault;
@@ -32,104 +34,109 @@ type Case<'a> = (
 // Functions and assignments, and what is wanted of a module of them in several cases.
 pub(crate) type Group<'a> = (&'a [Function<'a>], &'a [Variable<'a>], &'a [Case<'a>]);
 
-// Whether a module is resolved, its first fault, and whether its assignments are resolved before any run.
-type Answer<'a> = (bool, Option<Fault<'a>>, Option<bool>);
-
-fn answer<'a>(
-    alloc: Global,
-    sketch: &Sketch<'a>,
-    referenced: Option<&[u64]>,
-) -> Result<Answer<'a>, OutOfMemory> {
-    let module = module(alloc, sketch)?;
-    let answer = answer_in(alloc, &module, referenced);
-    drop(module);
-    answer
-}
-
-fn answer_in<'a>(
-    alloc: Global,
-    module: &Justfile<'a>,
-    referenced: Option<&[u64]>,
-) -> Result<Answer<'a>, OutOfMemory> {
-    let outer = outer_scope(alloc)?;
-    let answer = answer_within(&outer, alloc, module, referenced);
-    drop(outer);
-    answer
-}
-
-fn answer_within<'a>(
-    outer: &Scope<'a, '_>,
-    alloc: Global,
-    module: &Justfile<'a>,
-    referenced: Option<&[u64]>,
-) -> Result<Answer<'a>, OutOfMemory> {
-    let parent = outer.child(alloc)?;
-    let answer = answer_below(alloc, module, &parent, referenced);
-    drop(parent);
-    answer
-}
-
-fn answer_below<'a>(
-    alloc: Global,
-    module: &Justfile<'a>,
-    parent: &Scope<'a, '_>,
-    referenced: Option<&[u64]>,
-) -> Result<Answer<'a>, OutOfMemory> {
-    match referenced {
-        Some(numbers) => answer_of(alloc, module, parent, &references(alloc, numbers)?),
-        None => {
-            let answer = resolved(alloc, module, parent, None)?;
-            Ok((answer, first_fault(alloc, module, parent, None)?, None))
-        }
-    }
-}
-
-fn answer_of<'a>(
-    alloc: Global,
-    module: &Justfile<'a>,
-    parent: &Scope<'a, '_>,
-    referenced: &HashSet<Number>,
-) -> Result<Answer<'a>, OutOfMemory> {
-    let answer = resolved(alloc, module, parent, Some(referenced))?;
-    let fault = first_fault(alloc, module, parent, Some(referenced))?;
-    let order = &module.evaluation_order;
-    let before = resolved_const(alloc, &module.assignments, order, parent, referenced)?;
-    Ok((answer, fault, Some(before)))
-}
-
-pub(crate) fn expect_all(
+// Whether the modules of these groups are resolved as they should be. They stand below a scope, and that below another.
+pub(crate) fn expect_all<'a>(
     rt: &impl Abort,
     alloc: Global,
-    groups: &[Group],
+    groups: &[Group<'a>],
 ) -> Result<(), OutOfMemory> {
-    for group in groups {
-        expect(rt, alloc, group)?;
+    let mut outer = Scope::root(alloc, &[])?;
+    let answered = expect_within(&mut outer, rt, alloc, groups);
+    drop(outer);
+    answered
+}
+
+fn expect_within<'a>(
+    outer: &mut Scope<'a, '_>,
+    rt: &impl Abort,
+    alloc: Global,
+    groups: &[Group<'a>],
+) -> Result<(), OutOfMemory> {
+    bind(alloc, outer, "outer", OUTER, "")?;
+    let parent = outer.child(alloc)?;
+    let answered = expect_below(&parent, rt, alloc, groups);
+    drop(parent);
+    answered
+}
+
+fn expect_below<'a>(
+    parent: &Scope<'a, '_>,
+    rt: &impl Abort,
+    alloc: Global,
+    groups: &[Group<'a>],
+) -> Result<(), OutOfMemory> {
+    for (functions, variables, cases) in groups {
+        for case in *cases {
+            let module = module(alloc, &(functions, variables, case.0))?;
+            let answered = answers(&module, rt, alloc, parent, case);
+            drop(module);
+            answered?;
+        }
     }
     Ok(())
 }
 
-fn expect(rt: &impl Abort, alloc: Global, group: &Group) -> Result<(), OutOfMemory> {
-    let (functions, variables, cases) = *group;
-    for case in cases {
-        let (order, referenced, _, _) = *case;
-        same_answer(
-            rt,
-            case,
-            answer(alloc, &(functions, variables, order), referenced)?,
-        );
-    }
-    Ok(())
-}
-
-fn same_answer(rt: &impl Abort, case: &Case, answer: Answer) {
+fn answers<'a>(
+    module: &Justfile<'a>,
+    rt: &impl Abort,
+    alloc: Global,
+    parent: &Scope<'a, '_>,
+    case: &Case<'a>,
+) -> Result<(), OutOfMemory> {
     let (order, referenced, short, before) = *case;
-    let fault = match short {
-        Some(short) => Some(in_full(short)),
-        None => None,
-    };
-    let wanted = (fault.is_none(), fault, before);
-    assert_eq!(rt; answer, wanted, "{order:?} {referenced:?}");
+    let of = format!(in alloc; "{order:?} {referenced:?}")?;
+    match referenced {
+        Some(numbers) => {
+            let referenced = references(alloc, numbers)?;
+            same_before(module, rt, alloc, parent, &referenced, &of, before)?;
+            same_fault(module, rt, alloc, parent, Some(&referenced), &of, short)
+        }
+        None => same_fault(module, rt, alloc, parent, None, &of, short),
+    }
 }
+
+// Whether the assignments of a module are resolved before any run, or are not.
+fn same_before<'a>(
+    module: &Justfile<'a>,
+    rt: &impl Abort,
+    alloc: Global,
+    parent: &Scope<'a, '_>,
+    referenced: &HashSet<Number>,
+    of: &str,
+    wanted: Option<bool>,
+) -> Result<(), OutOfMemory> {
+    let order = &module.evaluation_order;
+    let given = resolved_const(alloc, &module.assignments, order, parent, referenced)?;
+    equal(rt, of, Some(given), wanted);
+    Ok(())
+}
+
+// Whether a module has this fault, or is resolved, where it is to have none.
+fn same_fault<'a>(
+    module: &Justfile<'a>,
+    rt: &impl Abort,
+    alloc: Global,
+    parent: &Scope<'a, '_>,
+    referenced: Option<&HashSet<Number>>,
+    of: &str,
+    wanted: Option<Short<'a>>,
+) -> Result<(), OutOfMemory> {
+    let fault = first_fault(alloc, module, parent, referenced)?;
+    let is_resolved = resolved(alloc, module, parent, referenced)?;
+    is_so(rt, of, is_resolved == wanted.is_none());
+    equal(rt, of, fault, fault_of(wanted));
+    Ok(())
+}
+
+fn fault_of(short: Option<Short<'_>>) -> Option<Fault<'_>> {
+    Some(in_full(short?))
+}
+
+const IN_ORDER: &[&str] = &["a", "b"];
+
+const BACKWARDS: &[&str] = &["b", "a"];
+
+const BOTH: Option<&[u64]> = Some(&[1, 2]);
 
 const CHAIN: &[Variable] = &[
     ("a", 1, &[Read(OUTER)]),
@@ -199,7 +206,6 @@ const ORDERS: &[Group] = &[
         &[],
         CHAIN,
         &[
-            // Orders.
             (&["a", "b", "c"], None, None, None),
             (&["a", "b", "a", "c", "b"], None, None, None),
             (&["a"], None, None, None),
@@ -213,8 +219,8 @@ const ORDERS: &[Group] = &[
         &[],
         CYCLE,
         &[
-            (&["a", "b"], None, Some(Untaken("a", 0)), None),
-            (&["b", "a"], None, Some(Untaken("b", 0)), None),
+            (IN_ORDER, None, Some(Untaken("a", 0)), None),
+            (BACKWARDS, None, Some(Untaken("b", 0)), None),
         ],
     ),
     (
@@ -244,37 +250,31 @@ const ORDERS: &[Group] = &[
             (&[], Some(&[]), Some(Undefined(0)), Some(false)),
         ],
     ),
-    (
-        &[],
-        PLAIN,
-        &[
-            // Functions and orders.
-            (&["a"], None, None, None),
-        ],
-    ),
+    // Functions and orders.
+    (&[], PLAIN, &[(&["a"], None, None, None)]),
     (
         READS_FIRST,
         ONE_ARGUMENT,
         &[
-            (&["a", "b"], None, None, None),
-            (&["b", "a"], None, Some(Untaken("b", 0)), None),
+            (IN_ORDER, None, None, None),
+            (BACKWARDS, None, Some(Untaken("b", 0)), None),
         ],
     ),
     (
         READS_FIRST,
         NO_ARGUMENT,
-        &[(&["a", "b"], None, Some(Miscounted("f", 0, 0)), None)],
+        &[(IN_ORDER, None, Some(Miscounted("f", 0, 0)), None)],
     ),
     (
         &[],
         NO_ARGUMENT,
-        &[(&["a", "b"], None, Some(Uncallable("f", 0)), None)],
+        &[(IN_ORDER, None, Some(Uncallable("f", 0)), None)],
     ),
-    (FOREVER, NO_ARGUMENT, &[(&["a", "b"], None, None, None)]),
+    (FOREVER, NO_ARGUMENT, &[(IN_ORDER, None, None, None)]),
     (
         CALLERS,
         ONE_ARGUMENT,
-        &[(&["a", "b"], None, Some(Untaken("b", 0)), None)],
+        &[(IN_ORDER, None, Some(Untaken("b", 0)), None)],
     ),
     (BOUND, PLAIN, &[(&["a"], None, Some(Bound("p")), None)]),
 ];
@@ -285,38 +285,32 @@ fn orders_and_functions(rt: HostRuntime) -> Result<(), Fail> {
     Ok(())
 }
 
+// Calls of names that the file does not define, and of a built-in function's name that it does.
 const BUILT_IN_NAMES: &[Group] = &[
-    (
-        &[],
-        LEN,
-        &[
-            // Calls of names that the file does not define, and of a built-in function's name that it does.
-            (&["a", "b"], None, None, None),
-        ],
-    ),
+    (&[], LEN, &[(IN_ORDER, None, None, None)]),
     (
         &[],
         LEN_OF_TWO,
-        &[(&["a", "b"], None, Some(Miscounted("len", 0, 2)), None)],
+        &[(IN_ORDER, None, Some(Miscounted("len", 0, 2)), None)],
     ),
     (
         HIDDEN,
         LEN,
-        &[(&["a", "b"], None, Some(Miscounted("len", 0, 1)), None)],
+        &[(IN_ORDER, None, Some(Miscounted("len", 0, 1)), None)],
     ),
-    (HIDDEN, LEN_OF_TWO, &[(&["a", "b"], None, None, None)]),
-    (&[], OTHER_NAME, &[(&["a", "b"], None, None, None)]),
-    (&[], SHELL_OF_THREE, &[(&["a", "b"], None, None, None)]),
+    (HIDDEN, LEN_OF_TWO, &[(IN_ORDER, None, None, None)]),
+    (&[], OTHER_NAME, &[(IN_ORDER, None, None, None)]),
+    (&[], SHELL_OF_THREE, &[(IN_ORDER, None, None, None)]),
     (
         &[],
         SHELL_OF_NONE,
-        &[(&["a", "b"], None, Some(Miscounted("shell", 0, 0)), None)],
+        &[(IN_ORDER, None, Some(Miscounted("shell", 0, 0)), None)],
     ),
-    (&[], LEFT_OUT, &[(&["a", "b"], None, None, None)]),
+    (&[], LEFT_OUT, &[(IN_ORDER, None, None, None)]),
     (
         &[],
         NOPE,
-        &[(&["a", "b"], None, Some(Uncallable("nope", 0)), None)],
+        &[(IN_ORDER, None, Some(Uncallable("nope", 0)), None)],
     ),
 ];
 
@@ -332,14 +326,9 @@ const REFERENCED: &[Group] = &[
         READERS,
         &[
             // What is not referenced may read what is not taken, by itself or through a function.
-            (&["b", "a"], Some(&[1]), None, Some(true)),
-            (
-                &["b", "a"],
-                Some(&[1, 2]),
-                Some(Untaken("b", 0)),
-                Some(false),
-            ),
-            (&["b", "a"], Some(&[]), None, Some(true)),
+            (BACKWARDS, Some(&[1]), None, Some(true)),
+            (BACKWARDS, BOTH, Some(Untaken("b", 0)), Some(false)),
+            (BACKWARDS, Some(&[]), None, Some(true)),
             (&["c", "a"], Some(&[1]), None, Some(true)),
             // Before any run no function is entered.
             (
@@ -349,8 +338,8 @@ const REFERENCED: &[Group] = &[
                 Some(true),
             ),
             // It is not taken, so what is referenced may not read it.
-            (&["a", "b"], Some(&[1, 2]), None, Some(true)),
-            (&["a", "b"], Some(&[2]), Some(Untaken("b", 0)), Some(false)),
+            (IN_ORDER, BOTH, None, Some(true)),
+            (IN_ORDER, Some(&[2]), Some(Untaken("b", 0)), Some(false)),
             (&["a", "c"], Some(&[1, 3]), None, Some(true)),
             (&["a", "c"], Some(&[3]), Some(Untaken("c", 0)), Some(true)),
             // All else is asked of it too.
@@ -362,52 +351,40 @@ const REFERENCED: &[Group] = &[
         UNNUMBERED,
         &[(&["a"], Some(&[]), Some(Undefined(0)), Some(false))],
     ),
+    // Assignments before any run.
     (
         &[],
         &[],
         &[
-            // Assignments before any run.
             (&[], Some(&[]), None, Some(true)),
             (&["a"], Some(&[]), Some(Unknown("a")), Some(false)),
         ],
     ),
     (&[], READS_OUTER, &[(&["a"], Some(&[1]), None, Some(true))]),
+    // Nothing is asked of called names, and all of their arguments.
     (
         &[],
         UNKNOWN,
-        &[
-            // Nothing is asked of called names, and all of their arguments.
-            (&["a"], Some(&[1]), Some(Uncallable("nope", 0)), Some(true)),
-        ],
+        &[(&["a"], Some(&[1]), Some(Uncallable("nope", 0)), Some(true))],
     ),
     (
         &[],
         CALLED,
         &[
-            (&["b", "a"], Some(&[1, 2]), None, Some(true)),
-            (
-                &["a", "b"],
-                Some(&[1, 2]),
-                Some(Untaken("a", 0)),
-                Some(false),
-            ),
+            (BACKWARDS, BOTH, None, Some(true)),
+            (IN_ORDER, BOTH, Some(Untaken("a", 0)), Some(false)),
         ],
     ),
     (
         &[],
         PAIR,
         &[
-            (&["a", "b"], Some(&[1, 2]), None, Some(true)),
-            (&["a", "b", "a"], Some(&[1, 2]), None, Some(true)),
-            (
-                &["b", "a"],
-                Some(&[1, 2]),
-                Some(Untaken("b", 0)),
-                Some(false),
-            ),
-            (&["b", "a"], Some(&[1]), None, Some(true)),
-            (&["a", "b"], Some(&[2]), Some(Untaken("b", 0)), Some(false)),
-            (&["a", "c"], Some(&[1, 2]), Some(Unknown("c")), Some(false)),
+            (IN_ORDER, BOTH, None, Some(true)),
+            (&["a", "b", "a"], BOTH, None, Some(true)),
+            (BACKWARDS, BOTH, Some(Untaken("b", 0)), Some(false)),
+            (BACKWARDS, Some(&[1]), None, Some(true)),
+            (IN_ORDER, Some(&[2]), Some(Untaken("b", 0)), Some(false)),
+            (&["a", "c"], BOTH, Some(Unknown("c")), Some(false)),
         ],
     ),
 ];

@@ -1,6 +1,6 @@
 // Expression contexts, scopes and their bindings.
 
-use crate::compared::{equal, tells};
+use crate::compared::{equal, same, tells};
 use crate::modules::Variable;
 use crate::parts::{name, numbered};
 use just_syntax::attribute_set::AttributeSet;
@@ -29,53 +29,50 @@ fn gives_all(rt: &impl Abort, context: &ExpressionContext, wanted: &[(&str, Opti
     }
 }
 
-const OF_NO_CONTEXT: &[(&str, Option<u64>)] = &[("n", None), ("m", None), ("x", None), ("", None)];
+// Variables, and the numbers of names in a context of them.
+type Context = (
+    &'static [Variable<'static>],
+    &'static [(&'static str, Option<u64>)],
+);
 
-const FROM_PAIRS: &[(&str, Option<u64>)] = &[
-    ("n", Some(2)),
-    ("m", Some(3)),
-    ("x", None),
-    ("", None),
+const OF_NONE: &[(&str, Option<u64>)] = &[("n", None), ("m", None), ("x", None), ("", None)];
+
+const CONTEXTS: &[Context] = &[
+    (&[], OF_NONE),
+    (
+        &[("n", 1, &[]), ("m", 3, &[]), ("n", 2, &[])],
+        &[("n", Some(2)), ("m", Some(3)), ("x", None), ("", None)],
+    ),
+    (
+        &[("n", 7, &[]), ("n", 9, &[]), ("n", 8, &[])],
+        &[("n", Some(8)), ("m", None)],
+    ),
+    (
+        &[("x", 5, &[]), ("y", 6, &[]), ("x", 7, &[])],
+        &[("x", Some(7)), ("y", Some(6)), ("n", None)],
+    ),
 ];
-
-const LAST_OF_THREE: &[(&str, Option<u64>)] = &[("n", Some(8)), ("m", None)];
 
 #[test]
 fn names_and_numbers(rt: HostRuntime) -> Result<(), Fail> {
-    let alloc = rt.alloc();
-    gives_all(&rt, &ExpressionContext::new(alloc), OF_NO_CONTEXT);
-    let pairs = [
-        (name("n"), Number::new(1)),
-        (name("m"), Number::new(3)),
-        (name("n"), Number::new(2)),
-    ];
-    gives_all(
-        &rt,
-        &ExpressionContext::from_pairs(alloc, &pairs)?,
-        FROM_PAIRS,
-    );
-    let pairs = [
-        (name("n"), Number::new(7)),
-        (name("n"), Number::new(9)),
-        (name("n"), Number::new(8)),
-    ];
-    gives_all(
-        &rt,
-        &ExpressionContext::from_pairs(alloc, &pairs)?,
-        LAST_OF_THREE,
-    );
+    gives_all(&rt, &ExpressionContext::new(rt.alloc()), OF_NONE);
+    for (variables, wanted) in CONTEXTS {
+        gives_all(&rt, &from_pairs(rt.alloc(), variables)?, wanted);
+        gives_all(&rt, &from_parameters(rt.alloc(), variables)?, wanted);
+    }
     Ok(())
 }
 
-const PARAMETERS: &[Variable] = &[("x", 5, &[]), ("y", 6, &[]), ("x", 7, &[])];
-
-const FROM_PARAMETERS: &[(&str, Option<u64>)] = &[("x", Some(7)), ("y", Some(6)), ("n", None)];
-
-#[test]
-fn parameters_and_numbers(rt: HostRuntime) -> Result<(), Fail> {
-    let context = from_parameters(rt.alloc(), PARAMETERS)?;
-    gives_all(&rt, &context, FROM_PARAMETERS);
-    Ok(())
+// The context of pairs of these names and numbers.
+pub(crate) fn from_pairs<'a>(
+    alloc: Global,
+    variables: &[Variable<'a>],
+) -> Result<ExpressionContext<'a>, OutOfMemory> {
+    let mut pairs = Vec::new(alloc);
+    for (lexeme, number, _) in variables {
+        pairs.extend_from_slice(&[(name(lexeme), Number::new(*number))])?;
+    }
+    ExpressionContext::from_pairs(alloc, &pairs)
 }
 
 // The context of parameters with these names and numbers.
@@ -83,22 +80,22 @@ pub(crate) fn from_parameters<'a>(
     alloc: Global,
     variables: &[Variable<'a>],
 ) -> Result<ExpressionContext<'a>, OutOfMemory> {
-    let parameters = parameters(alloc, variables)?;
-    let context = ExpressionContext::from_parameters(alloc, &parameters);
+    let mut parameters = Vec::new(alloc);
+    let context = with_parameters(alloc, &mut parameters, variables);
     drop(parameters);
     context
 }
 
-// Parameters with these names and numbers.
-fn parameters<'a>(
+// The same, with the parameters put into a row that the caller drops.
+fn with_parameters<'a>(
     alloc: Global,
+    parameters: &mut Vec<Parameter<'a>>,
     variables: &[Variable<'a>],
-) -> Result<Vec<Parameter<'a>>, OutOfMemory> {
-    let mut parameters = Vec::new(alloc);
+) -> Result<ExpressionContext<'a>, OutOfMemory> {
     for (lexeme, number, _) in variables {
         parameters.push(parameter(lexeme, *number))?;
     }
-    Ok(parameters)
+    ExpressionContext::from_parameters(alloc, parameters)
 }
 
 fn parameter(lexeme: &str, number: u64) -> Parameter<'_> {
@@ -188,14 +185,14 @@ pub(crate) fn holds(
 }
 
 // Adds each binding, its name and its value, which is joined.
-fn walk(bindings: Bindings, told: &mut String, alloc: Global) -> Result<(), OutOfMemory> {
-    for binding in bindings {
-        tell(binding, told, alloc)?;
+fn walk(mut bindings: Bindings, told: &mut String, alloc: Global) -> Result<(), OutOfMemory> {
+    while let Some(binding) = bindings.next() {
+        tell_binding(binding, told, alloc)?;
     }
     Ok(())
 }
 
-fn tell(binding: &Binding, told: &mut String, alloc: Global) -> Result<(), OutOfMemory> {
+fn tell_binding(binding: &Binding, told: &mut String, alloc: Global) -> Result<(), OutOfMemory> {
     let name = binding.name.lexeme();
     let mark = mark(binding);
     let value = binding.value.join(alloc)?;
@@ -220,73 +217,62 @@ fn mark(binding: &Binding) -> &'static str {
     }
 }
 
-// The own bindings of a scope, twice: those of the scope, and those of its frame.
-pub(crate) fn told_own(alloc: Global, scope: &Scope) -> Result<String, OutOfMemory> {
-    let mut told = String::new(alloc);
-    walk(scope.bindings(), &mut told, alloc)?;
-    walk(scope.frame().bindings(), &mut told, alloc)?;
-    Ok(told)
+// Adds the own bindings of a scope, twice: those of the scope, and those of its frame.
+pub(crate) fn tell_own(scope: &Scope, told: &mut String, alloc: Global) -> Result<(), OutOfMemory> {
+    walk(scope.bindings(), told, alloc)?;
+    walk(scope.frame().bindings(), told, alloc)
 }
 
-// What the numbers below 8 mean in a scope, each as its name, its value and `!`, where the scope itself binds it; and then
-// its own bindings, and how many frames stand around it.
-fn told(alloc: Global, scope: &Scope) -> Result<String, OutOfMemory> {
-    let mut told = String::new(alloc);
+// Adds what the numbers below 8 mean in a scope, each as its name, its value and `!`, where the scope itself binds it; and
+// then its own bindings, and how many frames stand around it.
+fn tell(scope: &Scope, told: &mut String, alloc: Global) -> Result<(), OutOfMemory> {
     for number in 0..8 {
         let name = name_of(scope, number);
         let value = told_value(alloc, scope, number)?;
         let own = if binds_itself(scope, number) { "!" } else { "" };
         write!(told, "{number} {name} {value}{own}; ")?;
     }
-    let own = told_own(alloc, scope)?;
+    tell_own(scope, told, alloc)?;
     let outer = told_outer(scope);
-    write!(told, "{own} {outer}")?;
-    Ok(told)
+    write!(told, " {outer}")?;
+    Ok(())
 }
 
 const CONSTANTS: &[(&str, &str)] = &[("HEX", "0123"), ("RED", "\u{1b}[31m")];
 
 const TOLD_CONSTANTS: &str =
-    "0 HEX 0123!; 1 RED \u{1b}[31m!; 2 - -; 3 - -; 4 - -; 5 - -; 6 - -; 7 - -; \
+    "0 HEX 0123; 1 RED \u{1b}[31m; 2 - -; 3 - -; 4 - -; 5 - -; 6 - -; 7 - -;  1\n\
+    0 HEX 0123!; 1 RED \u{1b}[31m!; 2 - -; 3 - -; 4 - -; 5 - -; 6 - -; 7 - -; \
     HEX=0123!;RED=\u{1b}[31m!;HEX=0123!;RED=\u{1b}[31m!; -1";
 
-#[test]
-fn root_binds_constants(rt: HostRuntime) -> Result<(), Fail> {
-    let root = Scope::root(rt.alloc(), CONSTANTS)?;
-    let told = told(rt.alloc(), &root);
-    drop(root);
-    tells(&rt, told?, TOLD_CONSTANTS);
-    Ok(())
-}
-
-// What a scope binds, then what its child binds, and what is told of the child and of its parent.
-const SCOPES: &[(Bound, Bound, &str, &str)] = &[
+// What a root binds, then what its child binds, and what is told of the child and then of the root.
+const SCOPES: &[(Bound, Bound, &str)] = &[
     // Where nothing is bound.
     (
         &[],
         &[],
-        "0 - -; 1 - -; 2 - -; 3 - -; 4 - -; 5 - -; 6 - -; 7 - -;  1",
-        "0 - -; 1 - -; 2 - -; 3 - -; 4 - -; 5 - -; 6 - -; 7 - -;  -1",
+        "0 - -; 1 - -; 2 - -; 3 - -; 4 - -; 5 - -; 6 - -; 7 - -;  1\n\
+        0 - -; 1 - -; 2 - -; 3 - -; 4 - -; 5 - -; 6 - -; 7 - -;  -1",
     ),
     // A child gives 1 the value of its parent, until it binds it itself.
     (
         &[("x", 2, "two"), ("y", 1, "one")],
         &[],
-        "0 - -; 1 y one; 2 x two; 3 - -; 4 - -; 5 - -; 6 - -; 7 - -;  1",
-        "0 - -; 1 y one!; 2 x two!; 3 - -; 4 - -; 5 - -; 6 - -; 7 - -; y=one;x=two;y=one;x=two; -1",
+        "0 - -; 1 y one; 2 x two; 3 - -; 4 - -; 5 - -; 6 - -; 7 - -;  1\n\
+        0 - -; 1 y one!; 2 x two!; 3 - -; 4 - -; 5 - -; 6 - -; 7 - -; y=one;x=two;y=one;x=two; -1",
     ),
     (
         &[("x", 2, "two"), ("y", 1, "one")],
         &[("y", 1, "own"), ("z", 3, "three")],
-        "0 - -; 1 y own!; 2 x two; 3 z three!; 4 - -; 5 - -; 6 - -; 7 - -; y=own;z=three;y=own;z=three; 1",
-        "0 - -; 1 y one!; 2 x two!; 3 - -; 4 - -; 5 - -; 6 - -; 7 - -; y=one;x=two;y=one;x=two; -1",
+        "0 - -; 1 y own!; 2 x two; 3 z three!; 4 - -; 5 - -; 6 - -; 7 - -; y=own;z=three;y=own;z=three; 1\n\
+        0 - -; 1 y one!; 2 x two!; 3 - -; 4 - -; 5 - -; 6 - -; 7 - -; y=one;x=two;y=one;x=two; -1",
     ),
     // What is bound again.
     (
         &[("x", 2, "two")],
         &[("z", 3, "first"), ("y", 1, "own"), ("z", 3, "three")],
-        "0 - -; 1 y own!; 2 x two; 3 z three!; 4 - -; 5 - -; 6 - -; 7 - -; y=own;z=three;y=own;z=three; 1",
-        "0 - -; 1 - -; 2 x two!; 3 - -; 4 - -; 5 - -; 6 - -; 7 - -; x=two;x=two; -1",
+        "0 - -; 1 y own!; 2 x two; 3 z three!; 4 - -; 5 - -; 6 - -; 7 - -; y=own;z=three;y=own;z=three; 1\n\
+        0 - -; 1 - -; 2 x two!; 3 - -; 4 - -; 5 - -; 6 - -; 7 - -; x=two;x=two; -1",
     ),
     // Bound in any order, and walked by rising number.
     (
@@ -297,8 +283,8 @@ const SCOPES: &[(Bound, Bound, &str, &str)] = &[
             ("y", 1, "second"),
         ],
         &[],
-        "0 - -; 1 y second; 2 - -; 3 z three; 4 - -; 5 x five; 6 - -; 7 - -;  1",
-        "0 - -; 1 y second!; 2 - -; 3 z three!; 4 - -; 5 x five!; 6 - -; 7 - -; y=second;z=three;x=five;y=second;z=three;x=five; -1",
+        "0 - -; 1 y second; 2 - -; 3 z three; 4 - -; 5 x five; 6 - -; 7 - -;  1\n\
+        0 - -; 1 y second!; 2 - -; 3 z three!; 4 - -; 5 x five!; 6 - -; 7 - -; y=second;z=three;x=five;y=second;z=three;x=five; -1",
     ),
     // Looked up between and beside what the parent binds.
     (
@@ -314,71 +300,78 @@ const SCOPES: &[(Bound, Bound, &str, &str)] = &[
             ("z", 3, "three"),
             ("y", 1, "second"),
         ],
-        "0 o outer; 1 y second!; 2 o outer; 3 z three!; 4 - -; 5 x five!; 6 o outer; 7 - -; y=second;z=three;x=five;y=second;z=three;x=five; 1",
-        "0 o outer!; 1 o outer!; 2 o outer!; 3 - -; 4 - -; 5 - -; 6 o outer!; 7 - -; o=outer;o=outer;o=outer;o=outer;o=outer;o=outer;o=outer;o=outer; -1",
+        "0 o outer; 1 y second!; 2 o outer; 3 z three!; 4 - -; 5 x five!; 6 o outer; 7 - -; y=second;z=three;x=five;y=second;z=three;x=five; 1\n\
+        0 o outer!; 1 o outer!; 2 o outer!; 3 - -; 4 - -; 5 - -; 6 o outer!; 7 - -; o=outer;o=outer;o=outer;o=outer;o=outer;o=outer;o=outer;o=outer; -1",
     ),
 ];
 
 #[test]
 fn child_binds_its_own(rt: HostRuntime) -> Result<(), Fail> {
-    scopes_are_told(SCOPES, &rt, rt.alloc())?;
-    Ok(())
-}
-
-fn scopes_are_told(
-    scopes: &[(Bound, Bound, &str, &str)],
-    rt: &impl Abort,
-    alloc: Global,
-) -> Result<(), OutOfMemory> {
-    for (outer, own, in_child, in_parent) in scopes {
-        are_told(rt, alloc, outer, own, in_child, in_parent)?;
+    are_told(&rt, rt.alloc(), CONSTANTS, (&[], &[], TOLD_CONSTANTS))?;
+    for scopes in SCOPES {
+        are_told(&rt, rt.alloc(), &[], *scopes)?;
     }
     Ok(())
 }
 
-// A scope and its child that bind this are told so.
+// A root of these constants and its child are told so.
 fn are_told(
     rt: &impl Abort,
     alloc: Global,
-    outer: Bound,
-    own: Bound,
-    in_child: &str,
-    in_parent: &str,
+    constants: &[(&'static str, &'static str)],
+    scopes: (Bound, Bound, &str),
 ) -> Result<(), OutOfMemory> {
-    let mut parent = Scope::root(alloc, &[])?;
-    let bound = are_bound(&mut parent, rt, alloc, outer, own, in_child);
-    let told = told(alloc, &parent);
-    drop(parent);
-    bound?;
-    tells(rt, told?, in_parent);
+    let mut root = Scope::root(alloc, constants)?;
+    let told = root_is_told(&mut root, rt, alloc, scopes);
+    drop(root);
+    told
+}
+
+fn root_is_told(
+    root: &mut Scope,
+    rt: &impl Abort,
+    alloc: Global,
+    scopes: (Bound, Bound, &str),
+) -> Result<(), OutOfMemory> {
+    let (outer, own, wanted) = scopes;
+    let mut told = String::new(alloc);
+    tell_both(root, &mut told, alloc, outer, own)?;
+    same(rt, &told, wanted);
     Ok(())
 }
 
-fn are_bound(
-    parent: &mut Scope,
-    rt: &impl Abort,
+// Adds what is told of a child of a root, and then of the root, on a line each.
+fn tell_both(
+    root: &mut Scope,
+    told: &mut String,
     alloc: Global,
     outer: Bound,
     own: Bound,
-    in_child: &str,
 ) -> Result<(), OutOfMemory> {
-    bind_all(alloc, parent, outer)?;
-    child_binds(parent, rt, alloc, own, in_child)
+    bind_all(alloc, root, outer)?;
+    tell_child(root, told, alloc, own)?;
+    told.push('\n')?;
+    tell(root, told, alloc)
 }
 
-// A child that binds this is told so.
-fn child_binds(
-    parent: &Scope,
-    rt: &impl Abort,
+fn tell_child(
+    root: &Scope,
+    told: &mut String,
     alloc: Global,
     own: Bound,
-    wanted: &str,
 ) -> Result<(), OutOfMemory> {
-    let mut child = parent.child(alloc)?;
-    let bound = bind_all(alloc, &mut child, own);
-    let told = told(alloc, &child);
+    let mut child = root.child(alloc)?;
+    let filled = bind_and_tell(&mut child, told, alloc, own);
     drop(child);
-    bound?;
-    tells(rt, told?, wanted);
-    Ok(())
+    filled
+}
+
+fn bind_and_tell(
+    scope: &mut Scope,
+    told: &mut String,
+    alloc: Global,
+    own: Bound,
+) -> Result<(), OutOfMemory> {
+    bind_all(alloc, scope, own)?;
+    tell(scope, told, alloc)
 }

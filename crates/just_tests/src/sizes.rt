@@ -14,11 +14,17 @@ type Long = (&'static str, &'static str, usize, &'static str);
 
 fn long(alloc: Global, of: Long) -> Result<String, OutOfMemory> {
     let (front, piece, times, back) = of;
-    let mut text = String::from_str(alloc, front)?;
-    for _ in 0..times {
-        text.push_str(piece)?;
+    repeated(alloc, &[(front, 1), (piece, times), (back, 1)])
+}
+
+// Pieces, each as often as it says.
+fn repeated(alloc: Global, pieces: &[(&str, usize)]) -> Result<String, OutOfMemory> {
+    let mut text = String::new(alloc);
+    for (piece, times) in pieces {
+        for _ in 0..*times {
+            text.push_str(piece)?;
+        }
     }
-    text.push_str(back)?;
     Ok(text)
 }
 
@@ -38,6 +44,15 @@ fn thousand(alloc: Global) -> Result<Vec<String>, OutOfMemory> {
         all.push(format!(in alloc; "x{i}")?)?;
     }
     Ok(all)
+}
+
+// Each text beside itself.
+fn beside_themselves(alloc: Global, texts: &[String]) -> Result<Vec<(&str, &str)>, OutOfMemory> {
+    let mut pairs = Vec::new(alloc);
+    for text in texts {
+        pairs.push((text.as_str(), text.as_str()))?;
+    }
+    Ok(pairs)
 }
 
 // The texts, borrowed.

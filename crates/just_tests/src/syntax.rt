@@ -1,7 +1,7 @@
 // Tables, what is printed, and the small calls.
 
 use crate::compared::{equal, is_so, same, tells};
-use crate::parts::{name, shows};
+use crate::parts::{name, prints};
 use just_syntax::enclosure::Enclosure;
 use just_syntax::keyed::Keyed;
 use just_syntax::list_operator::ListOperator;
@@ -14,7 +14,6 @@ use just_syntax::string_context::StringContext;
 use just_syntax::table::Table;
 use std::alloc::Global;
 use std::process::Abort;
-use std::test::Fail;
 
 #[derive(Drop)]
 pub(crate) struct Named<'src> {
@@ -56,19 +55,15 @@ const PLACES: &[(&str, Option<u64>)] = &[
 ];
 
 #[test]
-fn table_keeps_values_by_key(rt: HostRuntime) -> Result<(), Fail> {
+fn table_keeps_values_by_key(rt: HostRuntime) {
     has_length(&rt, &Table::new(rt.alloc()), 0);
-    let table = table_of(rt.alloc(), KEYS)?;
-    keeps_all(&rt, &table);
-    tells(&rt, keys_twice(rt.alloc(), table)?, "abcéabcé");
-    Ok(())
-}
-
-fn keeps_all(rt: &impl Abort, table: &Table<Named>) {
-    has_length(rt, table, 5);
+    let table = table_of(rt.alloc(), KEYS).expect(&rt, "no memory");
+    has_length(&rt, &table, 5);
     for (key, place) in PLACES {
-        keeps(rt, table, key, *place);
+        keeps(&rt, &table, key, *place);
     }
+    let keys = keys_twice(rt.alloc(), table).expect(&rt, "no memory");
+    tells(&rt, keys, "abcéabcé");
 }
 
 pub(crate) fn has_length(rt: &impl Abort, table: &Table<Named>, len: usize) {
@@ -113,37 +108,33 @@ const OPERATORS: &[(ListOperator, &str, &str)] = &[
 ];
 
 #[test]
-fn list_operators(rt: HostRuntime) -> Result<(), Fail> {
+fn list_operators(rt: HostRuntime) {
     for (operator, separator, text) in OPERATORS {
         same(&rt, operator.separator(), separator);
-        shows(&rt, rt.alloc(), operator, text)?;
+        prints(&rt, rt.alloc(), operator, text);
     }
-    shows(&rt, rt.alloc(), &name("x"), "x")?;
-    Ok(())
 }
 
 #[test]
-fn where_texts_are_wanted(rt: HostRuntime) -> Result<(), Fail> {
+fn where_texts_are_wanted(rt: HostRuntime) {
+    let name = name("n");
     for (place, text) in [
-        (StringContext::EnvKey(name("n")), "in key of `n` attribute"),
-        (
-            StringContext::Function(name("n")),
-            "in argument to function `n`",
-        ),
-        (StringContext::Setting(name("n")), "in setting `n`"),
+        (StringContext::EnvKey(name), "in key of `n` attribute"),
+        (StringContext::Function(name), "in argument to function `n`"),
+        (StringContext::Setting(name), "in setting `n`"),
     ] {
-        equal(&rt, text, place.token(), name("n").token);
-        shows(&rt, rt.alloc(), &place, text)?;
+        equal(&rt, text, place.token(), name.token);
+        prints(&rt, rt.alloc(), &place, text);
     }
-    Ok(())
 }
 
 #[test]
-fn enclosures(rt: HostRuntime) -> Result<(), Fail> {
-    shows(&rt, rt.alloc(), &Enclosure::tick("a b"), "`a b`")?;
+fn names_and_enclosures(rt: HostRuntime) {
+    let alloc = rt.alloc();
+    prints(&rt, alloc, &name("x"), "x");
+    prints(&rt, alloc, &Enclosure::tick("a b"), "`a b`");
     let twice = Enclosure::tick(Enclosure::tick(7));
-    shows(&rt, rt.alloc(), &twice, "``7``")?;
-    Ok(())
+    prints(&rt, alloc, &twice, "``7``");
 }
 
 // Kinds of parameters, and whether one takes several arguments.

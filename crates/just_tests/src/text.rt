@@ -62,38 +62,34 @@ fn cases(rt: HostRuntime) -> Result<(), Fail> {
     Ok(())
 }
 
-// Whether texts are the wanted ones, which have `|` between them.
+// Whether texts that may have been made are the wanted ones, which have `|` between them.
 fn expect_all(
     rt: &impl Abort,
     alloc: Global,
-    texts: &[String],
+    made: Result<Vec<String>, OutOfMemory>,
     wanted: &str,
 ) -> Result<(), OutOfMemory> {
-    tells(rt, texts.join(alloc, "|")?, wanted);
+    tells(rt, made?.join(alloc, "|")?, wanted);
     Ok(())
 }
+
+const SPACED: &str = " a\u{2003}é  b\n";
 
 #[test]
 fn cut_texts(rt: HostRuntime) -> Result<(), Fail> {
     let alloc = rt.alloc();
-    expect_all(&rt, alloc, &split(alloc, "a,,b", ",")?, "a||b")?;
+    expect_all(&rt, alloc, split(alloc, "a,,b", ","), "a||b")?;
+    expect_all(&rt, alloc, split_whitespace(alloc, SPACED), "a|é|b")?;
+    words_are_changed(&rt, alloc, &split_whitespace(alloc, SPACED)?)?;
     let none = split_whitespace(alloc, " \t\n")?;
     is_so(&rt, "no word", none.is_empty());
     Ok(())
 }
 
-#[test]
-fn words(rt: HostRuntime) -> Result<(), Fail> {
-    let alloc = rt.alloc();
-    words_are_changed(&rt, alloc, &split_whitespace(alloc, " a\u{2003}é  b\n")?)?;
-    Ok(())
-}
-
 // The words `a`, `é` and `b`, with something behind or before each, and as one text.
 fn words_are_changed(rt: &impl Abort, alloc: Global, words: &[String]) -> Result<(), OutOfMemory> {
-    expect_all(rt, alloc, words, "a|é|b")?;
-    expect_all(rt, alloc, &append(alloc, "!", words)?, "a!|é!|b!")?;
-    expect_all(rt, alloc, &prepend(alloc, "x", words)?, "xa|xé|xb")?;
+    expect_all(rt, alloc, append(alloc, "!", words), "a!|é!|b!")?;
+    expect_all(rt, alloc, prepend(alloc, "x", words), "xa|xé|xb")?;
     tells(rt, join_list(alloc, words, ", ")?, "a, é, b");
     Ok(())
 }

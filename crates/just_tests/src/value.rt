@@ -1,6 +1,6 @@
 // Values.
 
-use crate::compared::{is_so, tells};
+use crate::compared::tells;
 use crate::parts::{shows, token, value};
 use just_syntax::list_operator::ListOperator;
 use just_syntax::out_of_memory::OutOfMemory;
@@ -51,34 +51,34 @@ fn values(rt: HostRuntime) -> Result<(), Fail> {
     Ok(())
 }
 
-// Whether a value has these elements, each with a `.` behind it.
-fn expect(rt: &impl Abort, alloc: Global, value: Value, elements: &str) -> Result<(), OutOfMemory> {
-    tells(rt, told_of_elements(alloc, value)?, elements);
+// Whether what may have been made has these elements, each with a `.` behind it.
+fn expect(
+    rt: &impl Abort,
+    alloc: Global,
+    made: Result<Value, OutOfMemory>,
+    elements: &str,
+) -> Result<(), OutOfMemory> {
+    tells(rt, told_of_elements(alloc, made?)?, elements);
     Ok(())
 }
+
+const SEVERAL: &[&str] = &["a", "b c"];
 
 #[test]
 fn constructors(rt: HostRuntime) -> Result<(), Fail> {
     let alloc = rt.alloc();
-    expect(&rt, alloc, Value::from_text(alloc, "foo bar")?, "foo bar.")?;
+    expect(&rt, alloc, Value::from_text(alloc, "foo bar"), "foo bar.")?;
+    expect(&rt, alloc, Value::from_bool(alloc, true), "true.")?;
+    expect(&rt, alloc, Value::from_bool(alloc, false), "")?;
     let text = String::from_str(alloc, "foo")?;
-    expect(&rt, alloc, Value::from_string(alloc, text)?, "foo.")?;
-    expect(&rt, alloc, Value::from_bool(alloc, true)?, "true.")?;
-    expect(&rt, alloc, Value::from_bool(alloc, false)?, "")?;
-    Ok(())
-}
-
-#[test]
-fn constructors_from_several(rt: HostRuntime) -> Result<(), Fail> {
-    let alloc = rt.alloc();
-    let some = value(alloc, &["a", "b c"])?;
-    expect(&rt, alloc, some.try_clone(alloc)?, "a.b c.")?;
-    let texts = some.try_clone(alloc)?.into_elements();
-    expect(&rt, alloc, Value::from_elements(texts), "a.b c.")?;
-    let made = Value::from_iterator(alloc, some.into_elements())?;
-    expect(&rt, alloc, made, "a.b c.")?;
+    expect(&rt, alloc, Value::from_string(alloc, text), "foo.")?;
     let one = Some(String::from_str(alloc, "bar")?);
-    expect(&rt, alloc, Value::from_iterator(alloc, one)?, "bar.")?;
+    expect(&rt, alloc, Value::from_iterator(alloc, one), "bar.")?;
+    let texts = value(alloc, SEVERAL)?.into_elements();
+    expect(&rt, alloc, Value::from_iterator(alloc, texts), "a.b c.")?;
+    let texts = value(alloc, SEVERAL)?.into_elements();
+    let copied = Value::from_elements(texts).try_clone(alloc);
+    expect(&rt, alloc, copied, "a.b c.")?;
     Ok(())
 }
 
@@ -86,12 +86,10 @@ fn constructors_from_several(rt: HostRuntime) -> Result<(), Fail> {
 pub(crate) fn told(alloc: Global, value: &Value) -> Result<String, OutOfMemory> {
     let mut all = String::new(alloc);
     for text in value.iter() {
-        all.push_str(text)?;
-        all.push('.')?;
+        write!(all, "{text}.")?;
     }
     for text in value {
-        all.push_str(text)?;
-        all.push('.')?;
+        write!(all, "{text}.")?;
     }
     Ok(all)
 }
@@ -100,8 +98,7 @@ pub(crate) fn told(alloc: Global, value: &Value) -> Result<String, OutOfMemory> 
 pub(crate) fn told_of_own(alloc: Global, value: Value) -> Result<String, OutOfMemory> {
     let mut all = String::new(alloc);
     for text in value {
-        all.push_str(&text)?;
-        all.push('.')?;
+        write!(all, "{text}.")?;
     }
     Ok(all)
 }
@@ -110,8 +107,7 @@ pub(crate) fn told_of_own(alloc: Global, value: Value) -> Result<String, OutOfMe
 pub(crate) fn told_of_elements(alloc: Global, value: Value) -> Result<String, OutOfMemory> {
     let mut all = String::new(alloc);
     for text in value.into_elements() {
-        all.push_str(&text)?;
-        all.push('.')?;
+        write!(all, "{text}.")?;
     }
     Ok(all)
 }
@@ -121,7 +117,7 @@ fn iterators(rt: HostRuntime) -> Result<(), Fail> {
     let alloc = rt.alloc();
     let value = value(alloc, &["a", "", "bc"])?;
     tells(&rt, told(alloc, &value)?, "a..bc.a..bc.");
-    expect(&rt, alloc, value.try_clone(alloc)?, "a..bc.")?;
+    expect(&rt, alloc, value.try_clone(alloc), "a..bc.")?;
     tells(&rt, told_of_own(alloc, value)?, "a..bc.");
     Ok(())
 }
@@ -148,7 +144,7 @@ fn compare(
 ) -> Result<(), OutOfMemory> {
     let x = value(alloc, left)?;
     let y = value(alloc, right)?;
-    is_so(rt, &format!(in alloc; "{x} {y}")?, stand_so(&x, &y, order));
+    assert!(rt; stand_so(&x, &y, order), "{x} {y}");
     Ok(())
 }
 
@@ -216,37 +212,46 @@ fn told_of_applied(
 ) -> Result<String, OutOfMemory> {
     match left.apply(alloc, right, operator, token("/")) {
         Ok(value) => Ok(value.to_string(alloc)?),
-        Err(error) => Ok(String::from_str(alloc, refused(error, left, operator, right))?),
+        Err(error) => {
+            let told = refused(&error, left, operator, right);
+            drop(error);
+            Ok(String::from_str(alloc, told)?)
+        }
     }
 }
 
-fn refused(error: Error, left: &Value, of: ListOperator, right: &Value) -> &'static str {
-    let is_refusal = holds_both(&error, left, of, right);
-    drop(error);
-    if is_refusal { "refused" } else { "other" }
-}
-
-// Whether it is a refusal of this operator with these lists.
-fn holds_both(error: &Error, left: &Value, of: ListOperator, right: &Value) -> bool {
+// `refused`, where it is a refusal of this operator with these lists.
+fn refused(error: &Error, left: &Value, of: ListOperator, right: &Value) -> &'static str {
     match error {
         Error::ListOperation {
             lhs,
             operator,
             rhs,
             token: at,
-        } => lhs == left && rhs == right && *operator == of && *at == token("/"),
-        _ => false,
+        } if lhs == left && rhs == right && *operator == of && *at == token("/") => "refused",
+        _ => "other",
     }
+}
+
+fn told_between(
+    alloc: Global,
+    left: &[&str],
+    operator: ListOperator,
+    right: &[&str],
+) -> Result<String, OutOfMemory> {
+    let left = value(alloc, left)?;
+    let right = value(alloc, right)?;
+    told_of_applied(alloc, &left, operator, &right)
 }
 
 #[test]
 fn operator_on_lists(rt: HostRuntime) -> Result<(), Fail> {
-    let alloc = rt.alloc();
-    for (lhs, operator, rhs, wanted) in APPLIED {
-        let left = value(alloc, lhs)?;
-        let right = value(alloc, rhs)?;
-        let told = told_of_applied(alloc, &left, *operator, &right)?;
-        tells(&rt, told, wanted);
+    for (left, operator, right, wanted) in APPLIED {
+        tells(
+            &rt,
+            told_between(rt.alloc(), left, *operator, right)?,
+            wanted,
+        );
     }
     Ok(())
 }

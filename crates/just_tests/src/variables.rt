@@ -1,11 +1,13 @@
 // Overrides and references, told by the names of variables.
 
 use crate::compared::{equal, tells};
-use crate::modules::{Variable, assignments};
+use crate::modules::{Variable, assignments, put};
 use crate::parts::{numbered, shows};
+use just_syntax::assignment::Assignment;
 use just_syntax::number::Number;
 use just_syntax::out_of_memory::OutOfMemory;
-use just_syntax::variable_error::VariableError;
+use just_syntax::table::Table;
+use just_syntax::variable_error::VariableError::{self, Unknown};
 use just_syntax::variables::{number_of, overrides_of, references_of, set_of};
 use std::alloc::Global;
 use std::collections::{HashMap, HashSet};
@@ -14,20 +16,6 @@ use std::test::Fail;
 
 // Variables and their numbers.
 const VARIABLES: &[Variable] = &[("b", 2, &[]), ("c", 9, &[]), ("a", 4, &[])];
-
-// Pairs of a name and a text, each `name=text`.
-fn pairs(alloc: Global, words: &[&str]) -> Result<Vec<(String, String)>, OutOfMemory> {
-    let mut pairs = Vec::new(alloc);
-    for word in words {
-        if let Some((name, text)) = word.split_once('=') {
-            pairs.push((
-                String::from_str(alloc, name)?,
-                String::from_str(alloc, text)?,
-            ))?;
-        }
-    }
-    Ok(pairs)
-}
 
 // Names, and the numbers of the variables that they stand for.
 const NUMBERS: &[(&str, Option<u64>)] = &[
@@ -38,121 +26,122 @@ const NUMBERS: &[(&str, Option<u64>)] = &[
     ("", None),
 ];
 
-#[test]
-fn numbers_of_names(rt: HostRuntime) -> Result<(), Fail> {
-    let assignments = assignments(rt.alloc(), VARIABLES)?;
-    for (name, number) in NUMBERS {
-        equal(&rt, name, number_of(&assignments, name), numbered(*number));
-    }
-    Ok(())
-}
+// What pairs come to: what they say of `a` and of `b`, and how many variables they say something of; or the first name in
+// them that no assignment has.
+type Overridden<'a> = Result<(Option<&'a str>, Option<&'a str>, usize), VariableError<'a>>;
 
-// Pairs, what they say of `a` and of `b`, and how many variables they say something of.
-const OVERRIDES: &[(&[&str], Option<&str>, Option<&str>, usize)] = &[
-    (&[], None, None, 0),
-    (&["a=x"], Some("x"), None, 1),
-    (&["a=x", "b=", "a=z=1"], Some("z=1"), Some(""), 2),
+// Pairs of a name and a text, and what they come to.
+const OVERRIDES: &[(&[(&str, &str)], Overridden)] = &[
+    (&[], Ok((None, None, 0))),
+    (&[("a", "x")], Ok((Some("x"), None, 1))),
+    (
+        &[("a", "x"), ("b", ""), ("a", "z=1")],
+        Ok((Some("z=1"), Some(""), 2)),
+    ),
+    (&[("d", "x")], Err(Unknown("d"))),
+    (&[("a", "x"), ("e", "y"), ("d", "z")], Err(Unknown("e"))),
+    (&[("", "x")], Err(Unknown(""))),
+];
+
+// What names come to: whether `a`, `b` and `c` are among them, and how many variables are; or the first name among them that
+// no assignment has.
+type Referenced<'a> = Result<(bool, bool, bool, usize), VariableError<'a>>;
+
+const REFERENCES: &[(&[&str], Referenced)] = &[
+    (&[], Ok((false, false, false, 0))),
+    (&["c", "b", "c"], Ok((false, true, true, 2))),
+    (&["a", "x", "y"], Err(Unknown("x"))),
 ];
 
 #[test]
-fn overrides_by_number(rt: HostRuntime) -> Result<(), Fail> {
-    let alloc = rt.alloc();
-    let assignments = assignments(alloc, VARIABLES)?;
-    for (words, a, b, len) in OVERRIDES {
-        let pairs = pairs(alloc, words)?;
-        overrides(
-            &rt,
-            &overrides_of(alloc, &assignments, &pairs)?,
-            *a,
-            *b,
-            *len,
-        );
+fn variables_by_name(rt: HostRuntime) -> Result<(), Fail> {
+    let assignments = assignments(rt.alloc(), VARIABLES)?;
+    let named = are_named(&assignments, &rt, rt.alloc());
+    drop(assignments);
+    Ok(named?)
+}
+
+fn are_named(
+    assignments: &Table<Assignment>,
+    rt: &impl Abort,
+    alloc: Global,
+) -> Result<(), OutOfMemory> {
+    for (name, number) in NUMBERS {
+        equal(rt, name, number_of(assignments, name), numbered(*number));
+    }
+    for (names, wanted) in REFERENCES {
+        refer(assignments, rt, alloc, names, *wanted);
+    }
+    for (pairs, wanted) in OVERRIDES {
+        are_overridden(assignments, rt, alloc, pairs, *wanted)?;
     }
     Ok(())
 }
 
-fn overrides(
+// Whether names come to this.
+fn refer(
+    assignments: &Table<Assignment>,
     rt: &impl Abort,
-    overrides: &HashMap<Number, String>,
-    a: Option<&str>,
-    b: Option<&str>,
-    len: usize,
+    alloc: Global,
+    names: &[&str],
+    wanted: Referenced,
 ) {
-    overrides_with(rt, overrides, 4, a);
-    overrides_with(rt, overrides, 2, b);
-    equal(rt, "overrides", overrides.len(), len);
+    let references = references_of(alloc, assignments, names);
+    let given = match &references {
+        Ok(set) => Ok((has(set, 4), has(set, 2), has(set, 9), set.len())),
+        Err(error) => Err(*error),
+    };
+    equal(rt, "references", given, wanted);
+    drop(references);
 }
 
-pub(crate) fn overrides_with(
+// Whether pairs come to this.
+fn are_overridden(
+    assignments: &Table<Assignment>,
     rt: &impl Abort,
-    overrides: &HashMap<Number, String>,
-    number: u64,
-    text: Option<&str>,
-) {
-    let given = match overrides.get(&Number::new(number)) {
+    alloc: Global,
+    all: &[(&str, &str)],
+    wanted: Overridden,
+) -> Result<(), OutOfMemory> {
+    let pairs = pairs(alloc, all)?;
+    let overrides = overrides_of(alloc, assignments, &pairs);
+    let given = match &overrides {
+        Ok(map) => Ok((text_of(map, 4), text_of(map, 2), map.len())),
+        Err(error) => Err(*error),
+    };
+    equal(rt, "overrides", given, wanted);
+    drop(overrides);
+    drop(pairs);
+    Ok(())
+}
+
+// The pairs, copied.
+pub(crate) fn pairs(
+    alloc: Global,
+    all: &[(&str, &str)],
+) -> Result<Vec<(String, String)>, OutOfMemory> {
+    let mut pairs = Vec::new(alloc);
+    for (name, text) in all {
+        put(&mut pairs, pair(alloc, name, text))?;
+    }
+    Ok(pairs)
+}
+
+fn pair(alloc: Global, name: &str, text: &str) -> Result<(String, String), OutOfMemory> {
+    let name = String::from_str(alloc, name)?;
+    Ok((name, String::from_str(alloc, text)?))
+}
+
+// What a variable is overridden with, if it is.
+pub(crate) fn text_of(overrides: &HashMap<Number, String>, number: u64) -> Option<&str> {
+    match overrides.get(&Number::new(number)) {
         Some(text) => Some(text.as_str()),
         None => None,
-    };
-    equal(rt, "override", given, text);
-}
-
-// Pairs, and the first name in them that no assignment has.
-const UNKNOWN: &[(&[&str], &str)] = &[
-    (&["d=x"], "d"),
-    (&["a=x", "e=y", "d=z"], "e"),
-    (&["=x"], ""),
-];
-
-#[test]
-fn overrides_of_no_variable(rt: HostRuntime) -> Result<(), Fail> {
-    let alloc = rt.alloc();
-    let assignments = assignments(alloc, VARIABLES)?;
-    for (words, unknown) in UNKNOWN {
-        let pairs = pairs(alloc, words)?;
-        is_unknown(
-            &rt,
-            overrides_of(alloc, &assignments, &pairs).err(),
-            unknown,
-        );
-    }
-    Ok(())
-}
-
-// Whether there is an error, which is that no variable has this name.
-fn is_unknown(rt: &impl Abort, error: Option<VariableError>, unknown: &str) {
-    assert_eq!(rt; error, Some(VariableError::Unknown(unknown)));
-}
-
-// Names, and the numbers of the variables that they stand for, each once.
-const REFERENCES: &[(&[&str], &[u64])] = &[(&[], &[]), (&["c", "b", "c"], &[2, 9])];
-
-#[test]
-fn references_by_name(rt: HostRuntime) -> Result<(), Fail> {
-    let alloc = rt.alloc();
-    let assignments = assignments(alloc, VARIABLES)?;
-    for (names, numbers) in REFERENCES {
-        are_numbers(&rt, &references_of(alloc, &assignments, names)?, numbers);
-    }
-    let refused = references_of(alloc, &assignments, &["a", "x", "y"]);
-    is_unknown(&rt, refused.err(), "x");
-    Ok(())
-}
-
-// Whether these numbers are referenced, and no others.
-fn are_numbers(rt: &impl Abort, references: &HashSet<Number>, numbers: &[u64]) {
-    equal(rt, "references", references.len(), numbers.len());
-    for number in numbers {
-        contains(rt, references, *number, true);
     }
 }
 
-pub(crate) fn contains(rt: &impl Abort, set: &HashSet<Number>, number: u64, is_there: bool) {
-    equal(
-        rt,
-        "contained",
-        (number, set.contains(&Number::new(number))),
-        (number, is_there),
-    );
+pub(crate) fn has(set: &HashSet<Number>, number: u64) -> bool {
+    set.contains(&Number::new(number))
 }
 
 #[test]
@@ -161,24 +150,28 @@ fn sets_of_numbers(rt: HostRuntime) -> Result<(), Fail> {
         rt.alloc(),
         &[Number::new(3), Number::new(1), Number::new(3)],
     )?;
-    equal(&rt, "numbers", set.len(), 2);
-    for (number, is_there) in [(1, true), (2, false), (3, true)] {
-        contains(&rt, &set, number, is_there);
-    }
+    let found = (has(&set, 1), has(&set, 2), has(&set, 3), set.len());
+    equal(&rt, "numbers", found, (true, false, true, 2));
     Ok(())
 }
+
+// Errors, and what each is written as, by itself and where a width is asked for.
+const ERRORS: &[(VariableError, &str)] = &[
+    (
+        Unknown("x"),
+        "variable `x` is not assigned|variable `x` is not assigned",
+    ),
+    (VariableError::OutOfMemory, "out of memory|out of memory"),
+];
 
 #[test]
 fn variable_errors_say(rt: HostRuntime) -> Result<(), Fail> {
     let alloc = rt.alloc();
-    for (error, text) in [
-        (VariableError::Unknown("x"), "variable `x` is not assigned"),
-        (VariableError::OutOfMemory, "out of memory"),
-        (VariableError::from(OutOfMemory), "out of memory"),
-    ] {
-        shows(&rt, alloc, &error, text)?;
-        tells(&rt, format!(in alloc; "{error:30}")?, text);
+    for (error, text) in ERRORS {
+        tells(&rt, format!(in alloc; "{error}|{error:30}")?, text);
     }
     shows(&rt, alloc, &OutOfMemory, "out of memory")?;
+    let error = VariableError::from(OutOfMemory);
+    equal(&rt, "error", error, VariableError::OutOfMemory);
     Ok(())
 }

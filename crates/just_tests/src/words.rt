@@ -1,6 +1,6 @@
 // Word lists and positional words.
 
-use crate::compared::{is_so, tells};
+use crate::compared::{is_so, same};
 use crate::parts::made_is_written;
 use just_syntax::out_of_memory::OutOfMemory;
 use just_value::list::List;
@@ -114,30 +114,38 @@ const POSITIONAL: &[(&[&str], &str)] = &[
     (&["...", "."], "'...''.'"),
 ];
 
-fn told(alloc: Global, positional: &Positional) -> Result<String, OutOfMemory> {
-    let mut text = String::new(alloc);
+fn tell(positional: &Positional, told: &mut String) -> Result<(), OutOfMemory> {
     for (key, value) in &positional.overrides {
-        write!(text, "({key}:{value})")?;
+        write!(told, "({key}:{value})")?;
     }
     if let Some(directory) = &positional.search_directory {
-        write!(text, "[{directory}]")?;
+        write!(told, "[{directory}]")?;
     }
     for argument in &positional.arguments {
-        write!(text, "'{argument}'")?;
+        write!(told, "'{argument}'")?;
     }
-    Ok(text)
+    Ok(())
 }
 
-fn expect(rt: &impl Abort, alloc: Global, words: &[&str], text: &str) -> Result<(), OutOfMemory> {
-    let positional = Positional::from_values(alloc, words.iter().copied())?;
-    tells(rt, told(alloc, &positional)?, text);
+// Whether positional words that may have been made are told so.
+pub(crate) fn are_told(
+    rt: &impl Abort,
+    alloc: Global,
+    made: Result<Positional, OutOfMemory>,
+    wanted: &str,
+) -> Result<(), OutOfMemory> {
+    let mut told = String::new(alloc);
+    tell(&made?, &mut told)?;
+    same(rt, &told, wanted);
     Ok(())
 }
 
 #[test]
 fn positional_words(rt: HostRuntime) -> Result<(), Fail> {
-    for (words, text) in POSITIONAL {
-        expect(&rt, rt.alloc(), words, text)?;
+    let alloc = rt.alloc();
+    for (words, wanted) in POSITIONAL {
+        let positional = Positional::from_values(alloc, words.iter().copied());
+        are_told(&rt, alloc, positional, wanted)?;
     }
     Ok(())
 }

@@ -1,10 +1,10 @@
 // Tables of a thousand keys, a thousand names of variables, and texts of hundreds of lines.
 
-use crate::compared::{equal, same};
+use crate::compared::{equal, is_so, same};
 use crate::modules::assignments;
-use crate::sizes::{Long, borrowed, long, thousand, twice, variables};
+use crate::sizes::{Long, beside_themselves, borrowed, long, thousand, twice, variables};
 use crate::syntax::{Named, has_length, keeps, keys_twice, table_of};
-use crate::variables::{contains, overrides_with};
+use crate::variables::{has, pairs, text_of};
 use just_syntax::number::Number;
 use just_syntax::out_of_memory::OutOfMemory;
 use just_syntax::table::Table;
@@ -57,15 +57,6 @@ fn hundreds_of_lines_unindented(rt: HostRuntime) -> Result<(), Fail> {
     Ok(())
 }
 
-// Pairs of each name and itself.
-fn pairs(alloc: Global, names: &[String]) -> Result<Vec<(String, String)>, OutOfMemory> {
-    let mut pairs = Vec::new(alloc);
-    for lexeme in names {
-        pairs.push((lexeme.clone()?, lexeme.clone()?))?;
-    }
-    Ok(pairs)
-}
-
 #[test]
 fn a_thousand_variables(rt: HostRuntime) -> Result<(), Fail> {
     let alloc = rt.alloc();
@@ -76,7 +67,7 @@ fn a_thousand_variables(rt: HostRuntime) -> Result<(), Fail> {
 
 // Whether each name overrides itself, by its place among them.
 fn are_overridden(rt: &impl Abort, alloc: Global, names: &[String]) -> Result<(), Fail> {
-    let pairs = pairs(alloc, names)?;
+    let pairs = pairs(alloc, &beside_themselves(alloc, names)?)?;
     let assignments = assignments(alloc, &variables(alloc, names)?)?;
     let overrides = overrides_of(alloc, &assignments, &pairs);
     drop(assignments);
@@ -87,7 +78,8 @@ fn are_overridden(rt: &impl Abort, alloc: Global, names: &[String]) -> Result<()
 fn override_themselves(rt: &impl Abort, overrides: &HashMap<Number, String>, names: &[String]) {
     equal(rt, "overrides", overrides.len(), 1000);
     for (place, lexeme) in names.iter().enumerate() {
-        overrides_with(rt, overrides, place as u64, Some(lexeme));
+        let text = text_of(overrides, place as u64);
+        equal(rt, lexeme, text, Some(lexeme.as_str()));
     }
 }
 
@@ -97,14 +89,13 @@ fn are_referenced(rt: &impl Abort, alloc: Global, names: &[String]) -> Result<()
     let assignments = assignments(alloc, &variables(alloc, names)?)?;
     let references = references_of(alloc, &assignments, &lexemes);
     drop(assignments);
-    contain_all(rt, &references?, 1000);
+    contain_all(rt, &references?, names);
     Ok(())
 }
 
-// Whether so many numbers are referenced, from 0 on.
-fn contain_all(rt: &impl Abort, references: &HashSet<Number>, times: usize) {
-    equal(rt, "references", references.len(), times);
-    for place in 0..times {
-        contains(rt, references, place as u64, true);
+fn contain_all(rt: &impl Abort, references: &HashSet<Number>, names: &[String]) {
+    equal(rt, "references", references.len(), 1000);
+    for (place, lexeme) in names.iter().enumerate() {
+        is_so(rt, lexeme, has(references, place as u64));
     }
 }
