@@ -3,17 +3,16 @@
 ghost use Rattle.std.specs.Prelude.{IfOk};
 ghost use Rattle.just_eval.specs.View.{IsConst};
 
-use crate::stage::Stage;
-use crate::{constants, interpreters, settings};
+use crate::{constants, interpreters, kept, settings};
 use just_case_lines::line::{Line, parse_lines};
-use just_case_reader::case::build;
+use just_case_reader::case::{Case, build};
 use just_eval::evaluator::Evaluator;
 use just_syntax::assignment::Assignment;
+use just_syntax::set::Set;
 use just_syntax::table::Table;
 use just_value::compile_error::CompileError;
 use just_value::scope::Scope;
 use std::alloc::Global;
-use std::mem;
 use std::process::Abort;
 
 /// What is told of a case.
@@ -25,6 +24,10 @@ pub(crate) enum Subject {
     Interpreter,
     /// The settings that the assignments give.
     Settings,
+    /// The settings that turn on each flag but one.
+    FlagsBut(&'static str),
+    /// Settings of which some are set twice.
+    SetTwice,
 }
 
 /// What is told of a case where the outer scope binds the numbers from 0 on, to names and values.
@@ -39,7 +42,7 @@ pub(crate) fn told(
     told_of(rt, alloc, &lines, outside, subject)
 }
 
-// What is told of a case of these lines. It is built twice, since its assignments are taken apart.
+// What is told of a case of these lines.
 fn told_of<'src>(
     rt: &impl Abort,
     alloc: Global,
@@ -47,71 +50,95 @@ fn told_of<'src>(
     outside: &[(&'static str, &'static str)],
     subject: Subject,
 ) -> String {
-    let stage = Stage::of_lines(rt, alloc, lines);
+    let case = build(alloc, lines).expect(rt, "no case");
     let scope = Scope::root(alloc, outside).expect(rt, "no memory");
-    let told = told_in(&stage, rt, alloc, lines, &scope, subject);
+    let told = told_in(&case, rt, alloc, lines, &scope, subject);
     drop(scope);
-    drop(stage);
+    drop(case);
     told
 }
 
-fn assignments_of<'src>(
-    rt: &impl Abort,
-    alloc: Global,
-    lines: &'src [Line<'src>],
-) -> Table<Assignment<'src>> {
-    let mut case = build(alloc, lines).expect(rt, "no case");
-    let assignments = mem::replace(&mut case.assignments, Table::new(alloc));
-    drop(case);
-    assignments
-}
-
-// What is told in a scope of a stage, which is that of a case of these lines.
+// What is told of a case, which is of these lines, in a scope.
 fn told_in<'src>(
-    stage: &Stage<'src>,
+    case: &Case<'src>,
     rt: &impl Abort,
     alloc: Global,
     lines: &'src [Line<'src>],
     scope: &Scope<'src, '_>,
     subject: Subject,
 ) -> String {
-    let outcome = stage.evaluate(alloc, scope);
-    let told = told_after(&outcome, rt, alloc, lines, subject);
+    let outcome = evaluated(case, rt, alloc, scope);
+    let told = match &outcome {
+        Ok(evaluator) => told_by(evaluator, rt, alloc, case, lines, subject),
+        Err(error) => said(rt, alloc, error),
+    };
     drop(outcome);
     told
 }
 
-// The same where the assignments were evaluated.
-fn told_after<'src>(
-    outcome: &Result<Evaluator<'src, '_>, CompileError<'src>>,
+// Evaluates the assignments of a case that it says are referenced.
+fn evaluated<'src, 'run>(
+    case: &'run Case<'src>,
     rt: &impl Abort,
     alloc: Global,
-    lines: &'src [Line<'src>],
-    subject: Subject,
-) -> String
-    requires before_runs { IfOk outcome.now IsConst }
+    scope: &'run Scope<'src, 'run>,
+) -> Result<Evaluator<'src, 'run>, CompileError<'src>>
+    ensures before_runs { IfOk result IsConst }
 {
-    match outcome {
-        Ok(evaluator) => told_by(evaluator, rt, alloc, lines, subject),
-        Err(error) => said(rt, alloc, error),
-    }
+    Evaluator::evaluate_const_assignments(
+        alloc,
+        &case.assignments,
+        &case.evaluation_order,
+        &case.overrides,
+        scope,
+        case.references.as_ref().expect(rt, "no references"),
+        case.lists,
+    )
 }
 
 fn told_by<'src>(
     evaluator: &Evaluator<'src, '_>,
     rt: &impl Abort,
     alloc: Global,
+    case: &Case<'src>,
     lines: &'src [Line<'src>],
     subject: Subject,
 ) -> String
     requires before_runs { IsConst evaluator.now }
 {
-    let assignments = assignments_of(rt, alloc, lines);
     match subject {
-        Subject::Expression => constants::told_by(evaluator, rt, alloc, assignments),
-        Subject::Interpreter => interpreters::told_by(evaluator, rt, alloc, assignments),
-        Subject::Settings => settings::told_by(evaluator, rt, alloc, assignments),
+        Subject::Expression => match case.assignments.get("e") {
+            Some(assignment) => constants::told_by(evaluator, rt, alloc, &assignment.value),
+            None => panic!(rt; "no expression"),
+        },
+        Subject::Interpreter => {
+            interpreters::told_by(evaluator, rt, alloc, assignments_of(rt, alloc, lines))
+        }
+        _ => settings::told_by(evaluator, rt, alloc, sets_of(rt, alloc, lines, subject)),
     }
+}
+
+// The settings of a case of these lines, or those that the subject names.
+fn sets_of<'src>(
+    rt: &impl Abort,
+    alloc: Global,
+    lines: &'src [Line<'src>],
+    subject: Subject,
+) -> Table<Set<'src>> {
+    match subject {
+        Subject::FlagsBut(left_out) => kept::flags_but(rt, alloc, kept::FLAGS, left_out),
+        Subject::SetTwice => kept::set_twice(rt, alloc),
+        _ => settings::sets_of(rt, alloc, assignments_of(rt, alloc, lines)),
+    }
+}
+
+// The assignments of a case of these lines, which is built once more for them, since they are taken apart.
+fn assignments_of<'src>(
+    rt: &impl Abort,
+    alloc: Global,
+    lines: &'src [Line<'src>],
+) -> Table<Assignment<'src>> {
+    build(alloc, lines).expect(rt, "no case").assignments
 }
 
 /// What a refusal says.

@@ -11,13 +11,3 @@ pub(crate) fn tells(rt: &impl Abort, of: &str, told: String, wanted: &str) {
 pub(crate) fn same(rt: &impl Abort, of: &str, given: &str, wanted: &str) {
     assert_eq!(rt; given, wanted, "{of}");
 }
-
-/// Something is so often there as is wanted.
-pub(crate) fn counts(rt: &impl Abort, of: &str, given: usize, wanted: usize) {
-    assert_eq!(rt; given, wanted, "{of}");
-}
-
-/// Something is so.
-pub(crate) fn is_so(rt: &impl Abort, of: &str, given: bool) {
-    assert!(rt; given, "{of}");
-}

@@ -8,11 +8,9 @@ use just_case_lines::token::name;
 use just_eval::evaluator::Evaluator;
 use just_host::no_host::NoHost;
 use just_host::recorder::Recorder;
-use just_syntax::assignment::Assignment;
 use just_syntax::expression::Expression;
 use just_syntax::number::Number;
 use just_syntax::string_context::StringContext;
-use just_syntax::table::Table;
 use just_value::compile_error::CompileError;
 use just_value::value::Value;
 use std::alloc::Global;
@@ -65,6 +63,9 @@ const EXPRESSIONS: &[(&str, &str, &str)] = &[
 // The lines in front of an expression: `s` is settled, and `o` is open.
 const STAGE: &str = "str sh\nassign s\ncmd c\nassign o\n";
 
+// What is own there.
+const OWN: &str = "{\"s\": Value { elements: [\"sh\"] }}";
+
 const LAST_LINES: &str = "\nassign e\nonly s o\nconst";
 
 #[test]
@@ -76,7 +77,7 @@ fn const_expressions(rt: HostRuntime) {
 
 // An expression comes to this value, and to this text.
 fn comes_to(rt: &impl Abort, alloc: Global, expression: &str, value: &str, text: &str) {
-    let wanted = format!(in alloc; "{value}; {text}; {value}; 0; \"sh\" open - - - 1 own");
+    let wanted = format!(in alloc; "{value}; {text}; {value}; 0; \"sh\" open - - - {OWN}");
     let wanted = wanted.expect(rt, "no memory");
     tells(rt, expression, staged(rt, alloc, expression), &wanted);
 }
@@ -100,7 +101,7 @@ const TWO_NUMBERS: &[(&str, &str)] = &[("k", "v"), ("l", "w")];
 #[test]
 fn settled_and_open(rt: HostRuntime) {
     let told = told(&rt, rt.alloc(), NUMBERED, NOTHING, Subject::Expression);
-    let wanted = "\"y\"; y; \"y\"; 0; \"x\" open open - - 1 own";
+    let wanted = "\"y\"; y; \"y\"; 0; \"x\" open open - - {\"a\": Value { elements: [\"x\"] }}";
     tells(&rt, NUMBERED, told, wanted);
 }
 
@@ -108,43 +109,28 @@ fn settled_and_open(rt: HostRuntime) {
 #[test]
 fn bound_outside(rt: HostRuntime) {
     let told = told(&rt, rt.alloc(), NUMBERED, TWO_NUMBERS, Subject::Expression);
-    let wanted = "\"y\"; y; \"y\"; 0; \"v\" \"w\" \"w\" - - 1 own";
+    let wanted = "\"y\"; y; \"y\"; 0; \"v\" \"w\" \"w\" - - {\"d\": Value { elements: [\"w\"] }}";
     tells(&rt, NUMBERED, told, wanted);
 }
 
 /// What an expression comes to: as a value, as a text, as a value where a host is handed in; how often that host was asked;
-/// and what the first five numbers are.
+/// what the first five numbers are; and the own bindings.
 pub(crate) fn told_by<'src>(
     evaluator: &Evaluator<'src, '_>,
     rt: &impl Abort,
     alloc: Global,
-    assignments: Table<Assignment<'src>>,
+    expression: &Expression<'src>,
 ) -> String
     requires before_runs { IsConst evaluator.now }
 {
     let mut text = String::new(alloc);
-    match assignments.get("e") {
-        Some(assignment) => add_all(evaluator, rt, alloc, &mut text, &assignment.value),
-        None => panic!(rt; "no expression"),
-    }
-    text
-}
-
-// Adds all of it.
-fn add_all<'src>(
-    evaluator: &Evaluator<'src, '_>,
-    rt: &impl Abort,
-    alloc: Global,
-    text: &mut String,
-    expression: &Expression<'src>,
-)
-    requires before_runs { IsConst evaluator.now }
-{
     let value = evaluator.evaluate_value_const(alloc, expression);
-    add_value(rt, text, &value);
-    add_text(evaluator, rt, alloc, text, expression);
-    add_asked(evaluator, rt, alloc, text, expression);
-    add_numbers(evaluator, rt, text);
+    add_value(rt, &mut text, &value);
+    drop(value);
+    add_text(evaluator, rt, alloc, &mut text, expression);
+    add_asked(evaluator, rt, alloc, &mut text, expression);
+    add_numbers(evaluator, rt, &mut text);
+    text
 }
 
 // Adds a value, or what is said of its refusal.
@@ -208,13 +194,13 @@ fn value_with<'src>(
     }
 }
 
-// Adds what the first five numbers are, and how many bindings are own.
+// Adds what the first five numbers are, and the own bindings.
 fn add_numbers(evaluator: &Evaluator, rt: &impl Abort, text: &mut String) {
     for number in 0..5u64 {
         add_number(evaluator, rt, text, Number::new(number));
     }
-    let own = evaluator.scope().bindings().count();
-    write!(text, "{own} own").expect(rt, "no memory");
+    let own = evaluator.scope().frame();
+    write!(text, "{own:?}").expect(rt, "no memory");
 }
 
 fn add_number(evaluator: &Evaluator, rt: &impl Abort, text: &mut String, number: Number) {

@@ -16,5 +16,3 @@ mod kept;
 mod recipes;
 #[cfg(test)]
 mod settings;
-#[cfg(test)]
-mod stage;

@@ -5,6 +5,7 @@ ghost use Rattle.just_eval.specs.View.{IsConst};
 use crate::cases::{Subject, told};
 use crate::compared::tells;
 use crate::interpreters::{self, interpreter};
+use crate::kept::{FLAGS, flags_of};
 use just_eval::evaluator::Evaluator;
 use just_host::settings::Settings;
 use just_syntax::assignment::Assignment;
@@ -68,15 +69,17 @@ fn setting<'src>(rt: &impl Abort, kind: Kind, value: Expression<'src>) -> Settin
     }
 }
 
-// Adds the settings that a case's assignments are, by their names; those with other names are none.
-fn add_sets<'src>(
-    sets: &mut Table<Set<'src>>,
+/// The settings that a case's assignments are, by their names; those with other names are none.
+pub(crate) fn sets_of<'src>(
     rt: &impl Abort,
+    alloc: Global,
     assignments: Table<Assignment<'src>>,
-) {
+) -> Table<Set<'src>> {
+    let mut sets = Table::new(alloc);
     for assignment in assignments {
-        add_named(sets, rt, assignment);
+        add_named(&mut sets, rt, assignment);
     }
+    sets
 }
 
 // Adds the setting that an assignment is, if its name is that of one.
@@ -108,17 +111,15 @@ pub(crate) fn add<'src>(
     sets.insert(Set { name, value }).expect(rt, "no memory");
 }
 
-/// What a case's settings come to: a line for each that is set to something, or what they are refused with.
+/// What settings come to: what is set to something, each behind its name, or what they are refused with.
 pub(crate) fn told_by<'src>(
     evaluator: &Evaluator<'src, '_>,
     rt: &impl Abort,
     alloc: Global,
-    assignments: Table<Assignment<'src>>,
+    sets: Table<Set<'src>>,
 ) -> String
     requires before_runs { IsConst evaluator.now }
 {
-    let mut sets = Table::new(alloc);
-    add_sets(&mut sets, rt, assignments);
     match evaluator.evaluate_sets(alloc, sets) {
         Ok(settings) => {
             let told = printed(rt, alloc, &settings);
@@ -155,7 +156,21 @@ fn print(text: &mut String, settings: &Settings) -> Result<(), OutOfMemory> {
     print_interpreter(text, "shell", &settings.shell)?;
     print_interpreter(text, "windows_shell", &settings.windows_shell)?;
     print_text(text, "tempdir", &settings.tempdir)?;
-    print_text(text, "working_directory", &settings.working_directory)
+    print_text(text, "working_directory", &settings.working_directory)?;
+    print_kept(text, settings)
+}
+
+// The flags that are on, and the indentation.
+fn print_kept(text: &mut String, settings: &Settings) -> Result<(), OutOfMemory> {
+    for (flag, is_on) in FLAGS.iter().zip(flags_of(settings)) {
+        if is_on {
+            write!(text, "{flag};")?;
+        }
+    }
+    if let Some(indentation) = settings.indentation {
+        write!(text, "indentation {indentation:?};")?;
+    }
+    Ok(())
 }
 
 // A value, if it has an element.

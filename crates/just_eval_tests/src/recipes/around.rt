@@ -1,12 +1,9 @@
 // What recipes are evaluated in, and what a case describes of it.
 
-ghost use Rattle.just_eval.specs.View.{HasRoom};
-ghost use Rattle.std.specs.Prelude.{◌<◌, ◌≡◌};
+ghost use Rattle.std.specs.Prelude.{◌≡◌};
 
-use crate::recipes::RECIPE;
 use crate::recipes::texts::{owned, push};
 use just_case_lines::line::Line;
-use just_case_lines::token::name;
 use just_case_reader::case::{Case, build};
 use just_eval::evaluator::Evaluator;
 use just_host::config::Config;
@@ -105,20 +102,6 @@ impl<'src> Around<'src> {
             None,
         )
     }
-}
-
-/// What evaluates for the recipe, where commands are run with the variables of an environment.
-pub(crate) fn evaluator<'src, 'run>(
-    context: &ExecutionContext<'src, 'run>,
-    rt: &impl Abort,
-    alloc: Global,
-    env: BTreeMap<String, String>,
-    scope: &'run Scope<'src, 'run>,
-) -> Evaluator<'src, 'run>
-    requires room { 0 < context.now.recursion_limit }
-    ensures room { HasRoom result }
-{
-    Evaluator::new(alloc, context, env, false, Some(name(RECIPE)), scope).expect(rt, "no memory")
 }
 
 // The case that lines describe.

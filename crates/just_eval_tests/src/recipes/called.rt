@@ -8,7 +8,6 @@ use crate::recipes::texts::push;
 use just_case_lines::token::name;
 use just_eval::evaluator::Evaluator;
 use just_host::execution_context::ExecutionContext;
-use just_syntax::attribute::Attribute;
 use just_syntax::expression::Expression;
 use just_syntax::number::Number;
 use just_syntax::parameter::Parameter;
@@ -54,20 +53,6 @@ impl<'src> Called<'src> {
     pub(crate) fn push(&mut self, rt: &impl Abort, parameter: Parameter<'src>, argument: Value) {
         push(rt, &mut self.arguments, argument);
         push(rt, &mut self.parameters, parameter);
-    }
-
-    /// Adds the attribute that sets an environment variable: its key and its value.
-    pub(crate) fn push_env(
-        &mut self,
-        rt: &impl Abort,
-        key: Expression<'src>,
-        value: Expression<'src>,
-    ) {
-        let pushed = self
-            .recipe
-            .attributes
-            .push(Attribute::Env(key, value), name("env"));
-        pushed.expect(rt, "no memory");
     }
 
     /// Evaluates the attributes and the parameters in the scope of a context.

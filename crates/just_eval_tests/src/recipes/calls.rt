@@ -3,9 +3,10 @@
 ghost use Rattle.just_eval.specs.View.{HasRoom};
 ghost use Rattle.std.specs.Prelude.{◌<◌};
 
-use crate::recipes::around::{Around, evaluator};
+use crate::recipes::around::Around;
 use crate::recipes::failing::{Failing, WAYS, refusal as refused};
 use crate::recipes::hosts::{TellingHost, refusal};
+use crate::recipes::lines::{Evaluated, tell_evaluated};
 use crate::recipes::texts::{add, owned, same_failing};
 use just_case_lines::token::{name, token};
 use just_eval::evaluator::Evaluator;
@@ -61,7 +62,7 @@ fn wanted(rt: &impl Abort, alloc: Global, (passed, how): Failing) -> String {
 fn call<'src>(rt: &impl Abort, alloc: Global, text: &'src str, host: &mut TellingHost) {
     let command = command(rt, alloc, text);
     let around = Around::of_nothing(rt, alloc, text);
-    call_in(&around, rt, alloc, host, &command);
+    call_around(&around, rt, alloc, host, &command);
     drop(around);
     drop(command);
 }
@@ -73,7 +74,7 @@ fn command<'src>(rt: &impl Abort, alloc: Global, text: &'src str) -> Expression<
     }
 }
 
-fn call_in<'src>(
+fn call_around<'src>(
     around: &Around<'src>,
     rt: &impl Abort,
     alloc: Global,
@@ -81,10 +82,22 @@ fn call_in<'src>(
     command: &Expression<'src>,
 ) {
     let context = around.context();
+    call_in(&context, rt, alloc, host, command);
+}
+
+fn call_in<'src>(
+    context: &ExecutionContext<'src, '_>,
+    rt: &impl Abort,
+    alloc: Global,
+    host: &mut TellingHost,
+    command: &Expression<'src>,
+)
+    requires room { 0 < context.now.recursion_limit }
+{
+    run(context, rt, alloc, host);
     let env = env(rt, alloc);
-    run(&context, rt, alloc, host, &env);
-    drop(env);
-    evaluate(&context, rt, alloc, host, command);
+    let evaluated = Evaluated::Command(command);
+    tell_evaluated(context, rt, alloc, host, env, context.scope, evaluated);
 }
 
 // The environment of each call.
@@ -101,12 +114,17 @@ fn run<'src>(
     rt: &impl Abort,
     alloc: Global,
     host: &mut TellingHost,
-    env: &BTreeMap<String, String>,
 ) {
-    if context.config.dry_run {
-        panic!(rt; "a dry run");
-    }
-    match Evaluator::run_command(alloc, host, context, env, context.scope, "run", None) {
+    assert!(rt; !context.config.dry_run, "a dry run");
+    let env = env(rt, alloc);
+    let outcome = Evaluator::run_command(alloc, host, context, &env, context.scope, "run", None);
+    drop(env);
+    tell_run(rt, host, outcome);
+}
+
+// Tells what a command that was run wrote, or its fault.
+fn tell_run(rt: &impl Abort, host: &mut TellingHost, outcome: Result<String, CommandFault>) {
+    match outcome {
         Ok(text) => host.tell(rt, &text),
         Err(CommandFault::OutOfMemory) => host.tell(rt, "no memory"),
         Err(_fault) => host.tell(rt, "refused"),
@@ -114,22 +132,8 @@ fn run<'src>(
     host.tell(rt, ";");
 }
 
-fn evaluate<'src>(
-    context: &ExecutionContext<'src, '_>,
-    rt: &impl Abort,
-    alloc: Global,
-    host: &mut TellingHost,
-    command: &Expression<'src>,
-)
-    requires room { 0 < context.now.recursion_limit }
-{
-    let evaluator = evaluator(context, rt, alloc, env(rt, alloc), context.scope);
-    evaluate_both(&evaluator, rt, alloc, host, command);
-    drop(evaluator);
-}
-
-// Evaluates the command as a value, and then as a text.
-fn evaluate_both<'src>(
+/// Evaluates the command as a value, and then as a text.
+pub(crate) fn evaluate_both<'src>(
     evaluator: &Evaluator<'src, '_>,
     rt: &impl Abort,
     alloc: Global,

@@ -1,9 +1,9 @@
 // In which environment the commands of a function's body are run that the assignments call.
 
+use crate::compared::same;
 use crate::recipes::around::Around;
 use crate::recipes::failing::NEVER;
 use crate::recipes::hosts::TellingHost;
-use crate::recipes::texts::same;
 use just_case_lines::line::{Line as CaseLine, parse_lines};
 use std::alloc::Global;
 use std::process::Abort;

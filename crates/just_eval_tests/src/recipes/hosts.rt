@@ -10,6 +10,7 @@ use just_host::text_answer::TextAnswer;
 use just_host::text_question::TextQuestion;
 use just_script::fail_at::FailAt;
 use just_syntax::out_of_memory::OutOfMemory;
+use just_value::binding::Binding;
 use just_value::error::{CommandFault, Error};
 use just_value::frame::Frame;
 use just_value::scope::Scope;
@@ -154,10 +155,15 @@ fn tell_outer<'call>(outer: &'call [&'call Frame], told: &mut String) -> Result<
 pub(crate) fn tell_frame(frame: &Frame, told: &mut String) -> Result<(), OutOfMemory> {
     told.push_str(" (")?;
     for binding in frame.bindings() {
-        let name = binding.name;
-        let value = &binding.value;
-        write!(told, "{name} = {value}")?;
+        tell_binding(binding, told)?;
     }
     told.push(')')?;
+    Ok(())
+}
+
+fn tell_binding(binding: &Binding, told: &mut String) -> Result<(), OutOfMemory> {
+    let name = binding.name;
+    let value = &binding.value;
+    write!(told, "{name} = {value}")?;
     Ok(())
 }

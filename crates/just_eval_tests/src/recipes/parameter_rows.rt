@@ -116,8 +116,22 @@ pub(crate) const ROWS: &[Row] = &[
         Some(""),
         "words ; (p = \"\") env;",
     ),
-    ("only p\nrun", "+p", ";[]", false, None, "empty p build"),
-    ("only p\nrun", "p", ";[]", false, None, "empty p build"),
+    (
+        "only p\nrun",
+        "+p",
+        ";[]",
+        false,
+        None,
+        "parameter `p` of recipe `build` requires at least one element",
+    ),
+    (
+        "only p\nrun",
+        "p",
+        ";[]",
+        false,
+        None,
+        "parameter `p` of recipe `build` requires at least one element",
+    ),
     // The number of arguments is looked at behind the attributes.
     (
         "only p\nrun",
@@ -125,7 +139,7 @@ pub(crate) const ROWS: &[Row] = &[
         "",
         false,
         None,
-        "internal arguments do not match parameter count",
+        "internal error: arguments do not match parameter count",
     ),
     (
         "str A\nassign k-1\ncmd e\nassign e-1\nrun",
@@ -133,7 +147,7 @@ pub(crate) const ROWS: &[Row] = &[
         ";a",
         false,
         None,
-        "? e () ();internal arguments do not match parameter count",
+        "? e () ();internal error: arguments do not match parameter count",
     ),
     // Each attribute sees the environment so far; a value of no element sets nothing.
     (
@@ -174,7 +188,7 @@ pub(crate) const ROWS: &[Row] = &[
         "",
         false,
         None,
-        "list [] in key of `env` attribute",
+        "list value [] in key of `env` attribute",
     ),
     // The check refuses `no`, and what is behind it is not evaluated.
     (
@@ -183,7 +197,7 @@ pub(crate) const ROWS: &[Row] = &[
         ";no;[]",
         false,
         Some(""),
-        "check p no",
+        "argument of parameter `p` was refused: no",
     ),
     // A default's command sees the environment and the earlier parameters; the body of a function that an attribute or a default
     // calls sees the environment so far, and no parameter.

@@ -2,12 +2,13 @@
 
 ghost use Rattle.std.specs.Prelude.{◌<◌};
 
+use crate::compared::same;
 use crate::recipes::around::{Around, expression_of};
 use crate::recipes::called::{Called, Check, Given};
 use crate::recipes::failing::{Failing, NEVER, WAYS, questions, told_failing};
 use crate::recipes::hosts::{TellingHost, refusal, tell_environment, tell_frame};
 use crate::recipes::parameter_rows::{ROWS, Row};
-use crate::recipes::texts::{push, same, same_failing};
+use crate::recipes::texts::{push, same_failing};
 use just_case_lines::line::{Line as CaseLine, parse_lines};
 use just_case_lines::token::name;
 use just_eval::resolved_here;
@@ -25,13 +26,16 @@ use std::alloc::Global;
 use std::collections::BTreeMap;
 use std::process::Abort;
 
+// What is told where a check refuses the first parameter.
+const REFUSED: &str = "argument of parameter `p` was refused: no";
+
 // Defaults and values come to what is wanted, also where questions fail, and a check that refuses all, or has no memory, ends
 // each recipe at its first parameter, which is `p`.
 #[test]
 fn defaults_and_values(rt: HostRuntime) {
     for row in ROWS {
         row_fails_each_way(&rt, rt.alloc(), row);
-        ends_at_first(&rt, rt.alloc(), row, Check::RefusesAll, "check p no");
+        ends_at_first(&rt, rt.alloc(), row, Check::RefusesAll, REFUSED);
         ends_at_first(&rt, rt.alloc(), row, Check::OutOfMemory, "no memory");
     }
 }
@@ -220,7 +224,8 @@ fn push_pair<'src>(
     let attributes = &mut called.recipe.attributes;
     let pushed = attributes.push(Attribute::Other, name("other"));
     pushed.expect(rt, "no memory");
-    called.push_env(rt, key, value);
+    let pushed = attributes.push(Attribute::Env(key, value), name("env"));
+    pushed.expect(rt, "no memory");
 }
 
 fn tell_around<'src>(
@@ -294,16 +299,11 @@ fn tell_given(
     Ok(())
 }
 
+// Adds what a refusal says. Of a command that fails it is told as everywhere.
 fn tell_refusal(told: &mut String, error: &Error) -> Result<(), OutOfMemory> {
     match error {
-        Error::Check { parameter, message } => write!(told, "check {parameter} {message}")?,
-        Error::EmptyListArgument { parameter, recipe } => write!(
-            told,
-            "empty {parameter} {recipe}"
-        )?,
-        Error::Internal { message, token: _ } => write!(told, "internal {message}")?,
-        Error::ListInStringContext { context, value } => write!(told, "list {value} {context}")?,
-        _ => told.push_str(refusal(error))?,
+        Error::Backtick { .. } | Error::OutOfMemory => told.push_str(refusal(error))?,
+        _ => write!(told, "{error}")?,
     }
     Ok(())
 }

@@ -1,9 +1,10 @@
 // Recipes with a thousand parameters, and lines of a thousand fragments. Twice as many take about twice as long.
 
+use crate::compared::same;
 use crate::recipes::called::{Called, parameter};
 use crate::recipes::failing::NEVER;
 use crate::recipes::hosts::TellingHost;
-use crate::recipes::texts::{add, owned, push, same};
+use crate::recipes::texts::{add, owned, push};
 use crate::recipes::{lines, parameters};
 use just_case_lines::token::{name, token};
 use just_syntax::expression::Expression;

@@ -1,15 +1,10 @@
-// Texts, and how what is told is compared with what is wanted. A test ends where there is no memory for what it makes.
+// Texts, and how what is told of a host that fails is compared with what is wanted. A test ends where there is no memory for what it makes.
 
 use crate::recipes::failing::Failing;
 use std::alloc::Global;
 use std::process::Abort;
 
-/// What is told of something is the text that is wanted.
-pub(crate) fn same(rt: &impl Abort, of: &str, told: &str, wanted: &str) {
-    assert_eq!(rt; told, wanted, "{of}");
-}
-
-/// The same where a host fails in some way.
+/// What is told of something is the text that is wanted, where a host fails in some way.
 pub(crate) fn same_failing(
     rt: &impl Abort,
     of: &str,
