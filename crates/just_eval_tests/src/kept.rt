@@ -136,7 +136,7 @@ fn kept_settings(rt: HostRuntime) {
 pub(crate) fn set_twice<'src>(rt: &impl Abort, alloc: Global) -> Table<Set<'src>> {
     let mut sets = Table::new(alloc);
     add_twice(&mut sets, rt, alloc);
-    are_three(rt, sets.len());
+    sets_left(rt, sets.len());
     sets
 }
 
@@ -166,7 +166,7 @@ fn add_indentation<'src>(
     add(sets, rt, name("indentation"), value);
 }
 
-// Of what is set twice one setting is left.
-fn are_three(rt: &impl Abort, count: usize) {
-    assert!(rt; count == 3, "{count} settings");
+// Of each setting that is set twice one set is left.
+fn sets_left(rt: &impl Abort, count: usize) {
+    assert!(rt; count == 3, "{count} sets are left");
 }

@@ -4,6 +4,7 @@ mod around;
 mod called;
 mod calls;
 mod environment;
+mod evaluated;
 mod failing;
 mod hosts;
 mod lines;

@@ -1,20 +1,17 @@
 // The calls that a runner makes beside lines and parameters: a command, a value and a text.
 
-ghost use Rattle.just_eval.specs.View.{HasRoom};
 ghost use Rattle.std.specs.Prelude.{◌<◌};
 
 use crate::recipes::around::Around;
+use crate::recipes::evaluated::{Evaluated, tell_evaluated};
 use crate::recipes::failing::{Failing, WAYS, refusal as refused};
-use crate::recipes::hosts::{TellingHost, refusal};
-use crate::recipes::lines::{Evaluated, tell_evaluated};
+use crate::recipes::hosts::TellingHost;
 use crate::recipes::texts::{add, owned, same_failing};
-use just_case_lines::token::{name, token};
+use just_case_lines::token::token;
 use just_eval::evaluator::Evaluator;
 use just_host::execution_context::ExecutionContext;
 use just_syntax::expression::Expression;
-use just_syntax::string_context::StringContext;
-use just_value::error::{CommandFault, Error};
-use just_value::value::Value;
+use just_value::error::CommandFault;
 use std::alloc::Global;
 use std::collections::BTreeMap;
 use std::process::Abort;
@@ -129,57 +126,5 @@ fn tell_run(rt: &impl Abort, host: &mut TellingHost, outcome: Result<String, Com
         Err(CommandFault::OutOfMemory) => host.tell(rt, "no memory"),
         Err(_fault) => host.tell(rt, "refused"),
     }
-    host.tell(rt, ";");
-}
-
-/// Evaluates the command as a value, and then as a text.
-pub(crate) fn evaluate_both<'src>(
-    evaluator: &Evaluator<'src, '_>,
-    rt: &impl Abort,
-    alloc: Global,
-    host: &mut TellingHost,
-    command: &Expression<'src>,
-)
-    requires room { HasRoom evaluator.now }
-{
-    evaluate_value(evaluator, rt, alloc, host, command);
-    evaluate_text(evaluator, rt, alloc, host, command);
-}
-
-fn evaluate_value<'src>(
-    evaluator: &Evaluator<'src, '_>,
-    rt: &impl Abort,
-    alloc: Global,
-    host: &mut TellingHost,
-    command: &Expression<'src>,
-)
-    requires room { HasRoom evaluator.now }
-{
-    let outcome = evaluator.evaluate_value(alloc, host, command);
-    tell_value(&outcome, rt, &mut host.told);
-    drop(outcome);
-}
-
-// Tells a value that was evaluated, or its refusal.
-fn tell_value(outcome: &Result<Value, Error>, rt: &impl Abort, told: &mut String) {
-    match outcome {
-        Ok(value) => write!(told, "{value};").expect(rt, "no memory"),
-        Err(error) => write!(told, "{};", refusal(error)).expect(rt, "no memory"),
-    }
-}
-
-fn evaluate_text<'src>(
-    evaluator: &Evaluator<'src, '_>,
-    rt: &impl Abort,
-    alloc: Global,
-    host: &mut TellingHost,
-    command: &Expression<'src>,
-)
-    requires room { HasRoom evaluator.now }
-{
-    let place = StringContext::Setting(name("set"));
-    let outcome = evaluator.evaluate_string(alloc, host, command, place);
-    host.tell_outcome(rt, &outcome);
-    drop(outcome);
     host.tell(rt, ";");
 }

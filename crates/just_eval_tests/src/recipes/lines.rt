@@ -1,18 +1,16 @@
 // Lines of recipes.
 
-ghost use Rattle.just_eval.specs.View.{HasRoom};
 ghost use Rattle.std.specs.Prelude.{◌<◌};
 
 use crate::recipes::around::{Around, expressions_of};
 use crate::recipes::called::{Called, parameter};
+use crate::recipes::evaluated::{Evaluated, tell_evaluated};
 use crate::recipes::failing::{Failing, WAYS, questions, told_failing};
 use crate::recipes::hosts::{TellingHost, refusal};
 use crate::recipes::parameters::add_attributes;
 use crate::recipes::texts::{push, same_failing};
-use crate::recipes::{RECIPE, calls};
 use just_case_lines::line::{Line as CaseLine, parse_lines};
-use just_case_lines::token::{name, token};
-use just_eval::evaluator::Evaluator;
+use just_case_lines::token::token;
 use just_eval::resolved_here;
 use just_host::execution_context::ExecutionContext;
 use just_syntax::expression::Expression;
@@ -231,65 +229,6 @@ fn tell_line<'src>(
     }
     let evaluated = Evaluated::Line(line, continued);
     tell_evaluated(context, rt, alloc, host, env, scope, evaluated);
-}
-
-/// What is evaluated for a recipe.
-#[derive(Clone, Copy)]
-pub(crate) enum Evaluated<'run, 'src> {
-    /// A line, and whether it is continued.
-    Line(&'run Line<'src>, bool),
-    /// A command, as a value and then as a text.
-    Command(&'run Expression<'src>),
-}
-
-/// Tells what is evaluated in a scope, where commands are run with the variables of an environment.
-pub(crate) fn tell_evaluated<'src>(
-    context: &ExecutionContext<'src, '_>,
-    rt: &impl Abort,
-    alloc: Global,
-    host: &mut TellingHost,
-    env: BTreeMap<String, String>,
-    scope: &Scope<'src, '_>,
-    evaluated: Evaluated<'_, 'src>,
-)
-    requires room { 0 < context.now.recursion_limit }
-{
-    let evaluator = Evaluator::new(alloc, context, env, false, Some(name(RECIPE)), scope);
-    match &evaluator {
-        Ok(evaluator) => tell_by(evaluator, rt, alloc, host, evaluated),
-        Err(_error) => host.tell(rt, "no evaluator"),
-    }
-    drop(evaluator);
-}
-
-fn tell_by<'src>(
-    evaluator: &Evaluator<'src, '_>,
-    rt: &impl Abort,
-    alloc: Global,
-    host: &mut TellingHost,
-    evaluated: Evaluated<'_, 'src>,
-)
-    requires room { HasRoom evaluator.now }
-{
-    match evaluated {
-        Evaluated::Line(line, continued) => tell_text(evaluator, rt, alloc, host, line, continued),
-        Evaluated::Command(command) => calls::evaluate_both(evaluator, rt, alloc, host, command),
-    }
-}
-
-fn tell_text<'src>(
-    evaluator: &Evaluator<'src, '_>,
-    rt: &impl Abort,
-    alloc: Global,
-    host: &mut TellingHost,
-    line: &Line<'src>,
-    continued: bool,
-)
-    requires room { HasRoom evaluator.now }
-{
-    let outcome = evaluator.evaluate_line(alloc, host, line, continued);
-    host.tell_outcome(rt, &outcome);
-    drop(outcome);
 }
 
 // A line of pieces, of which each interpolated one takes the next expression.

@@ -1,0 +1,132 @@
+// What an evaluator is made for: a line, or a command.
+
+ghost use Rattle.just_eval.specs.View.{HasRoom};
+ghost use Rattle.std.specs.Prelude.{◌<◌};
+
+use crate::recipes::RECIPE;
+use crate::recipes::hosts::{TellingHost, refusal};
+use just_case_lines::token::name;
+use just_eval::evaluator::Evaluator;
+use just_host::execution_context::ExecutionContext;
+use just_syntax::expression::Expression;
+use just_syntax::line::Line;
+use just_syntax::string_context::StringContext;
+use just_value::error::Error;
+use just_value::scope::Scope;
+use just_value::value::Value;
+use std::alloc::Global;
+use std::collections::BTreeMap;
+use std::process::Abort;
+
+/// What is evaluated for a recipe.
+#[derive(Clone, Copy)]
+pub(crate) enum Evaluated<'run, 'src> {
+    /// A line, and whether it is continued.
+    Line(&'run Line<'src>, bool),
+    /// A command, as a value and then as a text.
+    Command(&'run Expression<'src>),
+}
+
+/// Tells what is evaluated in a scope, where commands are run with the variables of an environment.
+pub(crate) fn tell_evaluated<'src>(
+    context: &ExecutionContext<'src, '_>,
+    rt: &impl Abort,
+    alloc: Global,
+    host: &mut TellingHost,
+    env: BTreeMap<String, String>,
+    scope: &Scope<'src, '_>,
+    evaluated: Evaluated<'_, 'src>,
+)
+    requires room { 0 < context.now.recursion_limit }
+{
+    let evaluator = Evaluator::new(alloc, context, env, false, Some(name(RECIPE)), scope);
+    match &evaluator {
+        Ok(evaluator) => tell_by(evaluator, rt, alloc, host, evaluated),
+        Err(_error) => host.tell(rt, "no evaluator"),
+    }
+    drop(evaluator);
+}
+
+fn tell_by<'src>(
+    evaluator: &Evaluator<'src, '_>,
+    rt: &impl Abort,
+    alloc: Global,
+    host: &mut TellingHost,
+    evaluated: Evaluated<'_, 'src>,
+)
+    requires room { HasRoom evaluator.now }
+{
+    match evaluated {
+        Evaluated::Line(line, continued) => evaluate_line(
+            evaluator, rt, alloc, host, line, continued,
+        ),
+        Evaluated::Command(command) => evaluate_both(evaluator, rt, alloc, host, command),
+    }
+}
+
+fn evaluate_line<'src>(
+    evaluator: &Evaluator<'src, '_>,
+    rt: &impl Abort,
+    alloc: Global,
+    host: &mut TellingHost,
+    line: &Line<'src>,
+    continued: bool,
+)
+    requires room { HasRoom evaluator.now }
+{
+    let outcome = evaluator.evaluate_line(alloc, host, line, continued);
+    host.tell_outcome(rt, &outcome);
+    drop(outcome);
+}
+
+// Evaluates the command as a value, and then as a text.
+fn evaluate_both<'src>(
+    evaluator: &Evaluator<'src, '_>,
+    rt: &impl Abort,
+    alloc: Global,
+    host: &mut TellingHost,
+    command: &Expression<'src>,
+)
+    requires room { HasRoom evaluator.now }
+{
+    evaluate_value(evaluator, rt, alloc, host, command);
+    evaluate_text(evaluator, rt, alloc, host, command);
+}
+
+fn evaluate_value<'src>(
+    evaluator: &Evaluator<'src, '_>,
+    rt: &impl Abort,
+    alloc: Global,
+    host: &mut TellingHost,
+    command: &Expression<'src>,
+)
+    requires room { HasRoom evaluator.now }
+{
+    let outcome = evaluator.evaluate_value(alloc, host, command);
+    tell_value(&outcome, rt, &mut host.told);
+    drop(outcome);
+}
+
+// Tells a value that was evaluated, or its refusal.
+fn tell_value(outcome: &Result<Value, Error>, rt: &impl Abort, told: &mut String) {
+    match outcome {
+        Ok(value) => write!(told, "{value};").expect(rt, "no memory"),
+        Err(error) => write!(told, "{};", refusal(error)).expect(rt, "no memory"),
+    }
+}
+
+fn evaluate_text<'src>(
+    evaluator: &Evaluator<'src, '_>,
+    rt: &impl Abort,
+    alloc: Global,
+    host: &mut TellingHost,
+    command: &Expression<'src>,
+)
+    requires room { HasRoom evaluator.now }
+{
+    let place = StringContext::Setting(name("set"));
+    let outcome = evaluator.evaluate_string(alloc, host, command, place);
+    host.tell_outcome(rt, &outcome);
+    drop(outcome);
+    host.tell(rt, ";");
+}
