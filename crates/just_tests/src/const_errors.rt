@@ -80,7 +80,7 @@ fn expect_list(
     text: &str,
     at: &str,
 ) {
-    let value = value(alloc, elements).expect(rt, "no memory");
+    let value = value(rt, alloc, elements);
     let error = ConstEvalError::ListInStringContext { context, value };
     expect(rt, alloc, error, text, at);
 }
@@ -128,9 +128,9 @@ fn lists_that_do_not_go_together(rt: HostRuntime) {
     let alloc = rt.alloc();
     for (lhs, operator, rhs, text) in ILL_MATCHED {
         let error = ConstEvalError::ListOperation {
-            lhs: value(alloc, lhs).expect(&rt, "no memory"),
+            lhs: value(&rt, alloc, lhs),
             operator: *operator,
-            rhs: value(alloc, rhs).expect(&rt, "no memory"),
+            rhs: value(&rt, alloc, rhs),
             token: token("/"),
         };
         expect(&rt, alloc, error, text, "/");

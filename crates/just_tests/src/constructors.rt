@@ -1,7 +1,7 @@
 // Syntax made by hand.
 
 use crate::compared::{equal, is_so, same};
-use crate::parts::{made_is_written, name, prints, token};
+use crate::parts::{made_prints, name, prints, token};
 use just_syntax::assignment::Assignment;
 use just_syntax::conditional_operator::ConditionalOperator::{
     self, Equality, Inequality, RegexMatch, RegexMismatch,
@@ -47,11 +47,6 @@ fn tokens_at_places(rt: HostRuntime) {
         equal(&rt, path, Token::new("x", place), wanted);
         equal(&rt, path, Name::new("x", place).token, wanted);
     }
-}
-
-// Whether what is made is written so.
-fn expect(rt: &impl Abort, alloc: Global, made: Result<Expression, OutOfMemory>, text: &str) {
-    made_is_written(rt, alloc, made, text).expect(rt, "no memory");
 }
 
 // Forms of expressions. One with a part that may be left out stands here with it and without it.
@@ -128,7 +123,7 @@ fn made<'src>(alloc: Global, form: Form, at: Token<'src>) -> Result<Expression<'
 fn forms_of_expressions(rt: HostRuntime) {
     let alloc = rt.alloc();
     for (form, lexeme, text) in FORMS {
-        expect(&rt, alloc, made(alloc, *form, token(lexeme)), text);
+        made_prints(&rt, alloc, made(alloc, *form, token(lexeme)), text);
     }
 }
 
@@ -136,11 +131,11 @@ fn forms_of_expressions(rt: HostRuntime) {
 fn rows_of_expressions(rt: HostRuntime) {
     let alloc = rt.alloc();
     let call = Expression::call(name("f"), pair(&rt, alloc));
-    expect(&rt, alloc, Ok(call), "f(a, 'x')");
+    made_prints(&rt, alloc, Ok(call), "f(a, 'x')");
     let none = Expression::call(name("pid"), Vec::new(alloc));
-    expect(&rt, alloc, Ok(none), "pid()");
+    made_prints(&rt, alloc, Ok(none), "pid()");
     let list = Expression::list(pair(&rt, alloc), token("["));
-    expect(&rt, alloc, Ok(list), "[a, 'x']");
+    made_prints(&rt, alloc, Ok(list), "[a, 'x']");
 }
 
 // A variable and a literal.
@@ -156,7 +151,7 @@ fn format_strings(rt: HostRuntime) {
     let last = StringLiteral::new(alloc, " last", "}} last'").expect(&rt, "no memory");
     let pieces = vec![in alloc; (variable("a"), last)].expect(&rt, "no memory");
     let written = Expression::format_string(first, pieces);
-    expect(&rt, alloc, Ok(written), "f'first {{a}} last'");
+    made_prints(&rt, alloc, Ok(written), "f'first {{a}} last'");
 }
 
 // Texts, and how literals of them are written.

@@ -78,7 +78,7 @@ fn refusals_of_expressions(rt: HostRuntime) {
     expect(&rt, alloc, error, text, Some("=~"));
     let error = Error::ListInStringContext {
         context: StringContext::Function(name("quote")),
-        value: value(alloc, &["a", "b"]).expect(&rt, "no memory"),
+        value: value(&rt, alloc, &["a", "b"]),
     };
     let text = "list value [\"a\", \"b\"] in argument to function `quote`\n\
         the behavior of lists with many built-in functions is undecided\n\
@@ -142,9 +142,9 @@ fn refusals_of_lists(rt: HostRuntime) {
     let alloc = rt.alloc();
     for (lhs, text) in ILL_MATCHED {
         let error = Error::ListOperation {
-            lhs: value(alloc, lhs).expect(&rt, "no memory"),
+            lhs: value(&rt, alloc, lhs),
             operator: ListOperator::Concatenate,
-            rhs: value(alloc, &["c", "d", "e"]).expect(&rt, "no memory"),
+            rhs: value(&rt, alloc, &["c", "d", "e"]),
             token: token("+"),
         };
         expect(&rt, alloc, error, text, Some("+"));

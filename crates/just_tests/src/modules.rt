@@ -1,6 +1,6 @@
 // Modules that tests are made of.
 
-use crate::parts::{name, numbered, token, whole};
+use crate::parts::{name, numbered, push, token};
 use just_host::justfile::Justfile;
 use just_host::settings::Settings;
 use just_syntax::assignment::Assignment;
@@ -9,11 +9,11 @@ use just_syntax::function_definition::FunctionDefinition;
 use just_syntax::keyed::Keyed;
 use just_syntax::name::Name;
 use just_syntax::number::Number;
-use just_syntax::out_of_memory::OutOfMemory;
 use just_syntax::table::Table;
 use just_syntax::token::Token;
 use std::alloc::Global;
 use std::collections::HashSet;
+use std::process::Abort;
 
 // What stands in an expression.
 #[derive(Clone, Copy)]
@@ -52,146 +52,101 @@ fn variable<'a>(number: Option<u64>, offset: usize) -> Expression<'a> {
     }
 }
 
-fn made<'a>(alloc: Global, part: Part<'a>, offset: usize) -> Result<Expression<'a>, OutOfMemory> {
+fn made<'a>(rt: &impl Abort, alloc: Global, part: Part<'a>, offset: usize) -> Expression<'a> {
     match part {
-        Part::Read(number) => Ok(variable(Some(number), offset)),
-        Part::Unnumbered => Ok(variable(None, offset)),
-        Part::Call(callee, numbers) => called(alloc, name_at(callee, offset), numbers, offset),
+        Part::Read(number) => variable(Some(number), offset),
+        Part::Unnumbered => variable(None, offset),
+        Part::Call(callee, numbers) => {
+            let arguments = arguments(rt, alloc, numbers, offset);
+            Expression::call(name_at(callee, offset), arguments)
+        }
     }
 }
 
-// A call, and variables with these numbers as its arguments.
-fn called<'a>(
+// Variables with these numbers, as the arguments of a call.
+fn arguments<'a>(
+    rt: &impl Abort,
     alloc: Global,
-    callee: Name<'a>,
     numbers: &[u64],
     offset: usize,
-) -> Result<Expression<'a>, OutOfMemory> {
+) -> Vec<Expression<'a>> {
     let mut arguments = Vec::new(alloc);
-    let filled = read(&mut arguments, numbers, offset);
-    whole(Expression::call(callee, arguments), filled)
-}
-
-fn read(
-    arguments: &mut Vec<Expression>,
-    numbers: &[u64],
-    offset: usize,
-) -> Result<(), OutOfMemory> {
     for number in numbers {
-        put(arguments, Ok(variable(Some(*number), offset)))?;
+        push(rt, &mut arguments, variable(Some(*number), offset));
     }
-    Ok(())
+    arguments
 }
 
-fn list(elements: Vec<Expression<'_>>) -> Expression<'_> {
+// A list of these parts, each at its place among them.
+fn list<'a>(rt: &impl Abort, alloc: Global, parts: &[Part<'a>]) -> Expression<'a> {
+    let mut elements = Vec::new(alloc);
+    for (offset, part) in parts.iter().enumerate() {
+        push(rt, &mut elements, made(rt, alloc, *part, offset));
+    }
     Expression::List {
         elements,
         token: name("[").token,
     }
 }
 
-// Adds what may have been made to a row.
-pub(crate) fn put<T: Drop>(
-    row: &mut Vec<T>,
-    made: Result<T, OutOfMemory>,
-) -> Result<(), OutOfMemory> {
-    row.push(made?)?;
-    Ok(())
-}
-
-// Adds what may have been made to a table.
-fn file<T: Drop + Keyed>(
-    table: &mut Table<T>,
-    made: Result<T, OutOfMemory>,
-) -> Result<(), OutOfMemory> {
-    table.insert(made?)?;
-    Ok(())
-}
-
-// Adds these parts, each at its place among them.
-fn make<'a>(
-    alloc: Global,
-    elements: &mut Vec<Expression<'a>>,
-    parts: &[Part<'a>],
-) -> Result<(), OutOfMemory> {
-    for (offset, part) in parts.iter().enumerate() {
-        put(elements, made(alloc, *part, offset))?;
-    }
-    Ok(())
+// Puts an item into a table.
+fn insert<T: Drop + Keyed>(rt: &impl Abort, table: &mut Table<T>, item: T) {
+    table.insert(item).expect(rt, "no memory");
 }
 
 // Parameters with these numbers.
-fn parameters<'a>(alloc: Global, numbers: &[u64]) -> Result<Vec<(Name<'a>, Number)>, OutOfMemory> {
+fn parameters<'a>(rt: &impl Abort, alloc: Global, numbers: &[u64]) -> Vec<(Name<'a>, Number)> {
     let mut parameters = Vec::new(alloc);
     for number in numbers {
-        parameters.extend_from_slice(&[(name("p"), Number::new(*number))])?;
+        let added = parameters.extend_from_slice(&[(name("p"), Number::new(*number))]);
+        added.expect(rt, "no memory");
     }
-    Ok(parameters)
+    parameters
 }
 
-fn define<'a>(
+fn functions<'a>(
+    rt: &impl Abort,
     alloc: Global,
-    table: &mut Table<FunctionDefinition<'a>>,
     all: &[Function<'a>],
-) -> Result<(), OutOfMemory> {
+) -> Table<FunctionDefinition<'a>> {
+    let mut table = Table::new(alloc);
     for (lexeme, numbers, parts) in all {
-        let parameters = parameters(alloc, numbers)?;
-        let mut elements = Vec::new(alloc);
-        let filled = make(alloc, &mut elements, parts);
-        let function = FunctionDefinition::new(name(lexeme), parameters, list(elements));
-        file(table, whole(function, filled))?;
+        let parameters = parameters(rt, alloc, numbers);
+        let body = list(rt, alloc, parts);
+        let function = FunctionDefinition::new(name(lexeme), parameters, body);
+        insert(rt, &mut table, function);
     }
-    Ok(())
+    table
 }
 
 pub(crate) fn assignments<'a>(
+    rt: &impl Abort,
     alloc: Global,
     all: &[Variable<'a>],
-) -> Result<Table<Assignment<'a>>, OutOfMemory> {
+) -> Table<Assignment<'a>> {
     let mut table = Table::new(alloc);
-    let filled = assign(alloc, &mut table, all);
-    whole(table, filled)
-}
-
-fn assign<'a>(
-    alloc: Global,
-    table: &mut Table<Assignment<'a>>,
-    all: &[Variable<'a>],
-) -> Result<(), OutOfMemory> {
     for (lexeme, number, parts) in all {
-        let mut elements = Vec::new(alloc);
-        let filled = make(alloc, &mut elements, parts);
-        let assignment = Assignment::new(name(lexeme), Number::new(*number), list(elements));
-        file(table, whole(assignment, filled))?;
+        let value = list(rt, alloc, parts);
+        let assignment = Assignment::new(name(lexeme), Number::new(*number), value);
+        insert(rt, &mut table, assignment);
     }
-    Ok(())
+    table
 }
 
-pub(crate) fn module<'a>(alloc: Global, sketch: &Sketch<'a>) -> Result<Justfile<'a>, OutOfMemory> {
-    let mut module = empty(alloc);
-    let filled = fill(alloc, &mut module, sketch);
-    whole(module, filled)
-}
-
-fn fill<'a>(
-    alloc: Global,
-    module: &mut Justfile<'a>,
-    sketch: &Sketch<'a>,
-) -> Result<(), OutOfMemory> {
-    let (functions, variables, order) = *sketch;
-    for lexeme in order {
-        module.evaluation_order.push(name(lexeme))?;
+fn order<'a>(rt: &impl Abort, alloc: Global, lexemes: &[&'a str]) -> Vec<Name<'a>> {
+    let mut order = Vec::new(alloc);
+    for lexeme in lexemes {
+        push(rt, &mut order, name(lexeme));
     }
-    define(alloc, &mut module.functions, functions)?;
-    assign(alloc, &mut module.assignments, variables)
+    order
 }
 
-// A module that says nothing.
-fn empty<'a>(alloc: Global) -> Justfile<'a> {
+pub(crate) fn module<'a>(rt: &impl Abort, alloc: Global, sketch: &Sketch<'a>) -> Justfile<'a> {
+    let (all, variables, lexemes) = *sketch;
     Justfile {
-        assignments: Table::new(alloc),
-        evaluation_order: Vec::new(alloc),
-        functions: Table::new(alloc),
+        assignments: assignments(rt, alloc, variables),
+        evaluation_order: order(rt, alloc, lexemes),
+        functions: functions(rt, alloc, all),
         module_path: String::new(alloc),
         settings: Settings::new(alloc),
         source: String::new(alloc),
@@ -204,10 +159,11 @@ fn empty<'a>(alloc: Global) -> Justfile<'a> {
 // The tests' modules stand below a scope that binds this number.
 pub(crate) const OUTER: u64 = 100;
 
-pub(crate) fn references(alloc: Global, numbers: &[u64]) -> Result<HashSet<Number>, OutOfMemory> {
+pub(crate) fn references(rt: &impl Abort, alloc: Global, numbers: &[u64]) -> HashSet<Number> {
     let mut referenced = HashSet::new(alloc);
     for number in numbers {
-        referenced.insert(Number::new(*number))?;
+        let inserted = referenced.insert(Number::new(*number));
+        inserted.expect(rt, "no memory");
     }
-    Ok(referenced)
+    referenced
 }

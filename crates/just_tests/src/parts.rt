@@ -40,42 +40,33 @@ pub(crate) fn owned(rt: &impl Abort, alloc: Global, text: &str) -> String {
     String::from_str(alloc, text).expect(rt, "no memory")
 }
 
-pub(crate) fn value(alloc: Global, elements: &[&str]) -> Result<Value, OutOfMemory> {
+// Puts an item behind others.
+pub(crate) fn push<T: Drop>(rt: &impl Abort, items: &mut Vec<T>, item: T) {
+    items.push(item).expect(rt, "no memory");
+}
+
+pub(crate) fn value(rt: &impl Abort, alloc: Global, elements: &[&str]) -> Value {
     let mut value = Value::new(alloc);
     for element in elements {
-        value.push(element)?;
+        value.push(element).expect(rt, "no memory");
     }
-    Ok(value)
+    value
 }
 
 // Whether `Display` writes this text.
-pub(crate) fn shows<T: Display>(
-    rt: &impl Abort,
-    alloc: Global,
-    item: &T,
-    text: &str,
-) -> Result<(), OutOfMemory> {
-    tells(rt, format!(in alloc; "{item}")?, text);
-    Ok(())
-}
-
-// The same, and memory suffices for it.
 pub(crate) fn prints<T: Display>(rt: &impl Abort, alloc: Global, item: &T, text: &str) {
-    shows(rt, alloc, item, text).expect(rt, "no memory");
+    let told = format!(in alloc; "{item}").expect(rt, "no memory");
+    tells(rt, told, text);
 }
 
-// Whether what may have been made is written so.
-pub(crate) fn made_is_written<T: Display + Drop>(
+// The same of what may have been made.
+pub(crate) fn made_prints<T: Display + Drop>(
     rt: &impl Abort,
     alloc: Global,
     made: Result<T, OutOfMemory>,
     text: &str,
-) -> Result<(), OutOfMemory> {
-    shows(rt, alloc, &made?, text)
-}
-
-// What was made, unless memory gave out while it was filled.
-pub(crate) fn whole<T: Drop>(made: T, filled: Result<(), OutOfMemory>) -> Result<T, OutOfMemory> {
-    filled?;
-    Ok(made)
+) {
+    let item = made.expect(rt, "no memory");
+    prints(rt, alloc, &item, text);
+    drop(item);
 }

@@ -14,12 +14,10 @@ use just_resolution::first_fault::first_fault;
 use just_resolution::resolved::resolved;
 use just_resolution::resolved_const::resolved_const;
 use just_syntax::number::Number;
-use just_syntax::out_of_memory::OutOfMemory;
 use just_value::scope::Scope;
 use std::alloc::Global;
 use std::collections::HashSet;
 use std::process::Abort;
-use std::test::Fail;
 
 // An order, the numbers that are referenced (each, where none are given), the first fault of a module with this order, if
 // it is not resolved, and whether its assignments are resolved before any run, which is not asked where each number is
@@ -35,45 +33,23 @@ type Case<'a> = (
 pub(crate) type Group<'a> = (&'a [Function<'a>], &'a [Variable<'a>], &'a [Case<'a>]);
 
 // Whether the modules of these groups are resolved as they should be. They stand below a scope, and that below another.
-pub(crate) fn expect_all<'a>(
-    rt: &impl Abort,
-    alloc: Global,
-    groups: &[Group<'a>],
-) -> Result<(), OutOfMemory> {
-    let mut outer = Scope::root(alloc, &[])?;
-    let answered = expect_within(&mut outer, rt, alloc, groups);
-    drop(outer);
-    answered
-}
-
-fn expect_within<'a>(
-    outer: &mut Scope<'a, '_>,
-    rt: &impl Abort,
-    alloc: Global,
-    groups: &[Group<'a>],
-) -> Result<(), OutOfMemory> {
-    bind(alloc, outer, "outer", OUTER, "")?;
-    let parent = outer.child(alloc)?;
-    let answered = expect_below(&parent, rt, alloc, groups);
+pub(crate) fn expect_all<'a>(rt: &impl Abort, alloc: Global, groups: &[Group<'a>]) {
+    let mut outer = Scope::root(alloc, &[]).expect(rt, "no memory");
+    bind(&mut outer, rt, alloc, "outer", OUTER, "");
+    let parent = outer.child(alloc).expect(rt, "no memory");
+    expect_below(&parent, rt, alloc, groups);
     drop(parent);
-    answered
+    drop(outer);
 }
 
-fn expect_below<'a>(
-    parent: &Scope<'a, '_>,
-    rt: &impl Abort,
-    alloc: Global,
-    groups: &[Group<'a>],
-) -> Result<(), OutOfMemory> {
+fn expect_below<'a>(parent: &Scope<'a, '_>, rt: &impl Abort, alloc: Global, groups: &[Group<'a>]) {
     for (functions, variables, cases) in groups {
         for case in *cases {
-            let module = module(alloc, &(functions, variables, case.0))?;
-            let answered = answers(&module, rt, alloc, parent, case);
+            let module = module(rt, alloc, &(functions, variables, case.0));
+            answers(&module, rt, alloc, parent, case);
             drop(module);
-            answered?;
         }
     }
-    Ok(())
 }
 
 fn answers<'a>(
@@ -82,14 +58,14 @@ fn answers<'a>(
     alloc: Global,
     parent: &Scope<'a, '_>,
     case: &Case<'a>,
-) -> Result<(), OutOfMemory> {
+) {
     let (order, referenced, short, before) = *case;
-    let of = format!(in alloc; "{order:?} {referenced:?}")?;
+    let of = format!(in alloc; "{order:?} {referenced:?}").expect(rt, "no memory");
     match referenced {
         Some(numbers) => {
-            let referenced = references(alloc, numbers)?;
-            same_before(module, rt, alloc, parent, &referenced, &of, before)?;
-            same_fault(module, rt, alloc, parent, Some(&referenced), &of, short)
+            let referenced = references(rt, alloc, numbers);
+            same_before(module, rt, alloc, parent, &referenced, &of, before);
+            same_fault(module, rt, alloc, parent, Some(&referenced), &of, short);
         }
         None => same_fault(module, rt, alloc, parent, None, &of, short),
     }
@@ -104,11 +80,10 @@ fn same_before<'a>(
     referenced: &HashSet<Number>,
     of: &str,
     wanted: Option<bool>,
-) -> Result<(), OutOfMemory> {
+) {
     let order = &module.evaluation_order;
-    let given = resolved_const(alloc, &module.assignments, order, parent, referenced)?;
-    equal(rt, of, Some(given), wanted);
-    Ok(())
+    let given = resolved_const(alloc, &module.assignments, order, parent, referenced);
+    equal(rt, of, Some(given.expect(rt, "no memory")), wanted);
 }
 
 // Whether a module has this fault, or is resolved, where it is to have none.
@@ -120,12 +95,11 @@ fn same_fault<'a>(
     referenced: Option<&HashSet<Number>>,
     of: &str,
     wanted: Option<Short<'a>>,
-) -> Result<(), OutOfMemory> {
-    let fault = first_fault(alloc, module, parent, referenced)?;
-    let is_resolved = resolved(alloc, module, parent, referenced)?;
+) {
+    let fault = first_fault(alloc, module, parent, referenced).expect(rt, "no memory");
+    let is_resolved = resolved(alloc, module, parent, referenced).expect(rt, "no memory");
     is_so(rt, of, is_resolved == wanted.is_none());
     equal(rt, of, fault, fault_of(wanted));
-    Ok(())
 }
 
 fn fault_of(short: Option<Short<'_>>) -> Option<Fault<'_>> {
@@ -280,9 +254,8 @@ const ORDERS: &[Group] = &[
 ];
 
 #[test]
-fn orders_and_functions(rt: HostRuntime) -> Result<(), Fail> {
-    expect_all(&rt, rt.alloc(), ORDERS)?;
-    Ok(())
+fn orders_and_functions(rt: HostRuntime) {
+    expect_all(&rt, rt.alloc(), ORDERS);
 }
 
 // Calls of names that the file does not define, and of a built-in function's name that it does.
@@ -315,9 +288,8 @@ const BUILT_IN_NAMES: &[Group] = &[
 ];
 
 #[test]
-fn built_in_names(rt: HostRuntime) -> Result<(), Fail> {
-    expect_all(&rt, rt.alloc(), BUILT_IN_NAMES)?;
-    Ok(())
+fn built_in_names(rt: HostRuntime) {
+    expect_all(&rt, rt.alloc(), BUILT_IN_NAMES);
 }
 
 const REFERENCED: &[Group] = &[
@@ -390,7 +362,6 @@ const REFERENCED: &[Group] = &[
 ];
 
 #[test]
-fn referenced_assignments(rt: HostRuntime) -> Result<(), Fail> {
-    expect_all(&rt, rt.alloc(), REFERENCED)?;
-    Ok(())
+fn referenced_assignments(rt: HostRuntime) {
+    expect_all(&rt, rt.alloc(), REFERENCED);
 }

@@ -1,11 +1,10 @@
 // Expression contexts, scopes and their bindings.
 
-use crate::compared::{equal, same, tells};
+use crate::compared::{equal, tells};
 use crate::modules::Variable;
-use crate::parts::{name, numbered};
+use crate::parts::{name, numbered, owned, push, value};
 use just_syntax::attribute_set::AttributeSet;
 use just_syntax::number::Number;
-use just_syntax::out_of_memory::OutOfMemory;
 use just_syntax::parameter::Parameter;
 use just_syntax::parameter_kind::ParameterKind;
 use just_value::binding::Binding;
@@ -15,7 +14,6 @@ use just_value::scope::Scope;
 use just_value::value::Value;
 use std::alloc::Global;
 use std::process::Abort;
-use std::test::Fail;
 
 // Whether a context gives a name this number.
 pub(crate) fn gives(rt: &impl Abort, context: &ExpressionContext, name: &str, number: Option<u64>) {
@@ -54,48 +52,42 @@ const CONTEXTS: &[Context] = &[
 ];
 
 #[test]
-fn names_and_numbers(rt: HostRuntime) -> Result<(), Fail> {
-    gives_all(&rt, &ExpressionContext::new(rt.alloc()), OF_NONE);
+fn names_and_numbers(rt: HostRuntime) {
+    let alloc = rt.alloc();
+    gives_all(&rt, &ExpressionContext::new(alloc), OF_NONE);
     for (variables, wanted) in CONTEXTS {
-        gives_all(&rt, &from_pairs(rt.alloc(), variables)?, wanted);
-        gives_all(&rt, &from_parameters(rt.alloc(), variables)?, wanted);
+        gives_all(&rt, &from_pairs(&rt, alloc, variables), wanted);
+        gives_all(&rt, &from_parameters(&rt, alloc, variables), wanted);
     }
-    Ok(())
 }
 
 // The context of pairs of these names and numbers.
 pub(crate) fn from_pairs<'a>(
+    rt: &impl Abort,
     alloc: Global,
     variables: &[Variable<'a>],
-) -> Result<ExpressionContext<'a>, OutOfMemory> {
+) -> ExpressionContext<'a> {
     let mut pairs = Vec::new(alloc);
     for (lexeme, number, _) in variables {
-        pairs.extend_from_slice(&[(name(lexeme), Number::new(*number))])?;
+        let added = pairs.extend_from_slice(&[(name(lexeme), Number::new(*number))]);
+        added.expect(rt, "no memory");
     }
-    ExpressionContext::from_pairs(alloc, &pairs)
+    ExpressionContext::from_pairs(alloc, &pairs).expect(rt, "no memory")
 }
 
 // The context of parameters with these names and numbers.
 pub(crate) fn from_parameters<'a>(
+    rt: &impl Abort,
     alloc: Global,
     variables: &[Variable<'a>],
-) -> Result<ExpressionContext<'a>, OutOfMemory> {
+) -> ExpressionContext<'a> {
     let mut parameters = Vec::new(alloc);
-    let context = with_parameters(alloc, &mut parameters, variables);
-    drop(parameters);
-    context
-}
-
-// The same, with the parameters put into a row that the caller drops.
-fn with_parameters<'a>(
-    alloc: Global,
-    parameters: &mut Vec<Parameter<'a>>,
-    variables: &[Variable<'a>],
-) -> Result<ExpressionContext<'a>, OutOfMemory> {
     for (lexeme, number, _) in variables {
-        parameters.push(parameter(lexeme, *number))?;
+        push(rt, &mut parameters, parameter(lexeme, *number));
     }
-    ExpressionContext::from_parameters(alloc, parameters)
+    let context = ExpressionContext::from_parameters(alloc, &parameters);
+    drop(parameters);
+    context.expect(rt, "no memory")
 }
 
 fn parameter(lexeme: &str, number: u64) -> Parameter<'_> {
@@ -113,14 +105,14 @@ fn parameter(lexeme: &str, number: u64) -> Parameter<'_> {
 
 // Binds a number to a text.
 pub(crate) fn bind<'src>(
-    alloc: Global,
     scope: &mut Scope<'src, '_>,
+    rt: &impl Abort,
+    alloc: Global,
     lexeme: &'src str,
     number: u64,
     text: &str,
-) -> Result<(), OutOfMemory> {
-    let value = Value::from_text(alloc, text)?;
-    scope.bind(Binding {
+) {
+    let bound = scope.bind(Binding {
         attributes: AttributeSet::new(alloc),
         eager: false,
         export: false,
@@ -129,25 +121,30 @@ pub(crate) fn bind<'src>(
         number: Number::new(number),
         prelude: false,
         private: false,
-        value,
-    })
+        value: value(rt, alloc, &[text]),
+    });
+    bound.expect(rt, "no memory");
 }
 
 // Names, numbers and texts, which are bound one behind the other.
 type Bound = &'static [(&'static str, u64, &'static str)];
 
-fn bind_all(alloc: Global, scope: &mut Scope, all: Bound) -> Result<(), OutOfMemory> {
+fn bind_all(scope: &mut Scope, rt: &impl Abort, alloc: Global, all: Bound) {
     for (lexeme, number, text) in all {
-        bind(alloc, scope, lexeme, *number, text)?;
+        bind(scope, rt, alloc, lexeme, *number, text);
     }
-    Ok(())
+}
+
+// A value, joined.
+fn joined(rt: &impl Abort, alloc: Global, value: &Value) -> String {
+    value.join(alloc).expect(rt, "no memory")
 }
 
 // The value of a number in a scope, joined, or `-`.
-pub(crate) fn told_value(alloc: Global, scope: &Scope, number: u64) -> Result<String, OutOfMemory> {
+fn told_value(scope: &Scope, rt: &impl Abort, alloc: Global, number: u64) -> String {
     match scope.value(Number::new(number)) {
-        Some(value) => value.join(alloc),
-        None => Ok(String::from_str(alloc, "-")?),
+        Some(value) => joined(rt, alloc, value),
+        None => owned(rt, alloc, "-"),
     }
 }
 
@@ -173,31 +170,22 @@ fn told_outer(scope: &Scope) -> i64 {
 }
 
 // Whether a number has this value in a scope.
-pub(crate) fn holds(
-    scope: &Scope,
-    rt: &impl Abort,
-    alloc: Global,
-    number: u64,
-    wanted: &str,
-) -> Result<(), OutOfMemory> {
-    tells(rt, told_value(alloc, scope, number)?, wanted);
-    Ok(())
+pub(crate) fn holds(scope: &Scope, rt: &impl Abort, alloc: Global, number: u64, wanted: &str) {
+    tells(rt, told_value(scope, rt, alloc, number), wanted);
 }
 
 // Adds each binding, its name and its value, which is joined.
-fn walk(mut bindings: Bindings, told: &mut String, alloc: Global) -> Result<(), OutOfMemory> {
+fn walk(mut bindings: Bindings, rt: &impl Abort, alloc: Global, told: &mut String) {
     while let Some(binding) = bindings.next() {
-        tell_binding(binding, told, alloc)?;
+        tell_binding(binding, rt, alloc, told);
     }
-    Ok(())
 }
 
-fn tell_binding(binding: &Binding, told: &mut String, alloc: Global) -> Result<(), OutOfMemory> {
+fn tell_binding(binding: &Binding, rt: &impl Abort, alloc: Global, told: &mut String) {
     let name = binding.name.lexeme();
     let mark = mark(binding);
-    let value = binding.value.join(alloc)?;
-    write!(told, "{name}={value}{mark};")?;
-    Ok(())
+    let value = joined(rt, alloc, &binding.value);
+    write!(told, "{name}={value}{mark};").expect(rt, "no memory");
 }
 
 // Nothing for a binding as `bind` makes it, `!` for that of a constant, and `?` for any other.
@@ -218,24 +206,23 @@ fn mark(binding: &Binding) -> &'static str {
 }
 
 // Adds the own bindings of a scope, twice: those of the scope, and those of its frame.
-pub(crate) fn tell_own(scope: &Scope, told: &mut String, alloc: Global) -> Result<(), OutOfMemory> {
-    walk(scope.bindings(), told, alloc)?;
-    walk(scope.frame().bindings(), told, alloc)
+pub(crate) fn tell_own(scope: &Scope, rt: &impl Abort, alloc: Global, told: &mut String) {
+    walk(scope.bindings(), rt, alloc, told);
+    walk(scope.frame().bindings(), rt, alloc, told);
 }
 
 // Adds what the numbers below 8 mean in a scope, each as its name, its value and `!`, where the scope itself binds it; and
 // then its own bindings, and how many frames stand around it.
-fn tell(scope: &Scope, told: &mut String, alloc: Global) -> Result<(), OutOfMemory> {
+fn tell(scope: &Scope, rt: &impl Abort, alloc: Global, told: &mut String) {
     for number in 0..8 {
         let name = name_of(scope, number);
-        let value = told_value(alloc, scope, number)?;
+        let value = told_value(scope, rt, alloc, number);
         let own = if binds_itself(scope, number) { "!" } else { "" };
-        write!(told, "{number} {name} {value}{own}; ")?;
+        write!(told, "{number} {name} {value}{own}; ").expect(rt, "no memory");
     }
-    tell_own(scope, told, alloc)?;
+    tell_own(scope, rt, alloc, told);
     let outer = told_outer(scope);
-    write!(told, " {outer}")?;
-    Ok(())
+    write!(told, " {outer}").expect(rt, "no memory");
 }
 
 const CONSTANTS: &[(&str, &str)] = &[("HEX", "0123"), ("RED", "\u{1b}[31m")];
@@ -306,72 +293,33 @@ const SCOPES: &[(Bound, Bound, &str)] = &[
 ];
 
 #[test]
-fn child_binds_its_own(rt: HostRuntime) -> Result<(), Fail> {
-    are_told(&rt, rt.alloc(), CONSTANTS, (&[], &[], TOLD_CONSTANTS))?;
+fn child_binds_its_own(rt: HostRuntime) {
+    are_told(&rt, rt.alloc(), CONSTANTS, (&[], &[], TOLD_CONSTANTS));
     for scopes in SCOPES {
-        are_told(&rt, rt.alloc(), &[], *scopes)?;
+        are_told(&rt, rt.alloc(), &[], *scopes);
     }
-    Ok(())
 }
 
-// A root of these constants and its child are told so.
+// A child of a root of these constants, and then the root, are told so, on a line each.
 fn are_told(
     rt: &impl Abort,
     alloc: Global,
     constants: &[(&'static str, &'static str)],
-    scopes: (Bound, Bound, &str),
-) -> Result<(), OutOfMemory> {
-    let mut root = Scope::root(alloc, constants)?;
-    let told = root_is_told(&mut root, rt, alloc, scopes);
-    drop(root);
-    told
-}
-
-fn root_is_told(
-    root: &mut Scope,
-    rt: &impl Abort,
-    alloc: Global,
-    scopes: (Bound, Bound, &str),
-) -> Result<(), OutOfMemory> {
-    let (outer, own, wanted) = scopes;
+    (outer, own, wanted): (Bound, Bound, &str),
+) {
+    let mut root = Scope::root(alloc, constants).expect(rt, "no memory");
+    bind_all(&mut root, rt, alloc, outer);
     let mut told = String::new(alloc);
-    tell_both(root, &mut told, alloc, outer, own)?;
-    same(rt, &told, wanted);
-    Ok(())
+    tell_child(&root, rt, alloc, own, &mut told);
+    told.push('\n').expect(rt, "no memory");
+    tell(&root, rt, alloc, &mut told);
+    drop(root);
+    tells(rt, told, wanted);
 }
 
-// Adds what is told of a child of a root, and then of the root, on a line each.
-fn tell_both(
-    root: &mut Scope,
-    told: &mut String,
-    alloc: Global,
-    outer: Bound,
-    own: Bound,
-) -> Result<(), OutOfMemory> {
-    bind_all(alloc, root, outer)?;
-    tell_child(root, told, alloc, own)?;
-    told.push('\n')?;
-    tell(root, told, alloc)
-}
-
-fn tell_child(
-    root: &Scope,
-    told: &mut String,
-    alloc: Global,
-    own: Bound,
-) -> Result<(), OutOfMemory> {
-    let mut child = root.child(alloc)?;
-    let filled = bind_and_tell(&mut child, told, alloc, own);
+fn tell_child(root: &Scope, rt: &impl Abort, alloc: Global, own: Bound, told: &mut String) {
+    let mut child = root.child(alloc).expect(rt, "no memory");
+    bind_all(&mut child, rt, alloc, own);
+    tell(&child, rt, alloc, told);
     drop(child);
-    filled
-}
-
-fn bind_and_tell(
-    scope: &mut Scope,
-    told: &mut String,
-    alloc: Global,
-    own: Bound,
-) -> Result<(), OutOfMemory> {
-    bind_all(alloc, scope, own)?;
-    tell(scope, told, alloc)
 }

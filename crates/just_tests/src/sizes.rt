@@ -6,76 +6,81 @@ mod value;
 mod words;
 
 use crate::modules::Variable;
-use just_syntax::out_of_memory::OutOfMemory;
+use crate::parts::{owned, push};
 use std::alloc::Global;
+use std::process::Abort;
 
 // A text: what it begins with, a piece and how often that stands there, and what it ends with.
 type Long = (&'static str, &'static str, usize, &'static str);
 
-fn long(alloc: Global, of: Long) -> Result<String, OutOfMemory> {
-    let (front, piece, times, back) = of;
-    repeated(alloc, &[(front, 1), (piece, times), (back, 1)])
+fn long(rt: &impl Abort, alloc: Global, (front, piece, times, back): Long) -> String {
+    repeated(rt, alloc, &[(front, 1), (piece, times), (back, 1)])
 }
 
 // Pieces, each as often as it says.
-fn repeated(alloc: Global, pieces: &[(&str, usize)]) -> Result<String, OutOfMemory> {
+fn repeated(rt: &impl Abort, alloc: Global, pieces: &[(&str, usize)]) -> String {
     let mut text = String::new(alloc);
     for (piece, times) in pieces {
         for _ in 0..*times {
-            text.push_str(piece)?;
+            text.push_str(piece).expect(rt, "no memory");
         }
     }
-    Ok(text)
+    text
 }
 
 // A text so many times.
-fn texts(alloc: Global, text: &str, times: usize) -> Result<Vec<String>, OutOfMemory> {
+fn texts(rt: &impl Abort, alloc: Global, text: &str, times: usize) -> Vec<String> {
     let mut all = Vec::new(alloc);
     for _ in 0..times {
-        all.push(String::from_str(alloc, text)?)?;
+        push(rt, &mut all, owned(rt, alloc, text));
     }
-    Ok(all)
+    all
 }
 
 // The names from `x1000` to `x1999`.
-fn thousand(alloc: Global) -> Result<Vec<String>, OutOfMemory> {
+fn thousand(rt: &impl Abort, alloc: Global) -> Vec<String> {
     let mut all = Vec::new(alloc);
     for i in 1000..2000u64 {
-        all.push(format!(in alloc; "x{i}")?)?;
+        let name = format!(in alloc; "x{i}").expect(rt, "no memory");
+        push(rt, &mut all, name);
     }
-    Ok(all)
+    all
 }
 
 // Each text beside itself.
-fn beside_themselves(alloc: Global, texts: &[String]) -> Result<Vec<(&str, &str)>, OutOfMemory> {
+fn beside_themselves<'a>(
+    rt: &impl Abort,
+    alloc: Global,
+    texts: &'a [String],
+) -> Vec<(&'a str, &'a str)> {
     let mut pairs = Vec::new(alloc);
     for text in texts {
-        pairs.push((text.as_str(), text.as_str()))?;
+        push(rt, &mut pairs, (text.as_str(), text.as_str()));
     }
-    Ok(pairs)
+    pairs
 }
 
 // The texts, borrowed.
-fn borrowed(alloc: Global, texts: &[String]) -> Result<Vec<&str>, OutOfMemory> {
+fn borrowed<'a>(rt: &impl Abort, alloc: Global, texts: &'a [String]) -> Vec<&'a str> {
     let mut all = Vec::new(alloc);
     for text in texts {
-        all.push(text.as_str())?;
+        push(rt, &mut all, text.as_str());
     }
-    Ok(all)
+    all
 }
 
 // Each name, which has its place among them as its number.
-fn variables(alloc: Global, names: &[String]) -> Result<Vec<Variable<'_>>, OutOfMemory> {
+fn variables<'a>(rt: &impl Abort, alloc: Global, names: &'a [String]) -> Vec<Variable<'a>> {
     let mut all = Vec::new(alloc);
     for (place, lexeme) in names.iter().enumerate() {
         let variable: Variable = (lexeme, place as u64, &[]);
-        all.push(variable)?;
+        push(rt, &mut all, variable);
     }
-    Ok(all)
+    all
 }
 
 // These texts, one behind the other, twice.
-fn twice(alloc: Global, texts: &[String]) -> Result<String, OutOfMemory> {
-    let once = texts.join(alloc, "")?;
-    Ok(format!(in alloc; "{once}{once}")?)
+fn twice(rt: &impl Abort, alloc: Global, texts: &[String]) -> String {
+    let once = texts.join(alloc, "").expect(rt, "no memory");
+    format!(in alloc; "{once}{once}").expect(rt, "no memory")
 }

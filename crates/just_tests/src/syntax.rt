@@ -8,7 +8,6 @@ use just_syntax::list_operator::ListOperator;
 use just_syntax::name::Name;
 use just_syntax::number::Number;
 use just_syntax::numerator::Numerator;
-use just_syntax::out_of_memory::OutOfMemory;
 use just_syntax::parameter_kind::ParameterKind;
 use just_syntax::string_context::StringContext;
 use just_syntax::table::Table;
@@ -30,18 +29,16 @@ impl Keyed for Named<'_> {
 }
 
 // Puts a value behind each of these keys, which holds the place of the key.
-pub(crate) fn table_of<'a>(
-    alloc: Global,
-    keys: &[&'a str],
-) -> Result<Table<Named<'a>>, OutOfMemory> {
+pub(crate) fn table_of<'a>(rt: &impl Abort, alloc: Global, keys: &[&'a str]) -> Table<Named<'a>> {
     let mut table = Table::new(alloc);
     for (place, lexeme) in keys.iter().enumerate() {
-        table.insert(Named {
+        let inserted = table.insert(Named {
             name: name(lexeme),
             place: place as u64,
-        })?;
+        });
+        inserted.expect(rt, "no memory");
     }
-    Ok(table)
+    table
 }
 
 const KEYS: &[&str] = &["b", "a", "", "é", "c", "a"];
@@ -57,13 +54,12 @@ const PLACES: &[(&str, Option<u64>)] = &[
 #[test]
 fn table_keeps_values_by_key(rt: HostRuntime) {
     has_length(&rt, &Table::new(rt.alloc()), 0);
-    let table = table_of(rt.alloc(), KEYS).expect(&rt, "no memory");
+    let table = table_of(&rt, rt.alloc(), KEYS);
     has_length(&rt, &table, 5);
     for (key, place) in PLACES {
         keeps(&rt, &table, key, *place);
     }
-    let keys = keys_twice(rt.alloc(), table).expect(&rt, "no memory");
-    tells(&rt, keys, "abcéabcé");
+    tells(&rt, keys_twice(&rt, rt.alloc(), table), "abcéabcé");
 }
 
 pub(crate) fn has_length(rt: &impl Abort, table: &Table<Named>, len: usize) {
@@ -81,15 +77,15 @@ pub(crate) fn keeps(rt: &impl Abort, table: &Table<Named>, key: &str, place: Opt
 }
 
 // The keys of a table, twice: by an iterator over references, and by one that takes the table.
-pub(crate) fn keys_twice(alloc: Global, table: Table<Named>) -> Result<String, OutOfMemory> {
+pub(crate) fn keys_twice(rt: &impl Abort, alloc: Global, table: Table<Named>) -> String {
     let mut keys = String::new(alloc);
     for named in table.iter() {
-        keys.push_str(named.key())?;
+        keys.push_str(named.key()).expect(rt, "no memory");
     }
     for named in table {
-        keys.push_str(named.key())?;
+        keys.push_str(named.key()).expect(rt, "no memory");
     }
-    Ok(keys)
+    keys
 }
 
 #[test]

@@ -15,7 +15,6 @@ use just_text::unindent::unindent;
 use just_text::uri::encode_uri_component;
 use std::alloc::Global;
 use std::process::Abort;
-use std::test::Fail;
 
 // Paths and their parents.
 const PARENTS: &[(&str, Option<&str>)] = &[("a//b", Some("a")), (".", Some("")), ("..", Some(""))];
@@ -38,60 +37,59 @@ fn trimmed_texts(rt: HostRuntime) {
     same(&rt, trim_end_matches("cabab", "ab"), "c");
 }
 
+// Whether a text that may have been made is the wanted one.
+fn gives(rt: &impl Abort, made: Result<String, OutOfMemory>, wanted: &str) {
+    tells(rt, made.expect(rt, "no memory"), wanted);
+}
+
 #[test]
-fn texts(rt: HostRuntime) -> Result<(), Fail> {
+fn texts(rt: HostRuntime) {
     let alloc = rt.alloc();
-    tells(&rt, join(alloc, "a/", "b")?, "a/b");
-    tells(&rt, replace(alloc, "aXbX", "X", "é")?, "aébé");
-    tells(&rt, quote(alloc, "it's")?, "'it'\\''s'");
-    tells(&rt, encode_uri_component(alloc, "/%\n~")?, "%2F%25%0A~");
-    Ok(())
+    gives(&rt, join(alloc, "a/", "b"), "a/b");
+    gives(&rt, replace(alloc, "aXbX", "X", "é"), "aébé");
+    gives(&rt, quote(alloc, "it's"), "'it'\\''s'");
+    gives(&rt, encode_uri_component(alloc, "/%\n~"), "%2F%25%0A~");
 }
 
 // Whether there is a text, and it is the wanted one.
-fn expect_some(rt: &impl Abort, text: Option<String>, wanted: &str) {
+fn gives_some(rt: &impl Abort, made: Result<Option<String>, OutOfMemory>, wanted: &str) {
+    let text = made.expect(rt, "no memory");
     equal(rt, "case", text.as_deref(), Some(wanted));
 }
 
 #[test]
-fn cases(rt: HostRuntime) -> Result<(), Fail> {
+fn cases(rt: HostRuntime) {
     let alloc = rt.alloc();
-    expect_some(&rt, capitalize(alloc, "hELLO")?, "Hello");
-    expect_some(&rt, lowercase(alloc, "hELLO")?, "hello");
-    expect_some(&rt, uppercase(alloc, "hELLO")?, "HELLO");
-    Ok(())
+    gives_some(&rt, capitalize(alloc, "hELLO"), "Hello");
+    gives_some(&rt, lowercase(alloc, "hELLO"), "hello");
+    gives_some(&rt, uppercase(alloc, "hELLO"), "HELLO");
 }
 
 // Whether texts that may have been made are the wanted ones, which have `|` between them.
-fn expect_all(
-    rt: &impl Abort,
-    alloc: Global,
-    made: Result<Vec<String>, OutOfMemory>,
-    wanted: &str,
-) -> Result<(), OutOfMemory> {
-    tells(rt, made?.join(alloc, "|")?, wanted);
-    Ok(())
+fn gives_all(rt: &impl Abort, alloc: Global, made: Result<Vec<String>, OutOfMemory>, wanted: &str) {
+    let texts = made.expect(rt, "no memory");
+    let told = texts.join(alloc, "|").expect(rt, "no memory");
+    tells(rt, told, wanted);
 }
 
 const SPACED: &str = " a\u{2003}é  b\n";
 
 #[test]
-fn cut_texts(rt: HostRuntime) -> Result<(), Fail> {
+fn cut_texts(rt: HostRuntime) {
     let alloc = rt.alloc();
-    expect_all(&rt, alloc, split(alloc, "a,,b", ","), "a||b")?;
-    expect_all(&rt, alloc, split_whitespace(alloc, SPACED), "a|é|b")?;
-    words_are_changed(&rt, alloc, &split_whitespace(alloc, SPACED)?)?;
-    let none = split_whitespace(alloc, " \t\n")?;
+    gives_all(&rt, alloc, split(alloc, "a,,b", ","), "a||b");
+    gives_all(&rt, alloc, split_whitespace(alloc, SPACED), "a|é|b");
+    let words = split_whitespace(alloc, SPACED).expect(&rt, "no memory");
+    words_are_changed(&rt, alloc, &words);
+    let none = split_whitespace(alloc, " \t\n").expect(&rt, "no memory");
     is_so(&rt, "no word", none.is_empty());
-    Ok(())
 }
 
 // The words `a`, `é` and `b`, with something behind or before each, and as one text.
-fn words_are_changed(rt: &impl Abort, alloc: Global, words: &[String]) -> Result<(), OutOfMemory> {
-    expect_all(rt, alloc, append(alloc, "!", words), "a!|é!|b!")?;
-    expect_all(rt, alloc, prepend(alloc, "x", words), "xa|xé|xb")?;
-    tells(rt, join_list(alloc, words, ", ")?, "a, é, b");
-    Ok(())
+fn words_are_changed(rt: &impl Abort, alloc: Global, words: &[String]) {
+    gives_all(rt, alloc, append(alloc, "!", words), "a!|é!|b!");
+    gives_all(rt, alloc, prepend(alloc, "x", words), "xa|xé|xb");
+    gives(rt, join_list(alloc, words, ", "), "a, é, b");
 }
 
 // Texts, and what they are without their indentation.
@@ -106,9 +104,8 @@ const UNINDENTED: &[(&str, &str)] = &[
 ];
 
 #[test]
-fn unindented(rt: HostRuntime) -> Result<(), Fail> {
+fn unindented(rt: HostRuntime) {
     for (text, expected) in UNINDENTED {
-        tells(&rt, unindent(rt.alloc(), text)?, expected);
+        gives(&rt, unindent(rt.alloc(), text), expected);
     }
-    Ok(())
 }

@@ -1,7 +1,7 @@
 // Values.
 
 use crate::compared::tells;
-use crate::parts::{shows, token, value};
+use crate::parts::{owned, prints, token, value};
 use just_syntax::list_operator::ListOperator;
 use just_syntax::out_of_memory::OutOfMemory;
 use just_value::element::Element;
@@ -10,7 +10,6 @@ use just_value::value::Value;
 use std::alloc::Global;
 use std::cmp::Ordering;
 use std::process::Abort;
-use std::test::Fail;
 
 // The elements of values, and what is told of the value: how many there are, whether it is true, whether it is empty,
 // what it is displayed as, and what it is joined to.
@@ -32,94 +31,91 @@ const VALUES: &[(&[&str], &str)] = &[
     ),
 ];
 
-fn told_of(alloc: Global, elements: &[&str]) -> Result<String, OutOfMemory> {
-    let value = value(alloc, elements)?;
-    let joined = value.join(alloc)?;
+fn told_of(rt: &impl Abort, alloc: Global, elements: &[&str]) -> String {
+    let value = value(rt, alloc, elements);
+    let joined = value.join(alloc).expect(rt, "no memory");
     let len = value.len();
     let is_true = value.is_truthy();
     let is_empty = value.is_empty();
-    Ok(format!(in alloc; "{len} {is_true} {is_empty} {value} {joined}")?)
+    format!(in alloc; "{len} {is_true} {is_empty} {value} {joined}").expect(rt, "no memory")
 }
 
 #[test]
-fn values(rt: HostRuntime) -> Result<(), Fail> {
+fn values(rt: HostRuntime) {
     let alloc = rt.alloc();
     for (elements, wanted) in VALUES {
-        tells(&rt, told_of(alloc, elements)?, wanted);
+        tells(&rt, told_of(&rt, alloc, elements), wanted);
     }
-    shows(&rt, alloc, &Element("x\ty"), "\"x\\ty\"")?;
-    Ok(())
+    prints(&rt, alloc, &Element("x\ty"), "\"x\\ty\"");
 }
 
 // Whether what may have been made has these elements, each with a `.` behind it.
-fn expect(
-    rt: &impl Abort,
-    alloc: Global,
-    made: Result<Value, OutOfMemory>,
-    elements: &str,
-) -> Result<(), OutOfMemory> {
-    tells(rt, told_of_elements(alloc, made?)?, elements);
-    Ok(())
+fn holds(rt: &impl Abort, alloc: Global, made: Result<Value, OutOfMemory>, elements: &str) {
+    let value = made.expect(rt, "no memory");
+    tells(rt, told_of_elements(rt, alloc, value), elements);
 }
 
 const SEVERAL: &[&str] = &["a", "b c"];
 
 #[test]
-fn constructors(rt: HostRuntime) -> Result<(), Fail> {
+fn constructors(rt: HostRuntime) {
     let alloc = rt.alloc();
-    expect(&rt, alloc, Value::from_text(alloc, "foo bar"), "foo bar.")?;
-    expect(&rt, alloc, Value::from_bool(alloc, true), "true.")?;
-    expect(&rt, alloc, Value::from_bool(alloc, false), "")?;
-    let text = String::from_str(alloc, "foo")?;
-    expect(&rt, alloc, Value::from_string(alloc, text), "foo.")?;
-    let one = Some(String::from_str(alloc, "bar")?);
-    expect(&rt, alloc, Value::from_iterator(alloc, one), "bar.")?;
-    let texts = value(alloc, SEVERAL)?.into_elements();
-    expect(&rt, alloc, Value::from_iterator(alloc, texts), "a.b c.")?;
-    let texts = value(alloc, SEVERAL)?.into_elements();
+    holds(&rt, alloc, Value::from_text(alloc, "foo bar"), "foo bar.");
+    holds(&rt, alloc, Value::from_bool(alloc, true), "true.");
+    holds(&rt, alloc, Value::from_bool(alloc, false), "");
+    let text = owned(&rt, alloc, "foo");
+    holds(&rt, alloc, Value::from_string(alloc, text), "foo.");
+    let one = Some(owned(&rt, alloc, "bar"));
+    holds(&rt, alloc, Value::from_iterator(alloc, one), "bar.");
+    let texts = value(&rt, alloc, SEVERAL).into_elements();
+    holds(&rt, alloc, Value::from_iterator(alloc, texts), "a.b c.");
+    let texts = value(&rt, alloc, SEVERAL).into_elements();
     let copied = Value::from_elements(texts).try_clone(alloc);
-    expect(&rt, alloc, copied, "a.b c.")?;
-    Ok(())
+    holds(&rt, alloc, copied, "a.b c.");
+}
+
+// Adds a text with a `.` behind it.
+fn add(rt: &impl Abort, told: &mut String, text: &str) {
+    write!(told, "{text}.").expect(rt, "no memory");
 }
 
 // The elements that an iterator over references gives, with a `.` behind each.
-pub(crate) fn told(alloc: Global, value: &Value) -> Result<String, OutOfMemory> {
+pub(crate) fn told(rt: &impl Abort, alloc: Global, value: &Value) -> String {
     let mut all = String::new(alloc);
     for text in value.iter() {
-        write!(all, "{text}.")?;
+        add(rt, &mut all, text);
     }
     for text in value {
-        write!(all, "{text}.")?;
+        add(rt, &mut all, text);
     }
-    Ok(all)
+    all
 }
 
 // The same of an iterator that takes the value.
-pub(crate) fn told_of_own(alloc: Global, value: Value) -> Result<String, OutOfMemory> {
+pub(crate) fn told_of_own(rt: &impl Abort, alloc: Global, value: Value) -> String {
     let mut all = String::new(alloc);
     for text in value {
-        write!(all, "{text}.")?;
+        add(rt, &mut all, &text);
     }
-    Ok(all)
+    all
 }
 
 // The same of the elements themselves.
-pub(crate) fn told_of_elements(alloc: Global, value: Value) -> Result<String, OutOfMemory> {
+pub(crate) fn told_of_elements(rt: &impl Abort, alloc: Global, value: Value) -> String {
     let mut all = String::new(alloc);
     for text in value.into_elements() {
-        write!(all, "{text}.")?;
+        add(rt, &mut all, &text);
     }
-    Ok(all)
+    all
 }
 
 #[test]
-fn iterators(rt: HostRuntime) -> Result<(), Fail> {
+fn iterators(rt: HostRuntime) {
     let alloc = rt.alloc();
-    let value = value(alloc, &["a", "", "bc"])?;
-    tells(&rt, told(alloc, &value)?, "a..bc.a..bc.");
-    expect(&rt, alloc, value.try_clone(alloc), "a..bc.")?;
-    tells(&rt, told_of_own(alloc, value)?, "a..bc.");
-    Ok(())
+    let value = value(&rt, alloc, &["a", "", "bc"]);
+    tells(&rt, told(&rt, alloc, &value), "a..bc.a..bc.");
+    holds(&rt, alloc, value.try_clone(alloc), "a..bc.");
+    tells(&rt, told_of_own(&rt, alloc, value), "a..bc.");
 }
 
 // The elements of values, each less than the next.
@@ -135,17 +131,10 @@ const RISING: &[&[&str]] = &[
 ];
 
 // Whether values of these elements stand in this order.
-fn compare(
-    rt: &impl Abort,
-    alloc: Global,
-    left: &[&str],
-    right: &[&str],
-    order: Ordering,
-) -> Result<(), OutOfMemory> {
-    let x = value(alloc, left)?;
-    let y = value(alloc, right)?;
+fn compare(rt: &impl Abort, alloc: Global, left: &[&str], right: &[&str], order: Ordering) {
+    let x = value(rt, alloc, left);
+    let y = value(rt, alloc, right);
     assert!(rt; stand_so(&x, &y, order), "{x} {y}");
-    Ok(())
 }
 
 fn stand_so(x: &Value, y: &Value, order: Ordering) -> bool {
@@ -153,13 +142,12 @@ fn stand_so(x: &Value, y: &Value, order: Ordering) -> bool {
 }
 
 #[test]
-fn comparisons(rt: HostRuntime) -> Result<(), Fail> {
+fn comparisons(rt: HostRuntime) {
     for (i, left) in RISING.iter().enumerate() {
         for (j, right) in RISING.iter().enumerate() {
-            compare(&rt, rt.alloc(), left, right, i.cmp(&j))?;
+            compare(&rt, rt.alloc(), left, right, i.cmp(&j));
         }
     }
-    Ok(())
 }
 
 // What is beside an operator, and what that comes to; `refused`, where the lengths of lists do not go together.
@@ -205,17 +193,18 @@ const APPLIED: &[(&[&str], ListOperator, &[&str], &str)] = &[
 
 // What values come to with an operator between them; `refused`, where it is a refusal of it with these values, at `/`.
 fn told_of_applied(
+    rt: &impl Abort,
     alloc: Global,
     left: &Value,
     operator: ListOperator,
     right: &Value,
-) -> Result<String, OutOfMemory> {
+) -> String {
     match left.apply(alloc, right, operator, token("/")) {
-        Ok(value) => Ok(value.to_string(alloc)?),
+        Ok(value) => value.to_string(alloc).expect(rt, "no memory"),
         Err(error) => {
             let told = refused(&error, left, operator, right);
             drop(error);
-            Ok(String::from_str(alloc, told)?)
+            owned(rt, alloc, told)
         }
     }
 }
@@ -234,24 +223,21 @@ fn refused(error: &Error, left: &Value, of: ListOperator, right: &Value) -> &'st
 }
 
 fn told_between(
+    rt: &impl Abort,
     alloc: Global,
     left: &[&str],
     operator: ListOperator,
     right: &[&str],
-) -> Result<String, OutOfMemory> {
-    let left = value(alloc, left)?;
-    let right = value(alloc, right)?;
-    told_of_applied(alloc, &left, operator, &right)
+) -> String {
+    let left = value(rt, alloc, left);
+    let right = value(rt, alloc, right);
+    told_of_applied(rt, alloc, &left, operator, &right)
 }
 
 #[test]
-fn operator_on_lists(rt: HostRuntime) -> Result<(), Fail> {
+fn operator_on_lists(rt: HostRuntime) {
     for (left, operator, right, wanted) in APPLIED {
-        tells(
-            &rt,
-            told_between(rt.alloc(), left, *operator, right)?,
-            wanted,
-        );
+        let told = told_between(&rt, rt.alloc(), left, *operator, right);
+        tells(&rt, told, wanted);
     }
-    Ok(())
 }

@@ -1,8 +1,8 @@
 // Overrides and references, told by the names of variables.
 
 use crate::compared::{equal, tells};
-use crate::modules::{Variable, assignments, put};
-use crate::parts::{numbered, shows};
+use crate::modules::{Variable, assignments};
+use crate::parts::{numbered, owned, prints, push};
 use just_syntax::assignment::Assignment;
 use just_syntax::number::Number;
 use just_syntax::out_of_memory::OutOfMemory;
@@ -12,7 +12,6 @@ use just_syntax::variables::{number_of, overrides_of, references_of, set_of};
 use std::alloc::Global;
 use std::collections::{HashMap, HashSet};
 use std::process::Abort;
-use std::test::Fail;
 
 // Variables and their numbers.
 const VARIABLES: &[Variable] = &[("b", 2, &[]), ("c", 9, &[]), ("a", 4, &[])];
@@ -54,18 +53,13 @@ const REFERENCES: &[(&[&str], Referenced)] = &[
 ];
 
 #[test]
-fn variables_by_name(rt: HostRuntime) -> Result<(), Fail> {
-    let assignments = assignments(rt.alloc(), VARIABLES)?;
-    let named = are_named(&assignments, &rt, rt.alloc());
+fn variables_by_name(rt: HostRuntime) {
+    let assignments = assignments(&rt, rt.alloc(), VARIABLES);
+    are_named(&assignments, &rt, rt.alloc());
     drop(assignments);
-    Ok(named?)
 }
 
-fn are_named(
-    assignments: &Table<Assignment>,
-    rt: &impl Abort,
-    alloc: Global,
-) -> Result<(), OutOfMemory> {
+fn are_named(assignments: &Table<Assignment>, rt: &impl Abort, alloc: Global) {
     for (name, number) in NUMBERS {
         equal(rt, name, number_of(assignments, name), numbered(*number));
     }
@@ -73,9 +67,8 @@ fn are_named(
         refer(assignments, rt, alloc, names, *wanted);
     }
     for (pairs, wanted) in OVERRIDES {
-        are_overridden(assignments, rt, alloc, pairs, *wanted)?;
+        are_overridden(assignments, rt, alloc, pairs, *wanted);
     }
-    Ok(())
 }
 
 // Whether names come to this.
@@ -102,8 +95,8 @@ fn are_overridden(
     alloc: Global,
     all: &[(&str, &str)],
     wanted: Overridden,
-) -> Result<(), OutOfMemory> {
-    let pairs = pairs(alloc, all)?;
+) {
+    let pairs = pairs(rt, alloc, all);
     let overrides = overrides_of(alloc, assignments, &pairs);
     let given = match &overrides {
         Ok(map) => Ok((text_of(map, 4), text_of(map, 2), map.len())),
@@ -112,24 +105,19 @@ fn are_overridden(
     equal(rt, "overrides", given, wanted);
     drop(overrides);
     drop(pairs);
-    Ok(())
 }
 
 // The pairs, copied.
-pub(crate) fn pairs(
-    alloc: Global,
-    all: &[(&str, &str)],
-) -> Result<Vec<(String, String)>, OutOfMemory> {
+pub(crate) fn pairs(rt: &impl Abort, alloc: Global, all: &[(&str, &str)]) -> Vec<(String, String)> {
     let mut pairs = Vec::new(alloc);
     for (name, text) in all {
-        put(&mut pairs, pair(alloc, name, text))?;
+        push(
+            rt,
+            &mut pairs,
+            (owned(rt, alloc, name), owned(rt, alloc, text)),
+        );
     }
-    Ok(pairs)
-}
-
-fn pair(alloc: Global, name: &str, text: &str) -> Result<(String, String), OutOfMemory> {
-    let name = String::from_str(alloc, name)?;
-    Ok((name, String::from_str(alloc, text)?))
+    pairs
 }
 
 // What a variable is overridden with, if it is.
@@ -145,14 +133,11 @@ pub(crate) fn has(set: &HashSet<Number>, number: u64) -> bool {
 }
 
 #[test]
-fn sets_of_numbers(rt: HostRuntime) -> Result<(), Fail> {
-    let set = set_of(
-        rt.alloc(),
-        &[Number::new(3), Number::new(1), Number::new(3)],
-    )?;
+fn sets_of_numbers(rt: HostRuntime) {
+    let numbers = [Number::new(3), Number::new(1), Number::new(3)];
+    let set = set_of(rt.alloc(), &numbers).expect(&rt, "no memory");
     let found = (has(&set, 1), has(&set, 2), has(&set, 3), set.len());
     equal(&rt, "numbers", found, (true, false, true, 2));
-    Ok(())
 }
 
 // Errors, and what each is written as, by itself and where a width is asked for.
@@ -165,13 +150,13 @@ const ERRORS: &[(VariableError, &str)] = &[
 ];
 
 #[test]
-fn variable_errors_say(rt: HostRuntime) -> Result<(), Fail> {
+fn variable_errors_say(rt: HostRuntime) {
     let alloc = rt.alloc();
     for (error, text) in ERRORS {
-        tells(&rt, format!(in alloc; "{error}|{error:30}")?, text);
+        let told = format!(in alloc; "{error}|{error:30}").expect(&rt, "no memory");
+        tells(&rt, told, text);
     }
-    shows(&rt, alloc, &OutOfMemory, "out of memory")?;
+    prints(&rt, alloc, &OutOfMemory, "out of memory");
     let error = VariableError::from(OutOfMemory);
     equal(&rt, "error", error, VariableError::OutOfMemory);
-    Ok(())
 }

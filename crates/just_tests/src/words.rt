@@ -1,13 +1,12 @@
 // Word lists and positional words.
 
-use crate::compared::{is_so, same};
-use crate::parts::made_is_written;
+use crate::compared::{is_so, tells};
+use crate::parts::made_prints;
 use just_syntax::out_of_memory::OutOfMemory;
 use just_value::list::List;
 use just_value::positional::Positional;
 use std::alloc::Global;
 use std::process::Abort;
-use std::test::Fail;
 
 // Numbers, and what the lists of them say.
 struct Lists {
@@ -56,22 +55,24 @@ const LISTS: &[Lists] = &[
     },
 ];
 
-fn list_all(rt: &impl Abort, alloc: Global, lists: &Lists) -> Result<(), OutOfMemory> {
+fn list_all(rt: &impl Abort, alloc: Global, lists: &Lists) {
     let numbers = lists.numbers;
-    made_is_written(rt, alloc, List::or(alloc, numbers), lists.or)?;
-    made_is_written(rt, alloc, List::and(alloc, numbers), lists.and)?;
-    let ticked = List::or_ticked(alloc, numbers);
-    made_is_written(rt, alloc, ticked, lists.or_ticked)?;
-    let ticked = List::and_ticked(alloc, numbers);
-    made_is_written(rt, alloc, ticked, lists.and_ticked)
+    made_prints(rt, alloc, List::or(alloc, numbers), lists.or);
+    made_prints(rt, alloc, List::and(alloc, numbers), lists.and);
+    made_prints(rt, alloc, List::or_ticked(alloc, numbers), lists.or_ticked);
+    made_prints(
+        rt,
+        alloc,
+        List::and_ticked(alloc, numbers),
+        lists.and_ticked,
+    );
 }
 
 #[test]
-fn word_lists(rt: HostRuntime) -> Result<(), Fail> {
+fn word_lists(rt: HostRuntime) {
     for lists in LISTS {
-        list_all(&rt, rt.alloc(), lists)?;
+        list_all(&rt, rt.alloc(), lists);
     }
-    Ok(())
 }
 
 // Positional words, and what they are told as: the overrides in parentheses, with a `:` behind each key, the directory in
@@ -114,17 +115,18 @@ const POSITIONAL: &[(&[&str], &str)] = &[
     (&["...", "."], "'...''.'"),
 ];
 
-fn tell(positional: &Positional, told: &mut String) -> Result<(), OutOfMemory> {
+fn told(rt: &impl Abort, alloc: Global, positional: &Positional) -> String {
+    let mut told = String::new(alloc);
     for (key, value) in &positional.overrides {
-        write!(told, "({key}:{value})")?;
+        write!(told, "({key}:{value})").expect(rt, "no memory");
     }
     if let Some(directory) = &positional.search_directory {
-        write!(told, "[{directory}]")?;
+        write!(told, "[{directory}]").expect(rt, "no memory");
     }
     for argument in &positional.arguments {
-        write!(told, "'{argument}'")?;
+        write!(told, "'{argument}'").expect(rt, "no memory");
     }
-    Ok(())
+    told
 }
 
 // Whether positional words that may have been made are told so.
@@ -133,30 +135,26 @@ pub(crate) fn are_told(
     alloc: Global,
     made: Result<Positional, OutOfMemory>,
     wanted: &str,
-) -> Result<(), OutOfMemory> {
-    let mut told = String::new(alloc);
-    tell(&made?, &mut told)?;
-    same(rt, &told, wanted);
-    Ok(())
+) {
+    let positional = made.expect(rt, "no memory");
+    tells(rt, told(rt, alloc, &positional), wanted);
 }
 
 #[test]
-fn positional_words(rt: HostRuntime) -> Result<(), Fail> {
+fn positional_words(rt: HostRuntime) {
     let alloc = rt.alloc();
     for (words, wanted) in POSITIONAL {
         let positional = Positional::from_values(alloc, words.iter().copied());
-        are_told(&rt, alloc, positional, wanted)?;
+        are_told(&rt, alloc, positional, wanted);
     }
-    Ok(())
 }
 
 #[test]
-fn words_that_mean_the_same(rt: HostRuntime) -> Result<(), Fail> {
+fn words_that_mean_the_same(rt: HostRuntime) {
     let alloc = rt.alloc();
-    let one = Positional::from_values(alloc, ["a/b", "c"])?;
-    let other = Positional::from_values(alloc, ["a/", "b", "c"])?;
-    let third = Positional::from_values(alloc, ["a/", "c"])?;
+    let one = Positional::from_values(alloc, ["a/b", "c"]).expect(&rt, "no memory");
+    let other = Positional::from_values(alloc, ["a/", "b", "c"]).expect(&rt, "no memory");
+    let third = Positional::from_values(alloc, ["a/", "c"]).expect(&rt, "no memory");
     is_so(&rt, "same words", one == other);
     is_so(&rt, "other words", one != third);
-    Ok(())
 }

@@ -1,35 +1,33 @@
 // Tables of a thousand keys, a thousand names of variables, and texts of hundreds of lines.
 
-use crate::compared::{equal, is_so, same};
+use crate::compared::{equal, is_so, tells};
 use crate::modules::assignments;
 use crate::sizes::{Long, beside_themselves, borrowed, long, thousand, twice, variables};
 use crate::syntax::{Named, has_length, keeps, keys_twice, table_of};
 use crate::variables::{has, pairs, text_of};
 use just_syntax::number::Number;
-use just_syntax::out_of_memory::OutOfMemory;
 use just_syntax::table::Table;
 use just_syntax::variables::{overrides_of, references_of};
 use just_text::unindent::unindent;
 use std::alloc::Global;
 use std::collections::{HashMap, HashSet};
 use std::process::Abort;
-use std::test::Fail;
 
 // Keys, and a table with a value behind each of them, the last first.
-fn backwards(alloc: Global, keys: &[String]) -> Result<Table<Named<'_>>, OutOfMemory> {
-    let mut all = borrowed(alloc, keys)?;
+fn backwards<'a>(rt: &impl Abort, alloc: Global, keys: &'a [String]) -> Table<Named<'a>> {
+    let mut all = borrowed(rt, alloc, keys);
     all.reverse();
-    table_of(alloc, &all)
+    table_of(rt, alloc, &all)
 }
 
 #[test]
-fn table_of_a_thousand_keys(rt: HostRuntime) -> Result<(), Fail> {
+fn table_of_a_thousand_keys(rt: HostRuntime) {
     let alloc = rt.alloc();
-    let keys = thousand(alloc)?;
-    let table = backwards(alloc, &keys)?;
+    let keys = thousand(&rt, alloc);
+    let table = backwards(&rt, alloc, &keys);
     keeps_all(&rt, &table, &keys);
-    same(&rt, &keys_twice(alloc, table)?, &twice(alloc, &keys)?);
-    Ok(())
+    let told = keys_twice(&rt, alloc, table);
+    tells(&rt, told, &twice(&rt, alloc, &keys));
 }
 
 // Whether a table has a value at each of a thousand keys, the last first.
@@ -48,31 +46,29 @@ const UNINDENTED: &[(Long, Long)] = &[
 ];
 
 #[test]
-fn hundreds_of_lines_unindented(rt: HostRuntime) -> Result<(), Fail> {
+fn hundreds_of_lines_unindented(rt: HostRuntime) {
     let alloc = rt.alloc();
     for (text, wanted) in UNINDENTED {
-        let unindented = unindent(alloc, &long(alloc, *text)?)?;
-        same(&rt, &unindented, &long(alloc, *wanted)?);
+        let unindented = unindent(alloc, &long(&rt, alloc, *text)).expect(&rt, "no memory");
+        tells(&rt, unindented, &long(&rt, alloc, *wanted));
     }
-    Ok(())
 }
 
 #[test]
-fn a_thousand_variables(rt: HostRuntime) -> Result<(), Fail> {
+fn a_thousand_variables(rt: HostRuntime) {
     let alloc = rt.alloc();
-    let names = thousand(alloc)?;
-    are_overridden(&rt, alloc, &names)?;
-    are_referenced(&rt, alloc, &names)
+    let names = thousand(&rt, alloc);
+    are_overridden(&rt, alloc, &names);
+    are_referenced(&rt, alloc, &names);
 }
 
 // Whether each name overrides itself, by its place among them.
-fn are_overridden(rt: &impl Abort, alloc: Global, names: &[String]) -> Result<(), Fail> {
-    let pairs = pairs(alloc, &beside_themselves(alloc, names)?)?;
-    let assignments = assignments(alloc, &variables(alloc, names)?)?;
+fn are_overridden(rt: &impl Abort, alloc: Global, names: &[String]) {
+    let pairs = pairs(rt, alloc, &beside_themselves(rt, alloc, names));
+    let assignments = assignments(rt, alloc, &variables(rt, alloc, names));
     let overrides = overrides_of(alloc, &assignments, &pairs);
     drop(assignments);
-    override_themselves(rt, &overrides?, names);
-    Ok(())
+    override_themselves(rt, &overrides.expect(rt, "no overrides"), names);
 }
 
 fn override_themselves(rt: &impl Abort, overrides: &HashMap<Number, String>, names: &[String]) {
@@ -84,13 +80,12 @@ fn override_themselves(rt: &impl Abort, overrides: &HashMap<Number, String>, nam
 }
 
 // Whether each name is referenced, by its place among them.
-fn are_referenced(rt: &impl Abort, alloc: Global, names: &[String]) -> Result<(), Fail> {
-    let lexemes = borrowed(alloc, names)?;
-    let assignments = assignments(alloc, &variables(alloc, names)?)?;
+fn are_referenced(rt: &impl Abort, alloc: Global, names: &[String]) {
+    let lexemes = borrowed(rt, alloc, names);
+    let assignments = assignments(rt, alloc, &variables(rt, alloc, names));
     let references = references_of(alloc, &assignments, &lexemes);
     drop(assignments);
-    contain_all(rt, &references?, names);
-    Ok(())
+    contain_all(rt, &references.expect(rt, "no references"), names);
 }
 
 fn contain_all(rt: &impl Abort, references: &HashSet<Number>, names: &[String]) {

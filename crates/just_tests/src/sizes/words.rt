@@ -1,7 +1,7 @@
 // Word lists, positional words, and the names of an expression.
 
 use crate::modules::Variable;
-use crate::parts::made_is_written;
+use crate::parts::made_prints;
 use crate::scope::{from_pairs, from_parameters, gives};
 use crate::sizes::{Long, long, repeated, thousand, variables};
 use crate::words::are_told;
@@ -12,32 +12,29 @@ use just_value::positional::Positional;
 use std::alloc::Global;
 use std::fmt::Display;
 use std::process::Abort;
-use std::test::Fail;
 
-// Whether what may have been made is written so.
-fn shows<T: Display + Drop>(
+// Whether what may have been made is written as a long text.
+fn made_prints_long<T: Display + Drop>(
     rt: &impl Abort,
     alloc: Global,
     made: Result<T, OutOfMemory>,
     text: Long,
-) -> Result<(), OutOfMemory> {
-    let wanted = long(alloc, text)?;
-    made_is_written(rt, alloc, made, &wanted)
+) {
+    made_prints(rt, alloc, made, &long(rt, alloc, text));
 }
 
 #[test]
-fn lists_of_hundreds_of_words(rt: HostRuntime) -> Result<(), Fail> {
+fn lists_of_hundreds_of_words(rt: HostRuntime) {
     let alloc = rt.alloc();
     let words = ["a"; 300];
     let list = List::or(alloc, words);
-    shows(&rt, alloc, list, ("", "a, ", 299, "or a"))?;
+    made_prints_long(&rt, alloc, list, ("", "a, ", 299, "or a"));
     let list = List::and(alloc, words);
-    shows(&rt, alloc, list, ("", "a, ", 299, "and a"))?;
+    made_prints_long(&rt, alloc, list, ("", "a, ", 299, "and a"));
     let list = List::or_ticked(alloc, words);
-    shows(&rt, alloc, list, ("", "`a`, ", 299, "or `a`"))?;
+    made_prints_long(&rt, alloc, list, ("", "`a`, ", 299, "or `a`"));
     let list = List::and_ticked(alloc, words);
-    shows(&rt, alloc, list, ("", "`a`, ", 299, "and `a`"))?;
-    Ok(())
+    made_prints_long(&rt, alloc, list, ("", "`a`, ", 299, "and `a`"));
 }
 
 // A thousand overrides, a directory, and a thousand arguments.
@@ -52,28 +49,25 @@ const TOLD: &[(&str, usize)] = &[
 ];
 
 #[test]
-fn thousands_of_positional_words(rt: HostRuntime) -> Result<(), Fail> {
+fn thousands_of_positional_words(rt: HostRuntime) {
     let alloc = rt.alloc();
-    let words = repeated(alloc, WORDS)?;
-    let wanted = repeated(alloc, TOLD)?;
+    let words = repeated(&rt, alloc, WORDS);
+    let wanted = repeated(&rt, alloc, TOLD);
     let positional = Positional::from_values(alloc, words.split(' '));
-    are_told(&rt, alloc, positional, &wanted)?;
-    Ok(())
+    are_told(&rt, alloc, positional, &wanted);
 }
 
 #[test]
-fn a_thousand_names(rt: HostRuntime) -> Result<(), Fail> {
+fn a_thousand_names(rt: HostRuntime) {
     let alloc = rt.alloc();
-    let names = thousand(alloc)?;
-    give_places(&rt, alloc, &variables(alloc, &names)?)?;
-    Ok(())
+    let names = thousand(&rt, alloc);
+    give_places(&rt, alloc, &variables(&rt, alloc, &names));
 }
 
 // Whether a context of pairs gives each of a thousand names its number, and a context of parameters does.
-fn give_places(rt: &impl Abort, alloc: Global, names: &[Variable]) -> Result<(), OutOfMemory> {
-    gives_all(rt, &from_pairs(alloc, names)?, names);
-    gives_all(rt, &from_parameters(alloc, names)?, names);
-    Ok(())
+fn give_places(rt: &impl Abort, alloc: Global, names: &[Variable]) {
+    gives_all(rt, &from_pairs(rt, alloc, names), names);
+    gives_all(rt, &from_parameters(rt, alloc, names), names);
 }
 
 // Whether a context gives each name its number, and a name that is not among them none.
