@@ -10,7 +10,7 @@ ghost use Rattle.just_meaning.specs.Meaning.{asserted, compared, is_regex, unind
 use just_syntax::conditional_operator::ConditionalOperator;
 use just_syntax::out_of_memory::OutOfMemory;
 use just_syntax::string_literal::StringLiteral;
-use just_text::unindent::unindent;
+use just_syntax::unindent;
 use just_value::error::Error;
 use just_value::value::Value;
 use std::alloc::Global;

@@ -8,7 +8,7 @@ use Rattle.just_syntax.specs.declared.list_operator.ListOperator.{ListOperator}
 use Rattle.just_syntax.specs.declared.list_operator.ListOperator.TheVariants as operators
 use Rattle.just_syntax.specs.StringContext as contexts
 use Rattle.just_syntax.specs.Printed.{printed}
-use Rattle.just_text.specs.Unindented.{unindented}
+use Rattle.just_syntax.specs.Unindented.{unindented}
 use Rattle.just_value.specs.Value.{Value, Names, is_truthy, is_same, from_condition, joined}
 use Rattle.just_value.specs.Frames.{Frames}
 use Rattle.just_value.specs.Applied.{combined}

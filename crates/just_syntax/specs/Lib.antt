@@ -9,3 +9,4 @@ pub mod Printed
 pub mod OutOfMemory
 pub mod Variables
 pub mod View
+pub mod Unindented

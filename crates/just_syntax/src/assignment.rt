@@ -9,7 +9,7 @@ use crate::name::Name;
 use crate::number::Number;
 
 /// A variable, and the expression that gives its value.
-#[derive(Drop)]
+#[derive(Debug, Drop)]
 pub struct Assignment<'src> {
     pub eager: bool,
     pub export: bool,

@@ -3,7 +3,7 @@
 use crate::expression::Expression;
 
 /// An attribute of a recipe or an assignment.
-#[derive(Drop)]
+#[derive(Debug, Drop)]
 pub enum Attribute<'src> {
     /// `[env(key, value)]`: a variable of the recipe's environment.
     Env(Expression<'src>, Expression<'src>),

@@ -11,7 +11,7 @@ use std::alloc::Global;
 use std::slice::Iter;
 
 /// Attributes and the names that they were written under, in the order handed in.
-#[derive(Drop)]
+#[derive(Debug, Drop)]
 pub struct AttributeSet<'src> {
     attributes: Vec<(Attribute<'src>, Name<'src>)>,
 }

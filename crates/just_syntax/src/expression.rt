@@ -11,7 +11,7 @@ use crate::token::Token;
 use std::fmt;
 
 /// An expression. A variable carries the number that resolution gave it, if any.
-#[derive(Drop)]
+#[derive(Debug, Drop)]
 pub enum Expression<'src> {
     /// `lhs && rhs`
     And {

@@ -4,7 +4,7 @@ use crate::expression::Expression;
 use crate::token::Token;
 
 /// A fragment of a line.
-#[derive(Drop)]
+#[derive(Debug, Drop)]
 pub enum Fragment<'src> {
     /// Text as it is written, in which `{{{{` stands for `{{`.
     Text { token: Token<'src> },

@@ -9,7 +9,7 @@ use crate::name::Name;
 use crate::number::Number;
 
 /// A function that the file defines: its parameters, each with its number, and its body.
-#[derive(Drop)]
+#[derive(Debug, Drop)]
 pub struct FunctionDefinition<'src> {
     pub body: Expression<'src>,
     pub name: Name<'src>,

@@ -1,5 +1,5 @@
 // The syntax that evaluation goes over: names, expressions, assignments, functions, and tables of them, each with its view
-// as plain data. It leans on std alone, and general lemmas of lists, tables and texts stand in its `proofs/`.
+// as plain data, and `unindent`, the text of an indented string. It leans on std alone, and general lemmas of lists, tables and texts stand in its `proofs/`.
 #![tactic(auto)]
 
 pub mod assignment;
@@ -30,6 +30,9 @@ pub mod string_context;
 pub mod string_literal;
 pub mod table;
 pub mod token;
+mod unindented;
 pub mod unstyled;
 pub mod variable_error;
 pub mod variables;
+
+pub use unindented::unindent;

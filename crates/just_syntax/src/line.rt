@@ -3,7 +3,7 @@
 use crate::fragment::Fragment;
 
 /// A line of a recipe.
-#[derive(Drop)]
+#[derive(Debug, Drop)]
 pub struct Line<'src> {
     pub fragments: Vec<Fragment<'src>>,
 }

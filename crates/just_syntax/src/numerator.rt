@@ -5,6 +5,7 @@ ghost use Rattle.std.specs.Prelude.{◌≡◌};
 use crate::number::Number;
 
 /// Gives numbers to constants.
+#[derive(Debug, Drop)]
 pub struct Numerator;
 
 impl Numerator {

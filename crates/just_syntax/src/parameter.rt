@@ -9,7 +9,7 @@ use crate::number::Number;
 use crate::parameter_kind::ParameterKind;
 
 /// A parameter of a recipe.
-#[derive(Drop)]
+#[derive(Debug, Drop)]
 pub struct Parameter<'src> {
     /// What stands in for an empty argument.
     pub default: Option<Expression<'src>>,

@@ -8,7 +8,7 @@ use crate::name::Name;
 use std::alloc::Global;
 
 /// A recipe, as far as evaluation looks at it.
-#[derive(Drop)]
+#[derive(Debug, Drop)]
 pub struct Recipe<'src> {
     pub attributes: AttributeSet<'src>,
     pub name: Name<'src>,

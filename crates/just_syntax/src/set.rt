@@ -5,7 +5,7 @@ use crate::name::Name;
 use crate::setting::Setting;
 
 /// What `set` says: a setting by its name.
-#[derive(Drop)]
+#[derive(Debug, Drop)]
 pub struct Set<'src> {
     pub name: Name<'src>,
     pub value: Setting<'src>,

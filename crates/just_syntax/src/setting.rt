@@ -7,7 +7,7 @@ use crate::string_literal::StringLiteral;
 use crate::token::Token;
 
 /// A setting of a module, of one of the kinds that there are, with what it is set to.
-#[derive(Drop)]
+#[derive(Debug, Drop)]
 pub enum Setting<'src> {
     AllowDuplicateRecipes(bool),
     AllowDuplicateVariables(bool),

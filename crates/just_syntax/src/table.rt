@@ -10,6 +10,8 @@ use crate::out_of_memory::OutOfMemory;
 use std::alloc::Global;
 use std::collections::BTreeMap;
 use std::collections::btree_map::{IntoValues, Values};
+use std::fmt;
+use std::fmt::Debug;
 use std::marker::Model;
 
 /// Values by their keys, in the order of the keys' bytes. It keeps the allocator that it was made with.
@@ -119,5 +121,16 @@ impl<V: Keyed + Drop> IntoIterator for Table<V> {
     fn into_iter(self) -> IntoValues<String, V, Global> {
         let Table { alloc: _, values } = self;
         values.into_values()
+    }
+}
+
+// The keys with their values. A reader is promised no bytes.
+impl<V: Keyed + Debug> Debug for Table<V> {
+    fn fmt<W: fmt::Write>(&self, f: &mut fmt::Formatter<W>) -> fmt::Result {
+        let mut map = f.debug_map();
+        for value in self.iter() {
+            map.entry(&value.key(), value);
+        }
+        map.finish()
     }
 }

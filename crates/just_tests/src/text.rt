@@ -11,7 +11,7 @@ use just_text::pattern::{trim_end_match, trim_end_matches, trim_start_match, tri
 use just_text::quote::quote;
 use just_text::replace::replace;
 use just_text::split::{split, split_whitespace};
-use just_text::unindent::unindent;
+use just_syntax::unindent;
 use just_text::uri::encode_uri_component;
 use std::alloc::Global;
 use std::process::Abort;

@@ -8,5 +8,4 @@ pub mod LastByte
 pub mod Names
 pub mod Pieces
 pub mod Slashes
-mod Unindenting
 pub mod Words

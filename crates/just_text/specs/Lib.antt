@@ -5,4 +5,3 @@ pub mod Replace
 pub mod Case
 pub mod Quote
 pub mod Uri
-pub mod Unindented

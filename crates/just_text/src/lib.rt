@@ -1,5 +1,5 @@
-// Texts and paths: what built-in functions and format strings do with them, each function equal to its definition. It leans on
-// syntax and on the kit's `percent_encoding`.
+// Texts and paths: what built-in functions do with them, each function equal to its definition. It leans on syntax and on the
+// kit's `percent_encoding`.
 #![tactic(auto)]
 
 pub mod affix;
@@ -11,5 +11,4 @@ pub mod pattern;
 pub mod quote;
 pub mod replace;
 pub mod split;
-pub mod unindent;
 pub mod uri;

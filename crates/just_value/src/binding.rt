@@ -6,7 +6,7 @@ use just_syntax::name::Name;
 use just_syntax::number::Number;
 
 /// A variable's value, and how it was assigned.
-#[derive(Drop)]
+#[derive(Debug, Drop)]
 pub struct Binding<'src> {
     pub attributes: AttributeSet<'src>,
     pub eager: bool,

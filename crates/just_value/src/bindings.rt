@@ -4,7 +4,7 @@ use crate::binding::Binding;
 use std::collections::vec_deque::Iter;
 
 /// Goes over the bindings of a frame, each once, by rising number.
-#[derive(Drop)]
+#[derive(Debug, Drop)]
 pub struct Bindings<'frame, 'src> {
     left: Iter<'frame, Binding<'src>>,
 }

@@ -1,7 +1,11 @@
 // Why a value check took no value.
 
+ghost use Rattle.std.specs.Prelude.{◌≡◌};
+ghost use Rattle.just_value.specs.declared.check_fault.CheckFault.TheVariants.{OutOfMemory as Wanted};
+
 use just_syntax::out_of_memory::OutOfMemory;
 use just_syntax::unstyled::write_unstyled;
+use std::alloc::{AllocError, AllocFailed};
 use std::error::Error;
 use std::fmt;
 
@@ -33,3 +37,27 @@ impl fmt::Display for CheckFault {
 }
 
 impl Error for CheckFault {}
+
+impl From<AllocError> for CheckFault {
+    ghost from_gives = { λ _ e. e ≡ Wanted };
+
+    fn from(_error: AllocError) -> Self {
+        CheckFault::OutOfMemory
+    }
+}
+
+impl<T: Drop> From<AllocFailed<T>> for CheckFault {
+    ghost from_gives = { λ _ e. e ≡ Wanted };
+
+    fn from(_error: AllocFailed<T>) -> Self {
+        CheckFault::OutOfMemory
+    }
+}
+
+impl From<OutOfMemory> for CheckFault {
+    ghost from_gives = { λ _ e. e ≡ Wanted };
+
+    fn from(_error: OutOfMemory) -> Self {
+        CheckFault::OutOfMemory
+    }
+}

@@ -10,7 +10,7 @@ use just_syntax::parameter::Parameter;
 use std::alloc::{AllocError, Global};
 
 /// Which numbers names have in an expression. The names stand in the order of their bytes, each once.
-#[derive(Drop)]
+#[derive(Debug, Drop)]
 pub struct ExpressionContext<'src> {
     bindings: Vec<(&'src str, Number)>,
     ghost rising: { AreRisingNames bindings.items } by { Prim.hlevel props },

@@ -14,7 +14,7 @@ use std::fmt;
 use std::fmt::Display;
 
 /// Items in a sentence: nothing, `a`, `a or b`, `a, b, or c`.
-#[derive(Drop)]
+#[derive(Debug, Drop)]
 pub struct List<T> {
     conjunction: &'static str,
     items: Vec<T>,

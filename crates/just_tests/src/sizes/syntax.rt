@@ -8,7 +8,7 @@ use crate::variables::{has, pairs, text_of};
 use just_syntax::number::Number;
 use just_syntax::table::Table;
 use just_syntax::variables::{overrides_of, references_of};
-use just_text::unindent::unindent;
+use just_syntax::unindent;
 use std::alloc::Global;
 use std::collections::{HashMap, HashSet};
 use std::process::Abort;

@@ -1,7 +1,7 @@
 use Rattle.std.proofs.Common.{Some, None, lit<, add-one, rules}
 use Rattle.std.proofs.lemmas.Str.Pattern.{find_char}
-use Rattle.just_text.proofs.Unindenting.{lines_cut, lines_whole}
-use Rattle.just_text.proofs.unindent.split_first_line.Goals as goal
+use Rattle.just_syntax.proofs.Unindenting.{lines_cut, lines_whole}
+use Rattle.just_syntax.proofs.unindented.split_first_line.Goals as goal
 
 pub returns-in-Some-clause-cut : goal.returns-in-Some-clause-cut
 returns-in-Some-clause-cut c =

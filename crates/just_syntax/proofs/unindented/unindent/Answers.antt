@@ -1,7 +1,7 @@
 use Rattle.std.proofs.Common.{None, rules, string_bytes}
-use Rattle.just_text.specs.Unindented.{lines}
-use Rattle.just_text.proofs.Unindenting.{each_loses, line_on}
-use Rattle.just_text.proofs.unindent.unindent.Goals as goal
+use Rattle.just_syntax.specs.Unindented.{lines}
+use Rattle.just_syntax.proofs.Unindenting.{each_loses, line_on}
+use Rattle.just_syntax.proofs.unindented.unindent.Goals as goal
 
 pub loop-line-init : goal.loop-line-init
 loop-line-init c = record {

@@ -1,7 +1,7 @@
 use Rattle.std.proofs.Common.{◌≡◌, ◌+◌, drop}
 use Rattle.std.specs.List.{prefix_len}
-use Rattle.just_text.specs.Unindented.{is_gap}
-use Rattle.just_text.proofs.unindent.indentation.Given as goal
+use Rattle.just_syntax.specs.Unindented.{is_gap}
+use Rattle.just_syntax.proofs.unindented.indentation.Given as goal
 
 -- the bytes so far are spaces and tabs
 abbrev pub invariant-loop-i : goal.invariant-loop-i

@@ -1,6 +1,6 @@
 use Rattle.std.proofs.Common.{◌≡◌, ◌+◌, ◌==◌, drop}
 use Rattle.std.specs.List.{common_prefix_len}
-use Rattle.just_text.proofs.unindent.common_start.Given as goal
+use Rattle.just_syntax.proofs.unindented.common_start.Given as goal
 
 -- the bytes so far are common
 abbrev pub invariant-loop-i : goal.invariant-loop-i

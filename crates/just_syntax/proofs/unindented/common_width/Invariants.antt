@@ -1,8 +1,8 @@
 use Rattle.std.proofs.Common.{◌≡◌, length, None, option_copied}
 use denote.Text.{Utf8}
 use denote.Shadow.{shadow}
-use Rattle.just_text.specs.Unindented.{common_indentation, lines}
-use Rattle.just_text.proofs.unindent.common_width.Given as goal
+use Rattle.just_syntax.specs.Unindented.{common_indentation, lines}
+use Rattle.just_syntax.proofs.unindented.common_width.Given as goal
 
 -- what is common so far, with the lines that are left, is common to all
 abbrev pub invariant-loop-line : goal.invariant-loop-line

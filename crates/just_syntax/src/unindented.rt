@@ -1,9 +1,9 @@
 // Texts without the indentation that their lines share.
 
 ghost use Rattle.std.specs.Prelude.{◌≡◌, ◌<◌, ◌≤◌, ◌∷◌, ◌||◌, ◌==◌, [], ℕ, false, length, IfNone, IfOk, IfSome, None, option_copied, string_bytes};
-ghost use Rattle.just_text.specs.Unindented as spec;
+ghost use Rattle.just_syntax.specs.Unindented as spec;
 
-use just_syntax::out_of_memory::OutOfMemory;
+use crate::out_of_memory::OutOfMemory;
 use std::alloc::Global;
 
 /// The text without the spaces and tabs that all its lines begin with, those lines aside that hold only spaces, tabs and

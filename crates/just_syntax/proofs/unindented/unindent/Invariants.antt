@@ -1,9 +1,9 @@
 use Rattle.std.proofs.Common.{◌≡◌, ◌++◌, length, true, string_bytes}
 use denote.Text.{Utf8}
 use denote.Shadow.{shadow}
-use Rattle.just_text.specs.Unindented.{lines, unindented_lines}
-use Rattle.just_text.proofs.Unindenting.{EachLoses}
-use Rattle.just_text.proofs.unindent.unindent.Given as goal
+use Rattle.just_syntax.specs.Unindented.{lines, unindented_lines}
+use Rattle.just_syntax.proofs.Unindenting.{EachLoses}
+use Rattle.just_syntax.proofs.unindented.unindent.Given as goal
 
 -- what is written, with the lines that are left, is the whole
 abbrev pub invariant-loop-line : goal.invariant-loop-line

@@ -6,7 +6,7 @@ use Rattle.std.proofs.lemmas.List.{append_assoc, length-drop, length-take}
 use Rattle.std.proofs.lemmas.List.Sums.{common_prefix_len-le, prefix_len_passes}
 use Rattle.std.proofs.lemmas.Str.{IsCharBoundary-after_ascii, IsCharBoundary-start}
 use Rattle.just_syntax.specs.Plain.{Text}
-use Rattle.just_text.specs.Unindented.{lines, is_blank, is_gap, indentation, common_start, with_line, common_indentation, width, unindented_line, unindented_lines}
+use Rattle.just_syntax.specs.Unindented.{lines, is_blank, is_gap, indentation, common_start, with_line, common_indentation, width, unindented_line, unindented_lines}
 
 -- the first line ends behind the first newline
 pub lines_cut : (text : Text) (k : ℕ) → k < length text → get_or text k 0 ≡ 10 → ((i : ℕ) → i < k → get_or text i 0 ≢ 10) → lines text ≡ take (suc k) text ∷ lines (drop (suc k) text)

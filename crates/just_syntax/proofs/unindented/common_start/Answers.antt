@@ -1,6 +1,6 @@
 use Rattle.std.proofs.Common.{ap, arith, take}
-use Rattle.just_text.proofs.Unindenting.{nothing_common}
-use Rattle.just_text.proofs.unindent.common_start.Goals as goal
+use Rattle.just_syntax.proofs.Unindenting.{nothing_common}
+use Rattle.just_syntax.proofs.unindented.common_start.Goals as goal
 
 pub returns : goal.returns
 returns c =
