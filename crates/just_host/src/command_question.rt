@@ -87,3 +87,21 @@ impl fmt::Display for CommandQuestion<'_, '_, '_> {
         write_command(f, self.command, self.arguments)
     }
 }
+
+// Each field by its name, the scope after the others. A reader is promised no bytes.
+impl fmt::Debug for CommandQuestion<'_, '_, '_> {
+    fn fmt<W: fmt::Write>(&self, f: &mut fmt::Formatter<W>) -> fmt::Result {
+        f.debug_struct("CommandQuestion")
+            .field("command", &self.command)
+            .field("arguments", &self.arguments)
+            .field("env", self.env)
+            .field("config", self.config)
+            .field("dotenv", self.dotenv)
+            .field("settings", self.settings)
+            .field("unexports", &self.unexports)
+            .field("working_directory", &self.working_directory)
+            .finish()?;
+        f.write_str(" with scope ")?;
+        fmt::Debug::fmt(self.scope, f)
+    }
+}

@@ -13,6 +13,7 @@ use just_text::path;
 use just_value::scope::Scope;
 use std::alloc::Global;
 use std::collections::{BTreeMap, HashMap};
+use std::fmt;
 
 /// How many calls may be pending, and one more, where nothing else is said.
 pub const RECURSION_LIMIT: usize = 100;
@@ -73,5 +74,21 @@ impl<'src, 'run> ExecutionContext<'src, 'run> {
             Some(directory) => path::join(alloc, base, directory),
             None => Ok(String::from_str(alloc, base)?),
         }
+    }
+}
+
+// Each field by its name, the scope after the others. A reader is promised no bytes.
+impl fmt::Debug for ExecutionContext<'_, '_> {
+    fn fmt<W: fmt::Write>(&self, f: &mut fmt::Formatter<W>) -> fmt::Result {
+        f.debug_struct("ExecutionContext")
+            .field("config", self.config)
+            .field("dotenv", self.dotenv)
+            .field("module", self.module)
+            .field("overrides", self.overrides)
+            .field("recursion_limit", &self.recursion_limit)
+            .field("search", self.search)
+            .finish()?;
+        f.write_str(" with scope ")?;
+        fmt::Debug::fmt(self.scope, f)
     }
 }

@@ -4,6 +4,7 @@ use crate::execution_context::ExecutionContext;
 use just_syntax::name::Name;
 use just_value::scope::Scope;
 use std::collections::BTreeMap;
+use std::fmt;
 
 /// What a built-in function is called in.
 #[derive(Clone, Copy)]
@@ -19,4 +20,20 @@ pub struct Context<'src, 'run> {
     pub recipe: Option<Name<'src>>,
     /// The variables that can be seen where the call stands.
     pub scope: &'run Scope<'src, 'run>,
+}
+
+// Each field by its name, the scope and the execution context after the others. A reader is promised no bytes.
+impl fmt::Debug for Context<'_, '_> {
+    fn fmt<W: fmt::Write>(&self, f: &mut fmt::Formatter<W>) -> fmt::Result {
+        f.debug_struct("Context")
+            .field("env", self.env)
+            .field("is_dependency", &self.is_dependency)
+            .field("name", &self.name)
+            .field("recipe", &self.recipe)
+            .finish()?;
+        f.write_str(" with scope ")?;
+        fmt::Debug::fmt(self.scope, f)?;
+        f.write_str(" with ")?;
+        fmt::Debug::fmt(self.execution_context, f)
+    }
 }

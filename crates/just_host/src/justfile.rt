@@ -13,7 +13,7 @@ use just_syntax::table::Table;
 use std::alloc::Global;
 
 /// A resolved module.
-#[derive(Drop)]
+#[derive(Debug, Drop)]
 pub struct Justfile<'src> {
     pub assignments: Table<Assignment<'src>>,
     /// The names of assignments, in the order in which they are evaluated.

@@ -15,7 +15,7 @@ use std::alloc::Global;
 
 /// A host that keeps what it is asked, and then asks another host. Where there is no memory to keep a question, the other
 /// host is not asked, and the answer is want of memory.
-#[derive(Drop)]
+#[derive(Debug, Drop)]
 pub struct Recorder<H> {
     host: H,
     questions: Vec<Recorded>,

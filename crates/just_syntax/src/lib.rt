@@ -1,5 +1,6 @@
 // The syntax that evaluation goes over: names, expressions, assignments, functions, and tables of them, each with its view
-// as plain data, and `unindent`, the text of an indented string. It leans on std alone, and general lemmas of lists, tables and texts stand in its `proofs/`.
+// as plain data, and `unindent`, which makes the text of an indented string. It leans on std alone, and general lemmas of
+// lists, tables and texts stand in its `proofs/`.
 #![tactic(auto)]
 
 pub mod assignment;
