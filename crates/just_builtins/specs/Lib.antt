@@ -5,6 +5,7 @@ pub mod Message
 pub mod Meaning
 pub mod Order
 pub mod Reply
+pub mod Said
 pub mod Shape
 pub mod Table
 pub mod View

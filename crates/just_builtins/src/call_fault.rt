@@ -4,7 +4,10 @@ ghost use Rattle.std.specs.Prelude.{◌≡◌};
 ghost use Rattle.just_builtins.specs.declared.call_fault.CallFault.TheVariants.{OutOfMemory as Wanted};
 
 use just_syntax::out_of_memory::OutOfMemory;
+use just_syntax::unstyled::write_unstyled;
 use std::alloc::{AllocError, AllocFailed};
+use std::error::Error;
+use std::fmt;
 
 /// Why a call of a built-in function gave no value.
 #[derive(Debug, Drop)]
@@ -16,6 +19,26 @@ pub enum CallFault {
     /// Memory was asked for and refused, or a host said so.
     OutOfMemory,
 }
+
+/// Writes the message, `out of memory`, or `function has no such shape`.
+impl fmt::Display for CallFault {
+    ghost use Rattle.std.specs.Prelude.{Some};
+    ghost use Rattle.just_builtins.specs.Said.{call_fault_text};
+
+    ghost output = { λ fault. Some (call_fault_text fault) };
+
+    ghost styled_output = { λ fault _. Some (call_fault_text fault) };
+
+    fn fmt<W: fmt::Write>(&self, f: &mut fmt::Formatter<W>) -> fmt::Result {
+        match self {
+            CallFault::Internal => f.write_str("function has no such shape"),
+            CallFault::Message(message) => f.write_str(message),
+            CallFault::OutOfMemory => write_unstyled(f, OutOfMemory),
+        }
+    }
+}
+
+impl Error for CallFault {}
 
 impl From<AllocError> for CallFault {
     ghost from_gives = { λ _ e. e ≡ Wanted };
