@@ -13,7 +13,7 @@ use std::alloc::Global;
 use std::str;
 
 /// A line of a case. It owns what is no piece of the case's bytes.
-#[derive(Drop)]
+#[derive(Debug, Drop)]
 pub enum Line<'case> {
     /// An empty line, or one that begins with `#`.
     Skipped,

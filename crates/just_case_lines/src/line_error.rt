@@ -4,7 +4,10 @@ ghost use Rattle.std.specs.Prelude.{◌≡◌};
 ghost use Rattle.just_case_lines.specs.declared.line_error.LineError.TheVariants.{OutOfMemory as Wanted};
 
 use just_syntax::out_of_memory::OutOfMemory;
+use just_syntax::unstyled::write_unstyled;
 use std::alloc::{AllocError, AllocFailed};
+use std::error::Error;
+use std::fmt;
 
 /// Why a line was not done.
 #[derive(Debug, Drop)]
@@ -14,6 +17,25 @@ pub enum LineError {
     /// Memory was asked for and refused, or an expression nests deeper than the stack has room for.
     OutOfMemory,
 }
+
+/// Writes `bad line`, or `out of memory`.
+impl fmt::Display for LineError {
+    ghost use Rattle.std.specs.Prelude.{Some};
+    ghost use Rattle.just_case_lines.specs.Said.{line_error_text};
+
+    ghost output = { λ error. Some (line_error_text error) };
+
+    ghost styled_output = { λ error _. Some (line_error_text error) };
+
+    fn fmt<W: fmt::Write>(&self, f: &mut fmt::Formatter<W>) -> fmt::Result {
+        match self {
+            LineError::Bad => f.write_str("bad line"),
+            LineError::OutOfMemory => write_unstyled(f, OutOfMemory),
+        }
+    }
+}
+
+impl Error for LineError {}
 
 impl From<OutOfMemory> for LineError {
     ghost from_gives = { λ _ e. e ≡ Wanted };

@@ -9,7 +9,7 @@ use std::collections::BTreeMap;
 
 /// Names and their numbers: each name's is its place among the different names, from 0, in the order in which
 /// they first came.
-#[derive(Drop)]
+#[derive(Debug, Drop)]
 pub struct Numbering<'src> {
     numbers: BTreeMap<&'src str, Number>,
 }

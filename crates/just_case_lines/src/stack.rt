@@ -26,14 +26,14 @@ const MOST_LEVELS: usize = 54_000;
 
 /// The expressions that are not yet assigned. A line takes its operands from the top, of which the uppermost is
 /// the rightmost. What it holds after an error is not said.
-#[derive(Drop)]
+#[derive(Debug, Drop)]
 pub struct Stack<'src> {
     expressions: Vec<Nested<Expression<'src>>>,
 }
 
 // A part, and how many forms stand in one another there. It is of any type, since the prover then drops no expression where
 // one is refused.
-#[derive(Drop)]
+#[derive(Debug, Drop)]
 struct Nested<T> {
     part: T,
     levels: usize,

@@ -1,3 +1,4 @@
 pub mod Case
 pub mod Reading
+pub mod Said
 pub mod View

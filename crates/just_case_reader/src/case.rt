@@ -13,16 +13,20 @@ use just_syntax::assignment::Assignment;
 use just_syntax::function_definition::FunctionDefinition;
 use just_syntax::name::Name;
 use just_syntax::number::Number;
+use just_syntax::out_of_memory::OutOfMemory;
 use just_syntax::table::Table;
+use just_syntax::unstyled::write_unstyled;
 use just_value::error::CommandFault;
 use std::alloc::Global;
 use std::collections::{BTreeMap, HashMap, HashSet};
+use std::error::Error;
+use std::fmt;
 
 // How many calls may be pending, and one more, where a case does not say it.
 const RECURSION_LIMIT: usize = 100;
 
 /// What a case describes.
-#[derive(Drop)]
+#[derive(Debug, Drop)]
 pub struct Case<'src> {
     pub assignments: Table<Assignment<'src>>,
     /// The names of assignments, in the order in which they are evaluated.
@@ -75,6 +79,25 @@ pub enum CaseError {
     /// on a stack of 8 MiB.
     OutOfMemory,
 }
+
+/// Writes `bad line N`, where N is the line's place from 1, or `out of memory`.
+impl fmt::Display for CaseError {
+    ghost use Rattle.std.specs.Prelude.{Some};
+    ghost use Rattle.just_case_reader.specs.Said.{case_error_text};
+
+    ghost output = { λ error. Some (case_error_text error) };
+
+    ghost styled_output = { λ error _. Some (case_error_text error) };
+
+    fn fmt<W: fmt::Write>(&self, f: &mut fmt::Formatter<W>) -> fmt::Result {
+        match self {
+            CaseError::BadLine(place) => write_unstyled(f, format_args!("bad line {place}")),
+            CaseError::OutOfMemory => write_unstyled(f, OutOfMemory),
+        }
+    }
+}
+
+impl Error for CaseError {}
 
 /// The case that lines describe.
 ///

@@ -3,7 +3,7 @@
 use just_syntax::name::Name;
 
 /// How a case's assignments are evaluated.
-#[derive(Drop)]
+#[derive(Debug, Drop)]
 pub enum Evaluation<'src> {
     /// In a run.
     Run,

@@ -8,6 +8,7 @@ ghost use Rattle.just_resolution.specs.Seen.{fault_view};
 use just_syntax::name::Name;
 use just_syntax::token::Token;
 use just_syntax::unstyled::write_unstyled;
+use std::error::Error;
 use std::fmt;
 
 /// Why a module is not resolved, and the name where that shows.
@@ -109,3 +110,5 @@ impl fmt::Display for Fault<'_> {
         }
     }
 }
+
+impl Error for Fault<'_> {}

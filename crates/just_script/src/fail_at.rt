@@ -29,7 +29,7 @@ pub enum How {
 }
 
 /// A host that passes its first questions on to another, and fails at each later one.
-#[derive(Drop)]
+#[derive(Debug, Drop)]
 pub struct FailAt<H> {
     host: H,
     left: usize,

@@ -24,7 +24,7 @@ const PROGRAM_ROOM: usize = 7_872 * 1024;
 /// A host that answers by a script. A command that is always answered gets its text, and any other the next of
 /// the replies, and then the fault `no reply`. Each other kind of question has a list of answers, taken in their
 /// order, and then gets `Absent`, `false` or 0. Evaluation may take 7,872 KiB of stack.
-#[derive(Drop)]
+#[derive(Debug, Drop)]
 pub struct ScriptedHost {
     always: Vec<(String, String)>,
     replies: IntoIter<Result<String, CommandFault>>,

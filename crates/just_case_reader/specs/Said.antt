@@ -1,0 +1,10 @@
+-- What the error of a case says.
+use Rattle.std.specs.Prelude.{◌++◌, codes, decimal}
+use Rattle.just_syntax.specs.OutOfMemory.{no_memory_text}
+use Rattle.just_syntax.specs.Plain.{Text}
+use Rattle.just_case_reader.specs.declared.case.CaseError.{CaseError}
+use Rattle.just_case_reader.specs.declared.case.CaseError.TheVariants.{BadLine, OutOfMemory}
+
+abbrev pub case_error_text : CaseError → Text
+case_error_text (BadLine place) = codes "bad line " ++ decimal place
+case_error_text OutOfMemory = no_memory_text
