@@ -5,6 +5,7 @@ pub mod Hosts
 pub mod Laws
 pub mod Module
 pub mod Run
+pub mod Said
 pub mod Settled
 pub mod Taken
 pub mod View

@@ -6,7 +6,10 @@ ghost use Rattle.just_bench.specs.Written.{AppendsFront};
 ghost use Rattle.just_bench.specs.declared.stream.StreamError.TheVariants.{Failed, OutOfMemory as Wanted};
 
 use just_syntax::out_of_memory::OutOfMemory;
+use just_syntax::unstyled::write_unstyled;
 use std::alloc::{AllocError, Global};
+use std::error::Error;
+use std::fmt;
 use std::io::{self, Read, Write};
 
 /// How many bytes a case has at most.
@@ -22,6 +25,28 @@ pub enum StreamError {
     /// The case has more than `LIMIT` bytes.
     TooLong,
 }
+
+/// Writes `read or write failed`, `out of memory`, or `case has more than 1000000 bytes`.
+impl fmt::Display for StreamError {
+    ghost use Rattle.std.specs.Prelude.{Some};
+    ghost use Rattle.just_bench.specs.Said.{stream_error_text};
+
+    ghost output = { λ error. Some (stream_error_text error) };
+
+    ghost styled_output = { λ error _. Some (stream_error_text error) };
+
+    fn fmt<W: fmt::Write>(&self, f: &mut fmt::Formatter<W>) -> fmt::Result {
+        match self {
+            StreamError::Failed => f.write_str("read or write failed"),
+            StreamError::OutOfMemory => write_unstyled(f, OutOfMemory),
+            StreamError::TooLong => {
+                write_unstyled(f, format_args!("case has more than {LIMIT} bytes"))
+            }
+        }
+    }
+}
+
+impl Error for StreamError {}
 
 impl From<AllocError> for StreamError {
     ghost from_gives = { λ _ e. e ≡ Wanted };

@@ -26,6 +26,8 @@ mod orders;
 #[cfg(test)]
 mod stored_case;
 #[cfg(test)]
+mod stream_errors;
+#[cfg(test)]
 mod streams;
 #[cfg(test)]
 mod texts;

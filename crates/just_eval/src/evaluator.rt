@@ -41,6 +41,7 @@ use just_value::scope::Scope;
 use just_value::value::Value;
 use std::alloc::Global;
 use std::collections::{BTreeMap, HashMap, HashSet};
+use std::fmt;
 
 /// Evaluates the assignments of a module, one after another, in a scope of its own.
 ///
@@ -352,5 +353,29 @@ impl<'src, 'run> Evaluator<'src, 'run> {
             Some(context) => context.module.settings.export,
             None => false,
         }
+    }
+}
+
+// Each field by its name, the scopes and the context after the others. A reader is promised no bytes.
+impl fmt::Debug for Evaluator<'_, '_> {
+    fn fmt<W: fmt::Write>(&self, f: &mut fmt::Formatter<W>) -> fmt::Result {
+        f.debug_struct("Evaluator")
+            .field("env", &self.env)
+            .field("is_dependency", &self.is_dependency)
+            .field("lists", &self.lists)
+            .field("non_const_assignments", &self.non_const_assignments)
+            .field("recipe", &self.recipe)
+            .finish()?;
+        f.write_str(" with scope ")?;
+        fmt::Debug::fmt(&self.scope, f)?;
+        if let Some(base) = self.base {
+            f.write_str(" on ")?;
+            fmt::Debug::fmt(base, f)?;
+        }
+        if let Some(context) = self.context {
+            f.write_str(" with ")?;
+            fmt::Debug::fmt(&context, f)?;
+        }
+        Ok(())
     }
 }

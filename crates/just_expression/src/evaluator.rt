@@ -29,6 +29,7 @@ use just_value::scope::Scope;
 use just_value::value::Value;
 use std::alloc::Global;
 use std::collections::{BTreeMap, HashSet};
+use std::fmt;
 
 /// Evaluates expressions in a situation.
 #[derive(Clone, Copy)]
@@ -348,5 +349,28 @@ impl<'src, 'run, 'here> ExpressionEvaluator<'src, 'run, 'here> {
             message,
             name: *name,
         })
+    }
+}
+
+// Each field by its name, the scopes and the context after the others. A reader is promised no bytes.
+impl fmt::Debug for ExpressionEvaluator<'_, '_, '_> {
+    fn fmt<W: fmt::Write>(&self, f: &mut fmt::Formatter<W>) -> fmt::Result {
+        f.debug_struct("ExpressionEvaluator")
+            .field("calls_left", &self.calls_left)
+            .field("env", self.env)
+            .field("is_dependency", &self.is_dependency)
+            .field("lists", &self.lists)
+            .field("non_const_assignments", self.non_const_assignments)
+            .field("recipe", &self.recipe)
+            .finish()?;
+        f.write_str(" with scope ")?;
+        fmt::Debug::fmt(self.scope, f)?;
+        f.write_str(" below ")?;
+        fmt::Debug::fmt(self.below, f)?;
+        if let Some(context) = self.context {
+            f.write_str(" with ")?;
+            fmt::Debug::fmt(context, f)?;
+        }
+        Ok(())
     }
 }

@@ -27,7 +27,7 @@ use just_value::value::Value;
 use std::alloc::Global;
 
 /// What a call reaches.
-#[derive(Clone, Copy)]
+#[derive(Clone, Copy, Debug)]
 pub enum Callee<'src, 'run> {
     /// A built-in function.
     BuiltIn(Function),

@@ -2,6 +2,10 @@
 
 use crate::compared::{equal, tells};
 use crate::parts::{name, owned, prints, token, value};
+use just_builtins::call_fault::CallFault;
+use just_case_lines::line_error::LineError;
+use just_case_reader::case::CaseError;
+use just_resolution::fault::Fault;
 use just_syntax::list_operator::ListOperator;
 use just_syntax::out_of_memory::OutOfMemory;
 use just_syntax::string_context::StringContext;
@@ -11,6 +15,7 @@ use just_value::compile_error::CompileError;
 use just_value::const_error::ConstError;
 use just_value::const_eval_error::ConstEvalError;
 use just_value::error::{CommandFault, Error};
+use just_value::value::Value;
 use std::alloc::Global;
 use std::fmt::Display;
 use std::process::Abort;
@@ -160,6 +165,17 @@ fn faults_say(rt: HostRuntime) {
     says(&rt, alloc, fault, "not UTF-8");
     let fault = CheckFault::Refused(owned(&rt, alloc, "no digit"));
     says(&rt, alloc, fault, "no digit");
+    let fault = CallFault::Message(owned(&rt, alloc, "path `/` has no parent"));
+    says(&rt, alloc, fault, "path `/` has no parent");
+    let text = "function has no such shape";
+    says(&rt, alloc, CallFault::Internal, text);
+}
+
+#[test]
+fn errors_of_cases_say(rt: HostRuntime) {
+    let alloc = rt.alloc();
+    says(&rt, alloc, LineError::Bad, "bad line");
+    says(&rt, alloc, CaseError::BadLine(12), "bad line 12");
 }
 
 #[test]
@@ -169,7 +185,10 @@ fn want_of_memory_says(rt: HostRuntime) {
     expect(&rt, alloc, Error::OutOfMemory, text, None);
     expect(&rt, alloc, Error::from(OutOfMemory), text, None);
     says(&rt, alloc, CommandFault::from(OutOfMemory), text);
-    says(&rt, alloc, CheckFault::OutOfMemory, text);
+    says(&rt, alloc, CheckFault::from(OutOfMemory), text);
+    says(&rt, alloc, CallFault::from(OutOfMemory), text);
+    says(&rt, alloc, LineError::from(OutOfMemory), text);
+    says(&rt, alloc, CaseError::OutOfMemory, text);
     stands(&rt, text, CompileError::OutOfMemory.token(), None);
     says(&rt, alloc, CompileError::OutOfMemory, text);
 }
@@ -202,4 +221,57 @@ fn errors_are_passed_on(rt: HostRuntime) {
     let text = "cannot call functions in const context";
     expect_passed_on(&rt, alloc, refusal, text);
     expect_passed_on(&rt, alloc, ConstEvalError::Const(refusal), text);
+}
+
+#[test]
+fn faults_are_passed_on(rt: HostRuntime) {
+    let alloc = rt.alloc();
+    let fault = Fault::UndefinedFunction {
+        function: name("f"),
+    };
+    expect_passed_on(&rt, alloc, fault, "unknown function `f`");
+    let text = "function has no such shape";
+    expect_passed_on(&rt, alloc, CallFault::Internal, text);
+    expect_passed_on(&rt, alloc, LineError::Bad, "bad line");
+    expect_passed_on(&rt, alloc, CaseError::BadLine(1), "bad line 1");
+}
+
+// A check that takes one element. It is refused memory by `?`.
+fn takes_one(alloc: Global, value: &Value) -> Result<(), CheckFault> {
+    if value.len() == 1 {
+        return Ok(());
+    }
+    let elements = value.join(alloc)?;
+    let message = format!(in alloc; "not one element: {elements}")?;
+    Err(CheckFault::Refused(message))
+}
+
+// Values, and the message that the check refuses them with.
+const CHECKED: &[(&[&str], Option<&str>)] = &[
+    (&["a"], None),
+    (&["a", "b"], Some("not one element: a b")),
+    (&[], Some("not one element: ")),
+];
+
+#[test]
+fn checks_are_refused_memory_by_question_marks(rt: HostRuntime) {
+    let alloc = rt.alloc();
+    for (elements, refused) in CHECKED {
+        let value = value(&rt, alloc, elements);
+        expect_checked(&rt, alloc, takes_one(alloc, &value), *refused);
+        drop(value);
+    }
+}
+
+// Whether a check refused a value with this message, or took it.
+fn expect_checked(
+    rt: &impl Abort,
+    alloc: Global,
+    checked: Result<(), CheckFault>,
+    refused: Option<&str>,
+) {
+    match refused {
+        Some(text) => says(rt, alloc, checked.expect_err(rt, text), text),
+        None => checked.expect(rt, "taken"),
+    }
 }

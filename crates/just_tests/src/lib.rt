@@ -1,5 +1,6 @@
-// Tests of what asks no host: syntax, texts, values, and whether a module is resolved. They stand in a crate of their
-// own since a crate with tests is proved twice, and lean on `just_resolution` and what is below it, and on no evaluation.
+// Tests of what asks no host: syntax, texts, values, what errors say, and whether a module is resolved. They stand in a crate
+// of their own since a crate with tests is proved twice, and lean on `just_resolution`, on the reader of cases, on what is
+// below these, and on no evaluation.
 #![tactic(auto)]
 
 #[cfg(test)]
@@ -8,6 +9,8 @@ mod compared;
 mod const_errors;
 #[cfg(test)]
 mod constructors;
+#[cfg(test)]
+mod debug;
 #[cfg(test)]
 mod errors;
 #[cfg(test)]

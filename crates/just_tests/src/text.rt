@@ -3,6 +3,7 @@
 
 use crate::compared::{equal, is_so, same, tells};
 use just_syntax::out_of_memory::OutOfMemory;
+use just_syntax::unindent;
 use just_text::affix::{append, prepend};
 use just_text::case::{capitalize, lowercase, uppercase};
 use just_text::join_list::join_list;
@@ -11,7 +12,6 @@ use just_text::pattern::{trim_end_match, trim_end_matches, trim_start_match, tri
 use just_text::quote::quote;
 use just_text::replace::replace;
 use just_text::split::{split, split_whitespace};
-use just_syntax::unindent;
 use just_text::uri::encode_uri_component;
 use std::alloc::Global;
 use std::process::Abort;

@@ -1,0 +1,23 @@
+// What the errors of streams say.
+
+use crate::texts::same;
+use just_bench::stream::StreamError;
+use std::alloc::Global;
+use std::process::Abort;
+
+// Whether an error says this text, also under options.
+fn says(rt: &impl Abort, alloc: Global, error: StreamError, text: &str) {
+    let told = format!(in alloc; "{error:>40}").expect(rt, "no memory");
+    same(rt, "error", &told, text);
+    drop(told);
+    drop(error);
+}
+
+#[test]
+fn errors_of_streams_say(rt: HostRuntime) {
+    let alloc = rt.alloc();
+    says(&rt, alloc, StreamError::Failed, "read or write failed");
+    says(&rt, alloc, StreamError::OutOfMemory, "out of memory");
+    let text = "case has more than 1000000 bytes";
+    says(&rt, alloc, StreamError::TooLong, text);
+}
