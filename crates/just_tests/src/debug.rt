@@ -7,6 +7,7 @@ use just_host::config::Config;
 use just_host::execution_context::ExecutionContext;
 use just_host::justfile::Justfile;
 use just_host::search::Search;
+use just_syntax::number::Number;
 use just_value::scope::Scope;
 use std::alloc::Global;
 use std::collections::{BTreeMap, HashMap};
@@ -35,27 +36,59 @@ fn values(rt: HostRuntime) {
     tells(&rt, told, "Value { elements: [\"a\", \"b\"] }");
 }
 
-// What `Debug` writes of a context of this module and this scope.
-fn told_context(rt: &impl Abort, alloc: Global, module: &Justfile, scope: &Scope) -> String {
-    let config = Config::new(alloc, "/called/here").expect(rt, "no memory");
-    let search = Search::new(alloc, "/work/justfile", "/work").expect(rt, "no memory");
-    let dotenv = BTreeMap::new(alloc);
-    let overrides = HashMap::new(alloc);
-    let context = ExecutionContext::new(&config, &dotenv, module, &overrides, scope, &search);
+// What a context lends.
+#[derive(Drop)]
+struct Around<'src> {
+    config: Config,
+    dotenv: BTreeMap<String, String>,
+    module: Justfile<'src>,
+    overrides: HashMap<Number, String>,
+    scope: Scope<'src, 'src>,
+    search: Search,
+}
+
+// Of a module with nothing in it, in a scope that binds one constant.
+fn surroundings<'src>(rt: &impl Abort, alloc: Global) -> Around<'src> {
+    Around {
+        config: Config::new(alloc, "/called/here").expect(rt, "no memory"),
+        dotenv: BTreeMap::new(alloc),
+        module: module(rt, alloc, &(&[], &[], &[])),
+        overrides: HashMap::new(alloc),
+        scope: Scope::root(alloc, &[("k", "v")]).expect(rt, "no memory"),
+        search: Search::new(alloc, "/work/justfile", "/work").expect(rt, "no memory"),
+    }
+}
+
+// What `Debug` writes of a context.
+fn told_context(rt: &impl Abort, alloc: Global, context: &ExecutionContext) -> String {
     format!(in alloc; "{context:?}").expect(rt, "no memory")
 }
 
+// What `Debug` writes of what a context lends.
+fn told(rt: &impl Abort, alloc: Global, around: &Around) -> String {
+    let context = ExecutionContext::new(
+        &around.config,
+        &around.dotenv,
+        &around.module,
+        &around.overrides,
+        &around.scope,
+        &around.search,
+    );
+    told_context(rt, alloc, &context)
+}
+
+const START: &str =
+    "ExecutionContext { config: Config { dry_run: false, invocation_directory: \"/called/here\", ";
+
+const END: &str =
+    "working_directory: \"/work\" } } with scope [{\"k\": Value { elements: [\"v\"] }}]";
+
 #[test]
 fn contexts(rt: HostRuntime) {
-    let alloc = rt.alloc();
-    let scope = Scope::root(alloc, &[("k", "v")]).expect(&rt, "no memory");
-    let module = module(&rt, alloc, &(&[], &[], &[]));
-    let told = told_context(&rt, alloc, &module, &scope);
-    let start = "ExecutionContext { config: Config { dry_run: false, invocation_directory: \"/called/here\", ";
-    is_so(&rt, "start", told.starts_with(start));
-    let end = "working_directory: \"/work\" } } with scope [{\"k\": Value { elements: [\"v\"] }}]";
-    is_so(&rt, "end", told.ends_with(end));
+    let around = surroundings(&rt, rt.alloc());
+    let told = told(&rt, rt.alloc(), &around);
+    drop(around);
+    is_so(&rt, START, told.starts_with(START));
+    is_so(&rt, END, told.ends_with(END));
     drop(told);
-    drop(module);
-    drop(scope);
 }
