@@ -1,16 +1,18 @@
 // Prints an assertion's condition, where the stack has room for it.
 
-ghost use Rattle.std.specs.Prelude.{IfOk, string_bytes, ◌++◌, ◌∷◌, [], ◌≡◌};
+ghost use Rattle.std.specs.Prelude.{IfOk, IsTrue, max, string_bytes, ◌*◌, ◌++◌, ◌∷◌, [], ◌≡◌, ◌≤◌, ◌↔◌};
+ghost use Rattle.std.specs.Option.{option_map};
+ghost use Rattle.just_printing.specs.Levels.{levels, levels_of_part, levels_of_pieces, levels_of_row};
 ghost use Rattle.just_syntax.specs.Printed.{printed};
-ghost use Rattle.just_syntax.specs.View.{view};
+ghost use Rattle.just_syntax.specs.View.{piece_views, view, views};
 
 use just_syntax::expression::Expression;
 use just_syntax::out_of_memory::OutOfMemory;
 use just_syntax::string_literal::StringLiteral;
 use std::alloc::Global;
 
-// A bound on what a level of printing takes of the stack, in bytes, by what `bench/run frames` measures.
-const PRINTED: usize = 160;
+/// A bound on what a level of printing takes of the stack, in bytes, by what `bench/run frames` measures.
+pub const PRINTED: usize = 160;
 
 /// What an assertion without a message says: its condition, in backticks. Parts of the condition that were never evaluated
 /// are printed too, and they may nest deeper than those that were.
@@ -25,7 +27,8 @@ pub fn in_backticks(
     condition: &Expression,
     room: usize,
 ) -> Result<String, OutOfMemory>
-    ensures { IfOk result (λ text. string_bytes text ≡ (96 ∷ printed (view condition.now)) ++ 96 ∷ []) }
+    ensures text { IfOk result (λ text. string_bytes text ≡ (96 ∷ printed (view condition.now)) ++ 96 ∷ []) }
+    ensures fits { IfOk result (λ _. PRINTED * levels (view condition.now) ≤ room) }
 {
     if fits(condition, room) {
         written(alloc, condition)
@@ -44,7 +47,9 @@ fn written(alloc: Global, condition: &Expression) -> Result<String, OutOfMemory>
 
 // Whether an expression is printed within so many bytes of stack. It takes less of the stack than printing does.
 #[cycle(fits)]
-fn fits(expression: &Expression, room: usize) -> bool {
+fn fits(expression: &Expression, room: usize) -> bool
+    ensures { IsTrue result ↔ PRINTED * levels (view expression.now) ≤ room }
+{
     if room < PRINTED {
         return false;
     }
@@ -79,13 +84,17 @@ fn fits(expression: &Expression, room: usize) -> bool {
 
 // Whether two expressions are.
 #[cycle(fits)]
-fn both_fit<'src>(lhs: &Expression<'src>, rhs: &Expression<'src>, room: usize) -> bool {
+fn both_fit<'src>(lhs: &Expression<'src>, rhs: &Expression<'src>, room: usize) -> bool
+    ensures { IsTrue result ↔ PRINTED * max (levels (view lhs.now)) (levels (view rhs.now)) ≤ room }
+{
     fits(lhs, room) && fits(rhs, room)
 }
 
 // Whether a part is, if it is there.
 #[cycle(fits)]
-fn part_fits(part: Option<&Expression>, room: usize) -> bool {
+fn part_fits(part: Option<&Expression>, room: usize) -> bool
+    ensures { IsTrue result ↔ PRINTED * levels_of_part (option_map (λ e. view e.now) part.entry) ≤ room }
+{
     match part {
         Some(part) => fits(part, room),
         None => true,
@@ -94,7 +103,9 @@ fn part_fits(part: Option<&Expression>, room: usize) -> bool {
 
 // Whether each of some expressions is.
 #[cycle(fits)]
-fn row_fits(expressions: &[Expression], room: usize) -> bool {
+fn row_fits(expressions: &[Expression], room: usize) -> bool
+    ensures { IsTrue result ↔ PRINTED * levels_of_row (views expressions.now) ≤ room }
+{
     for expression in expressions {
         if !fits(expression, room) {
             return false;
@@ -105,7 +116,9 @@ fn row_fits(expressions: &[Expression], room: usize) -> bool {
 
 // Whether each interpolation is.
 #[cycle(fits)]
-fn pieces_fit(expressions: &[(Expression, StringLiteral)], room: usize) -> bool {
+fn pieces_fit(expressions: &[(Expression, StringLiteral)], room: usize) -> bool
+    ensures { IsTrue result ↔ PRINTED * levels_of_pieces (piece_views expressions.now) ≤ room }
+{
     for (expression, _) in expressions {
         if !fits(expression, room) {
             return false;

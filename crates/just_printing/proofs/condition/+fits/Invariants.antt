@@ -1,4 +1,7 @@
-use Rattle.std.proofs.Common.{◌*◌, suc}
+use Rattle.std.proofs.Common.{◌*◌, drop, suc}
+use Rattle.just_syntax.specs.View.{piece_views, views}
+use Rattle.just_printing.specs.Levels.{levels_of_pieces, levels_of_row}
+use Rattle.just_printing.proofs.Levels.{FitAlike}
 use Rattle.just_printing.proofs.condition.+fits.Given as goal
 
 -- each level takes some of the room
@@ -16,3 +19,11 @@ decreases-row_fits l = suc (2 * l.room)
 
 abbrev pub decreases-pieces_fit : goal.decreases-pieces_fit
 decreases-pieces_fit l = suc (2 * l.room)
+
+-- what is left fits exactly if all does
+abbrev pub invariant-row_fits-loop-expression : goal.invariant-row_fits-loop-expression
+invariant-row_fits-loop-expression l = FitAlike (levels_of_row (views (drop l.expression-index l.expressions))) (levels_of_row (views l.expressions)) l.room
+
+abbrev pub invariant-pieces_fit-loop-expression : goal.invariant-pieces_fit-loop-expression
+invariant-pieces_fit-loop-expression l =
+    FitAlike (levels_of_pieces (piece_views (drop l.expression-index l.expressions))) (levels_of_pieces (piece_views l.expressions)) l.room

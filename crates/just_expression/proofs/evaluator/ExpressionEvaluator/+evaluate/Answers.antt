@@ -206,7 +206,7 @@ evaluate_assert-returns g t c = elim c.match-message.branch [
       rw (w.in-Some.is, text, w.host-is) (runs_on _ _ c.in_ok-value.ensures (runs_else _ _ _ none (runs_on _ _ (runs_on _ _ w.in_ok-value-in-Some.ensures (runs_gives _)) (runs_done _ _ refl))))
   | evaluate_assert-in-None+in_ok-message-in-None w ↦
       let none : is_truthy c.in_ok-value.value ≡ false = cc in
-      let text : string_bytes c.match-message.message ≡ (96 ∷ printed (view c.args.condition.now)) ++ 96 ∷ [] = rw w.message-is w.in_ok-message-in-None.ensures in
+      let text : string_bytes c.match-message.message ≡ (96 ∷ printed (view c.args.condition.now)) ++ 96 ∷ [] = rw w.message-is w.in_ok-message-in-None.ensures.text in
       rw (w.in-None.is, text, w.host-is) (runs_on _ _ c.in_ok-value.ensures (runs_else _ _ _ none (runs_done _ _ refl)))
 ]
 
