@@ -1,7 +1,7 @@
 -- A resolved const stage meets no refusal that is Internal.
 use Rattle.std.proofs.Common.{◌≡◌, ⊎_elim, inl, inr, ◌⊎◌, ℕ, Bool, true, false, ◌||◌, List, [], ◌∷◌, map, nat_eq, if◌then◌else◌, Some, None, sym, ap, ◌∙◌, subst, arith}
 use Rattle.std.proofs.lemmas.Bool.Decides.{nat_tests}
-use Rattle.just_syntax.specs.Plain.{Token, Assignment}
+use Rattle.just_syntax.specs.Plain.{Token, Assignment, Expr}
 use Rattle.just_syntax.proofs.Tables.{found_is}
 use Rattle.just_value.specs.Value.{Names}
 use Rattle.just_value.specs.ConstRefusal as constants
@@ -17,18 +17,19 @@ use Rattle.just_meaning.specs.Meaning.{AtLimit, named}
 use Rattle.just_meaning.specs.Module.{bound_of, situation_at}
 use Rattle.just_meaning.specs.Reaches.{Mention, VariableOf, CallOf, Stands, Reads}
 use Rattle.just_meaning.specs.Resolved.{AllNumbered, IsNumbered, IsOneOf, HasValue, AreAssignments, AreInOrder, with_taken, IsResolvedConst}
-use Rattle.just_meaning.specs.Stage.{Constants, Standing, Found, Stage, Finished, Stops, Unknown, Passes, Skips, StaysOpen, Settles, Opens, Breaks, const_assigned}
+use Rattle.just_meaning.specs.ResolvedOn.{IsResolvedOn}
+use Rattle.just_meaning.specs.Stage.{Constants, Standing, Found, Stage, Finished, Stops, Unknown, Passes, Skips, StaysOpen, Settles, Opens, Breaks, const_assigned, const_meaning}
 use Rattle.just_laws.proofs.Bound.{has_put}
 use Rattle.just_laws.proofs.Forms.{OfForms}
 use Rattle.just_laws.proofs.Constants.{AllConst, Fine, OfSome, const_eval, const_override, const_refused}
 
-abbrev IsOther : Refusal → Type 0
+abbrev pub IsOther : Refusal → Type 0
 IsOther r = IsInternal r → ⊥
 
-allows_others : OfForms IsOther
+pub allows_others : OfForms IsOther
 allows_others = record { assertion = λ message t none. none; operation = λ l o r t none. none; regex = λ t none. none }
 
-shut_other : (is_open : ℕ → Bool) (x : Note) (s : Refusal) → constantly is_open x ≡ Some s → IsOther s
+pub shut_other : (is_open : ℕ → Bool) (x : Note) (s : Refusal) → constantly is_open x ≡ Some s → IsOther s
 shut_other is_open (Read t n) s e = by (is_open n) e
   where
     by : (b : Bool) → (if b then Some (Const (constants.Variable t)) else None) ≡ Some s → IsOther s
@@ -42,6 +43,15 @@ known_fine : (is_open : ℕ → Bool) (names : Names) (n : ℕ) → HasValue nam
 known_fine is_open names n (inl has) t e = subst (λ o. AllConst IsOther is_open (done (named t o))) (sym has.1) tt
 known_fine is_open names n (inr opened) t e = absurd (cc)
 
+-- an expression whose variables are bound or open meets no refusal that is Internal
+pub resolved_const : (s : Standing) (e : Expr) → IsResolvedOn s e → AllConst IsOther s.is_open (const_meaning s e)
+resolved_const s e resolved = const_eval IsOther s.is_open allows_others nowhere AtLimit (situation_at s.lists s.frames) e fine
+  where
+    fine : (x : Mention) → Stands e x → Fine IsOther s.is_open (value_in s.frames) x
+    fine (VariableOf None) h = absurd (resolved.numbered h)
+    fine (VariableOf (Some n)) h = known_fine s.is_open (value_in s.frames) n (resolved.known n h)
+    fine (CallOf f n) h = tt
+
 module _ (m : Constants) (outer : Frames) (resolved : IsResolvedConst m.assignments outer) where
   -- what was taken, and what is bound outside, has a value or is open
   abbrev AllHave : Frame → (ℕ → Bool) → List ℕ → Type 0
@@ -53,12 +63,8 @@ module _ (m : Constants) (outer : Frames) (resolved : IsResolvedConst m.assignme
   assigned_not : (lists : Bool) (frame : Frame) (is_open : ℕ → Bool) (taken : List ℕ) (t : Token) (a : Assignment) → assignment_at m.assignments t.lexeme ≡ Some a → AllHave frame is_open taken →
       ((n : ℕ) → Reads [] a.value n → IsOneOf taken n ⊎ HasValue (value_in outer) n) → IfRefused IsOther (const_assigned m (record { lists = lists; frames = frame ∷ outer; is_open = is_open }) a)
   assigned_not lists frame is_open taken t a found have reads =
-      const_refused IsOther is_open _ (shut_other is_open) (const_override IsOther is_open (m.overrides a.number) _ (const_eval IsOther is_open allows_others nowhere AtLimit (situation_at lists (frame ∷ outer)) a.value fine))
-    where
-      fine : (x : Mention) → Stands a.value x → Fine IsOther is_open (value_in (frame ∷ outer)) x
-      fine (VariableOf None) h = absurd (numbered t a found h)
-      fine (VariableOf (Some n)) h = known_fine is_open (value_in (frame ∷ outer)) n (have n (reads n (inl h)))
-      fine (CallOf f n) h = tt
+      const_refused IsOther is_open _ (shut_other is_open) (const_override IsOther is_open (m.overrides a.number) _
+      (resolved_const (record { lists = lists; frames = frame ∷ outer; is_open = is_open }) a.value (record { numbered = numbered t a found; known = λ n h. have n (reads n (inl h)) })))
 
   passed : (taken : List ℕ) (t : Token) (left : List Token) (a : Assignment) (b : Bool) → assignment_at m.assignments t.lexeme ≡ Some a → m.assignments.referenced a.number ≡ b → AreInOrder [] m.assignments outer (with_taken m.assignments (assignment_at m.assignments t.lexeme) taken) left
       → AreInOrder [] m.assignments outer (if b then a.number ∷ taken else taken) left

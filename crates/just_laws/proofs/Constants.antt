@@ -118,12 +118,13 @@ pub record IsTold {S A : Type 0} (is_open : ℕ → Bool) (t : Tree A) (o : Outc
   pub still : old ≡ new
   pub few : IfRefused IsConstEval o
 
-few_told : {A : Type 0} (o w : Outcome A) → UnlessStopped o w → IfRefused IsConstEval w → IfRefused IsConstEval o
-few_told (Gave a) w e h = tt
-few_told (Refused r) w e h = subst (IfRefused IsConstEval) (sym e) h
-few_told Stopped w e h = tt
+-- an outcome that is the one that is wanted has no further refusals
+pub unless_such : {A : Type 0} (P : Refusal → Type 0) (o w : Outcome A) → UnlessStopped o w → IfRefused P w → IfRefused P o
+unless_such P (Gave a) w e h = tt
+unless_such P (Refused r) w e h = subst (IfRefused P) (sym e) h
+unless_such P Stopped w e h = tt
 
 pub const_told : {S A : Type 0} {step : S → Question → Answer → S → Type 0} {old new : S} (is_open : ℕ → Bool) (t : Tree A) (o : Outcome A) → AllConst IsConstEval is_open t → Runs (constantly is_open) step old t o new → IsTold is_open t o old new
 const_told {step = step} {old = old} {new = new} is_open t o h r =
     let told = const_path IsConstEval is_open t h r.path in
-    record { told = told; still = const_asks_nothing IsConstEval is_open step old new t h r.path r.chain; few = few_told o _ told (const_refused IsConstEval is_open t (shut_alike is_open) h) }
+    record { told = told; still = const_asks_nothing IsConstEval is_open step old new t h r.path r.chain; few = unless_such IsConstEval o _ told (const_refused IsConstEval is_open t (shut_alike is_open) h) }

@@ -11,7 +11,7 @@ use Rattle.just_meaning.specs.Line.{fragment, line, line_expressions, string}
 use Rattle.just_meaning.specs.Meaning.{Program, Situation}
 use Rattle.just_meaning.specs.Resolved.{AllKnown, parameter_numbers}
 use Rattle.just_meaning.specs.Settings.{text_in}
-use Rattle.just_value.specs.ConstEval.{IsConstEval}
+use Rattle.just_value.specs.Refusal.{Refusal, ListInStringContext}
 use Rattle.just_laws.proofs.Constants.{AllConst, const_bind}
 use Rattle.just_laws.proofs.Final.{AllFinal, final_bind}
 use Rattle.just_laws.proofs.Internal.{IsNeverInternal, bind_never}
@@ -24,6 +24,10 @@ use Rattle.just_laws.proofs.Reached.{one_front}
 abbrev pub AllSuch : (Expr → Type 0) → List Expr → Type 0
 AllSuch P [] = Unit {0}
 AllSuch P (e ∷ es) = P e × AllSuch P es
+
+pub all_such : (P : Expr → Type 0) → ((e : Expr) → P e) → (es : List Expr) → AllSuch P es
+all_such P h [] = tt
+all_such P h (e ∷ es) = (h e, all_such P h es)
 
 -- it means the same
 abbrev pub Same : (Expr → Tree Value) → (Expr → Tree Value) → Expr → Type 0
@@ -38,10 +42,7 @@ same_line means other continued (TextFragment t ∷ fs) same = λ i. bind (fragm
 same_line means other continued (Interpolation e ∷ fs) same = λ i. bind (bind (same.0 i) (λ v. gives (joined v))) (λ text. bind (same_line means other false fs same.1 i) (λ rest. gives (text ++ rest)))
 
 -- where one text is wanted, a list is refused
-abbrev pub IsListRefusal : (StringContext → Value → Type 0) → Type 0
-IsListRefusal P = (context : StringContext) (v : Value) → P context v
-
-text_not : (context : StringContext) (v : Value) → IsNotInternal (text_in context v)
+pub text_not : (context : StringContext) (v : Value) → IsNotInternal (text_in context v)
 text_not context [] = λ none. none
 text_not context (text ∷ []) = tt
 text_not context (text ∷ next ∷ texts) = λ none. none
@@ -71,21 +72,22 @@ line_final means continued (Interpolation e ∷ fs) h =
 
 -- ---- by the const rules
 
-module _ (is_open : ℕ → Bool) where
-  const_text : (context : StringContext) (v : Value) → AllConst IsConstEval is_open (done (text_in context v))
-  const_text context [] = tt
+module _ (P : Refusal → Type 0) (lists : (context : StringContext) (v : Value) → P (ListInStringContext context v)) (is_open : ℕ → Bool) where
+  const_text : (context : StringContext) (v : Value) → AllConst P is_open (done (text_in context v))
+  const_text context [] = lists context []
   const_text context (text ∷ []) = tt
-  const_text context (text ∷ next ∷ texts) = tt
+  const_text context (text ∷ next ∷ texts) = lists context (text ∷ next ∷ texts)
 
-  pub string_const : (means : Expr → Tree Value) (context : StringContext) (e : Expr) → AllConst IsConstEval is_open (means e) → AllConst IsConstEval is_open (string means context e)
-  string_const means context e h = const_bind IsConstEval is_open (means e) _ h (λ v. const_text context v)
+  pub string_const : (means : Expr → Tree Value) (context : StringContext) (e : Expr) → AllConst P is_open (means e) → AllConst P is_open (string means context e)
+  string_const means context e h = const_bind P is_open (means e) _ h (λ v. const_text context v)
 
-  pub line_const : (means : Expr → Tree Value) (continued : Bool) (fs : List Fragment) → ((e : Expr) → AllConst IsConstEval is_open (means e)) → AllConst IsConstEval is_open (line means continued fs)
+  pub line_const : (means : Expr → Tree Value) (continued : Bool) (fs : List Fragment) → AllSuch (λ e. AllConst P is_open (means e)) (line_expressions fs)
+      → AllConst P is_open (line means continued fs)
   line_const means continued [] h = tt
-  line_const means continued (TextFragment t ∷ fs) h = const_bind IsConstEval is_open (line means false fs) _ (line_const means false fs h) (λ rest. tt)
+  line_const means continued (TextFragment t ∷ fs) h = const_bind P is_open (line means false fs) _ (line_const means false fs h) (λ rest. tt)
   line_const means continued (Interpolation e ∷ fs) h =
-      const_bind IsConstEval is_open (bind (means e) (λ v. gives (joined v))) _ (const_bind IsConstEval is_open (means e) _ (h e) (λ v. tt))
-      (λ text. const_bind IsConstEval is_open (line means false fs) _ (line_const means false fs h) (λ rest. tt))
+      const_bind P is_open (bind (means e) (λ v. gives (joined v))) _ (const_bind P is_open (means e) _ h.0 (λ v. tt))
+      (λ text. const_bind P is_open (line means false fs) _ (line_const means false fs h.1) (λ rest. tt))
 
 -- ---- where all is resolved
 

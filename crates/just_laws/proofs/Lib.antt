@@ -13,3 +13,4 @@ pub mod Final
 pub mod Here
 pub mod Recipe
 pub mod OneElement
+pub mod SettingsInternal

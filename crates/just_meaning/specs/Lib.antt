@@ -14,3 +14,4 @@ pub mod Line
 pub mod Parameters
 pub mod Here
 pub mod View
+pub mod ResolvedOn

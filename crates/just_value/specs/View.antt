@@ -1,5 +1,5 @@
 -- What bindings, frames, scopes and refusals are as plain data.
-use Rattle.std.specs.Prelude.{ℕ, List, ◌∷◌, map, Option, Some, None, string_bytes, option_map, Result, Ok, Err}
+use Rattle.std.specs.Prelude.{◌≡◌, ℕ, List, ◌∷◌, map, Option, Some, None, string_bytes, option_map, Result, Ok, Err}
 use Rattle.std.specs.Borrow.{Bor}
 use Rattle.std.specs.Str.{bytes_eq}
 use Rattle.just_syntax.specs.Plain.{Text, Token}
@@ -28,6 +28,7 @@ use Rattle.just_value.specs.declared.error.Error.{Error}
 use Rattle.just_value.specs.declared.error.Error.TheVariants as errors
 use Rattle.just_value.specs.Frames as plain
 use Rattle.just_value.specs.Frames.{Bound, Frames}
+use Rattle.just_value.specs.ConstEval.{const_eval_token}
 use Rattle.just_value.specs.ConstRefusal as constant
 use Rattle.just_value.specs.Positional.{Positional}
 use Rattle.just_value.specs.Refusal.{Fault, Code, Message, NoMemory, Refusal, Assert, Backtick, Check, Const, EmptyInterpreter, EmptyListArgument, FunctionCall, Internal, LeftOut, LeftOutRegex, ListInStringContext, ListOperation, RecursionLimit}
@@ -90,6 +91,10 @@ compile_refusal compiles.OutOfMemory = None
 abbrev pub compile_token : CompileError → Option Token
 compile_token (compiles.ConstEval t e) = Some (token_view t)
 compile_token compiles.OutOfMemory = None
+
+-- the error's token is the place of its refusal
+abbrev pub HasOwnToken : CompileError → Type 0
+HasOwnToken e = compile_token e ≡ option_map const_eval_token (compile_refusal e)
 
 -- the refusal that an error is, if it is not want of memory
 abbrev pub refusal : Error → Option Refusal

@@ -1,0 +1,38 @@
+-- When expressions, lines and settings are resolved on a const evaluator.
+use Rattle.std.specs.Prelude.{◌≡◌, ◌⊎◌, ℕ, true, List, [], ◌∷◌, ◌++◌, Some}
+use Rattle.just_syntax.specs.Plain as plain
+use Rattle.just_syntax.specs.Plain.{Expr, Interpreter, Set}
+use Rattle.just_value.specs.Frames.{value_in}
+use Rattle.just_meaning.specs.Reaches.{Stands, VariableOf}
+use Rattle.just_meaning.specs.Resolved.{HasValue, IsNumbered}
+use Rattle.just_meaning.specs.Stage.{Standing}
+
+-- Each variable in the expression has a number, which is bound or open. Nothing is asked of the names that are called.
+pub record IsResolvedOn (s : Standing) (e : Expr) : Type 0 where
+  pub numbered : IsNumbered e
+  pub known : (n : ℕ) → Stands e (VariableOf (Some n)) → HasValue (value_in s.frames) n ⊎ (s.is_open n ≡ true)
+
+abbrev pub AllResolvedOn : Standing → List Expr → Type 0
+AllResolvedOn s [] = Unit {0}
+AllResolvedOn s (e ∷ es) = IsResolvedOn s e × AllResolvedOn s es
+
+-- the expressions of a command and its arguments
+abbrev pub interpreter_expressions : Interpreter Expr → List Expr
+interpreter_expressions i = i.command ∷ i.arguments
+
+-- the expressions of a setting
+abbrev pub setting_expressions : plain.Setting → List Expr
+setting_expressions (plain.DotenvCommand e) = e ∷ []
+setting_expressions (plain.DotenvFilename e) = e ∷ []
+setting_expressions (plain.DotenvPath e) = e ∷ []
+setting_expressions (plain.ScriptInterpreter i) = interpreter_expressions i
+setting_expressions (plain.Shell i) = interpreter_expressions i
+setting_expressions (plain.Tempdir e) = e ∷ []
+setting_expressions (plain.WindowsShell i) = interpreter_expressions i
+setting_expressions (plain.WorkingDirectory e) = e ∷ []
+setting_expressions _ = []
+
+-- the expressions of a module's settings
+abbrev pub set_expressions : List Set → List Expr
+set_expressions [] = []
+set_expressions (x ∷ xs) = setting_expressions x.value ++ set_expressions xs
