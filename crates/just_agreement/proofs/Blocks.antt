@@ -1,6 +1,7 @@
 -- What each block of a run found when the run came to it.
 use Rattle.std.proofs.Common.{◌≡◌, ◌⊎◌, ⊎_elim, inl, inr, ℕ, zero, suc, Bool, true, false, List, [], ◌∷◌, ◌++◌, map, Contains, nat_eq, Option, Some, None, if◌then◌else◌, refl, sym, ap, ◌∙◌, subst, arith}
 use Rattle.std.proofs.lemmas.Bool.Decides.{nat_tests}
+use Rattle.std.specs.Option.{option_or}
 use Rattle.just_syntax.specs.Plain.{Text, Token, Assignment}
 use Rattle.just_syntax.specs.Keyed.{value_at}
 use Rattle.just_syntax.proofs.Tables.{found_is}
@@ -14,7 +15,7 @@ use Rattle.just_meaning.specs.Reaches.{Reads}
 use Rattle.just_meaning.specs.Resolved.{IsOneOf, AreDistinct, HasValue, AreInOrder, with_taken}
 use Rattle.just_meaning.specs.Module.{Module, Block, Run, Finished, Stops, Unknown, Passes, Skips, Binds, Breaks, Halts, IsTaken, assigned, bound_of, events_of, lexically}
 use Rattle.just_laws.specs.Laws.{IsAmongEvents}
-use Rattle.just_laws.proofs.Bound.{has_put, over_put}
+use Rattle.just_laws.proofs.Bound.{bound_put, has_put, over_put}
 use Rattle.just_agreement.specs.Cone.{numbered}
 
 -- ---- lists
@@ -84,6 +85,24 @@ unbound_value n frames e = sym (value_innermost n frames) ∙ ap value_of e
 
 pub bound_value : (n : ℕ) (frames : Frames) (b : Bound) → innermost n frames ≡ Some b → value_in frames n ≡ Some b.value
 bound_value n frames b e = sym (value_innermost n frames) ∙ ap value_of e
+
+-- a number that no frame binds is not bound in the first
+own_nothing : (frame : Frame) (outer : Frames) (n : ℕ) → innermost n (frame ∷ outer) ≡ None → bound_at n frame ≡ None
+own_nothing frame outer n h = by (bound_at n frame) h
+  where
+    by : (x : Option Bound) → option_or x (innermost n outer) ≡ None → x ≡ None
+    by None e = refl
+    by (Some b) e = absurd (cc)
+
+-- what is put in is bound
+pub put_bound : (frame : Frame) (b : Bound) → bound_at b.number (with_bound frame b) ≡ Some b
+put_bound frame b = ⊎_elim (λ put. put.1) (λ kept. absurd (kept.0 refl)) (bound_put frame b b.number)
+
+-- what is bound stays bound where a number is put in that had no binding
+pub kept_bound : (frame : Frame) (outer : Frames) (new : Bound) (n : ℕ) (b : Bound) → innermost new.number (frame ∷ outer) ≡ None → bound_at n frame ≡ Some b
+    → bound_at n (with_bound frame new) ≡ Some b
+kept_bound frame outer new n b unbound h =
+    ⊎_elim (λ put. absurd (never_both b _ h (subst (λ j. bound_at j frame ≡ None) put.0 (own_nothing frame outer new.number unbound)))) (λ kept. kept.1 ∙ h) (bound_put frame new n)
 
 -- ---- assignments by their numbers
 

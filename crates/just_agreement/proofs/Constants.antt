@@ -20,7 +20,7 @@ use Rattle.just_laws.proofs.Final.{IsFinalDeeper, final_eval, final_override}
 use Rattle.just_agreement.specs.Foretold.{AreConstant, AreOfOneModule, ConstAgrees, Foretells, is_found_open, is_shut}
 use Rattle.just_agreement.specs.Cone.{numbered}
 use Rattle.just_agreement.proofs.Alike.{Alike, Done, Both, Same, SameCheck, UpToShut, IsTold, alike_eval, alike_override}
-use Rattle.just_agreement.proofs.Blocks.{AllMet, IsGiven, IsIn, Met, all_met, gave_same, in_of, met_outside, never_both, some_same}
+use Rattle.just_agreement.proofs.Blocks.{AllMet, IsGiven, IsIn, Met, all_met, gave_same, in_of, met_outside, never_both, of_in, some_same}
 use Rattle.just_agreement.proofs.Agreed.{gave_on}
 use Rattle.just_agreement.proofs.Orders.{distinct_front}
 use Rattle.just_agreement.proofs.Stages as stages
@@ -147,6 +147,7 @@ module _ (m : Constants) (lists : Bool) (outer : Frames) (n : Module) (others : 
 pub const_agrees : ConstAgrees
 const_agrees = record {
   standings = λ m lists outer fs s r. is_what_was_found m lists outer r;
+  refusals = λ m lists outer fs r resolved stage. let f = stages.ends_refused m lists outer _ resolved.named stage r refl in (f.0, of_in fs f.0 f.1, f.2);
   blocks = λ m lists outer n others fs o bs p same before resolved stage run f b at at' number on.
       bear_all m lists outer n others same (is_found_open fs) fs (stages.all_met m lists outer before.distinct before.in_order stage) [] bs (λ c none. absurd none)
       (all_met n others (distinct_front (map (λ a. a.number) n.assignments.all) _ resolved.distinct) resolved.in_order run) b (in_of bs b at') f (in_of fs f at) number on;

@@ -6,3 +6,4 @@ pub mod Orders
 pub mod Stages
 pub mod Constants
 pub mod Cones
+pub mod Results

@@ -1,9 +1,8 @@
 -- Two orders of one module.
 use Rattle.std.proofs.Common.{◌≡◌, ◌≢◌, ◌⊎◌, ⊎_elim, inl, inr, ℕ, Bool, true, false, List, [], ◌∷◌, ◌++◌, map, Option, Some, None, refl, sym, ap, ap₂, ◌∙◌, subst}
-use Rattle.std.specs.Option.{option_or}
 use Rattle.just_syntax.specs.Plain.{Token, Assignment}
 use Rattle.just_value.specs.Value.{Value}
-use Rattle.just_value.specs.Frames.{Bound, Frame, Frames, bound_at, innermost, own_frame, value_in, with_bound}
+use Rattle.just_value.specs.Frames.{Bound, Frame, Frames, bound_at, own_frame, value_in, with_bound}
 use Rattle.just_value.specs.Refusal.{Refusal}
 use Rattle.just_value.specs.Outcome.{Outcome, Gave, Refused, Stopped}
 use Rattle.just_meaning.specs.Assignments.{assignment_at}
@@ -14,7 +13,7 @@ use Rattle.just_laws.proofs.Bound.{bound_put, has_put, over_put}
 use Rattle.just_laws.proofs.Reached.{one_front}
 use Rattle.just_agreement.specs.Reordered.{Agree, IsTakenBy, OrdersAgree, reordered}
 use Rattle.just_agreement.specs.Cone.{numbered}
-use Rattle.just_agreement.proofs.Blocks.{AllMet, IsIn, all_met, bound_value, found_numbered, gave_same, in_of, met_outside, never_both, of_in, one_met, some_same}
+use Rattle.just_agreement.proofs.Blocks.{AllMet, IsIn, all_met, bound_value, found_numbered, gave_same, in_of, kept_bound, met_outside, never_both, of_in, one_met, put_bound, some_same}
 use Rattle.just_agreement.proofs.Agreed.{AreMatched, blocks_agree, gave_on}
 
 -- a block that bound this: the assignment of its number, with its value
@@ -30,14 +29,6 @@ pub record IsMade (m : Module) (bs : List Block) (n : ℕ) (b : Bound) : Type 0 
 
 made_later : (m : Module) (x : Block) (bs : List Block) (n : ℕ) (b : Bound) → IsMade m bs n b → IsMade m (x ∷ bs) n b
 made_later m x bs n b k = record { block = k.block; assignment = k.assignment; value = k.value; among = inr k.among; number = k.number; of_number = k.of_number; gave = k.gave; bound = k.bound }
-
--- a number that no frame binds is not bound in the first
-own_nothing : (frame : Frame) (outer : Frames) (n : ℕ) → innermost n (frame ∷ outer) ≡ None → bound_at n frame ≡ None
-own_nothing frame outer n h = by (bound_at n frame) h
-  where
-    by : (x : Option Bound) → option_or x (innermost n outer) ≡ None → x ≡ None
-    by None e = refl
-    by (Some b) e = absurd (cc)
 
 refusal_same : {A : Type 0} (r s : Refusal) (o p : Outcome A) → o ≡ Refused r → p ≡ Refused s → o ≡ p → r ≡ s
 refusal_same r s o p e f same = cc
@@ -61,7 +52,7 @@ module _ (m : Module) (outer : Frames) where
   not_stopped frame (Halts a es k p) on b at = absurd (on refl)
 
   -- a block that is refused is the last
-  refused_last : (frame : Frame) {left : List Token} {bs : List Block} {o : Outcome Frames} → Run lexically m (frame ∷ outer) left bs o → (b : Block) (r : Refusal) → IsIn bs b → b.outcome ≡ Refused r → o ≡ Refused r
+  pub refused_last : (frame : Frame) {left : List Token} {bs : List Block} {o : Outcome Frames} → Run lexically m (frame ∷ outer) left bs o → (b : Block) (r : Refusal) → IsIn bs b → b.outcome ≡ Refused r → o ≡ Refused r
   refused_last frame Finished b r at e = absurd at
   refused_last frame Stops b r at e = absurd at
   refused_last frame (Unknown f) b r at e = absurd at
@@ -104,7 +95,7 @@ module _ (m : Module) (outer : Frames) where
 
 module _ (m : Module) (outer : Frames) (distinct : AreDistinct (map (λ a. a.number) m.assignments.all)) where
   -- what it binds in its own frame was there before, or a block made it
-  makes : (frame : Frame) {left : List Token} {bs : List Block} {last : Frames} → Run lexically m (frame ∷ outer) left bs (Gave last) → (n : ℕ) (b : Bound) → bound_at n (own_frame last) ≡ Some b → (bound_at n frame ≡ Some b) ⊎ IsMade m bs n b
+  pub makes : (frame : Frame) {left : List Token} {bs : List Block} {last : Frames} → Run lexically m (frame ∷ outer) left bs (Gave last) → (n : ℕ) (b : Bound) → bound_at n (own_frame last) ≡ Some b → (bound_at n frame ≡ Some b) ⊎ IsMade m bs n b
   makes frame Finished n b h = inl h
   makes frame (Passes a f e r) n b h = makes frame r n b h
   makes frame (Skips a c f e g r) n b h = makes frame r n b h
@@ -136,12 +127,10 @@ module _ (m : Module) (outer : Frames) (distinct : AreDistinct (map (λ a. a.num
   stays_bound frame Finished n b h = h
   stays_bound frame (Passes a f e r) n b h = stays_bound frame r n b h
   stays_bound frame (Skips a c f e g r) n b h = stays_bound frame r n b h
-  stays_bound frame (Binds a es v k p r) n b h =
-      stays_bound _ r n b
-      (⊎_elim (λ put. absurd (never_both b _ h (subst (λ j. bound_at j frame ≡ None) put.0 (own_nothing frame outer a.number k.unbound)))) (λ kept. kept.1 ∙ h) (bound_put frame (bound_of m.program.fixed.settings.export a v) n))
+  stays_bound frame (Binds a es v k p r) n b h = stays_bound _ r n b (kept_bound frame outer (bound_of m.program.fixed.settings.export a v) n b k.unbound h)
 
   -- a block that gave a value bound it
-  block_bound : (frame : Frame) {left : List Token} {bs : List Block} {last : Frames} → Run lexically m (frame ∷ outer) left bs (Gave last) → (b : Block) (v : Value) → IsIn bs b → b.outcome ≡ Gave v
+  pub block_bound : (frame : Frame) {left : List Token} {bs : List Block} {last : Frames} → Run lexically m (frame ∷ outer) left bs (Gave last) → (b : Block) (v : Value) → IsIn bs b → b.outcome ≡ Gave v
       → (a : Assignment) × (numbered m.assignments.all b.number ≡ Some a) × (bound_at b.number (own_frame last) ≡ Some (bound_of m.program.fixed.settings.export a v))
   block_bound frame Finished b v at e = absurd at
   block_bound frame (Passes a f g r) b v at e = block_bound frame r b v at e
@@ -152,12 +141,9 @@ module _ (m : Module) (outer : Frames) (distinct : AreDistinct (map (λ a. a.num
       number : a.number ≡ b.number
       number = ap (λ (x : Block). x.number) same
 
-      put : bound_at a.number (with_bound frame (bound_of m.program.fixed.settings.export a u)) ≡ Some (bound_of m.program.fixed.settings.export a u)
-      put = ⊎_elim (λ put. put.1) (λ kept. absurd (kept.0 refl)) (bound_put frame (bound_of m.program.fixed.settings.export a u) a.number)
-
       bound : bound_at b.number (own_frame last) ≡ Some (bound_of m.program.fixed.settings.export a v)
       bound = subst (λ n. bound_at n (own_frame last) ≡ Some (bound_of m.program.fixed.settings.export a v)) number
-          (stays_bound _ r a.number _ put ∙ ap (λ x. Some (bound_of m.program.fixed.settings.export a x)) (gave_same u v (ap (λ (x : Block). x.outcome) same ∙ e)))
+          (stays_bound _ r a.number _ (put_bound frame (bound_of m.program.fixed.settings.export a u)) ∙ ap (λ x. Some (bound_of m.program.fixed.settings.export a x)) (gave_same u v (ap (λ (x : Block). x.outcome) same ∙ e)))
 
   value_stays : (frame : Frame) {left : List Token} {bs : List Block} {last : Frames} → Run lexically m (frame ∷ outer) left bs (Gave last) → (n : ℕ) → HasValue (value_in (frame ∷ outer)) n → HasValue (value_in last) n
   value_stays frame Finished n h = h

@@ -10,12 +10,12 @@ use Rattle.just_meaning.specs.Assignments.{assignment_at}
 use Rattle.just_meaning.specs.Internal.{IsFinal}
 use Rattle.just_meaning.specs.Module.{bound_of}
 use Rattle.just_meaning.specs.Reaches.{VariableOf, Stands}
-use Rattle.just_meaning.specs.Resolved.{IsOneOf, AreDistinct, HasValue, AreInOrder, with_taken}
+use Rattle.just_meaning.specs.Resolved.{IsOneOf, AreAssignments, AreDistinct, HasValue, AreInOrder, with_taken}
 use Rattle.just_meaning.specs.Stage.{Constants, Standing, Found, Stage, Finished, Stops, Unknown, Passes, Skips, StaysOpen, Settles, Opens, Breaks, IsNew, const_assigned}
 use Rattle.just_laws.proofs.Bound.{bound_put, has_put, over_put}
 use Rattle.just_agreement.specs.Foretold.{IsWhatWasFound, is_found_open, is_opened}
 use Rattle.just_agreement.specs.Cone.{numbered}
-use Rattle.just_agreement.proofs.Blocks.{IsIn, below_nothing, bound_value, found_numbered, never_both, of_in, some_same, unbound_value}
+use Rattle.just_agreement.proofs.Blocks.{IsIn, below_nothing, bound_value, found_numbered, gave_same, in_of, kept_bound, never_both, of_in, put_bound, some_same, unbound_value}
 
 -- ---- tests
 
@@ -101,10 +101,50 @@ module _ (m : Constants) (lists : Bool) (outer : Frames) where
       (ends_bound _ opened r n b h)
   ends_bound frame opened (Opens a c new e r) n b h = ⊎_elim (λ old. inl old) (λ f. inr (f.0, inr f.1, f.2, f.3)) (ends_bound frame _ r n b h)
 
+  -- what is bound stays bound
+  stays_bound : (frame : Frame) (opened : ℕ → Bool) {left : List Token} {fs : List Found} {s : Standing} → Stage m (standing lists outer frame opened) left fs (Gave s)
+      → (n : ℕ) (b : Bound) → bound_at n frame ≡ Some b → bound_at n (own_frame s.frames) ≡ Some b
+  stays_bound frame opened Finished n b h = h
+  stays_bound frame opened (Passes a f e r) n b h = stays_bound frame opened r n b h
+  stays_bound frame opened (Skips a c f e g r) n b h = stays_bound frame opened r n b h
+  stays_bound frame opened (StaysOpen a f e g r) n b h = stays_bound frame opened r n b h
+  stays_bound frame opened (Settles a v new e r) n b h = stays_bound _ opened r n b (kept_bound frame outer (bound_of false a v) n b new.unbound h)
+  stays_bound frame opened (Opens a c new e r) n b h = stays_bound frame _ r n b h
+
+  -- a value that is found is bound in the end
+  ends_settled : (frame : Frame) (opened : ℕ → Bool) {left : List Token} {fs : List Found} {s : Standing} → Stage m (standing lists outer frame opened) left fs (Gave s)
+      → (f : Found) (v : Value) → IsIn fs f → f.outcome ≡ Gave v → (b : Bound) × (bound_at f.number (own_frame s.frames) ≡ Some b) × (b.value ≡ v)
+  ends_settled frame opened Finished f v at e = absurd at
+  ends_settled frame opened (Passes a g h r) f v at e = ends_settled frame opened r f v at e
+  ends_settled frame opened (Skips a c g h i r) f v at e = ends_settled frame opened r f v at e
+  ends_settled frame opened (StaysOpen a g h i r) f v at e = ends_settled frame opened r f v at e
+  ends_settled frame opened {s = s} (Settles a u new k r) f v (inl same) e = (
+    bound_of false a u,
+    subst (λ n. bound_at n (own_frame s.frames) ≡ Some (bound_of false a u)) (ap (λ (x : Found). x.number) same) (stays_bound _ opened r a.number _ (put_bound frame (bound_of false a u))),
+    gave_same u v (ap (λ (x : Found). x.outcome) same ∙ e),
+  )
+  ends_settled frame opened (Settles a u new k r) f v (inr at) e = ends_settled _ opened r f v at e
+  ends_settled frame opened (Opens a c new k r) f v (inl same) e = let other : Refused (Const c) ≡ Gave v = ap (λ (x : Found). x.outcome) same ∙ e in absurd (cc)
+  ends_settled frame opened (Opens a c new k r) f v (inr at) e = ends_settled frame _ r f v at e
+
+  -- a stage of known names is refused as it found
+  pub ends_refused : (standing_at : Standing) {left : List Token} {fs : List Found} {o : Outcome Standing} → AreAssignments m.assignments left → Stage m standing_at left fs o
+      → (r : Refusal) → o ≡ Refused r → (f : Found) × IsIn fs f × (f.outcome ≡ Refused r)
+  ends_refused at named Finished r e = absurd (cc)
+  ends_refused at named Stops r e = absurd (cc)
+  ends_refused at named (Unknown f) r e = let some = named.0.1 in absurd (cc)
+  ends_refused at named (Passes a f g q) r e = ends_refused _ named.1 q r e
+  ends_refused at named (Skips a b f g h q) r e = ends_refused _ named.1 q r e
+  ends_refused at named (StaysOpen a f g h q) r e = ends_refused _ named.1 q r e
+  ends_refused at named (Settles a v new k q) r e = let f = ends_refused _ named.1 q r e in (f.0, inr f.1, f.2)
+  ends_refused at named (Opens a c new k q) r e = let f = ends_refused _ named.1 q r e in (f.0, inr f.1, f.2)
+  ends_refused at named (Breaks a s final new k) r e = (record { number = a.number; outcome = Refused s }, inl refl, cc)
+
   pub is_what_was_found : {left : List Token} {fs : List Found} {s : Standing} → Stage m (standing lists outer [] (λ n. false)) left fs (Gave s) → IsWhatWasFound fs s
   is_what_was_found {fs = fs} r = record {
     opens = λ n. ends_open [] (λ n. false) r n;
     binds = λ n b h. ⊎_elim (λ none. absurd (cc)) (λ f. (f.0, of_in fs f.0 f.1, f.2, f.3)) (ends_bound [] (λ n. false) r n b h);
+    settles = λ f v at e. ends_settled [] (λ n. false) r f v (in_of fs f at) e;
   }
 
   -- ---- what is met

@@ -2,7 +2,7 @@
 use Rattle.std.specs.Prelude.{◌≡◌, ◌≢◌, ◌⊎◌, ℕ, Bool, true, false, ◌&&◌, ◌||◌, Contains, List, [], ◌∷◌, nat_eq, Some}
 use Rattle.just_value.specs.Value.{Value}
 use Rattle.just_value.specs.Frames.{Bound, Frames, bound_at, own_frame, value_in}
-use Rattle.just_value.specs.Refusal.{Const}
+use Rattle.just_value.specs.Refusal.{Refusal, Const}
 use Rattle.just_value.specs.Outcome.{Outcome, Gave, Refused, Stopped}
 use Rattle.just_host.specs.Interaction.{Note, Read, Entered, Command, Event, Noted}
 use Rattle.just_meaning.specs.Module.{Module, Block, Run, lexically}
@@ -44,11 +44,13 @@ abbrev pub is_found_open : List Found → ℕ → Bool
 is_found_open [] n = false
 is_found_open (f ∷ fs) n = (is_opened f.outcome && nat_eq n f.number) || is_found_open fs n
 
--- Where a stage stands in the end is what it found: the open numbers are those that are found open, and each binding of
--- its own frame has the value that is found of its number.
+-- Where a stage stands in the end is what it found: the open numbers are those that are found open, each binding of
+-- its own frame has the value that is found of its number, and each value that is found is bound there.
 pub record IsWhatWasFound (fs : List Found) (s : Standing) : Type 0 where
   pub opens : (n : ℕ) → s.is_open n ≡ is_found_open fs n
   pub binds : (n : ℕ) (b : Bound) → bound_at n (own_frame s.frames) ≡ Some b → (f : Found) × Contains fs f × (f.number ≡ n) × (f.outcome ≡ Gave b.value)
+  pub settles : (f : Found) (v : Value) → Contains fs f → f.outcome ≡ Gave v
+      → (b : Bound) × (bound_at f.number (own_frame s.frames) ≡ Some b) × (b.value ≡ v)
 
 -- A const stage and a run have the same assignments and overrides, the same lists flag, and outer frames of the same values.
 -- Their orders, what is referenced, the functions and all else are free.
@@ -59,9 +61,11 @@ pub record AreOfOneModule (m : Constants) (lists : Bool) (outer : Frames) (n : M
   pub values : (k : ℕ) → value_in outer k ≡ value_in others k
 
 -- Of an assignment that a stage finds and a run reaches without being stopped in it, where both are resolved, the one
--- foretells the other.
+-- foretells the other. A stage that finishes is what it found, and the refusal of another is one that it found.
 pub record ConstAgrees : Type 0 where
   pub standings : (m : Constants) (lists : Bool) (outer : Frames) (fs : List Found) (s : Standing) → Stage m (at_start lists outer) m.assignments.order fs (Gave s) → IsWhatWasFound fs s
+  pub refusals : (m : Constants) (lists : Bool) (outer : Frames) (fs : List Found) (r : Refusal) → IsResolvedConst m.assignments outer
+      → Stage m (at_start lists outer) m.assignments.order fs (Refused r) → (f : Found) × Contains fs f × (f.outcome ≡ Refused r)
   pub blocks : (m : Constants) (lists : Bool) (outer : Frames) (n : Module) (others : Frames) (fs : List Found) (o : Outcome Standing) (bs : List Block) (p : Outcome Frames)
       → AreOfOneModule m lists outer n others → IsResolvedConst m.assignments outer → IsResolved n.program.functions n.assignments others
       → Stage m (at_start lists outer) m.assignments.order fs o → Run lexically n ([] ∷ others) n.assignments.order bs p

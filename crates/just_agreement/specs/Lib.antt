@@ -2,3 +2,4 @@ pub mod Decided
 pub mod Foretold
 pub mod Reordered
 pub mod Cone
+pub mod Results

@@ -4,12 +4,21 @@ ghost use Rattle.just_agreement.specs.Cone.{BlocksAgree};
 ghost use Rattle.just_agreement.specs.Decided.{AnswersDecide};
 ghost use Rattle.just_agreement.specs.Foretold.{ConstAgrees};
 ghost use Rattle.just_agreement.specs.Reordered.{OrdersAgree};
+ghost use Rattle.just_agreement.specs.Results.{ResultsHaveBlocks};
 
 /// Answers decide. Two evaluations of one expression, line, parameter list or module from one start, neither stopped for
 /// want of memory, have equal events and an equal end, or the first difference is another answer to the same question of
 /// the host, or to the same check of a value.
 pub fn answers_decide()
     ensures { AnswersDecide }
+{}
+
+/// Results have blocks. A run of a resolved module ends as its blocks say: each binding of the scope that it gives has a block
+/// with that value, and each block of such a run is bound; a run that is not stopped has no stopped block; a refused block
+/// is the last, and the run's refusal is that block's. So what the other laws say of blocks holds of `Ok(scope)` and of
+/// `Err(error)`: a run that finishes binds the value of each block, and one that is refused ends at the refused block.
+pub fn results_have_blocks()
+    ensures { ResultsHaveBlocks }
 {}
 
 /// Constants agree with every run. A const stage and a run of the same assignments, overrides and outer values, in any
