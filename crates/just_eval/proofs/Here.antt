@@ -6,6 +6,7 @@ use Rattle.just_syntax.specs.View.{name_view}
 use Rattle.just_syntax.specs.declared.name.Name.{Name}
 use Rattle.just_syntax.specs.StringContext.{StringContext}
 use Rattle.just_value.specs.ConstEval.{IsConstEval}
+use Rattle.just_value.specs.Refusal.{Refusal, ListInStringContext}
 use Rattle.just_value.specs.Value.{Value}
 use Rattle.just_value.specs.Frames.{Frames, value_in}
 use Rattle.just_value.specs.Outcome.{Outcome, UnlessStopped}
@@ -21,13 +22,15 @@ use Rattle.just_meaning.specs.Closings.{lexical}
 use Rattle.just_meaning.specs.Meaning.{Situation, eval}
 use Rattle.just_meaning.specs.Module.{or_override, situation_at}
 use Rattle.just_meaning.specs.Resolved.{AllKnown, HasValue}
-use Rattle.just_meaning.specs.Stage.{const_meaning}
+use Rattle.just_meaning.specs.ResolvedOn.{AllResolvedOn}
+use Rattle.just_meaning.specs.Stage.{Standing, const_meaning}
 use Rattle.just_meaning.specs.View.{functions_view, program_view}
 use Rattle.just_expression.specs.View.{program_of, rules_in}
-use Rattle.just_laws.proofs.Constants.{AllConst, IsTold, const_told, eval_alike}
+use Rattle.just_laws.proofs.ConstInternal.{IsOther, resolved_const, shut_other}
+use Rattle.just_laws.proofs.Constants.{AllConst, IsTold, const_refused, const_told, eval_alike, unless_such}
 use Rattle.just_laws.proofs.Ends.{ends_path}
 use Rattle.just_laws.proofs.Final.{AllFinal, final_dynamic, final_eval}
-use Rattle.just_laws.proofs.Here.{AllSuch, Same, line_const, line_final, line_never, readable_apart, same_line, same_string, string_const, string_final, string_never}
+use Rattle.just_laws.proofs.Here.{AllSuch, Same, all_such, line_const, line_final, line_never, readable_apart, same_line, same_string, string_const, string_final, string_never}
 use Rattle.just_laws.proofs.Internal.{IsNeverInternal, expression_never}
 use Rattle.just_laws.proofs.Lexical.{dynamic_is_lexical}
 use Rattle.just_eval.specs.View.{Assigned, IsAtStart, IsConst, IsInRun, IsResolvedIn, Resolves, below_of, calls_left_in, dynamic_meanings, exports_all, exports_all_in, lexical_meaning, meaning, rules_of, situation_of, standing_of}
@@ -35,21 +38,22 @@ use Rattle.just_eval.specs.declared.evaluator.Evaluator.{Evaluator}
 
 -- What is made of the meanings of these expressions is made of no more: it is the same of equal meanings, and has no
 -- further refusals than they have, but for those of lists.
-pub record IsMadeOf {A : Type 0} (make : (Expr → Tree Value) → Tree A) (es : List Expr) : Type 0 where
+pub record IsMadeOf {A : Type 0} (make : (Expr → Tree Value) → Tree A) (es : List Expr) : Type 1 where
   pub same : (means other : Expr → Tree Value) → AllSuch (Same means other) es → make means ≡ make other
   pub never : (means : Expr → Tree Value) → AllSuch (λ e. IsNeverInternal (means e)) es → IsNeverInternal (make means)
   pub final : (means : Expr → Tree Value) → ((e : Expr) → AllFinal (means e)) → AllFinal (make means)
-  pub const : (is_open : ℕ → Bool) (means : Expr → Tree Value) → ((e : Expr) → AllConst IsConstEval is_open (means e)) → AllConst IsConstEval is_open (make means)
+  pub const : (P : Refusal → Type 0) (is_open : ℕ → Bool) (means : Expr → Tree Value) → ((context : StringContext) (v : Value) → P (ListInStringContext context v))
+      → AllSuch (λ e. AllConst P is_open (means e)) es → AllConst P is_open (make means)
 
 pub value_made : (e : Expr) → IsMadeOf (λ means. means e) (e ∷ [])
-value_made e = record { same = λ means other h. h.0; never = λ means h. h.0; final = λ means h. h e; const = λ is_open means h. h e }
+value_made e = record { same = λ means other h. h.0; never = λ means h. h.0; final = λ means h. h e; const = λ P is_open means lists h. h.0 }
 
 pub string_made : (context : StringContext) (e : Expr) → IsMadeOf (λ means. string means context e) (e ∷ [])
 string_made context e = record {
   same = λ means other h. same_string means other context e h.0;
   never = λ means h. string_never means context e h.0;
   final = λ means h. string_final means context e (h e);
-  const = λ is_open means h. string_const is_open means context e (h e);
+  const = λ P is_open means lists h. string_const P lists is_open means context e h.0;
 }
 
 pub line_made : (continued : Bool) (fs : List Fragment) → IsMadeOf (λ means. line means continued fs) (line_expressions fs)
@@ -57,7 +61,7 @@ line_made continued fs = record {
   same = λ means other h. same_line means other continued fs h;
   never = λ means h. line_never means continued fs h;
   final = λ means h. line_final means continued fs h;
-  const = λ is_open means h. line_const is_open means continued fs h;
+  const = λ P is_open means lists h. line_const P lists is_open means continued fs h;
 }
 
 -- ---- in a run
@@ -160,6 +164,10 @@ staged_here {step = step} {old = old} {new = new} e before override x {a = a} {f
 
 -- ---- before any run
 
+each_resolved : (s : Standing) (es : List Expr) → AllResolvedOn s es → AllSuch (λ x. AllConst IsOther s.is_open (const_meaning s x)) es
+each_resolved s [] h = tt
+each_resolved s (x ∷ xs) h = (resolved_const s x h.0, each_resolved s xs h.1)
+
 module _ (e : Evaluator) {A : Type 0} (make : (Expr → Tree Value) → Tree A) (es : List Expr) (made : IsMadeOf make es) (before : IsConst e) {S : Type 0} {step : S → Question → Answer → S → Type 0} {old new : S} {o : Outcome A} (r : Runs (rules_of e) step old (make (meaning e)) o new) where
   const_run : Runs (constantly (standing_of e).is_open) step old (make (const_meaning (standing_of e))) o new
   const_run =
@@ -167,7 +175,9 @@ module _ (e : Evaluator) {A : Type 0} (make : (Expr → Tree Value) → Tree A) 
       (subst (λ s. Runs (rules_of e) step old (make (dynamic_meanings e.context s)) o new) (situation_start e before.start) r)
 
   told : IsTold (standing_of e).is_open (make (const_meaning (standing_of e))) o old new
-  told = const_told (standing_of e).is_open _ o (made.const (standing_of e).is_open (const_meaning (standing_of e)) (λ x. eval_alike (standing_of e).is_open _ _ _ x)) const_run
+  told =
+      let s = standing_of e in
+      const_told s.is_open _ o (made.const IsConstEval s.is_open (const_meaning s) (λ context v. tt) (all_such _ (λ x. eval_alike s.is_open _ _ _ x) es)) const_run
 
   pub constants : UnlessStopped o (constant (standing_of e).is_open (make (const_meaning (standing_of e))))
   constants = told.told
@@ -177,3 +187,9 @@ module _ (e : Evaluator) {A : Type 0} (make : (Expr → Tree Value) → Tree A) 
 
   pub still : new ≡ old
   still = sym told.still
+
+  pub resolved_constants : AllResolvedOn (standing_of e) es → IsNotInternal o
+  resolved_constants resolved =
+      let s = standing_of e in
+      unless_such IsOther o _ told.told
+      (const_refused IsOther s.is_open _ (shut_other s.is_open) (made.const IsOther s.is_open (const_meaning s) (λ context v none. none) (each_resolved s es resolved)))

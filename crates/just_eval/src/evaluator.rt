@@ -11,6 +11,7 @@ ghost use Rattle.just_host.specs.Interaction.{GoesByAnswers, Runs, freely};
 ghost use Rattle.just_meaning.specs.Internal.{IfRefused, IsFinal, IsNotInternal};
 ghost use Rattle.just_meaning.specs.Module.{Ran, bound_of, dynamically, lexically, or_override};
 ghost use Rattle.just_meaning.specs.Resolved.{IsResolved};
+ghost use Rattle.just_meaning.specs.ResolvedOn.{IsResolvedOn};
 ghost use Rattle.just_meaning.specs.Stage.{const_value};
 ghost use Rattle.just_meaning.specs.View.{module_view, run_of};
 ghost use Rattle.just_expression.specs.View.{program, program_of, rules, situation};
@@ -216,15 +217,19 @@ impl<'src, 'run> Evaluator<'src, 'run> {
         ensures headline { Resolves self.now (view expression.now ∷ []) → Runs freely H.step host.old (lexical_meaning self.now (view expression.now)) (ended (λ v. v) result) host.new }
         ensures never_internal { Resolves self.now (view expression.now ∷ []) → IsNotInternal (ended (λ v. v) result) }
 
-        // Resolved or not, a run is not refused as constant evaluation is, and nothing but answered questions leads the
-        // host on.
+        // Resolved or not, dynamic scoping gives the value or the refusal, by the questions that it asks.
+        ensures dynamic { Runs (rules_of self.now) H.step host.old (meaning self.now (view expression.now)) (ended (λ v. v) result) host.new }
+
+        // Resolved or not, a run is not refused as constant evaluation is, and only answered questions change the host.
         ensures never_const { IsInRun self.now → IfRefused IsFinal (ended (λ v. v) result) }
         ensures answered { GoesByAnswers H.step host.old host.new }
 
-        // Before any run the const rules give it, and nothing is asked.
+        // Before any run the const rules give it, and nothing is asked. Where each variable is bound or open, it is not
+        // refused as `Internal`.
         ensures constants { IsConst self.now → UnlessStopped (ended (λ v. v) result) (const_value (standing_of self.now) (view expression.now)) }
         ensures few { IsConst self.now → IfErr result (λ e. ForSome (refusal e) IsConstEval) }
         ensures still { IsConst self.now → host.new ≡ host.old }
+        ensures resolved_constants { IsConst self.now → IsResolvedOn (standing_of self.now) (view expression.now) → IsNotInternal (ended (λ v. v) result) }
     {
         self.evaluated(alloc, host, expression)
     }

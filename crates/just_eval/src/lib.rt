@@ -4,9 +4,9 @@
 #![tactic(auto)]
 
 pub mod evaluator;
+pub mod laws;
 pub mod prelude;
 
-pub use just_laws::laws;
 pub use just_resolution::fault::Fault;
 pub use just_resolution::first_fault::first_fault;
 pub use just_resolution::resolved::resolved;

@@ -1,13 +1,14 @@
 // Evaluation before any run: which assignments are settled, and what expressions come to.
 
-ghost use Rattle.std.specs.Prelude.{[], IfOk, List, string_bytes, ◌≡◌, ◌∷◌};
+ghost use Rattle.std.specs.Prelude.{[], IfErr, IfOk, List, string_bytes, ◌≡◌, ◌∷◌};
 ghost use Rattle.std.specs.Option.{ForSome};
 ghost use Rattle.just_syntax.specs.View.{name_view, string_context_view, view};
 ghost use Rattle.just_value.specs.ConstEval.{IsConstEval};
 ghost use Rattle.just_value.specs.Outcome.{UnlessStopped, and_then};
-ghost use Rattle.just_value.specs.View.{const_ended, ended, frames_view, refusal};
+ghost use Rattle.just_value.specs.View.{HasOwnToken, const_ended, ended, frames_view, refusal};
 ghost use Rattle.just_meaning.specs.Internal.{IsNotInternal};
 ghost use Rattle.just_meaning.specs.Resolved.{IsResolvedConst};
+ghost use Rattle.just_meaning.specs.ResolvedOn.{IsResolvedOn};
 ghost use Rattle.just_meaning.specs.Settings.{text_in};
 ghost use Rattle.just_meaning.specs.Stage.{Staged, at_start, const_value};
 ghost use Rattle.just_meaning.specs.View.{constants_of};
@@ -60,6 +61,9 @@ impl<'src, 'run> Evaluator<'src, 'run> {
         ensures before_runs { IfOk result IsConst }
         ensures never_internal { let m = constants_of assignments.now evaluation_order.now overrides.now variable_references.now in
             IsResolvedConst m.assignments (frames_view scope.entry.now) → IsNotInternal (const_ended standing_of result) }
+
+        // A refusal has its own token.
+        ensures token { IfErr result HasOwnToken }
     {
         let mut evaluator = Evaluator::of_assignments(alloc, lists, scope.child(alloc)?);
         for name in evaluation_order {
@@ -86,6 +90,7 @@ impl<'src, 'run> Evaluator<'src, 'run> {
         requires start { IsConst self.old }
         ensures same { IsConst self.new }
         ensures staged { (order : List Name) → Staged (constants_of assignments.now order overrides.now references.now) (standing_of self.old) (name_view name.now ∷ []) (const_ended (λ _. standing_of self.new) result) }
+        ensures token { IfErr result HasOwnToken }
     {
         let Some(assignment) = assignments.get(name.lexeme()) else {
             return Err(internal::unknown_assignment(alloc, name).unwrap_const());
@@ -111,6 +116,7 @@ impl<'src, 'run> Evaluator<'src, 'run> {
         requires few { ForSome (refusal error) IsConstEval }
         ensures same { IsConst self.new }
         ensures ended { OpensOrEnds (refusal error.entry) (standing_of self.old) number (const_ended (λ _. standing_of self.new) result) }
+        ensures token { IfErr result HasOwnToken }
     {
         match error {
             Error::Const(_) => {
@@ -136,7 +142,9 @@ impl<'src, 'run> Evaluator<'src, 'run> {
         expression: &Expression<'src>,
     ) -> Result<Value, CompileError<'src>>
         requires before_runs { IsConst self.now }
-        ensures { UnlessStopped (const_ended (λ v. v) result) (const_value (standing_of self.now) (view expression.now)) }
+        ensures headline { UnlessStopped (const_ended (λ v. v) result) (const_value (standing_of self.now) (view expression.now)) }
+        ensures never_internal { IsResolvedOn (standing_of self.now) (view expression.now) → IsNotInternal (const_ended (λ v. v) result) }
+        ensures token { IfErr result HasOwnToken }
     {
         match self.evaluate_value(alloc, &mut NoHost, expression) {
             Ok(value) => Ok(value),
@@ -158,7 +166,10 @@ impl<'src, 'run> Evaluator<'src, 'run> {
         context: StringContext<'src>,
     ) -> Result<String, CompileError<'src>>
         requires before_runs { IsConst self.now }
-        ensures { UnlessStopped (const_ended string_bytes result) (and_then (const_value (standing_of self.now) (view expression.now)) (text_in (string_context_view context.entry))) }
+        ensures headline { UnlessStopped (const_ended string_bytes result)
+            (and_then (const_value (standing_of self.now) (view expression.now)) (text_in (string_context_view context.entry))) }
+        ensures never_internal { IsResolvedOn (standing_of self.now) (view expression.now) → IsNotInternal (const_ended string_bytes result) }
+        ensures token { IfErr result HasOwnToken }
     {
         let value = self.evaluate_value_const(alloc, expression)?;
         match one_text(value, context) {

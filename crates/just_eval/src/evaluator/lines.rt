@@ -8,6 +8,7 @@ ghost use Rattle.just_host.specs.Interaction.{GoesByAnswers, Runs, freely};
 ghost use Rattle.just_meaning.specs.Constant.{constant};
 ghost use Rattle.just_meaning.specs.Internal.{IfRefused, IsFinal, IsNotInternal};
 ghost use Rattle.just_meaning.specs.Line.{fragment as fragment_text, line as line_text, line_expressions, string};
+ghost use Rattle.just_meaning.specs.ResolvedOn.{AllResolvedOn, IsResolvedOn};
 ghost use Rattle.just_meaning.specs.Stage.{const_meaning};
 ghost use Rattle.just_eval.specs.View.{HasRoom, IsConst, IsInRun, Resolves, lexical_meaning, meaning, rules_of, standing_of};
 
@@ -43,14 +44,19 @@ impl<'src, 'run> Evaluator<'src, 'run> {
         ensures headline { Resolves self.now (view expression.now ∷ []) → Runs freely H.step host.old (string (lexical_meaning self.now) (string_context_view context.entry) (view expression.now)) (ended string_bytes result) host.new }
         ensures never_internal { Resolves self.now (view expression.now ∷ []) → IsNotInternal (ended string_bytes result) }
 
-        // Resolved or not, a run is not refused as constant evaluation is, and nothing but answered questions leads the
-        // host on.
+        // Resolved or not, dynamic scoping gives the text or the refusal, by the questions that it asks.
+        ensures dynamic { Runs (rules_of self.now) H.step host.old
+            (string (meaning self.now) (string_context_view context.entry) (view expression.now)) (ended string_bytes result) host.new }
+
+        // Resolved or not, a run is not refused as constant evaluation is, and only answered questions change the host.
         ensures never_const { IsInRun self.now → IfRefused IsFinal (ended string_bytes result) }
         ensures answered { GoesByAnswers H.step host.old host.new }
 
-        // Before any run the const rules give it, and nothing is asked.
+        // Before any run the const rules give it, and nothing is asked. Where each variable is bound or open, it is not
+        // refused as `Internal`.
         ensures constants { IsConst self.now → UnlessStopped (ended string_bytes result) (constant (standing_of self.now).is_open (string (const_meaning (standing_of self.now)) (string_context_view context.entry) (view expression.now))) }
         ensures still { IsConst self.now → host.new ≡ host.old }
+        ensures resolved_constants { IsConst self.now → IsResolvedOn (standing_of self.now) (view expression.now) → IsNotInternal (ended string_bytes result) }
     {
         self.evaluated_string(alloc, host, expression, context)
     }
@@ -92,14 +98,20 @@ impl<'src, 'run> Evaluator<'src, 'run> {
         ensures headline { Resolves self.now (line_expressions (line_view line.now)) → Runs freely H.step host.old (line_text (lexical_meaning self.now) continued (line_view line.now)) (ended string_bytes result) host.new }
         ensures never_internal { Resolves self.now (line_expressions (line_view line.now)) → IsNotInternal (ended string_bytes result) }
 
-        // Resolved or not, a run is not refused as constant evaluation is, and nothing but answered questions leads the
-        // host on.
+        // Resolved or not, dynamic scoping gives the text or the refusal, by the questions that it asks.
+        ensures dynamic { Runs (rules_of self.now) H.step host.old
+            (line_text (meaning self.now) continued (line_view line.now)) (ended string_bytes result) host.new }
+
+        // Resolved or not, a run is not refused as constant evaluation is, and only answered questions change the host.
         ensures never_const { IsInRun self.now → IfRefused IsFinal (ended string_bytes result) }
         ensures answered { GoesByAnswers H.step host.old host.new }
 
-        // Before any run the const rules give it, and nothing is asked.
+        // Before any run the const rules give it, and nothing is asked. Where each variable is bound or open, it is not
+        // refused as `Internal`.
         ensures constants { IsConst self.now → UnlessStopped (ended string_bytes result) (constant (standing_of self.now).is_open (line_text (const_meaning (standing_of self.now)) continued (line_view line.now))) }
         ensures still { IsConst self.now → host.new ≡ host.old }
+        ensures resolved_constants { IsConst self.now → AllResolvedOn (standing_of self.now) (line_expressions (line_view line.now))
+            → IsNotInternal (ended string_bytes result) }
     {
         self.evaluated_line(alloc, host, line, continued)
     }

@@ -1,6 +1,6 @@
 // Evaluation of a recipe's attributes and parameters.
 
-ghost use Rattle.std.specs.Prelude.{IfOk, List, OnOk, Some, [], false, is_some, length, map, string_bytes, true, ◌++◌, ◌<◌, ◌≡◌, ◌∷◌, ◌↔◌};
+ghost use Rattle.std.specs.Prelude.{IfOk, List, OnOk, Some, [], false, is_some, length, map, string_bytes, true, ℕ, ◌++◌, ◌<◌, ◌≡◌, ◌∷◌, ◌↔◌};
 ghost use Rattle.std.specs.Option.{option_map};
 ghost use Rattle.just_syntax.specs.Plain.{Expr};
 ghost use Rattle.just_syntax.specs.View.{name_view, pairs_view, recipe_parameter_view, recipe_view};
@@ -13,7 +13,7 @@ ghost use Rattle.just_meaning.specs.Parameters as meant;
 ghost use Rattle.just_meaning.specs.Parameters.{HaveOneElement, parameter_bound, with_variable, words_of};
 ghost use Rattle.just_meaning.specs.View.{IsResolvedWith, recipe_in};
 ghost use Rattle.just_forms.specs.Check.{Gives};
-ghost use Rattle.just_eval.specs.View.{HasRoom, IsInRun, IsSameBut, Resolves, arguments_view, dynamic_meanings, here, meaning, rules_of, situation_of};
+ghost use Rattle.just_eval.specs.View.{HasRoom, IsInRun, IsSameBut, Resolves, arguments_view, dynamic_meanings, here, meaning, rules_of, situation_of, standing_of};
 
 use super::Evaluator;
 use just_forms::text::one_text;
@@ -53,6 +53,7 @@ impl<'src, 'run> Evaluator<'src, 'run> {
         ensures resolved { IfOk result (λ e. (es : List Expr) → Resolves e es ↔ IsResolvedWith context.now ([] ∷ frames_view scope.entry.now) [] [] es) }
         ensures in_run { IfOk result IsInRun }
         ensures room { IfOk result HasRoom }
+        ensures none_open { IfOk result (λ e. (n : ℕ) → (standing_of e).is_open n ≡ false) }
     {
         Evaluator::of_recipe(alloc, context, env, is_dependency, recipe, scope)
     }
@@ -68,6 +69,7 @@ impl<'src, 'run> Evaluator<'src, 'run> {
     ) -> Result<Evaluator<'src, 'run>, OutOfMemory>
         ensures context { IfOk result (λ e. e.context ≡ Some context.now) }
         ensures base { IfOk result (λ e. is_some e.base ≡ true) }
+        ensures none_open { IfOk result (λ e. (n : ℕ) → (standing_of e).is_open n ≡ false) }
         ensures situation { IfOk result (λ e. situation_of e ≡ (recipe_in context.now (pairs_view env) is_dependency (option_map (λ n. (name_view n).lexeme) recipe.entry) ([] ∷ frames_view scope.entry.now)).situation) }
     {
         Ok(Evaluator {
@@ -89,8 +91,8 @@ impl<'src, 'run> Evaluator<'src, 'run> {
     /// The attributes come first, each seeing the environment so far; then the number of arguments; then the parameters in
     /// their order, of which a default sees the earlier ones. An empty argument stands for the default, or for no element where
     /// the parameter may have none. In place of another argument `value` stands, once for each of its elements, unless the
-    /// recipe runs as a dependency. `check` is asked of each parameter's value. A parameter that may have many elements gives
-    /// each as a word, another its join. Without lists the bound value has one element.
+    /// recipe runs as a dependency. `check` is called once for each parameter, with its value. A parameter that may have many
+    /// elements gives each as a word, another its join. Without lists the bound value has one element.
     ///
     /// # Errors
     ///
@@ -122,7 +124,12 @@ impl<'src, 'run> Evaluator<'src, 'run> {
         ensures never_internal { IsResolvedWith context.entry.now ([] ∷ frames_view scope.entry.now) (recipe_view recipe.entry.now).attributes (map recipe_parameter_view parameters.entry.now) []
             → length arguments.entry.now ≡ length parameters.entry.now → IsNotInternal (ended arguments_view result) }
 
-        // Resolved or not, it is not refused as constant evaluation is, and nothing but answered questions leads the host on.
+        // Resolved or not, dynamic scoping gives the scope, the words and the environment, or the refusal, by the questions
+        // that it asks and the verdicts of the check.
+        ensures dynamic { let h = recipe_in context.entry.now [] is_dependency (Some (recipe_view recipe.entry.now).name.lexeme) ([] ∷ frames_view scope.entry.now) in
+            RunsChecked freely H.step (Gives C.Fn check.entry.now recipe.entry.now) host.old (meant.parameters (dynamic_meanings (Some context.entry.now)) h.situation (recipe_view recipe.entry.now) (map recipe_parameter_view parameters.entry.now) arguments.entry.now) (ended arguments_view result) host.new }
+
+        // Resolved or not, it is not refused as constant evaluation is, and only answered questions change the host.
         ensures never_const { IfRefused IsFinal (ended arguments_view result) }
         ensures answered { GoesByAnswers H.step host.old host.new }
 

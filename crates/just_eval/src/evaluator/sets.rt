@@ -1,10 +1,12 @@
 // Evaluation of settings.
 
-ghost use Rattle.std.specs.Prelude.{map, ◌≡◌};
+ghost use Rattle.std.specs.Prelude.{IfErr, map, ◌≡◌};
 ghost use Rattle.just_syntax.specs.View.{expression_interpreter_view, interpreter_view, name_view, set_view, setting_view};
 ghost use Rattle.just_value.specs.Outcome.{UnlessStopped};
-ghost use Rattle.just_value.specs.View.{const_ended};
+ghost use Rattle.just_value.specs.View.{HasOwnToken, const_ended};
 ghost use Rattle.just_host.specs.View.{settings_view};
+ghost use Rattle.just_meaning.specs.Internal.{IsNotInternal};
+ghost use Rattle.just_meaning.specs.ResolvedOn.{AllResolvedOn, interpreter_expressions, set_expressions};
 ghost use Rattle.just_meaning.specs.Settings as meant;
 ghost use Rattle.just_meaning.specs.Settings.{kept, with_setting};
 ghost use Rattle.just_meaning.specs.Stage.{const_value};
@@ -40,7 +42,9 @@ impl<'src, 'run> Evaluator<'src, 'run> {
         sets: Table<Set<'src>>,
     ) -> Result<Settings, CompileError<'src>>
         requires before_runs { IsConst self.now }
-        ensures { UnlessStopped (const_ended settings_view result) (meant.settings (const_value (standing_of self.now)) (map set_view sets.entry)) }
+        ensures headline { UnlessStopped (const_ended settings_view result) (meant.settings (const_value (standing_of self.now)) (map set_view sets.entry)) }
+        ensures never_internal { AllResolvedOn (standing_of self.now) (set_expressions (map set_view sets.entry)) → IsNotInternal (const_ended settings_view result) }
+        ensures token { IfErr result HasOwnToken }
     {
         let mut settings = Settings::new(alloc);
         for set in &sets {
@@ -57,7 +61,9 @@ impl<'src, 'run> Evaluator<'src, 'run> {
         set: &Set<'src>,
     ) -> Result<(), CompileError<'src>>
         requires before_runs { IsConst self.now }
-        ensures { UnlessStopped (const_ended (λ _. settings_view settings.new) result) (with_setting (const_value (standing_of self.now)) (settings_view settings.old) (set_view set.now).name (set_view set.now).value) }
+        ensures set { UnlessStopped (const_ended (λ _. settings_view settings.new) result)
+            (with_setting (const_value (standing_of self.now)) (settings_view settings.old) (set_view set.now).name (set_view set.now).value) }
+        ensures token { IfErr result HasOwnToken }
     {
         let context = StringContext::Setting(set.name);
         match &set.value {
@@ -107,7 +113,11 @@ impl<'src, 'run> Evaluator<'src, 'run> {
         setting: Name<'src>,
     ) -> Result<Interpreter<String>, CompileError<'src>>
         requires before_runs { IsConst self.now }
-        ensures { UnlessStopped (const_ended interpreter_view result) (meant.interpreter (const_value (standing_of self.now)) (name_view setting.entry) (expression_interpreter_view interpreter.now)) }
+        ensures headline { UnlessStopped (const_ended interpreter_view result)
+            (meant.interpreter (const_value (standing_of self.now)) (name_view setting.entry) (expression_interpreter_view interpreter.now)) }
+        ensures never_internal { AllResolvedOn (standing_of self.now) (interpreter_expressions (expression_interpreter_view interpreter.now))
+            → IsNotInternal (const_ended interpreter_view result) }
+        ensures token { IfErr result HasOwnToken }
     {
         let mut all = self.evaluate_value_const(alloc, &interpreter.command)?;
         for argument in &interpreter.arguments {
@@ -157,7 +167,8 @@ fn command_of<'src>(
     elements: Value,
     setting: Name<'src>,
 ) -> Result<Interpreter<String>, CompileError<'src>>
-    ensures { const_ended interpreter_view result ≡ meant.command_of (name_view setting.entry) elements }
+    ensures command { const_ended interpreter_view result ≡ meant.command_of (name_view setting.entry) elements }
+    ensures token { IfErr result HasOwnToken }
 {
     let mut arguments = elements.into_elements();
     if arguments.is_empty() {

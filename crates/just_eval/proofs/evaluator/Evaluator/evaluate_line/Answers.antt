@@ -1,5 +1,5 @@
 use Rattle.just_syntax.specs.View.{line_view}
-use Rattle.just_eval.proofs.Here.{answered, constants, headline, line_made, never_const, never_internal, still}
+use Rattle.just_eval.proofs.Here.{answered, constants, headline, line_made, never_const, never_internal, resolved_constants, still}
 use Rattle.just_eval.proofs.evaluator.Evaluator.evaluate_line.Goals as goal
 
 pub returns-clause-headline : goal.returns-clause-headline
@@ -19,3 +19,7 @@ returns-clause-constants g c = λ before. constants c.args.self.now _ _ (line_ma
 
 pub returns-clause-still : goal.returns-clause-still
 returns-clause-still g c = λ before. still c.args.self.now _ _ (line_made c.args.continued (line_view c.args.line.now)) before c.evaluated_line.ensures
+
+pub returns-clause-resolved_constants : goal.returns-clause-resolved_constants
+returns-clause-resolved_constants g c = λ before resolved.
+    resolved_constants c.args.self.now _ _ (line_made c.args.continued (line_view c.args.line.now)) before c.evaluated_line.ensures resolved

@@ -1,5 +1,5 @@
 use Rattle.just_syntax.specs.View.{string_context_view, view}
-use Rattle.just_eval.proofs.Here.{answered, constants, headline, never_const, never_internal, still, string_made}
+use Rattle.just_eval.proofs.Here.{answered, constants, headline, never_const, never_internal, resolved_constants, still, string_made}
 use Rattle.just_eval.proofs.evaluator.Evaluator.evaluate_string.Goals as goal
 
 pub returns-clause-headline : goal.returns-clause-headline
@@ -19,3 +19,8 @@ returns-clause-constants g c = λ before. constants c.args.self.now _ _ (string_
 
 pub returns-clause-still : goal.returns-clause-still
 returns-clause-still g c = λ before. still c.args.self.now _ _ (string_made (string_context_view c.args.context) (view c.args.expression.now)) before c.evaluated_string.ensures
+
+pub returns-clause-resolved_constants : goal.returns-clause-resolved_constants
+returns-clause-resolved_constants g c = λ before resolved.
+    let made = string_made (string_context_view c.args.context) (view c.args.expression.now) in
+    resolved_constants c.args.self.now _ _ made before c.evaluated_string.ensures (resolved, tt)

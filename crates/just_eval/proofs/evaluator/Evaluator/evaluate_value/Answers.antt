@@ -1,6 +1,6 @@
 use Rattle.just_syntax.specs.View.{view}
 use Rattle.just_eval.proofs.Constants.{few_ended}
-use Rattle.just_eval.proofs.Here.{answered, constants, few, headline, never_const, never_internal, still, value_made}
+use Rattle.just_eval.proofs.Here.{answered, constants, few, headline, never_const, never_internal, resolved_constants, still, value_made}
 use Rattle.just_eval.proofs.evaluator.Evaluator.evaluate_value.Goals as goal
 
 pub returns-clause-headline : goal.returns-clause-headline
@@ -23,3 +23,7 @@ returns-clause-few g c = λ before. few_ended _ (few c.args.self.now _ _ (value_
 
 pub returns-clause-still : goal.returns-clause-still
 returns-clause-still g c = λ before. still c.args.self.now _ _ (value_made (view c.args.expression.now)) before c.evaluated.ensures
+
+pub returns-clause-resolved_constants : goal.returns-clause-resolved_constants
+returns-clause-resolved_constants g c = λ before resolved.
+    resolved_constants c.args.self.now _ _ (value_made (view c.args.expression.now)) before c.evaluated.ensures (resolved, tt)
