@@ -7,6 +7,7 @@ mod Delivered
 mod Fronts
 mod Heeded
 mod Lexical
+mod Lines
 mod OneAnswer
 mod OneName
 mod OneStage

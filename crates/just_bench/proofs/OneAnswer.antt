@@ -18,6 +18,7 @@ use Rattle.just_bench.specs.Module.{case_module}
 use Rattle.just_bench.specs.Settled.{ConstPrints, case_constants, stage_lines}
 use Rattle.just_bench.proofs.Decided.{chains_one}
 use Rattle.just_bench.proofs.Heeded.{run_answered}
+use Rattle.just_bench.proofs.Lines.{are_questions, are_unresolved, lines_after}
 use Rattle.just_bench.proofs.OneStage.{stage_one}
 use Rattle.just_bench.proofs.OneWalk.{both_one, wants_behind}
 
@@ -31,11 +32,12 @@ flags_one P false true p q = p.1 (q.0 refl)
 -- what does not say that memory was wanted was not stopped
 run_whole : {s : Script} {m : Module} {outer : Frames} {i : ℕ} (p : Text) (one : RunPrints by_script s m outer p i) → WantsNoMemory p → one.outcome ≢ Stopped
 run_whole p one wants e =
-    (wants (unresolved_line one.resolved ++ question_lines one.kept)).0
+    (wants (unresolved_line one.resolved ++ question_lines one.kept) (lines_after _ _ (are_unresolved one.resolved) (are_questions one.kept))).0
     (one.text ∙ ap (λ o. unresolved_line one.resolved ++ (question_lines one.kept ++ outcome_lines o)) e ∙ sym (append_assoc (unresolved_line one.resolved) (question_lines one.kept) (refusal_line None)))
 
 stage_whole : {c : Case} {outer : Frames} {i : ℕ} (p : Text) (one : ConstPrints c outer p i) → WantsNoMemory p → one.outcome ≢ Stopped
-stage_whole {c = c} p one wants e = (wants (unresolved_line one.resolved)).1 (one.text ∙ ap (λ o. unresolved_line one.resolved ++ stage_lines (case_constants c) o) e)
+stage_whole {c = c} p one wants e =
+    (wants (unresolved_line one.resolved) (are_unresolved one.resolved)).1 (one.text ∙ ap (λ o. unresolved_line one.resolved ++ stage_lines (case_constants c) o) e)
 
 runs_one : (s u : Script) (m : Module) (outer : Frames) (p q : Text) (i j : ℕ) (from : s ≡ u) → RunPrints by_script s m outer p i → RunPrints by_script u m outer q j → WantsNoMemory p → WantsNoMemory q → (p ≡ q) × (i ≡ j)
 runs_one s u m outer p q i j from one other wants also =
@@ -66,8 +68,8 @@ blocks_one c second outer p q i j one other wants also =
     let x = one.prints in
     let y = other.prints in
     let resolved = flags_one _ x.resolved y.resolved x.test y.test in
-    let here = wants_behind (unresolved_line x.resolved) x.lines (subst WantsNoMemory x.text wants) in
-    let there = wants_behind (unresolved_line y.resolved) y.lines (subst WantsNoMemory y.text also) in
+    let here = wants_behind (unresolved_line x.resolved) x.lines (are_unresolved x.resolved) (subst WantsNoMemory x.text wants) in
+    let there = wants_behind (unresolved_line y.resolved) y.lines (are_unresolved y.resolved) (subst WantsNoMemory y.text also) in
     let (lines, status) = both_one one.one_host other.one_host one.other_host other.other_host (one.one_starts ∙ sym other.one_starts) (one.other_starts ∙ sym other.other_starts)
     (case_module c) (in_order (case_module c) second) outer x.lines y.lines i j x.prints y.prints here there in
     (x.text ∙ rw (resolved, lines) (sym y.text), status)

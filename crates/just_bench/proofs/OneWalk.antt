@@ -12,11 +12,12 @@ use Rattle.just_script.specs.Script.{Script}
 use Rattle.just_agreement.proofs.Decide.{answers_decide}
 use Rattle.just_answer.specs.Answer.{const_refusal_line, order_line, refusal_line}
 use Rattle.just_bench.specs.Blocks.{BothPrint, FirstRefused, SecondRefused, Compared, Extends, Found, OrderPrints, Turn, Turns, Finished, Goes, Breaks, block_lines, blocks_in, end_line, found_by, grown, names_of, with_blocks}
-use Rattle.just_bench.specs.Laws.{WantsNoMemory}
+use Rattle.just_bench.specs.Laws.{AreLines, WantsNoMemory}
 use Rattle.just_bench.specs.Run.{by_script, recording}
 use Rattle.just_bench.specs.Taken.{taken_in}
 use Rattle.just_bench.proofs.Decided.{chains_one}
 use Rattle.just_bench.proofs.Heeded.{run_answered}
+use Rattle.just_bench.proofs.Lines.{are_blocks, are_end, is_order, lines_after}
 
 -- where a run name by name stands: its host with the questions so far, and the frames
 abbrev Place : Type 0
@@ -91,16 +92,28 @@ found_whole {m = m} f one e = never_found (one.walks.finds ∙ ap (λ o. found_b
 -- what does not say that memory was wanted was not stopped
 order_whole : {h : Script} {m : Module} {outer : Frames} {found : Option Found} (p : Text) (one : OrderPrints by_script h m outer p found) → WantsNoMemory p → one.walks.outcome ≢ Stopped
 order_whole {m = m} p one wants e =
-    let first = order_line (names_of (taken_in m.assignments m.assignments.order)) in
-    let blocks = flat_map block_lines (blocks_in one.walks.turns (taken_in m.assignments m.assignments.order)) in
-    (wants (first ++ blocks)).0 (one.text ∙ ap (λ lines. first ++ lines) (one.walks.text ∙ ap (λ o. blocks ++ end_line o) e) ∙ sym (append_assoc first blocks (refusal_line None)))
+    let taken = taken_in m.assignments m.assignments.order in
+    let first = order_line (names_of taken) in
+    let blocks = flat_map block_lines (blocks_in one.walks.turns taken) in
+    (wants (first ++ blocks) (lines_after first blocks (is_order (names_of taken)) (are_blocks (blocks_in one.walks.turns taken)))).0
+    (one.text ∙ ap (λ lines. first ++ lines) (one.walks.text ∙ ap (λ o. blocks ++ end_line o) e) ∙ sym (append_assoc first blocks (refusal_line None)))
 
--- what stands behind another text does not say so either
-pub wants_behind : (before text : Text) → WantsNoMemory (before ++ text) → WantsNoMemory text
-wants_behind before text wants front = (
-  λ e. (wants (before ++ front)).0 (ap (λ t. before ++ t) e ∙ sym (append_assoc before front (refusal_line None))),
-  λ e. (wants (before ++ front)).1 (ap (λ t. before ++ t) e ∙ sym (append_assoc before front (const_refusal_line None))),
-)
+-- what comes after other lines does not say so either
+pub wants_behind : (before text : Text) → AreLines before → WantsNoMemory (before ++ text) → WantsNoMemory text
+wants_behind before text lines wants front are =
+    let both = wants (before ++ front) (lines_after before front lines are) in
+    (
+      λ e. both.0 (ap (λ t. before ++ t) e ∙ sym (append_assoc before front (refusal_line None))),
+      λ e. both.1 (ap (λ t. before ++ t) e ∙ sym (append_assoc before front (const_refusal_line None))),
+    )
+
+-- what is printed of an order are lines
+order_lines : {h : Script} {m : Module} {outer : Frames} {p : Text} {f : Option Found} → OrderPrints by_script h m outer p f → AreLines p
+order_lines {m = m} one =
+    let blocks = blocks_in one.walks.turns (taken_in m.assignments m.assignments.order) in
+    let names = names_of (taken_in m.assignments m.assignments.order) in
+    let lines : AreLines one.lines = subst AreLines (sym one.walks.text) (lines_after (flat_map block_lines blocks) (end_line one.walks.outcome) (are_blocks blocks) (are_end one.walks.outcome)) in
+    subst AreLines (sym one.text) (lines_after (order_line names) one.lines (is_order names) lines)
 
 -- what is printed of two runs
 pub both_one : (h k i j : Script) (from : h ≡ k) (other_from : i ≡ j) (first second : Module) (outer : Frames) (p q : Text) (s t : ℕ) → BothPrint by_script h i first second outer p s → BothPrint by_script k j first second outer q t → WantsNoMemory p → WantsNoMemory q → (p ≡ q) × (s ≡ t)
@@ -110,11 +123,11 @@ both_one h k i j from other_from first second outer p q s t (FirstRefused a) (Co
 both_one h k i j from other_from first second outer p q s t (SecondRefused {one = f} a rest) (FirstRefused b) here there = never_found (order_one h k from first outer _ q (Some f) None a b (found_whole f a) (order_whole q b there)).1
 both_one h k i j from other_from first second outer p q s t (Compared {one = f} a rest) (FirstRefused b) here there = never_found (order_one h k from first outer _ q (Some f) None a b (found_whole f a) (order_whole q b there)).1
 both_one h k i j from other_from first second outer p q s t (SecondRefused {text = x} {more = y} {one = f} a rest) (SecondRefused {text = v} {more = w} {one = g} b more) here there =
-    (rw ((order_one h k from first outer x v (Some f) (Some g) a b (found_whole f a) (found_whole g b)).0, (order_one i j other_from second outer y w None None rest more (order_whole y rest (wants_behind x y here)) (order_whole w more (wants_behind v w there))).0) refl, refl)
+    (rw ((order_one h k from first outer x v (Some f) (Some g) a b (found_whole f a) (found_whole g b)).0, (order_one i j other_from second outer y w None None rest more (order_whole y rest (wants_behind x y (order_lines a) here)) (order_whole w more (wants_behind v w (order_lines b) there))).0) refl, refl)
 both_one h k i j from other_from first second outer p q s t (SecondRefused {text = x} {more = y} a rest) (Compared {more = w} {other = g} b more) here there =
-    never_found (sym (order_one i j other_from second outer y w None (Some g) rest more (order_whole y rest (wants_behind x y here)) (found_whole g more)).1)
+    never_found (sym (order_one i j other_from second outer y w None (Some g) rest more (order_whole y rest (wants_behind x y (order_lines a) here)) (found_whole g more)).1)
 both_one h k i j from other_from first second outer p q s t (Compared {more = y} {other = g} a rest) (SecondRefused {text = v} {more = w} b more) here there =
-    never_found (order_one i j other_from second outer y w (Some g) None rest more (found_whole g rest) (order_whole w more (wants_behind v w there))).1
+    never_found (order_one i j other_from second outer y w (Some g) None rest more (found_whole g rest) (order_whole w more (wants_behind v w (order_lines b) there))).1
 both_one h k i j from other_from first second outer p q s t (Compared {text = x} {more = y} {one = f} {other = g} a rest) (Compared {text = v} {more = w} {one = f'} {other = g'} b more) here there =
     let (text, found) = order_one h k from first outer x v (Some f) (Some f') a b (found_whole f a) (found_whole f' b) in
     let (lines, other) = order_one i j other_from second outer y w (Some g) (Some g') rest more (found_whole g rest) (found_whole g' more) in
