@@ -1,8 +1,7 @@
 -- Equal blocks: what a variable reaches decides its value and its questions.
-use Rattle.std.proofs.Common.{◌≡◌, ◌≢◌, ⊎_elim, inl, inr, ℕ, Bool, true, false, List, [], ◌∷◌, ◌++◌, map, nat_eq, if◌then◌else◌, refl, sym, ap, ◌∙◌, subst, arith}
+use Rattle.std.proofs.Common.{◌≡◌, ◌≢◌, inl, inr, ℕ, Bool, true, false, List, [], ◌∷◌, ◌++◌, map, nat_eq, if◌then◌else◌, refl, sym, ap, ◌∙◌, subst, arith}
 use Rattle.std.proofs.lemmas.Bool.Decides.{nat_tests}
-use Rattle.just_syntax.specs.Plain.{Token, Assignment}
-use Rattle.just_value.specs.Value.{Value}
+use Rattle.just_syntax.specs.Plain.{Token}
 use Rattle.just_value.specs.Frames.{Frames}
 use Rattle.just_value.specs.Outcome.{Outcome, Gave, Stopped}
 use Rattle.just_host.specs.Interaction.{Event, Asked, Checked, Noted}

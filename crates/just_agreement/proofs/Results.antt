@@ -1,8 +1,8 @@
 -- A run ends as its blocks say.
-use Rattle.std.proofs.Common.{◌≡◌, ◌≢◌, ⊎_elim, inl, inr, List, [], ◌∷◌, ◌++◌, map, Some, None, refl, sym, ap, ◌∙◌, subst}
+use Rattle.std.proofs.Common.{◌≡◌, ⊎_elim, inl, inr, List, [], ◌∷◌, map, refl, sym, ap, ◌∙◌, subst}
 use Rattle.just_syntax.specs.Plain.{Token}
 use Rattle.just_value.specs.Value.{Value}
-use Rattle.just_value.specs.Frames.{Frame, Frames, own_frame}
+use Rattle.just_value.specs.Frames.{Frame, Frames}
 use Rattle.just_value.specs.Refusal.{Refusal}
 use Rattle.just_value.specs.Outcome.{Outcome, Gave, Refused, Stopped}
 use Rattle.just_meaning.specs.Module.{Module, Block, Run, Finished, Stops, Unknown, Passes, Skips, Binds, Breaks, Halts, lexically}

@@ -101,8 +101,7 @@ order_whole {m = m} p one wants e =
 -- what comes after other lines does not say so either
 pub wants_behind : (before text : Text) → AreLines before → WantsNoMemory (before ++ text) → WantsNoMemory text
 wants_behind before text lines wants front are =
-    let both = wants (before ++ front) (lines_after before front lines are) in
-    (
+    let both = wants (before ++ front) (lines_after before front lines are) in (
       λ e. both.0 (ap (λ t. before ++ t) e ∙ sym (append_assoc before front (refusal_line None))),
       λ e. both.1 (ap (λ t. before ++ t) e ∙ sym (append_assoc before front (const_refusal_line None))),
     )

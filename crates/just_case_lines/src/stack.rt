@@ -19,10 +19,10 @@ use just_syntax::number::Number;
 use just_syntax::out_of_memory::OutOfMemory;
 use std::alloc::Global;
 
-// How many forms may stand in one another. What walks over an expression without evaluating it, as letting it go and the
-// test of resolution do, takes at most 144 bytes of stack a level, and so ends within 8 MiB. Evaluation has a room of its
-// own.
-const MOST_LEVELS: usize = 54_000;
+// How many forms may nest in one another. What walks over an expression without evaluating it, as dropping it and the test of
+// resolution do, takes at most 416 bytes of stack a level in either build of the program, and so ends within 8 MiB. Evaluation
+// has a stack budget of its own, which ends it at fewer levels, whatever the form.
+const MOST_LEVELS: usize = 19_000;
 
 /// The expressions that are not yet assigned. A line takes its operands from the top, of which the uppermost is
 /// the rightmost. What it holds after an error is not said.

@@ -75,8 +75,8 @@ impl<'src> Case<'src> {
 pub enum CaseError {
     /// The place of the first bad line, from 1.
     BadLine(usize),
-    /// Memory was asked for and refused, or an expression has more than 54,000 levels of nesting: it could not be let go
-    /// on a stack of 8 MiB.
+    /// Memory was asked for and refused, or an expression has more than 19,000 levels of nesting: it could not be dropped on a
+    /// stack of 8 MiB.
     OutOfMemory,
 }
 

@@ -38,7 +38,7 @@ pub(crate) const FORMS: &[(&str, &str)] = &[
 
 // More levels than evaluation has room for, whatever the form, and one fewer than an expression of a case may have: in some
 // towers an empty list, which is a level itself, stands beside the innermost form.
-const MOST_LEVELS: usize = 53_999;
+const MOST_LEVELS: usize = 18_999;
 
 pub(crate) const WANT: &str = "refused 12 OutOfMemory\n";
 
@@ -127,15 +127,15 @@ fn printed_deeper_than_evaluated(rt: HostRuntime) -> Result<(), Fail> {
     Ok(())
 }
 
-// The condition is a tower behind an empty list, and stands within 16,000 groups.
+// The condition is a tower behind an empty list, and is within 8,900 groups.
 fn printed_deeper(alloc: Global, form: (&str, &str)) -> Result<String, OutOfMemory> {
     let (before, behind) = form;
     let mut case = String::from_str(alloc, "var p\nfun g p\nlist 0\n")?;
-    repeat(&mut case, before, 30_000)?;
+    repeat(&mut case, before, 10_000)?;
     case.push_str("str x\n")?;
-    repeat(&mut case, behind, 30_000)?;
+    repeat(&mut case, behind, 10_000)?;
     case.push_str("and\nassert\n")?;
-    repeat(&mut case, "group\n", 16_000)?;
+    repeat(&mut case, "group\n", 8_900)?;
     case.push_str("assign a\nrun\n")?;
     Ok(case)
 }

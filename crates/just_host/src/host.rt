@@ -15,6 +15,10 @@ use std::alloc::Global;
 /// the innermost form calls, and for the host.
 pub const STACK_ROOM: usize = 15 * 512 * 1024;
 
+/// How many bytes of stack evaluation may take on a stack of 8 MiB in a program that `rt try` runs: that is compiled with
+/// checks, and its frames are up to six times as large. A host that is tried so gives this by `stack_room`.
+pub const TRIED_STACK_ROOM: usize = 1024 * 1024;
+
 /// Whoever answers the questions of evaluation.
 ///
 /// `step` tells which answers a host may give: from a state, a question may get an answer and leave the host

@@ -3,10 +3,9 @@ use Rattle.std.proofs.Common.{List, [], ◌∷◌, ◌++◌}
 use Rattle.just_syntax.specs.Plain as plain
 use Rattle.just_syntax.specs.Plain.{Token, Expr, Interpreter, Set}
 use Rattle.just_value.specs.Value.{Value}
-use Rattle.just_value.specs.Refusal.{Refusal}
 use Rattle.just_value.specs.Outcome.{Outcome, Gave, Refused, Stopped, and_then}
 use Rattle.just_host.specs.Settings.{Settings}
-use Rattle.just_meaning.specs.Internal.{IfRefused, IsNotInternal}
+use Rattle.just_meaning.specs.Internal.{IsNotInternal}
 use Rattle.just_meaning.specs.ResolvedOn.{AllResolvedOn, IsResolvedOn, interpreter_expressions, set_expressions, setting_expressions}
 use Rattle.just_meaning.specs.Settings.{command_of, elements, interpreter, with_setting, with_settings}
 use Rattle.just_meaning.specs.Stage.{Standing, const_value}

@@ -52,7 +52,7 @@ fn lint(rt: &impl Print, alloc: Global, outer: &Scope, module: &Justfile) -> Res
 }
 
 fn print_variables(rt: &impl Print, module: &Justfile, stage: &Evaluator) -> Result<()> {
-    for assignment in &module.assignments {
+    for assignment in module.assignments.iter() {
         match stage.scope().value(assignment.number) {
             Some(value) => println!(rt; "{} = {value}", assignment.name)?,
             None => println!(rt; "{} is open", assignment.name)?,

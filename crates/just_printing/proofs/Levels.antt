@@ -38,26 +38,26 @@ levels_format_string start es = ap levels (view_format_string start es)
 
 -- a test that holds exactly if so many levels fit into a room
 abbrev pub Tells : Bool → ℕ → ℕ → Type 0
-Tells b n room = (IsTrue b → 160 * n ≤ room) × (160 * n ≤ room → IsTrue b)
+Tells b n room = (IsTrue b → 416 * n ≤ room) × (416 * n ≤ room → IsTrue b)
 
 -- no room for one level is no room for an expression
-pub none_fits : (e : Expr) (room : ℕ) → room < 160 → Tells false (levels e) room
+pub none_fits : (e : Expr) (room : ℕ) → room < 416 → Tells false (levels e) room
 none_fits e room small = let one = has_level e in ((λ none. absurd (cc none)), (λ fits. absurd (omega (arith, one))))
 
 -- one level around parts
-pub one_more : (b : Bool) (n room : ℕ) → 160 ≤ room → Tells b n (room - 160) → Tells b (suc n) room
+pub one_more : (b : Bool) (n room : ℕ) → 416 ≤ room → Tells b n (room - 416) → Tells b (suc n) room
 one_more b n room big h = ((λ is. let fits = h.0 is in omega arith), (λ fits. h.1 (omega arith)))
 
 -- some levels fit exactly if some others do
 abbrev pub FitAlike : ℕ → ℕ → ℕ → Type 0
-FitAlike n m room = (160 * n ≤ room → 160 * m ≤ room) × (160 * m ≤ room → 160 * n ≤ room)
+FitAlike n m room = (416 * n ≤ room → 416 * m ≤ room) × (416 * m ≤ room → 416 * n ≤ room)
 
 -- an expression that fits, before others
-pub next_alike : (x n m room : ℕ) → 160 * x ≤ room → FitAlike (max x n) m room → FitAlike n m room
+pub next_alike : (x n m room : ℕ) → 416 * x ≤ room → FitAlike (max x n) m room → FitAlike n m room
 next_alike x n m room fits h = ((λ k. h.0 (omega arith)), (λ k. let both = h.1 k in omega arith))
 
 -- an expression that does not fit, before others
-pub none_alike : (x n m room : ℕ) → (160 * x ≤ room → IsTrue false) → FitAlike (max x n) m room → Tells false m room
+pub none_alike : (x n m room : ℕ) → (416 * x ≤ room → IsTrue false) → FitAlike (max x n) m room → Tells false m room
 none_alike x n m room fails h = ((λ none. absurd (cc none)), (λ k. fails (let both = h.1 k in omega arith)))
 
 -- nothing is left

@@ -30,6 +30,10 @@ impl Host for Greeter {
     fn number(&mut self, alloc: Global, asked: NumberQuestion) -> Result<u64, OutOfMemory> {
         NoHost.number(alloc, asked)
     }
+
+    fn stack_room(&self) -> usize {
+        TRIED_STACK_ROOM
+    }
 }
 
 fn mode<'src>(alloc: Global) -> Result<Assignment<'src>, OutOfMemory> {

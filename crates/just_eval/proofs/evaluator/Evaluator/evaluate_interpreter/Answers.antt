@@ -20,5 +20,5 @@ loop-argument-preserved c = λ o h. c.loop-argument.invariant o
 pub returns-in_err-value-clause-never_internal : goal.returns-in_err-value-clause-never_internal
 returns-in_err-value-clause-never_internal c = λ resolved.
     let told : UnlessStopped (const_ended (interpreter_view {A = Global}) c.from_residual-in_err-value.result)
-        (interpreter (const_value (standing_of c.args.self.now)) (name_view c.args.setting) (expression_interpreter_view c.args.interpreter.now)) = grind (arith, common_steps) in
+    (interpreter (const_value (standing_of c.args.self.now)) (name_view c.args.setting) (expression_interpreter_view c.args.interpreter.now)) = grind (arith, common_steps) in
     unless_such IsOther _ _ told (interpreter_not (standing_of c.args.self.now) (name_view c.args.setting) (expression_interpreter_view c.args.interpreter.now) resolved)
