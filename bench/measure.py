@@ -13,7 +13,7 @@ STACK = 8 * 1024 * 1024
 TRIES = 3
 
 # A deeper tower is not tried: `join` copies its text at each level.
-MOST_LEVELS = 60_000
+MOST_LEVELS = 19_000
 
 
 class Run:
@@ -261,7 +261,7 @@ def evaluated(depth, tower):
 
 
 def only_dropped(depth, tower):
-    """The assignment is overridden, so that its expression is built and let go, and not evaluated."""
+    """The assignment is overridden, so that its expression is built and dropped, and not evaluated."""
     return nested(depth, tower, "str x") + ["assign a", "override a 5", "run"]
 
 
@@ -329,7 +329,7 @@ def measure_depth(program):
 def least_stack(program, name, lines):
     """The smallest stack that a case ends by itself on, in bytes, to a page."""
     page = 4096
-    bad, good = 0, STACK // page
+    bad, good = 0, 8 * STACK // page
     while good - bad > 1:
         middle = (good + bad) // 2
         if tried(program, name, lines, middle * page)[0] < 0:
@@ -345,116 +345,46 @@ def bytes_a_level(program, name, lines_of, levels):
 
 
 def measure_frames(program):
-    print("frames: how many bytes of stack a level takes")
+    """What a level takes in each build of the program: as LLVM builds it, and as Rattle's own compiler does. The greater one counts."""
+    print("frames: how many bytes of stack a level takes, in each build")
+    builds = [it for it in [program, f"{program}.by-rattle"] if os.path.isfile(it)]
     for use in [evaluated, printed, only_dropped]:
         for word, tower in TOWERS.items():
             name = f"{word}, {use.__name__}"
-            print(f"{name}: {bytes_a_level(program, name, lambda n: use(n, tower), 3_000):.0f}")
-    print(f"a pending call: {bytes_a_level(program, 'recursion', lambda n: recursion(n)[0], 500):.0f}")
+            each = [bytes_a_level(it, name, lambda n: use(n, tower), 3_000) for it in builds]
+            print(f"{name}: {' '.join(f'{it:.0f}' for it in each)}")
+    each = [bytes_a_level(it, "recursion", lambda n: recursion(n)[0], 500) for it in builds]
+    print(f"a pending call: {' '.join(f'{it:.0f}' for it in each)}")
 
 
-# --- memory ---
+# --- towers ---
 
-REFUSING = r"""
-#define _GNU_SOURCE
-#include <dlfcn.h>
-#include <stdlib.h>
-
-static long asked, refused;
-
-static int refuses(void)
-{
-    if (refused == 0) {
-        const char *text = getenv("REFUSED_ALLOCATION");
-        refused = text ? atol(text) : -1;
-    }
-    return ++asked == refused;
-}
-
-void *malloc(size_t size)
-{
-    static void *(*next)(size_t);
-    if (!next)
-        next = dlsym(RTLD_NEXT, "malloc");
-    return refuses() ? NULL : next(size);
-}
-
-void *realloc(void *block, size_t size)
-{
-    static void *(*next)(void *, size_t);
-    if (!next)
-        next = dlsym(RTLD_NEXT, "realloc");
-    return refuses() ? NULL : next(block, size);
-}
-"""
-
-CASES = {
-    "stored": "cmd one\ncmd two\nand\nassign a\nreply\nreply x\nrun\n",
-    "every line": "# all\n\nstr a\nassign a\nvar a\nstr b\nadd\ncmd c\nor\nexport b\noverride o 1\nreply x\nfail 7\nrun\n",
-    "settings": "str x\nassign a\ncmd c\nalways y\nassign b\ndotenv N t\nonly a b\norder b a\nlists\nlimit 5\nrun\n",
-    "forms": "str a\nstr b\nlist 2\ngroup\nstr c\ncat\nnot\nstr d\nstr e\nif\nassign x\nstr a\nroot\nassign y\nrun\n",
-    "assertion": "str a\nstr a\nne\nassert\nassign x\nrun\n",
-    "refused": "cmd one\nassign a\nfail 3\nrun\n",
-    "unevaluated": "var x\nassign a\nrun\n",
-    "calls": "var n\ncmd c\nadd\nfun f n\nstr x\ncall f 1\nassign a\nstr y\ncall f 1\nassign b\nreply r\nreply s\nrun\n",
-    "limit": "call f 0\nfun f\ncall f 0\nassign a\nlimit 3\nrun\n",
-    "constants": "str x\nassign a\ncmd c\nassign b\nvar b\nassign d\nvar a\nstr z\nadd\nassign e\noverride e 1\nonly a b d e\nconst\n",
-    "refused constant": "str a\nstr a\nne\nassert\nassign x\nconst\n",
-    "unevaluated constant": "var x\nassign a\nconst\n",
-    "blocks": "cmd p\nassign a\nstr k\ncall env 1\nvar a\nadd\nassign b\ndotenv k v\nreply 1\nreply 2\nonly a b\nblocks b a\n",
-    "refused block": "cmd p\nassign a\ncmd q\nassign b\nreply 1\nfail 3\nblocks b a\n",
-    "bad line": "str a\nassign a\nadd\n",
-}
+# How many levels: more than a case may hold, the most that an expression of a case may have, and fewer.
+LEVELS = [250_000, 18_999, 12_000, 6_000]
 
 
-# what is printed where memory is wanted in a run, and before any
-WANTS = [b"refused 12 OutOfMemory", b"refused: OutOfMemory"]
+def constant(depth, tower):
+    """The same before any run."""
+    return evaluated(depth, tower)[:-1] + ["const"]
 
 
-def is_told(run, whole):
-    """Whether a run with a refused allocation gave the whole answer, or told of want of memory and nothing else."""
-    if (run.status, run.output) == (whole.status, whole.output):
-        return True
-    if run.status == 1:
-        return whole.output.startswith(run.output)
-    *questions, last, end = run.output.split(b"\n")
-    asked = whole.output.split(b"\n")[: len(questions)]
-    return run.status == 2 and last in WANTS and end == b"" and questions == asked
+def measure_towers(program):
+    """That no tower ends the program by a signal."""
+    count, ended = 0, []
+    for use in [evaluated, constant, printed, only_dropped, called_a_thousand_times]:
+        for word, tower in TOWERS.items():
+            held = int((LARGEST_CASE - 100) / (len("\n".join(use(1_000, tower))) / 1_000))
+            for levels in sorted({min(it, held) for it in LEVELS}):
+                run = Run([program], ("\n".join(use(levels, tower)) + "\n").encode(), STACK)
+                count += 1
+                if run.status < 0:
+                    ended.append(f"{word}, {use.__name__}, {levels} levels: signal {-run.status}")
+    print("\n".join([*ended[:20], f"{count} towers, {len(ended)} ended by a signal"]))
+    if ended:
+        sys.exit(1)
 
 
-def measure_memory(program):
-    print("memory: each allocation refused in turn")
-    with tempfile.TemporaryDirectory() as folder:
-        source = os.path.join(folder, "refusing.c")
-        library = os.path.join(folder, "refusing.so")
-        with open(source, "w") as file:
-            file.write(REFUSING)
-        subprocess.run(["cc", "-shared", "-fPIC", "-O1", "-o", library, source, "-ldl"], check=True)
-        for name, text in CASES.items():
-            refuse_each(program, library, name, text.encode())
-
-
-def refuse_each(program, library, name, case):
-    whole = Run([program], case)
-    counts = {}
-    same = 0
-    place = 0
-    while same < 20:
-        place += 1
-        environment = dict(os.environ, LD_PRELOAD=library, REFUSED_ALLOCATION=str(place))
-        run = Run([program], case, environment=environment)
-        if not is_told(run, whole):
-            sys.exit(f"{name}, allocation {place}: status {run.status}, {run.output!r}")
-        if (run.status, run.output) == (whole.status, whole.output):
-            same += 1
-            continue
-        same = 0
-        counts[run.status] = counts.get(run.status, 0) + 1
-    told = ", ".join(f"{count} with status {status}" for status, count in sorted(counts.items()))
-    print(f"{name}: {place - same} allocations; of the runs that one was refused in, {told}")
-
-
-MODES = {"growth": measure_growth, "instructions": measure_instructions, "depth": measure_depth, "frames": measure_frames, "memory": measure_memory}
+MODES = {"growth": measure_growth, "instructions": measure_instructions, "depth": measure_depth, "frames": measure_frames, "towers": measure_towers}
 
 
 def main():

@@ -2,6 +2,7 @@
 // tests is proved twice, and lean on `just_eval`, scripted hosts and, for modules to evaluate, on the reader of cases.
 #![tactic(auto)]
 
+pub mod agreement;
 #[cfg(test)]
 mod cases;
 #[cfg(test)]

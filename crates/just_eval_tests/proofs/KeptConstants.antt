@@ -1,0 +1,45 @@
+-- Constants are kept in a run, by public laws alone.
+use Rattle.std.proofs.Common.{◌≡◌, ◌⊎◌, inl, inr, ℕ, false, Bool, List, [], ◌∷◌, Contains, Option, Some, None, refl, sym, subst, ◌∙◌}
+use Rattle.just_value.specs.Frames.{Bound, Frames, bound_at, own_frame}
+use Rattle.just_value.specs.Outcome.{Gave, Stopped}
+use Rattle.just_host.specs.Question.{Answer, Question}
+use Rattle.just_meaning.specs.Module.{Block, Module, Ran, Run, lexically}
+use Rattle.just_meaning.specs.Resolved.{IsResolved, IsResolvedConst}
+use Rattle.just_meaning.specs.Stage.{Constants, Found, Stage, Staged, Standing, at_start}
+use Rattle.just_agreement.specs.Foretold.{AreOfOneModule, ConstAgrees, Foretells, is_found_open}
+use Rattle.just_agreement.specs.Results.{EndsAsItsBlocks, ResultsHaveBlocks}
+use Rattle.just_eval_tests.specs.Agreement.{KeepsConstants}
+
+module _ (agrees : ConstAgrees) (results : ResultsHaveBlocks) (m : Constants) (lists : Bool) (outer : Frames) (n : Module) (others : Frames)
+    (same : AreOfOneModule m lists outer n others) (before : IsResolvedConst m.assignments outer) (resolved : IsResolved n.program.functions n.assignments others)
+    (fs : List Found) (s : Standing) (stage : Stage m (at_start lists outer) m.assignments.order fs (Gave s))
+    (bs : List Block) (frames : Frames) (run : Run lexically n ([] ∷ others) n.assignments.order bs (Gave frames)) where
+  ends : EndsAsItsBlocks bs (Gave frames)
+  ends = results n others bs (Gave frames) resolved run
+
+  -- what the stage found of a number, and the block of a run that gave it a value, have one value
+  one_value : (k : ℕ) (settled bound : Bound) → bound_at k (own_frame s.frames) ≡ Some settled → bound_at k (own_frame frames) ≡ Some bound → bound.value ≡ settled.value
+  one_value k settled bound h e =
+      let found = (agrees.standings m lists outer fs s stage).binds k settled h in
+      let block = ends.bindings frames k bound refl e in
+      let on = ends.unstopped block.0 (λ stopped. absurd (cc)) block.1 in
+      let foretold = agrees.blocks m lists outer n others fs (Gave s) bs (Gave frames) same before resolved stage run found.0 block.0 found.1 block.1 (found.2 ∙ sym block.2) on in
+      let gave : Foretells (is_found_open fs) (Gave settled.value) block.0 = subst (λ o. Foretells (is_found_open fs) o block.0) found.3 foretold in
+      cc (block.3, gave.0)
+
+  keeps : KeepsConstants s.is_open s.frames frames
+  keeps k settled closed h = by (bound_at k (own_frame frames)) refl
+    where
+      by : (x : Option Bound) → bound_at k (own_frame frames) ≡ x
+          → (bound_at k (own_frame frames) ≡ None) ⊎ ((bound : Bound) × (bound_at k (own_frame frames) ≡ Some bound) × (bound.value ≡ settled.value))
+      by None e = inl e
+      by (Some bound) e = inr (bound, e, one_value k settled bound h e)
+
+-- the same of what the contracts of a stage and a run give
+pub keeps_staged : (agrees : ConstAgrees) (results : ResultsHaveBlocks) (m : Constants) (lists : Bool) (outer : Frames) (n : Module)
+    → AreOfOneModule m lists outer n outer → IsResolvedConst m.assignments outer → IsResolved n.program.functions n.assignments outer
+    → {S : Type 0} {step : S → Question → Answer → S → Type 0} {old new : S} (s : Standing) (frames : Frames)
+    → Staged m (at_start lists outer) m.assignments.order (Gave s) → Ran step old lexically n ([] ∷ outer) n.assignments.order (Gave frames) new
+    → KeepsConstants s.is_open s.frames frames
+keeps_staged agrees results m lists outer n same before resolved s frames stage run =
+    keeps agrees results m lists outer n outer same before resolved stage.0 s stage.1 run.blocks frames run.run
