@@ -1,7 +1,7 @@
 // Evaluations in a scope that binds something, and of what no lines describe.
 
 use crate::case_run::CaseRun;
-use crate::texts::{ends, is_so, same};
+use crate::texts::{ends, is_so, owned, same};
 use just_bench::program::evaluate_in_scope;
 use just_case_lines::line::parse_lines;
 use just_case_lines::token::{name, token};
@@ -187,33 +187,78 @@ fn prints(rt: &impl Abort, alloc: Global, value: &Value, printed: &str) {
     same(rt, "value", &text, printed);
 }
 
-// A literal, as it is written between apostrophes.
-fn literal(
-    rt: &impl Abort,
-    alloc: Global,
-    text: &str,
-    lexeme: &'static str,
-) -> StringLiteral<'static> {
-    StringLiteral::new(alloc, text, lexeme).expect(rt, "no memory")
-}
+// A format string, whether its start is indented, and the answer of a case that assigns it to `x`, whose commands are answered
+// by `1`, and then by `2`. It is written as its start, and then each interpolation and the text after it, with `@` between all. An
+// interpolation is a list, with `|` between its elements, or a command in backticks.
+const FORMAT_STRINGS: &[(&str, bool, &str)] = &[
+    ("<@a|b@>", false, "x = \"<a b>\"\n"),
+    (
+        "@`c`@-@a@+@`d`@!",
+        false,
+        "? command \"c\"\n? command \"d\"\nx = \"1-a+2!\"\n",
+    ),
+    // The whole text is unindented, with what is interpolated, if its start is indented. Its other texts do not count for that.
+    ("\n  x @a|b@\n    y\n", true, "x = \"x a b\\n  y\\n\"\n"),
+    (
+        "\n  x @a|b@\n    y\n",
+        false,
+        "x = \"\\n  x a b\\n    y\\n\"\n",
+    ),
+    ("\n  x@\ny@", true, "x = \"  x\\ny\"\n"),
+    ("\n  x@\n  y@\n  z", true, "x = \"x\\ny\\nz\"\n"),
+    ("\n  @`c`@\n  ", true, "? command \"c\"\nx = \"1\\n\"\n"),
+];
 
-// The format string of start `<`, the list of `a` and `b`, and the text `>` behind it.
-fn format_string(rt: &impl Abort, alloc: Global) -> Expression<'static> {
-    let mut expressions = Vec::new(alloc);
-    let behind = literal(rt, alloc, ">", "}}>'");
-    let pushed = expressions.push((list(rt, alloc), behind));
-    pushed.expect(rt, "no memory");
-    Expression::FormatString {
-        start: literal(rt, alloc, "<", "f'<{{"),
-        expressions,
+#[test]
+fn format_strings(rt: HostRuntime) {
+    for (written, is_indented, answer) in FORMAT_STRINGS {
+        let value = format_string(&rt, rt.alloc(), written, *is_indented);
+        answers_assigned(&rt, rt.alloc(), value, answer, 0);
     }
 }
 
-// The list of `a` and `b`.
-fn list(rt: &impl Abort, alloc: Global) -> Expression<'static> {
+// A format string that is written so. Each text after an interpolation is marked otherwise than the start.
+fn format_string(
+    rt: &impl Abort,
+    alloc: Global,
+    written: &'static str,
+    is_indented: bool,
+) -> Expression<'static> {
+    let mut expressions = Vec::new(alloc);
+    let mut pieces = written.split('@');
+    let start = literal(rt, alloc, pieces.next().expect(rt, "no start"), is_indented);
+    while let Some(interpolation) = pieces.next() {
+        let text = pieces.next().expect(rt, "no text");
+        let interpolated = interpolated(rt, alloc, interpolation);
+        let pushed = expressions.push((interpolated, literal(rt, alloc, text, !is_indented)));
+        pushed.expect(rt, "no memory");
+    }
+    Expression::FormatString { start, expressions }
+}
+
+// A literal of this text.
+fn literal(
+    rt: &impl Abort,
+    alloc: Global,
+    text: &'static str,
+    indented: bool,
+) -> StringLiteral<'static> {
+    let mut literal = StringLiteral::new(alloc, text, "'..'").expect(rt, "no memory");
+    literal.indented = indented;
+    literal
+}
+
+// A command in backticks, or a list of what `|` separates.
+fn interpolated(rt: &impl Abort, alloc: Global, written: &'static str) -> Expression<'static> {
+    if written.starts_with('`') {
+        return Expression::Backtick {
+            contents: owned(rt, alloc, written.trim_matches('`')),
+            token: token(written),
+        };
+    }
     let mut elements = Vec::new(alloc);
-    for (text, lexeme) in ELEMENTS {
-        let string_literal = literal(rt, alloc, text, lexeme);
+    for text in written.split('|') {
+        let string_literal = literal(rt, alloc, text, false);
         let pushed = elements.push(Expression::StringLiteral { string_literal });
         pushed.expect(rt, "no memory");
     }
@@ -221,15 +266,6 @@ fn list(rt: &impl Abort, alloc: Global) -> Expression<'static> {
         elements,
         token: token("["),
     }
-}
-
-const ELEMENTS: &[(&str, &str)] = &[("a", "'a'"), ("b", "'b'")];
-
-#[test]
-fn format_strings(rt: HostRuntime) {
-    let alloc = rt.alloc();
-    let value = format_string(&rt, alloc);
-    answers_assigned(&rt, alloc, value, "x = \"<a b>\"\n", 0);
 }
 
 #[test]
@@ -247,7 +283,7 @@ fn variable_without_a_number(rt: HostRuntime) {
     );
 }
 
-// A case that assigns an expression to `x`, and nothing else, has this answer and this status.
+// A case that assigns an expression to `x`, and has two replies, has this answer and this status.
 fn answers_assigned(
     rt: &impl Abort,
     alloc: Global,
@@ -271,7 +307,7 @@ fn assignments_of(
     assignments
 }
 
-// A run of `x`, with these assignments and nothing else.
+// A run of `x`, with these assignments and the replies `1` and `2`.
 fn case_of(
     rt: &impl Abort,
     alloc: Global,
@@ -285,10 +321,14 @@ fn case_of(
         references: None,
         dotenv: BTreeMap::new(alloc),
         always: Vec::new(alloc),
-        replies: Vec::new(alloc),
+        replies: replies(rt, alloc),
         lists: false,
         dry_run: false,
         recursion_limit: 100,
         evaluation: Evaluation::Run,
     }
+}
+
+fn replies(rt: &impl Abort, alloc: Global) -> Vec<Result<String, CommandFault>> {
+    vec![in alloc; Ok(owned(rt, alloc, "1")), Ok(owned(rt, alloc, "2"))].expect(rt, "no memory")
 }

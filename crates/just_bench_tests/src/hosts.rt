@@ -6,6 +6,7 @@ use just_host::command_question::CommandQuestion;
 use just_host::config::Config;
 use just_host::host::Host;
 use just_host::number_question::NumberQuestion;
+use just_host::recorded::Recorded;
 use just_host::recorder::Recorder;
 use just_host::settings::Settings;
 use just_host::text_answer::TextAnswer;
@@ -14,7 +15,7 @@ use just_script::fail_at::{FailAt, How};
 use just_script::scripted_host::ScriptedHost;
 use just_value::error::CommandFault;
 use just_value::scope::Scope;
-use std::alloc::Global;
+use std::alloc::{AllocError, Global};
 use std::collections::BTreeMap;
 use std::process::Abort;
 
@@ -29,9 +30,14 @@ struct Asking {
 
 impl Asking {
     fn new(rt: &impl Abort, alloc: Global) -> Asking {
+        let mut env = BTreeMap::new(alloc);
+        for (key, value) in ENVIRONMENT {
+            let inserted: Result<_, _> = env.insert(owned(rt, alloc, key), owned(rt, alloc, value));
+            inserted.expect(rt, "no memory");
+        }
         Asking {
             config: config(rt, alloc, false),
-            env: BTreeMap::new(alloc),
+            env,
             scope: Scope::root(alloc, &[]).expect(rt, "no memory"),
             settings: Settings::new(alloc),
         }
@@ -72,6 +78,9 @@ impl Asking {
         format!(in alloc; "{answer:?}").expect(rt, "no memory")
     }
 }
+
+// The environment of each command.
+const ENVIRONMENT: &[(&str, &str)] = &[("K", "v w"), ("L", "")];
 
 // A script of a text and a status, two commands that are always answered, and some other answers.
 fn script(rt: &impl Abort, alloc: Global) -> ScriptedHost {
@@ -226,11 +235,19 @@ fn two_commands_told<H: Host>(rt: &impl Abort, alloc: Global, host: &mut H) -> S
     format!(in alloc; "{one} {other}").expect(rt, "no memory")
 }
 
-// The arguments that a command is asked with, and its answer.
-const RECORDED: &[(Option<&[&str]>, &str)] = &[
-    (Some(&["a b", "\""]), "Ok(\"x\")"),
-    (Some(&[]), "Err(Code(3))"),
-    (None, "Err(Fault(\"no reply\"))"),
+// The arguments that a command is asked with, what is kept of the question, and its answer.
+const RECORDED: &[(Option<&[&str]>, &str, &str)] = &[
+    (
+        Some(&["a b", "\""]),
+        "c\t [\"a b\" \"\\\"\" ] K=\"v w\" L=\"\" ",
+        "Ok(\"x\")",
+    ),
+    (Some(&[]), "c\t [] K=\"v w\" L=\"\" ", "Err(Code(3))"),
+    (
+        None,
+        "c\t no arguments K=\"v w\" L=\"\" ",
+        "Err(Fault(\"no reply\"))",
+    ),
 ];
 
 #[test]
@@ -238,11 +255,11 @@ fn records_each_question(rt: HostRuntime) {
     let alloc = rt.alloc();
     let asking = Asking::new(&rt, alloc);
     let mut host = Recorder::new(alloc, script(&rt, alloc));
-    for (arguments, expected) in RECORDED {
+    for (arguments, kept, expected) in RECORDED {
         let told = told_with(&rt, alloc, &asking, &mut host, *arguments);
         same(&rt, "answer", &told, expected);
+        same(&rt, "kept", &last_kept(&rt, alloc, host.questions()), kept);
     }
-    drop(asking);
     same(
         &rt,
         "questions",
@@ -250,6 +267,59 @@ fn records_each_question(rt: HostRuntime) {
         "? command \"c\\t\" \"a b\" \"\\\"\"\n? command \"c\\t\"\n? command \"c\\t\"\n",
     );
     drop(host);
+    asks_on(&rt, alloc, &asking);
+    drop(asking);
+}
+
+// What a recorder asked a host is not asked again of that host, which is as the recorder left it.
+fn asks_on(rt: &impl Abort, alloc: Global, asking: &Asking) {
+    let mut recorder = Recorder::new(alloc, script(rt, alloc));
+    let first = asking.told(rt, alloc, &mut recorder, "c", None);
+    let mut host = recorder.into_inner();
+    let second = asking.told(rt, alloc, &mut host, "c", None);
+    drop(host);
+    same(rt, "the recorder", &first, "Ok(\"x\")");
+    same(rt, "the host in it", &second, "Err(Code(3))");
+}
+
+// What is kept of the last question, a command: its text, its arguments, and its environment.
+fn last_kept(rt: &impl Abort, alloc: Global, questions: &[Recorded]) -> String {
+    match questions.last() {
+        Some(
+            Recorded::Command {
+                command,
+                arguments,
+                env,
+            },
+        ) => {
+            let kept = kept(alloc, command, arguments, env);
+            kept.expect(rt, "no memory")
+        }
+        _ => panic!(rt; "no command"),
+    }
+}
+
+fn kept(
+    alloc: Global,
+    command: &str,
+    arguments: &Option<Vec<String>>,
+    env: &BTreeMap<String, String>,
+) -> Result<String, AllocError> {
+    let mut text = format!(in alloc; "{command} ")?;
+    match arguments {
+        Some(words) => {
+            text.push('[')?;
+            for word in words {
+                write!(text, "{word:?} ")?;
+            }
+            text.push_str("] ")?;
+        }
+        None => text.push_str("no arguments ")?,
+    }
+    for (key, value) in env {
+        write!(text, "{key}={value:?} ")?;
+    }
+    Ok(text)
 }
 
 // What a host answers a command with these arguments.

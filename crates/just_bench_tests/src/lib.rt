@@ -24,6 +24,8 @@ mod hosts;
 #[cfg(test)]
 mod orders;
 #[cfg(test)]
+mod refusals;
+#[cfg(test)]
 mod stored_case;
 #[cfg(test)]
 mod stream_errors;

@@ -1,12 +1,15 @@
-// Readers and writers that fail, and what is read and written of long and endless cases.
+// Readers and writers that fail, how often they are asked, and what is read and written of long and endless cases.
 
 use crate::fakes::{EndlessReader, PieceReader, PieceWriter, whole_reader, whole_writer};
 use crate::stored_case::{STORED_ANSWER, STORED_CASE};
 use crate::texts::{ends, is_so, same_bytes};
 use just_bench::program::run;
-use just_bench::stream::{LIMIT, StreamError, read_case, write_text};
+use just_bench::stream::{StreamError, read_case, write_text};
 use std::alloc::Global;
 use std::process::Abort;
+
+// How many bytes a case has at most.
+const LONGEST: usize = 1_000_000;
 
 // The stored case, of which each read gives so many bytes.
 fn stored_in_pieces<'t>(piece: usize) -> PieceReader<'t> {
@@ -22,11 +25,30 @@ fn writer_of_pieces(alloc: Global, piece: usize) -> PieceWriter {
     out
 }
 
+// A case is answered with this status. It is not read again after a read that fails or gives nothing, nothing is written after a
+// flush or after a write that fails or takes nothing, and the writer is flushed so often.
+fn answers(
+    rt: &impl Abort,
+    alloc: Global,
+    of: &str,
+    (case, out): (&mut PieceReader, &mut PieceWriter),
+    status: u8,
+    flushes: u64,
+) {
+    let answered = run(alloc, case, out);
+    ends(rt, of, answered, status);
+    assert_eq!(rt;
+        [case.reads_after, out.writes_after, out.flushes],
+        [0, 0, flushes],
+        "{of}"
+    );
+}
+
 // The stored case is answered where each read and each write takes so many bytes.
 fn runs_in_pieces(rt: &impl Abort, alloc: Global, piece: usize) {
+    let mut case = stored_in_pieces(piece);
     let mut out = writer_of_pieces(alloc, piece);
-    let answered = run(alloc, &mut stored_in_pieces(piece), &mut out);
-    ends(rt, "in pieces", answered, 0);
+    answers(rt, alloc, "in pieces", (&mut case, &mut out), 0, 1);
     same_bytes(rt, "in pieces", &out.written, STORED_ANSWER.as_bytes());
 }
 
@@ -45,17 +67,23 @@ fn reads_no_further_behind_a_failed_read(rt: HostRuntime) {
     }
 }
 
-// Behind so many good reads, of so many that the stored case takes, nothing is written, and nothing is read behind the first
+// After so many good reads, of so many that the stored case takes, nothing is written, and nothing is read after the first
 // read that failed.
 fn ends_at_a_failed_read(rt: &impl Abort, alloc: Global, good_reads: u64, reads: u64) {
     let mut case = stored_in_pieces(1);
     case.good_reads = good_reads;
     let mut out = whole_writer(alloc);
-    let answered = run(alloc, &mut case, &mut out);
     let fails = good_reads < reads;
-    ends(rt, "a failed read", answered, if fails { 1 } else { 0 });
+    let (status, flushes) = if fails { (1, 0) } else { (0, 1) };
+    answers(
+        rt,
+        alloc,
+        "a failed read",
+        (&mut case, &mut out),
+        status,
+        flushes,
+    );
     assert_eq!(rt; out.written.is_empty(), fails);
-    is_so(rt, "no further read", case.reads_after <= 1);
 }
 
 #[test]
@@ -66,13 +94,20 @@ fn ends_at_a_failed_write(rt: HostRuntime) {
     }
 }
 
-// Behind so many good writes, of so many that the stored answer takes, nothing more is written.
+// After so many good writes, of so many that the stored answer takes, nothing more is written.
 fn writes_no_further(rt: &impl Abort, alloc: Global, good_writes: u64, writes: u64) {
+    let mut case = stored_in_pieces(usize::MAX);
     let mut out = writer_of_pieces(alloc, 1);
     out.good_writes = good_writes;
-    let answered = run(alloc, &mut stored_in_pieces(usize::MAX), &mut out);
-    let status = if good_writes < writes { 1 } else { 0 };
-    ends(rt, "a failed write", answered, status);
+    let (status, flushes) = if good_writes < writes { (1, 0) } else { (0, 1) };
+    answers(
+        rt,
+        alloc,
+        "a failed write",
+        (&mut case, &mut out),
+        status,
+        flushes,
+    );
     assert_eq!(rt; out.written.len() as u64, good_writes.min(writes));
     let is_front = STORED_ANSWER.as_bytes().starts_with(&out.written);
     is_so(rt, "the front of the answer", is_front);
@@ -80,31 +115,48 @@ fn writes_no_further(rt: &impl Abort, alloc: Global, good_writes: u64, writes: u
 
 #[test]
 fn ends_at_a_write_that_takes_nothing(rt: HostRuntime) {
+    let mut case = stored_in_pieces(usize::MAX);
     let mut out = writer_of_pieces(rt.alloc(), 0);
-    let answered = run(rt.alloc(), &mut stored_in_pieces(usize::MAX), &mut out);
-    ends(&rt, "a write that takes nothing", answered, 1);
+    let of = "a write that takes nothing";
+    answers(&rt, rt.alloc(), of, (&mut case, &mut out), 1, 0);
     is_so(&rt, "nothing is written", out.written.is_empty());
 }
 
-// A case that is answered, one that assigns nothing, and a bad one.
-const FLUSHED: &[&str] = &[STORED_CASE, "run", "add"];
+// Cases, their answers, and their statuses: one that is answered, one that assigns nothing, one that is refused, and a bad one.
+const FLUSHED: &[(&str, &str, u8)] = &[
+    (STORED_CASE, STORED_ANSWER, 0),
+    ("run", "", 0),
+    (
+        "list 0\nassert\nassign a\nrun",
+        "refused 1 Assert \"`[]`\"\n",
+        2,
+    ),
+    ("add", "bad line 1\n", 1),
+];
 
+// An answer is flushed once, after all of it is written. Where the flush fails a case is answered with status 1, and all is
+// written that is written else.
 #[test]
-fn ends_at_a_failed_flush(rt: HostRuntime) {
-    for case in FLUSHED {
-        is_written_before_a_flush(&rt, rt.alloc(), case.as_bytes());
+fn flushes_once(rt: HostRuntime) {
+    for (case, answer, status) in FLUSHED {
+        is_flushed(&rt, rt.alloc(), case, answer, true, *status);
+        is_flushed(&rt, rt.alloc(), case, answer, false, 1);
     }
 }
 
-// Where the flush fails a case is answered with status 1, and all is written that is written else.
-fn is_written_before_a_flush(rt: &impl Abort, alloc: Global, case: &[u8]) {
-    let mut whole = whole_writer(alloc);
-    run(alloc, &mut whole_reader(case), &mut whole);
-    let mut out = whole_writer(alloc);
-    out.can_flush = false;
-    let answered = run(alloc, &mut whole_reader(case), &mut out);
-    ends(rt, "a failed flush", answered, 1);
-    same_bytes(rt, "a failed flush", &out.written, &whole.written);
+fn is_flushed(
+    rt: &impl Abort,
+    alloc: Global,
+    text: &str,
+    answer: &str,
+    can_flush: bool,
+    status: u8,
+) {
+    let mut case = whole_reader(text.as_bytes());
+    let mut out = writer_of_pieces(alloc, 3);
+    out.can_flush = can_flush;
+    answers(rt, alloc, text, (&mut case, &mut out), status, 1);
+    same_bytes(rt, text, &out.written, answer.as_bytes());
 }
 
 #[test]
@@ -113,8 +165,12 @@ fn reads_an_endless_case_to_its_limit(rt: HostRuntime) {
     let mut case = EndlessReader { given: 0 };
     let answered = run(rt.alloc(), &mut case, &mut out);
     ends(&rt, "an endless case", answered, 1);
-    is_so(&rt, "nothing is written", out.written.is_empty());
-    let is_limited = case.given > LIMIT && case.given < LIMIT + 10_000;
+    is_so(
+        &rt,
+        "nothing is written",
+        out.written.is_empty() && out.flushes == 0,
+    );
+    let is_limited = case.given > LONGEST && case.given < LONGEST + 10_000;
     is_so(&rt, "the limit", is_limited);
 }
 
@@ -127,20 +183,30 @@ fn long_case(rt: &impl Abort, alloc: Global, length: usize) -> Vec<u8> {
     case
 }
 
+// The longest case is read and answered, and one of a byte more is not.
 #[test]
 fn longest_case(rt: HostRuntime) {
-    for (length, status) in [(LIMIT, 0), (LIMIT + 1, 1)] {
-        long_case_ends(&rt, rt.alloc(), length, status);
+    for (length, status, flushes) in [(1_000_000, 0, 1), (1_000_001, 1, 0)] {
+        long_case_ends(&rt, rt.alloc(), length, status, flushes);
     }
 }
 
 // A case of so many bytes is answered with this status, and nothing is written.
-fn long_case_ends(rt: &impl Abort, alloc: Global, length: usize, status: u8) {
+fn long_case_ends(rt: &impl Abort, alloc: Global, length: usize, status: u8, flushes: u64) {
     let case = long_case(rt, alloc, length);
+    let mut reader = whole_reader(&case);
     let mut out = whole_writer(alloc);
-    let answered = run(alloc, &mut whole_reader(&case), &mut out);
-    ends(rt, "a long case", answered, status);
+    answers(
+        rt,
+        alloc,
+        "a long case",
+        (&mut reader, &mut out),
+        status,
+        flushes,
+    );
     is_so(rt, "nothing is written", out.written.is_empty());
+    let is_read = read_case(alloc, &mut whole_reader(&case)).is_ok();
+    is_so(rt, "a long case", is_read == (status == 0));
 }
 
 #[test]
@@ -170,4 +236,5 @@ fn writes(rt: &impl Abort, alloc: Global) {
     write_text(&mut out, "an ").expect(rt, "no answer");
     write_text(&mut out, "answer").expect(rt, "no answer");
     same_bytes(rt, "an answer", &out.written, b"an answer");
+    assert_eq!(rt; out.flushes, 2);
 }

@@ -3,11 +3,14 @@
 ghost use Rattle.std.specs.Prelude.{IfOk};
 ghost use Rattle.just_eval.specs.View.{IsConst};
 
+use crate::bindings::with_flags;
+use crate::recipes::around::expression_of;
 use crate::{constants, interpreters, kept, settings};
 use just_case_lines::line::{Line, parse_lines};
 use just_case_reader::case::{Case, build};
 use just_eval::evaluator::Evaluator;
 use just_syntax::assignment::Assignment;
+use just_syntax::expression::Expression;
 use just_syntax::set::Set;
 use just_syntax::table::Table;
 use just_value::compile_error::CompileError;
@@ -50,12 +53,21 @@ fn told_of<'src>(
     outside: &[(&'static str, &'static str)],
     subject: Subject,
 ) -> String {
-    let case = build(alloc, lines).expect(rt, "no case");
+    let case = flagged(rt, alloc, build(alloc, lines).expect(rt, "no case"));
     let scope = Scope::root(alloc, outside).expect(rt, "no memory");
     let told = told_in(&case, rt, alloc, lines, &scope, subject);
     drop(scope);
     drop(case);
     told
+}
+
+// A case whose assignments have the flags that their names say.
+fn flagged<'src>(rt: &impl Abort, alloc: Global, case: Case<'src>) -> Case<'src> {
+    let assignments = with_flags(rt, alloc, case.assignments);
+    Case {
+        assignments,
+        ..case
+    }
 }
 
 // What is told of a case, which is of these lines, in a scope.
@@ -108,7 +120,7 @@ fn told_by<'src>(
 {
     match subject {
         Subject::Expression => match case.assignments.get("e") {
-            Some(assignment) => constants::told_by(evaluator, rt, alloc, &assignment.value),
+            Some(assignment) => told_of_both(evaluator, rt, alloc, &assignment.value, lines),
             None => panic!(rt; "no expression"),
         },
         Subject::Interpreter => {
@@ -116,6 +128,23 @@ fn told_by<'src>(
         }
         _ => settings::told_by(evaluator, rt, alloc, sets_of(rt, alloc, lines, subject)),
     }
+}
+
+// What is told of an expression, which is that of the assignment `e` of these lines, and of a line of it.
+fn told_of_both<'src>(
+    evaluator: &Evaluator<'src, '_>,
+    rt: &impl Abort,
+    alloc: Global,
+    expression: &Expression<'src>,
+    lines: &'src [Line<'src>],
+) -> String
+    requires before_runs { IsConst evaluator.now }
+{
+    let again = expression_of(rt, alloc, lines, "", "e").expect(rt, "no expression");
+    let line = constants::line_of(rt, alloc, again);
+    let told = constants::told_by(evaluator, rt, alloc, expression, &line);
+    drop(line);
+    told
 }
 
 // The settings of a case of these lines, or those that the subject names.

@@ -11,3 +11,8 @@ pub(crate) fn tells(rt: &impl Abort, of: &str, told: String, wanted: &str) {
 pub(crate) fn same(rt: &impl Abort, of: &str, given: &str, wanted: &str) {
     assert_eq!(rt; given, wanted, "{of}");
 }
+
+/// Something is true, or false, of a case.
+pub(crate) fn equal(rt: &impl Abort, of: &str, given: bool, wanted: bool) {
+    assert_eq!(rt; given, wanted, "{of}");
+}

@@ -2,82 +2,84 @@
 
 ghost use Rattle.just_eval.specs.View.{IsConst};
 
+use crate::bindings::tell_frame;
 use crate::cases::{Subject, add_said, told};
 use crate::compared::tells;
-use just_case_lines::token::name;
+use just_case_lines::token::{name, token};
 use just_eval::evaluator::Evaluator;
 use just_host::no_host::NoHost;
 use just_host::recorder::Recorder;
 use just_syntax::expression::Expression;
+use just_syntax::fragment::Fragment;
+use just_syntax::line::Line;
 use just_syntax::number::Number;
 use just_syntax::string_context::StringContext;
 use just_value::compile_error::CompileError;
+use just_value::error::Error;
 use just_value::value::Value;
 use std::alloc::Global;
 use std::process::Abort;
 
-// What an expression comes to, as a value, as a text in the setting `set`, and with a host that is not asked.
-const EXPRESSIONS: &[(&str, &str, &str)] = &[
-    ("str x\nstr y\nadd", "\"xy\"", "xy"),
+// An expression, and what it evaluates to: as a value, as a text in the setting `set`, and in a line between `<` and `>`.
+const EXPRESSIONS: &[(&str, &str, &str, &str)] = &[
+    ("str x\nstr y\nadd", "\"xy\"", "xy", "<xy>"),
     (
         "str x\nstr y\nlist 2",
         "[\"x\", \"y\"]",
         "list value [\"x\", \"y\"] in setting `set`",
+        "<x y>",
     ),
-    ("list 0", "[]", "list value [] in setting `set`"),
-    (
-        "cmd c",
-        "cannot call backticks in const context",
-        "cannot call backticks in const context",
-    ),
-    ("str a\nstr a\neq\nstr y\ncmd c\nif", "\"y\"", "y"),
+    ("list 0", "[]", "list value [] in setting `set`", "<>"),
+    ("cmd c", BACKTICK, BACKTICK, BACKTICK),
+    ("str a\nstr a\neq\nstr y\ncmd c\nif", "\"y\"", "y", "<y>"),
     (
         "str a\nstr b\neq\nstr y\ncmd c\nif",
-        "cannot call backticks in const context",
-        "cannot call backticks in const context",
+        BACKTICK,
+        BACKTICK,
+        BACKTICK,
     ),
-    (
-        "str x\ncall trim 1",
-        "cannot call functions in const context",
-        "cannot call functions in const context",
-    ),
+    ("str x\ncall trim 1", CALL, CALL, CALL),
     // Neither the name that is called nor the arguments are looked at.
-    (
-        "cmd c\ncall f 1",
-        "cannot call functions in const context",
-        "cannot call functions in const context",
-    ),
-    (
-        "var o",
-        "cannot access non-const variable `o` in const context",
-        "cannot access non-const variable `o` in const context",
-    ),
-    ("var s", "\"sh\"", "sh"),
-    (
-        "var p",
-        "internal error: attempted to evaluate unevaluated variable `p`",
-        "internal error: attempted to evaluate unevaluated variable `p`",
-    ),
+    ("cmd c\ncall f 1", CALL, CALL, CALL),
+    ("var o", OPEN, OPEN, OPEN),
+    ("var s", "\"sh\"", "sh", "<sh>"),
+    ("var p", UNEVALUATED, UNEVALUATED, UNEVALUATED),
 ];
+
+const BACKTICK: &str = "cannot call backticks in const context";
+
+const CALL: &str = "cannot call functions in const context";
+
+const OPEN: &str = "cannot access non-const variable `o` in const context";
+
+const UNEVALUATED: &str = "internal error: attempted to evaluate unevaluated variable `p`";
 
 // The lines in front of an expression: `s` is settled, and `o` is open.
 const STAGE: &str = "str sh\nassign s\ncmd c\nassign o\n";
 
 // What is own there.
-const OWN: &str = "{\"s\": Value { elements: [\"sh\"] }}";
+const OWN: &str = "own (s = \"sh\")";
 
 const LAST_LINES: &str = "\nassign e\nonly s o\nconst";
 
 #[test]
 fn const_expressions(rt: HostRuntime) {
-    for (expression, value, text) in EXPRESSIONS {
-        comes_to(&rt, rt.alloc(), expression, value, text);
+    for (expression, value, text, line) in EXPRESSIONS {
+        evaluates_to(&rt, rt.alloc(), expression, value, text, line);
     }
 }
 
-// An expression comes to this value, and to this text.
-fn comes_to(rt: &impl Abort, alloc: Global, expression: &str, value: &str, text: &str) {
-    let wanted = format!(in alloc; "{value}; {text}; {value}; 0; \"sh\" open - - - {OWN}");
+/// An expression evaluates to this value, to this text, and in a line to this one, also where a host is given.
+pub(crate) fn evaluates_to(
+    rt: &impl Abort,
+    alloc: Global,
+    expression: &str,
+    value: &str,
+    text: &str,
+    line: &str,
+) {
+    let both = format!(in alloc; "{value}; {text}; ").expect(rt, "no memory");
+    let wanted = format!(in alloc; "{both}{both}{line}; 0; \"sh\" open - - - {OWN}");
     let wanted = wanted.expect(rt, "no memory");
     tells(rt, expression, staged(rt, alloc, expression), &wanted);
 }
@@ -92,34 +94,79 @@ fn staged(rt: &impl Abort, alloc: Global, expression: &str) -> String {
 const NUMBERED: &str =
     "str x\nassign a\ncmd c\nassign b\nvar b\nassign d\nstr y\nassign e\nonly a b d\noverride e z\nconst";
 
+// What `e` evaluates to there.
+const Y: &str = "\"y\"; y; \"y\"; y; <y>; 0; ";
+
 // What the outer scope binds: to the numbers from 0 on, each of which has a name of its own there.
 const NOTHING: &[(&str, &str)] = &[];
 
 const TWO_NUMBERS: &[(&str, &str)] = &[("k", "v"), ("l", "w")];
 
-// What is settled is bound in front of the outer scope, what is open is not, and what is not referenced is neither.
+// What is settled is bound within the outer scope, what is open is not, and what is not referenced is neither. A binding has the
+// flags of its assignment.
 #[test]
 fn settled_and_open(rt: HostRuntime) {
-    let told = told(&rt, rt.alloc(), NUMBERED, NOTHING, Subject::Expression);
-    let wanted = "\"y\"; y; \"y\"; 0; \"x\" open open - - {\"a\": Value { elements: [\"x\"] }}";
-    tells(&rt, NUMBERED, told, wanted);
+    let numbers = "\"x\" open open - - own (a = \"x\")";
+    settles(&rt, rt.alloc(), NUMBERED, NOTHING, numbers);
+    let numbers =
+        "\"x\" \"y\" open \"v\" - own (export a = \"x\"eager eager-b = \"y\"export private private-e = \"v\")";
+    settles(&rt, rt.alloc(), FLAGGED, NOTHING, numbers);
+}
+
+const FLAGGED: &str =
+    "str x\nexport a\nstr y\nassign eager-b\ncmd c\nassign d\nstr y\nexport private-e\noverride private-e v\nstr y\nassign e\nonly a eager-b d private-e\nconst";
+
+// Where the outer scope binds this, the first five numbers of a case and its own bindings are these, and `e` is the text `y`.
+fn settles(
+    rt: &impl Abort,
+    alloc: Global,
+    case: &str,
+    outside: &[(&'static str, &'static str)],
+    numbers: &str,
+) {
+    let wanted = format!(in alloc; "{Y}{numbers}").expect(rt, "no memory");
+    tells(
+        rt,
+        case,
+        told(rt, alloc, case, outside, Subject::Expression),
+        &wanted,
+    );
 }
 
 // A number that the outer scope binds is passed over: it keeps its outer value, also where a command stands.
 #[test]
 fn bound_outside(rt: HostRuntime) {
-    let told = told(&rt, rt.alloc(), NUMBERED, TWO_NUMBERS, Subject::Expression);
-    let wanted = "\"y\"; y; \"y\"; 0; \"v\" \"w\" \"w\" - - {\"d\": Value { elements: [\"w\"] }}";
-    tells(&rt, NUMBERED, told, wanted);
+    let numbers = "\"v\" \"w\" \"w\" - - own (d = \"w\")";
+    settles(&rt, rt.alloc(), NUMBERED, TWO_NUMBERS, numbers);
 }
 
-/// What an expression comes to: as a value, as a text, as a value where a host is handed in; how often that host was asked;
-/// what the first five numbers are; and the own bindings.
+/// The line of an expression, between `<` and `>`.
+pub(crate) fn line_of<'src>(
+    rt: &impl Abort,
+    alloc: Global,
+    expression: Expression<'src>,
+) -> Line<'src> {
+    let mut line = Line {
+        fragments: Vec::new(alloc),
+    };
+    push(rt, &mut line, Fragment::Text { token: token("<") });
+    push(rt, &mut line, Fragment::Interpolation { expression });
+    push(rt, &mut line, Fragment::Text { token: token(">") });
+    line
+}
+
+fn push<'src>(rt: &impl Abort, line: &mut Line<'src>, fragment: Fragment<'src>) {
+    line.fragments.push(fragment).expect(rt, "no memory");
+}
+
+/// What an expression evaluates to: as a value, as a text, as both where a host is given, in a line there, how often that host
+/// was asked, what the first five numbers are, and the own bindings.
 pub(crate) fn told_by<'src>(
     evaluator: &Evaluator<'src, '_>,
     rt: &impl Abort,
     alloc: Global,
     expression: &Expression<'src>,
+    line: &Line<'src>,
 ) -> String
     requires before_runs { IsConst evaluator.now }
 {
@@ -128,7 +175,7 @@ pub(crate) fn told_by<'src>(
     add_value(rt, &mut text, &value);
     drop(value);
     add_text(evaluator, rt, alloc, &mut text, expression);
-    add_asked(evaluator, rt, alloc, &mut text, expression);
+    add_asked(evaluator, rt, alloc, &mut text, expression, line);
     add_numbers(evaluator, rt, &mut text);
     text
 }
@@ -142,7 +189,7 @@ fn add_value(rt: &impl Abort, text: &mut String, outcome: &Result<Value, Compile
     text.push_str("; ").expect(rt, "no memory");
 }
 
-// Adds what an expression comes to as a text.
+// Adds what an expression evaluates to as a text.
 fn add_text<'src>(
     evaluator: &Evaluator<'src, '_>,
     rt: &impl Abort,
@@ -160,13 +207,15 @@ fn add_text<'src>(
     text.push_str("; ").expect(rt, "no memory");
 }
 
-// Adds what an expression comes to as a value where a host is handed in, and how often that host was asked.
+// Adds what an expression evaluates to as a value and as a text where a host is given, then a line, and how often that host was
+// asked.
 fn add_asked<'src>(
     evaluator: &Evaluator<'src, '_>,
     rt: &impl Abort,
     alloc: Global,
     text: &mut String,
     expression: &Expression<'src>,
+    line: &Line<'src>,
 )
     requires before_runs { IsConst evaluator.now }
 {
@@ -174,12 +223,32 @@ fn add_asked<'src>(
     let value = value_with(evaluator, alloc, &mut host, expression);
     add_value(rt, text, &value);
     drop(value);
+    let setting = StringContext::Setting(name("set"));
+    add_string(
+        rt,
+        text,
+        evaluator.evaluate_string(alloc, &mut host, expression, setting),
+    );
+    add_string(
+        rt,
+        text,
+        evaluator.evaluate_line(alloc, &mut host, line, false),
+    );
     let asked = host.questions().len();
     drop(host);
     write!(text, "{asked}; ").expect(rt, "no memory");
 }
 
-// What an expression comes to as a value where this host is handed in.
+// Adds a text, or what its refusal says.
+fn add_string(rt: &impl Abort, text: &mut String, outcome: Result<String, Error>) {
+    match outcome {
+        Ok(string) => text.push_str(&string).expect(rt, "no memory"),
+        Err(error) => write!(text, "{error}").expect(rt, "no memory"),
+    }
+    text.push_str("; ").expect(rt, "no memory");
+}
+
+// What an expression evaluates to as a value where this host is given.
 fn value_with<'src>(
     evaluator: &Evaluator<'src, '_>,
     alloc: Global,
@@ -199,8 +268,9 @@ fn add_numbers(evaluator: &Evaluator, rt: &impl Abort, text: &mut String) {
     for number in 0..5u64 {
         add_number(evaluator, rt, text, Number::new(number));
     }
-    let own = evaluator.scope().frame();
-    write!(text, "{own:?}").expect(rt, "no memory");
+    text.push_str("own").expect(rt, "no memory");
+    let told = tell_frame(evaluator.scope().frame(), text);
+    told.expect(rt, "no memory");
 }
 
 fn add_number(evaluator: &Evaluator, rt: &impl Abort, text: &mut String, number: Number) {

@@ -12,6 +12,7 @@ use just_syntax::expression::Expression;
 use just_syntax::interpreter::Interpreter;
 use just_syntax::out_of_memory::OutOfMemory;
 use just_syntax::table::Table;
+use just_value::element::Element;
 use std::alloc::Global;
 use std::process::Abort;
 
@@ -39,11 +40,16 @@ fn elements_of<'src>(rt: &impl Abort, list: Expression<'src>) -> Vec<Expression<
 
 // What the lines of a list push, and what it comes to as an interpreter.
 const INTERPRETERS: &[(&str, &str)] = &[
-    ("str sh\nlist 1", "sh"),
-    ("str sh\nstr -c\nlist 2", "sh -c"),
+    ("str sh\nlist 1", "\"sh\""),
+    ("str sh\nstr -c\nlist 2", "\"sh\" \"-c\""),
+    // One word with a space in it is no command with an argument, and no two arguments.
+    ("str sh -c\nlist 1", "\"sh -c\""),
+    ("str sh\nstr -c -u\nlist 2", "\"sh\" \"-c -u\""),
+    ("str sh\nstr -c\nstr -u\nlist 3", "\"sh\" \"-c\" \"-u\""),
     // The command is the first element of all.
-    ("list 0\nstr a\nstr b\nlist 2\nlist 2", "a b"),
-    ("var s\nstr -c\nlist 2", "zsh -c"),
+    ("list 0\nstr a\nstr b\nlist 2\nlist 2", "\"a\" \"b\""),
+    ("str a\nstr b\nlist 2\nstr c\nlist 2", "\"a\" \"b\" \"c\""),
+    ("var s\nstr -c\nlist 2", "\"zsh\" \"-c\""),
     (
         "list 0\nlist 0\nlist 2",
         "`shell` setting requires at least one element but evaluated to empty list",
@@ -65,8 +71,8 @@ fn const_interpreters(rt: HostRuntime) {
     }
 }
 
-// What is told of a list, where `s` is settled.
-fn staged(rt: &impl Abort, alloc: Global, list: &str) -> String {
+/// What is told of a list, where `s` is settled.
+pub(crate) fn staged(rt: &impl Abort, alloc: Global, list: &str) -> String {
     let case = format!(in alloc; "str zsh\nassign s\n{list}\nassign e\nonly s\nconst");
     let case = case.expect(rt, "no memory");
     told(rt, alloc, &case, &[], Subject::Interpreter)
@@ -126,13 +132,15 @@ fn printed(rt: &impl Abort, alloc: Global, interpreter: &Interpreter<String>) ->
     text
 }
 
-/// Adds a command and its arguments.
+/// Adds a command and its arguments, each in quotes.
 pub(crate) fn print(
     text: &mut String,
     interpreter: &Interpreter<String>,
 ) -> Result<(), OutOfMemory> {
-    text.push_str(&interpreter.command)?;
+    let command = Element(&interpreter.command);
+    write!(text, "{command}")?;
     for argument in &interpreter.arguments {
+        let argument = Element(argument);
         write!(text, " {argument}")?;
     }
     Ok(())

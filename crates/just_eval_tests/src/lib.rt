@@ -4,6 +4,8 @@
 
 pub mod agreement;
 #[cfg(test)]
+mod bindings;
+#[cfg(test)]
 mod cases;
 #[cfg(test)]
 mod compared;
@@ -17,3 +19,5 @@ mod kept;
 mod recipes;
 #[cfg(test)]
 mod settings;
+#[cfg(test)]
+mod sizes;

@@ -1,15 +1,16 @@
 // Lines, parameters and attributes of recipes. The assignments of a case give their expressions, by their names.
 
-mod around;
+pub(crate) mod around;
+mod assignments;
 mod called;
 mod calls;
-mod environment;
 mod evaluated;
 mod failing;
 mod hosts;
 mod lines;
 mod parameter_rows;
 mod parameters;
+mod resolved;
 mod sizes;
 mod texts;
 

@@ -212,7 +212,12 @@ const SETTINGS: &[(&str, &str)] = &[
     // Commands and their arguments: the elements of all, in their order.
     (
         "only\nstr a\nlist 1\nassign script-interpreter\nstr b\nstr -c\nlist 2\nassign shell\nlist 0\nstr d\nstr e\nlist 2\nlist 0\nlist 3\nassign windows-shell\nconst",
-        "script_interpreter a;shell b -c;windows_shell d e;",
+        "script_interpreter \"a\";shell \"b\" \"-c\";windows_shell \"d\" \"e\";",
+    ),
+    // A command with a space in it, and an argument with one.
+    (
+        "only\nstr a b\nlist 1\nassign script-interpreter\nstr b\nstr -c d\nlist 2\nassign shell\nconst",
+        "script_interpreter \"a b\";shell \"b\" \"-c d\";",
     ),
     // Texts.
     (
@@ -223,12 +228,12 @@ const SETTINGS: &[(&str, &str)] = &[
     // A settled variable.
     (
         "str sh\nassign s\nvar s\nstr -c\nlist 2\nassign shell\nonly s\nconst",
-        "shell sh -c;",
+        "shell \"sh\" \"-c\";",
     ),
     // An overridden one.
     (
         "cmd c\nassign s\noverride s sh\nvar s\nlist 1\nassign shell\nonly s\nconst",
-        "shell sh;",
+        "shell \"sh\";",
     ),
     // An open one.
     (

@@ -6,9 +6,10 @@ mod names;
 mod questions;
 mod rows;
 mod scripted;
+mod sizes;
 
 use crate::around::Around;
-use crate::texts::{gives, same, same_of};
+use crate::texts::{gives, long, same, same_of};
 use answers::{ANSWERS, Answers};
 use around::{Place, answer, around_at};
 use just_builtins::function::{Function, functions, get, is_left_out};
@@ -21,6 +22,7 @@ use rows::{
     WITHOUT_A_PARENT,
 };
 use scripted::{Given, Scripted};
+use sizes::{LONG, LONG_DRY, LONG_WITHOUT_LISTS};
 use std::alloc::{AllocError, Global};
 use std::process::Abort;
 
@@ -185,6 +187,53 @@ fn compare_rows<'src>(
     for row in *rows {
         tells_row(context, rt, alloc, place, Given::OutOfMemory, row);
     }
+}
+
+// Where calls with a thousand elements or pieces are made, and what is asked and answered there.
+const SIZES: &[(Place, &[Question])] = &[
+    (WITH_LISTS, LONG),
+    (WITHOUT_LISTS, LONG_WITHOUT_LISTS),
+    (DRY, LONG_DRY),
+];
+
+#[test]
+fn calls_of_a_thousand(rt: HostRuntime) {
+    for (place, questions) in SIZES {
+        for (given, row) in *questions {
+            compare_long(&rt, rt.alloc(), place, *given, row);
+        }
+    }
+}
+
+// The same of a row that is written as `long` takes it.
+fn compare_long(rt: &impl Abort, alloc: Global, place: &Place, given: Given, row: &str) {
+    let row = long(rt, alloc, row);
+    compare_row(rt, alloc, place, given, &row);
+}
+
+// The call of a row in a place asks and answers as the row says.
+fn compare_row<'src>(
+    rt: &impl Abort,
+    alloc: Global,
+    place: &'src Place,
+    given: Given,
+    row: &'src str,
+) {
+    let around = around_at(rt, alloc, place);
+    compare_row_in(&around, rt, alloc, place, given, row);
+    drop(around);
+}
+
+fn compare_row_in<'src>(
+    around: &Around<'src>,
+    rt: &impl Abort,
+    alloc: Global,
+    place: &'src Place,
+    given: Given,
+    row: &'src str,
+) {
+    let context = around.context();
+    tells_row(&context, rt, alloc, place, given, row);
 }
 
 // The call of a row asks and answers as the row says.

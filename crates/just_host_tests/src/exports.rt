@@ -1,6 +1,6 @@
 // What a scope exports.
 
-use crate::texts::{all_owned, gives};
+use crate::texts::{all_owned, gives, long, same, text_of};
 use just_host::exports::exports;
 use just_syntax::attribute_set::AttributeSet;
 use just_syntax::name::Name;
@@ -47,6 +47,28 @@ fn exported_variables(rt: HostRuntime) {
     for (frames, printed) in EXPORTS {
         export(&rt, rt.alloc(), frames, printed);
     }
+}
+
+// What a thousand exported bindings of one name change, where a thousand names are not exported, as `long` takes it.
+const A_THOUSAND: &str = "[~Remove(\"u\"), ~~Set { name: \"n\", text: \"x y\" }, ~";
+
+const BOUND: Bound = ("n", &["x", "y"], true);
+
+#[test]
+fn a_thousand_exported_variables(rt: HostRuntime) {
+    let alloc = rt.alloc();
+    let mut scope = Scope::root(alloc, &[]).expect(&rt, "no memory");
+    bind_all(&mut scope, &rt, alloc, &[BOUND; 1000]);
+    let unexports = all_owned(&rt, alloc, &["u"; 1000]);
+    let given = text_of(&rt, exported(&scope, alloc, &unexports));
+    drop(unexports);
+    drop(scope);
+    let wanted = long(&rt, alloc, A_THOUSAND);
+    same(
+        &rt,
+        given.trim_end_matches(']'),
+        wanted.trim_end_matches(", "),
+    );
 }
 
 // These frames make these changes.

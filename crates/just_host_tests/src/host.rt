@@ -5,10 +5,11 @@ mod map_host;
 mod shells;
 mod watched;
 
-use crate::around::{Around, MODULE, called, map, module_at};
+use crate::around::{Around, MODULE, map, module_at};
 use crate::texts::{gives, is_either, long, owned, same, text_of};
 use echo_host::EchoHost;
 use just_host::ask::ask_command;
+use just_host::config::Config;
 use just_host::directory_kind::DirectoryKind;
 use just_host::execution_context::ExecutionContext;
 use just_host::fault::fault_text;
@@ -38,13 +39,19 @@ fn faults(rt: HostRuntime) {
     for (status, text) in STATUSES {
         gives(&rt, fault_text(alloc, &CommandFault::Code(*status)), text);
     }
-    let fault = CommandFault::Fault(owned(&rt, alloc, "not found"));
-    gives(&rt, fault_text(alloc, &fault), "not found");
+    for text in FAULTS {
+        let text = long(&rt, alloc, text);
+        let fault = CommandFault::Fault(owned(&rt, alloc, &text));
+        gives(&rt, fault_text(alloc, &fault), &text);
+    }
     gives(&rt, fault_text(alloc, &CommandFault::OutOfMemory), "");
 }
 
+// What commands could not be run for.
+const FAULTS: &[&str] = &["not found", "", "~not found~"];
+
 // Whether a module is a submodule, the directory that the search and the module have, the one that the module sets, and the
-// one that its commands run in. Each `@` stands for `ab/` five hundred times.
+// one that its commands run in. Each text is written as `long` takes it.
 type Directory = (
     bool,
     &'static str,
@@ -60,10 +67,10 @@ const DIRECTORIES: &[Directory] = &[
     (true, "/work", "/module", Some("sub"), "/module/sub"),
     (false, "/work", "/module", Some("/rooted"), "/rooted"),
     (true, "/work", "/module", Some("/rooted"), "/rooted"),
-    (false, "/@", "/@", None, "/@"),
-    (true, "/@", "/@", None, "/@"),
-    (false, "/@", "/@", Some("@ab"), "/@@ab"),
-    (true, "/@", "/@", Some("@ab"), "/@@ab"),
+    (false, "/~ab/~", "/~cd/~", None, "/~ab/~"),
+    (true, "/~ab/~", "/~cd/~", None, "/~cd/~"),
+    (false, "/~ab/~", "/~cd/~", Some("~e/~f"), "/~ab/~~e/~f"),
+    (true, "/~ab/~", "/~cd/~", Some("~e/~f"), "/~cd/~~e/~f"),
 ];
 
 // Short ones, and long ones, where each call must succeed too.
@@ -79,16 +86,11 @@ fn works_in<'src>(rt: &impl Abort, alloc: Global, source: &'src str, row: &Direc
     let (submodule, of_search, of_module, setting, wanted) = *row;
     let directory = long(rt, alloc, of_module);
     let module = module_below(rt, alloc, source, &directory, submodule, setting);
+    let config = Config::new(alloc, &directory).expect(rt, "no memory");
+    same(rt, &config.invocation_directory, &directory);
     drop(directory);
     let search = long(rt, alloc, of_search);
-    let around = Around::new(
-        rt,
-        alloc,
-        module,
-        called(rt, alloc),
-        "/work/justfile",
-        &search,
-    );
+    let around = Around::new(rt, alloc, module, config, "/work/justfile", &search);
     drop(search);
     let said = around.module.is_submodule();
     let given = directory_of(&around, alloc);

@@ -1,8 +1,9 @@
 // How questions print, and the words that a command is run with.
 
-use crate::around::{Around, MODULE};
+use crate::around::{Around, MODULE, insert, map};
 use crate::host::{Asked, answer_in, answer_of, is_told};
-use crate::texts::{owned, same};
+use crate::texts::{long, owned, same};
+use just_host::ask::ask_command;
 use just_host::command_question::CommandQuestion;
 use just_host::directory_kind::DirectoryKind;
 use just_host::execution_context::ExecutionContext;
@@ -18,6 +19,7 @@ use just_syntax::interpreter::Interpreter;
 use just_syntax::out_of_memory::OutOfMemory;
 use just_value::error::CommandFault;
 use std::alloc::{AllocError, Global};
+use std::collections::BTreeMap;
 use std::process::Abort;
 
 // Questions, and what they print.
@@ -58,8 +60,9 @@ const QUESTIONS: &[(Asked, &str)] = &[
     (Asked::Exists("/a b"), "exists \"/a b\""),
 ];
 
-// The shell of a module, the arguments of the command `c d`, each behind `;`, whether the shell takes a name for itself,
-// what the command prints, and its words, with `|` between them. The words of a shell have `;` between them.
+// The shell of a module, the arguments of the command `c d`, each after `;`, whether the shell takes a name for itself,
+// what the command prints, and its words, with `|` between them. The words of a shell have `;` between them. Each text is
+// written as `long` takes it.
 type Command = (
     Option<&'static str>,
     Option<&'static str>,
@@ -94,16 +97,26 @@ const COMMANDS: &[Command] = &[
         "command \"c d\"",
         "bash|-e|-c|c d",
     ),
+    (
+        Some("bash~;-e~"),
+        Some("~;a~"),
+        true,
+        "command \"c d\"~ \"a\"~",
+        "bash~|-e~|c d|c d~|a~",
+    ),
 ];
 
 #[test]
 fn questions_print(rt: HostRuntime) {
     let alloc = rt.alloc();
     let mut host = Recorder::new(alloc, NoHost);
-    for (asked, printed) in QUESTIONS {
-        print(&rt, alloc, &mut host, *asked, printed);
+    for _ in 0..100 {
+        for (asked, printed) in QUESTIONS {
+            print(&rt, alloc, &mut host, *asked, printed);
+        }
     }
     prints(&rt, DirectoryKind::Data.to_string(alloc), "data");
+    assert_eq!(rt; host.questions().len(), 1300);
     drop(host);
 }
 
@@ -189,8 +202,8 @@ fn runs<'src>(rt: &impl Abort, alloc: Global, place: &'src str, command: &Comman
     let around = Around::plain(rt, alloc, place, set_to(rt, alloc, shell));
     let answer = answer_around(&around, rt, alloc, &mut host, arguments);
     drop(around);
-    is_told(rt, alloc, &answer, words);
-    prints_last(rt, alloc, host.questions(), printed);
+    is_told(rt, alloc, &answer, &long(rt, alloc, words));
+    prints_last(rt, alloc, host.questions(), &long(rt, alloc, printed));
     drop(host);
 }
 
@@ -209,9 +222,10 @@ fn answer_around<'src>(
 fn set_to(rt: &impl Abort, alloc: Global, shell: Option<&str>) -> Settings {
     let mut settings = Settings::new(alloc);
     if let Some(line) = shell {
+        let line = long(rt, alloc, line);
         let command = line.split(';').next().expect(rt, "no command");
         settings.shell = Some(Interpreter {
-            arguments: behind(rt, alloc, line),
+            arguments: behind(rt, alloc, &line),
             command: owned(rt, alloc, command),
         });
     }
@@ -239,9 +253,168 @@ fn answer_with<'call>(
 ) -> Result<String, CommandFault> {
     match arguments {
         Some(line) => {
-            let words = behind(rt, alloc, line);
+            let words = behind(rt, alloc, &long(rt, alloc, line));
             answer_in(rt, alloc, host, context, "c d", Some(&words))
         }
         None => answer_in(rt, alloc, host, context, "c d", None),
     }
+}
+
+// What a command is asked in: the variables of its environment and those of dotenv files, the names that are not exported, and
+// whether the module is a submodule of `/module`, with the working directory that it sets; and what the question holds. The
+// search has the directory `/work`.
+type Held = (
+    &'static [(&'static str, &'static str)],
+    &'static [(&'static str, &'static str)],
+    &'static [&'static str],
+    bool,
+    Option<&'static str>,
+    &'static str,
+);
+
+const HELD: &[Held] = &[
+    (&[], &[], &[], false, None, "c in /work"),
+    (
+        &[("A", "x"), ("B", "")],
+        &[("D", "d e"), ("E", "é")],
+        &["V", "U"],
+        false,
+        None,
+        "c A=x B= dotenv D=d e dotenv E=é without V without U in /work",
+    ),
+    (
+        &[],
+        &[("D", "d")],
+        &[],
+        true,
+        None,
+        "c dotenv D=d in /module",
+    ),
+    (
+        &[],
+        &[],
+        &["U"],
+        true,
+        Some("dir"),
+        "c without U in /module/dir",
+    ),
+    (
+        &[("A", "x")],
+        &[],
+        &[],
+        false,
+        Some("dir"),
+        "c A=x in /work/dir",
+    ),
+    (&[], &[], &[], true, Some("/dir"), "c in /dir"),
+];
+
+// Answers a command with what its question holds.
+#[derive(Drop)]
+struct Holder {}
+
+impl Host for Holder {
+    ghost use Rattle.std.specs.Prelude.{⊤};
+
+    // Nothing is said of what it answers.
+    ghost step = { λ _ _ _ _. ⊤ };
+
+    fn command(
+        &mut self,
+        alloc: Global,
+        question: &CommandQuestion,
+    ) -> Result<String, CommandFault> {
+        Ok(held(alloc, question)?)
+    }
+
+    fn text(&mut self, alloc: Global, question: TextQuestion) -> TextAnswer {
+        NoHost.text(alloc, question)
+    }
+
+    fn exists(&mut self, alloc: Global, path: &str) -> Result<bool, OutOfMemory> {
+        NoHost.exists(alloc, path)
+    }
+
+    fn number(&mut self, alloc: Global, question: NumberQuestion) -> Result<u64, OutOfMemory> {
+        NoHost.number(alloc, question)
+    }
+}
+
+// The command, its environment, the dotenv variables, the names that are not exported, and the directory. The configuration and
+// the settings are those of the context.
+fn held(alloc: Global, question: &CommandQuestion) -> Result<String, OutOfMemory> {
+    let mut text = String::from_str(alloc, question.command)?;
+    for (key, value) in question.env {
+        write!(text, " {key}={value}")?;
+    }
+    for (key, value) in question.dotenv {
+        write!(text, " dotenv {key}={value}")?;
+    }
+    for name in question.unexports {
+        write!(text, " without {name}")?;
+    }
+    let directory = question.working_directory;
+    write!(text, " in {directory}")?;
+    let is_called_here = question.config.invocation_directory.as_str() == "/called/here";
+    if !is_called_here || !question.settings.quiet {
+        text.push_str(" of another context")?;
+    }
+    Ok(text)
+}
+
+#[test]
+fn questions_hold_their_context(rt: HostRuntime) {
+    for held in HELD {
+        holds(&rt, rt.alloc(), MODULE, held);
+    }
+}
+
+// A command's question holds this.
+fn holds<'src>(rt: &impl Abort, alloc: Global, place: &'src str, held: &Held) {
+    let (env, dotenv, unexports, submodule, directory, wanted) = *held;
+    let mut settings = Settings::new(alloc);
+    settings.quiet = true;
+    if let Some(text) = directory {
+        settings.working_directory = Some(owned(rt, alloc, text));
+    }
+    let mut around = Around::plain(rt, alloc, place, settings);
+    for (key, text) in dotenv {
+        insert(rt, alloc, &mut around.dotenv, key, text);
+    }
+    for name in unexports {
+        let pushed = around.module.unexports.push(owned(rt, alloc, name));
+        pushed.expect(rt, "no memory");
+    }
+    around.module.submodule = submodule;
+    let answer = held_around(&around, alloc, &map(rt, alloc, env));
+    drop(around);
+    is_told(rt, alloc, &answer, wanted);
+}
+
+fn held_around<'src>(
+    around: &Around<'src>,
+    alloc: Global,
+    env: &BTreeMap<String, String>,
+) -> Result<String, CommandFault> {
+    let context = around.context();
+    held_in(alloc, &context, env)
+}
+
+fn held_in<'call>(
+    alloc: Global,
+    context: &'call ExecutionContext,
+    env: &'call BTreeMap<String, String>,
+) -> Result<String, CommandFault> {
+    if context.config.dry_run {
+        return Err(CommandFault::OutOfMemory);
+    }
+    ask_command(
+        alloc,
+        &mut Holder {},
+        context,
+        env,
+        context.scope,
+        "c",
+        None,
+    )
 }

@@ -46,10 +46,18 @@ pub fn all_owned(rt: &impl Abort, alloc: Global, texts: &[&str]) -> Vec<String> 
     all
 }
 
-/// A text with `ab/` five hundred times for each `@`.
+/// A text in which each piece between two `~` is repeated a thousand times.
 pub fn long(rt: &impl Abort, alloc: Global, text: &str) -> String {
-    let piece = "ab/".repeat(alloc, 500).expect(rt, "no memory");
-    let long = text.replace(alloc, "@", &piece).expect(rt, "no memory");
-    drop(piece);
+    let mut long = String::new(alloc);
+    for (place, piece) in text.split('~').enumerate() {
+        let times = if place % 2 == 0 { 1 } else { 1000 };
+        add(rt, &mut long, piece, times);
+    }
     long
+}
+
+fn add(rt: &impl Abort, text: &mut String, piece: &str, times: usize) {
+    for _ in 0..times {
+        text.push_str(piece).expect(rt, "no memory");
+    }
 }

@@ -2,6 +2,7 @@
 
 ghost use Rattle.std.specs.Prelude.{◌≡◌};
 
+use crate::bindings::with_flags;
 use crate::recipes::texts::{owned, push};
 use just_case_lines::line::Line;
 use just_case_reader::case::{Case, build};
@@ -27,7 +28,7 @@ use std::process::Abort;
 // The file that each module is read from, and the directory that it lies in.
 const JUSTFILE: &str = "/work/justfile";
 
-const DIRECTORY: &str = "/work";
+pub(crate) const DIRECTORY: &str = "/work";
 
 /// What a context lends.
 #[derive(Drop)]
@@ -55,6 +56,27 @@ impl<'src> Around<'src> {
     pub(crate) fn of_nothing(rt: &impl Abort, alloc: Global, source: &'src str) -> Around<'src> {
         let module = Justfile::new(alloc, source, DIRECTORY).expect(rt, "no memory");
         Around::new(rt, alloc, module)
+    }
+
+    /// The same with a submodule of this source in `/work/sub`, which sets the working directory `dir` and does not export `U` and
+    /// `V`, and with a variable `D` of a dotenv file.
+    pub(crate) fn of_submodule(rt: &impl Abort, alloc: Global, source: &'src str) -> Around<'src> {
+        let mut module = Justfile::new(alloc, source, "/work/sub").expect(rt, "no memory");
+        module.submodule = true;
+        module.settings = set_below(rt, alloc, "dir");
+        push(rt, &mut module.unexports, owned(rt, alloc, "U"));
+        push(rt, &mut module.unexports, owned(rt, alloc, "V"));
+        let mut around = Around::new(rt, alloc, module);
+        let inserted: Result<_, _> = around
+            .dotenv
+            .insert(owned(rt, alloc, "D"), owned(rt, alloc, "d"));
+        inserted.expect(rt, "no memory");
+        around
+    }
+
+    /// Each variable of the module is exported.
+    pub(crate) fn export_all(&mut self) {
+        self.module.settings.export = true;
     }
 
     fn new(rt: &impl Abort, alloc: Global, module: Justfile<'src>) -> Around<'src> {
@@ -104,6 +126,13 @@ impl<'src> Around<'src> {
     }
 }
 
+// Settings of a working directory alone.
+fn set_below(rt: &impl Abort, alloc: Global, directory: &str) -> Settings {
+    let mut settings = Settings::new(alloc);
+    settings.working_directory = Some(owned(rt, alloc, directory));
+    settings
+}
+
 // The case that lines describe.
 fn case_of<'src>(rt: &impl Abort, alloc: Global, lines: &'src [Line<'src>]) -> Case<'src> {
     build(alloc, lines).expect(rt, "no case")
@@ -121,7 +150,7 @@ fn module_of<'src>(rt: &impl Abort, alloc: Global, case: Case<'src>) -> Justfile
     module_with(rt, alloc, assignments, evaluation_order, functions, lists)
 }
 
-// A module with these assignments, in this order, and these functions.
+// A module with these assignments, of which each has the flags that its name says, in this order, and these functions.
 fn module_with<'src>(
     rt: &impl Abort,
     alloc: Global,
@@ -133,7 +162,7 @@ fn module_with<'src>(
     let mut settings = Settings::new(alloc);
     settings.lists = lists;
     Justfile {
-        assignments,
+        assignments: with_flags(rt, alloc, assignments),
         evaluation_order,
         functions,
         module_path: String::new(alloc),

@@ -4,7 +4,7 @@ ghost use Rattle.std.specs.Prelude.{◌<◌};
 
 use crate::recipes::RECIPE;
 use crate::recipes::hosts::TellingHost;
-use crate::recipes::texts::push;
+use crate::recipes::texts::{owned, push};
 use just_case_lines::token::name;
 use just_eval::evaluator::Evaluator;
 use just_host::execution_context::ExecutionContext;
@@ -18,6 +18,7 @@ use just_value::error::Error;
 use just_value::scope::Scope;
 use just_value::value::Value;
 use std::alloc::Global;
+use std::cell::RefCell;
 use std::collections::BTreeMap;
 use std::process::Abort;
 
@@ -26,6 +27,8 @@ use std::process::Abort;
 pub(crate) struct Called<'src> {
     pub(crate) arguments: Vec<Value>,
     pub(crate) check: Check,
+    // What was checked: each parameter and its value, in their order.
+    checked: RefCell<String>,
     pub(crate) is_dependency: bool,
     pub(crate) parameters: Vec<Parameter<'src>>,
     pub(crate) recipe: Recipe<'src>,
@@ -43,6 +46,7 @@ impl<'src> Called<'src> {
         Called {
             arguments: Vec::new(alloc),
             check: Check::RefusesNo,
+            checked: RefCell::new(String::new(alloc)),
             is_dependency: false,
             parameters: Vec::new(alloc),
             recipe: Recipe::new(alloc, name(RECIPE)),
@@ -55,6 +59,14 @@ impl<'src> Called<'src> {
         push(rt, &mut self.parameters, parameter);
     }
 
+    /// What was checked: each parameter and its value, in their order.
+    pub(crate) fn checked(&self, rt: &impl Abort, alloc: Global) -> String {
+        match self.checked.try_borrow() {
+            Ok(checked) => owned(rt, alloc, &checked),
+            Err(_) => panic!(rt; "a check goes on"),
+        }
+    }
+
     /// Evaluates the attributes and the parameters in the scope of a context.
     pub(crate) fn evaluate<'run>(
         &self,
@@ -65,7 +77,11 @@ impl<'src> Called<'src> {
         requires room { 0 < context.now.recursion_limit }
     {
         let way = self.check;
-        let check = |_: &Recipe, _: &Parameter, value: &Value| way.check(alloc, value);
+        let checked = &self.checked;
+        let check = |recipe: &Recipe, parameter: &Parameter, value: &Value| {
+            tell_checked(checked, recipe, parameter, value)?;
+            way.check(alloc, value)
+        };
         Evaluator::evaluate_parameters(
             alloc,
             host,
@@ -117,6 +133,28 @@ impl Check {
             Check::OutOfMemory => Err(CheckFault::OutOfMemory),
             _ => Err(refused(alloc)),
         }
+    }
+}
+
+// Tells what is checked: a parameter of the recipe, and its value.
+fn tell_checked(
+    checked: &RefCell<String>,
+    recipe: &Recipe,
+    parameter: &Parameter,
+    value: &Value,
+) -> Result<(), CheckFault> {
+    let name = parameter.name;
+    let Ok(mut told) = checked.try_borrow_mut() else {
+        return Err(CheckFault::OutOfMemory);
+    };
+    let told_all = if recipe.name() == RECIPE {
+        write!(told, "{name} = {value};")
+    } else {
+        write!(told, "another recipe;")
+    };
+    match told_all {
+        Ok(()) => Ok(()),
+        Err(_) => Err(CheckFault::OutOfMemory),
     }
 }
 

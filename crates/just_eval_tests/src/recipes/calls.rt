@@ -4,9 +4,9 @@ ghost use Rattle.std.specs.Prelude.{◌<◌};
 
 use crate::recipes::around::Around;
 use crate::recipes::evaluated::{Evaluated, tell_evaluated};
-use crate::recipes::failing::{Failing, WAYS, refusal as refused};
+use crate::recipes::failing::{Failing, NEVER, WAYS, refusal as refused};
 use crate::recipes::hosts::TellingHost;
-use crate::recipes::texts::{add, owned, same_failing};
+use crate::recipes::texts::{owned, same_failing};
 use just_case_lines::token::token;
 use just_eval::evaluator::Evaluator;
 use just_host::execution_context::ExecutionContext;
@@ -16,49 +16,53 @@ use std::alloc::Global;
 use std::collections::BTreeMap;
 use std::process::Abort;
 
-// What each call asks, and what comes of it.
-const CALLS: &[(&str, &str)] = &[
-    ("? run A=x ();", "<run>"),
-    ("? c A=x () ();", "\"<c>\""),
-    ("? c A=x () ();", "<c>"),
-];
+// What commands are asked with here, beside the frames.
+const FIXED: &str = "dotenv D=d without U without V in /work/sub/dir";
 
 // Each call asks and answers. What is asked of a host that fails is refused, and what was asked before is not.
 #[test]
 fn calls_and_their_refusals(rt: HostRuntime) {
     for how in WAYS {
-        for passed in 0..=CALLS.len() {
-            calls_fail(&rt, rt.alloc(), (passed, *how));
+        for passed in 0..=3 {
+            calls_fail(&rt, rt.alloc(), "c", (passed, *how));
         }
     }
+    let long = "c ".repeat(rt.alloc(), 1000).expect(&rt, "no memory");
+    calls_fail(&rt, rt.alloc(), &long, NEVER);
 }
 
 // The calls are told so of a host that fails in some way.
-fn calls_fail(rt: &impl Abort, alloc: Global, failing: Failing) {
+fn calls_fail(rt: &impl Abort, alloc: Global, command: &str, failing: Failing) {
     let mut host = TellingHost::new(alloc, failing);
-    call(rt, alloc, "c", &mut host);
-    let wanted = wanted(rt, alloc, failing);
+    call(rt, alloc, command, &mut host);
+    let wanted = wanted(rt, alloc, command, failing);
     same_failing(rt, "the calls", failing, &host.told, &wanted);
     drop(wanted);
     drop(host);
 }
 
-// What is told of the calls where so many questions are passed on.
-fn wanted(rt: &impl Abort, alloc: Global, (passed, how): Failing) -> String {
+// What is told of the calls where so many questions are passed on: a command that is run in the module's scope, and in the frame of
+// an evaluator a value and a text.
+fn wanted(rt: &impl Abort, alloc: Global, command: &str, (passed, how): Failing) -> String {
     let mut wanted = String::new(alloc);
-    for (place, (question, answer)) in CALLS.iter().enumerate() {
-        add(rt, &mut wanted, question);
-        let fails = place >= passed;
-        add(rt, &mut wanted, if fails { refused(how) } else { answer });
-        add(rt, &mut wanted, ";");
+    let calls = [("()", ""), ("() ()", "\""), ("() ()", "")];
+    for (place, (frames, quote)) in calls.iter().enumerate() {
+        let question = write!(wanted, "? {command} A=x {frames} {FIXED};");
+        question.expect(rt, "no memory");
+        let answer = if place >= passed {
+            write!(wanted, "{};", refused(how))
+        } else {
+            write!(wanted, "{quote}<{command}>{quote};")
+        };
+        answer.expect(rt, "no memory");
     }
     wanted
 }
 
-// Makes the calls, each in an environment of one variable. A value and a text are those of this command.
+// Makes the calls, each of this command, in an environment of one variable.
 fn call<'src>(rt: &impl Abort, alloc: Global, text: &'src str, host: &mut TellingHost) {
     let command = command(rt, alloc, text);
-    let around = Around::of_nothing(rt, alloc, text);
+    let around = Around::of_submodule(rt, alloc, text);
     call_around(&around, rt, alloc, host, &command);
     drop(around);
     drop(command);
@@ -91,10 +95,19 @@ fn call_in<'src>(
 )
     requires room { 0 < context.now.recursion_limit }
 {
-    run(context, rt, alloc, host);
+    run(context, rt, alloc, host, command);
     let env = env(rt, alloc);
     let evaluated = Evaluated::Command(command);
-    tell_evaluated(context, rt, alloc, host, env, context.scope, evaluated);
+    tell_evaluated(
+        context,
+        rt,
+        alloc,
+        host,
+        env,
+        false,
+        context.scope,
+        evaluated,
+    );
 }
 
 // The environment of each call.
@@ -105,16 +118,21 @@ fn env(rt: &impl Abort, alloc: Global) -> BTreeMap<String, String> {
     env
 }
 
-// Runs the command `run`. A dry run runs no command.
+// Runs a command, of which this is the expression. A dry run runs no command.
 fn run<'src>(
     context: &ExecutionContext<'src, '_>,
     rt: &impl Abort,
     alloc: Global,
     host: &mut TellingHost,
+    command: &Expression<'src>,
 ) {
     assert!(rt; !context.config.dry_run, "a dry run");
     let env = env(rt, alloc);
-    let outcome = Evaluator::run_command(alloc, host, context, &env, context.scope, "run", None);
+    let text = match command {
+        Expression::Backtick { contents, token: _ } => contents,
+        _ => panic!(rt; "no command"),
+    };
+    let outcome = Evaluator::run_command(alloc, host, context, &env, context.scope, text, None);
     drop(env);
     tell_run(rt, host, outcome);
 }

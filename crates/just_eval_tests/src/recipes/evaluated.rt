@@ -27,19 +27,28 @@ pub(crate) enum Evaluated<'run, 'src> {
     Command(&'run Expression<'src>),
 }
 
-/// Tells what is evaluated in a scope, where commands are run with the variables of an environment.
+/// Tells what is evaluated in a scope, for a recipe that may run as a dependency, where commands are run with the variables of an
+/// environment.
 pub(crate) fn tell_evaluated<'src>(
     context: &ExecutionContext<'src, '_>,
     rt: &impl Abort,
     alloc: Global,
     host: &mut TellingHost,
     env: BTreeMap<String, String>,
+    is_dependency: bool,
     scope: &Scope<'src, '_>,
     evaluated: Evaluated<'_, 'src>,
 )
     requires room { 0 < context.now.recursion_limit }
 {
-    let evaluator = Evaluator::new(alloc, context, env, false, Some(name(RECIPE)), scope);
+    let evaluator = Evaluator::new(
+        alloc,
+        context,
+        env,
+        is_dependency,
+        Some(name(RECIPE)),
+        scope,
+    );
     match &evaluator {
         Ok(evaluator) => tell_by(evaluator, rt, alloc, host, evaluated),
         Err(_error) => host.tell(rt, "no evaluator"),

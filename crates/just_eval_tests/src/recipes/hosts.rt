@@ -1,5 +1,7 @@
 // A host that tells what it is asked, and fails from a question on.
 
+use crate::bindings::tell_frame;
+use crate::recipes::around::DIRECTORY;
 use crate::recipes::failing::Failing;
 use crate::recipes::texts::add;
 use just_host::command_question::CommandQuestion;
@@ -10,7 +12,7 @@ use just_host::text_answer::TextAnswer;
 use just_host::text_question::TextQuestion;
 use just_script::fail_at::FailAt;
 use just_syntax::out_of_memory::OutOfMemory;
-use just_value::binding::Binding;
+use just_value::element::Element;
 use just_value::error::{CommandFault, Error};
 use just_value::frame::Frame;
 use just_value::scope::Scope;
@@ -49,7 +51,8 @@ impl Host for BracketHost {
     }
 }
 
-/// Tells each command with its environment and what the frames bind that it is shown, and asks a host that may fail.
+/// Tells each command with its arguments, its environment and what the frames bind that it is shown, and what stays the same in
+/// a run where that is not what a plain module has; and asks a host that may fail.
 #[derive(Drop)]
 pub(crate) struct TellingHost {
     pub(crate) told: String,
@@ -114,13 +117,45 @@ pub(crate) fn refusal(error: &Error) -> &'static str {
     }
 }
 
-// Adds a command, its environment and the frames.
+// Adds a command, its arguments, its environment, the frames, and what stays the same in a run.
 fn tell_command(told: &mut String, question: &CommandQuestion) -> Result<(), OutOfMemory> {
     let command = question.command;
     write!(told, "? {command}")?;
+    if let Some(arguments) = question.arguments {
+        tell_arguments(told, arguments)?;
+    }
     tell_environment(told, question.env)?;
     tell_frames(question.scope, told)?;
+    tell_fixed(told, question)?;
     told.push(';')?;
+    Ok(())
+}
+
+// Adds arguments in brackets, each in quotes.
+fn tell_arguments(told: &mut String, arguments: &[String]) -> Result<(), OutOfMemory> {
+    told.push_str(" [")?;
+    for argument in arguments {
+        let argument = Element(argument);
+        write!(told, "{argument}")?;
+    }
+    told.push(']')?;
+    Ok(())
+}
+
+// Adds what stays the same in a run: the variables of dotenv files, the names that are not exported, and the directory that
+// commands are run in, unless that is the search's.
+fn tell_fixed(told: &mut String, question: &CommandQuestion) -> Result<(), OutOfMemory> {
+    if !question.dotenv.is_empty() {
+        told.push_str(" dotenv")?;
+        tell_environment(told, question.dotenv)?;
+    }
+    for name in question.unexports {
+        write!(told, " without {name}")?;
+    }
+    if question.working_directory != DIRECTORY {
+        let directory = question.working_directory;
+        write!(told, " in {directory}")?;
+    }
     Ok(())
 }
 
@@ -148,22 +183,5 @@ fn tell_outer<'call>(outer: &'call [&'call Frame], told: &mut String) -> Result<
     for frame in outer {
         tell_frame(frame, told)?;
     }
-    Ok(())
-}
-
-/// Adds what a frame binds.
-pub(crate) fn tell_frame(frame: &Frame, told: &mut String) -> Result<(), OutOfMemory> {
-    told.push_str(" (")?;
-    for binding in frame.bindings() {
-        tell_binding(binding, told)?;
-    }
-    told.push(')')?;
-    Ok(())
-}
-
-fn tell_binding(binding: &Binding, told: &mut String) -> Result<(), OutOfMemory> {
-    let name = binding.name;
-    let value = &binding.value;
-    write!(told, "{name} = {value}")?;
     Ok(())
 }

@@ -10,7 +10,7 @@ use crate::recipes::hosts::{TellingHost, refusal};
 use crate::recipes::parameters::add_attributes;
 use crate::recipes::texts::{push, same_failing};
 use just_case_lines::line::{Line as CaseLine, parse_lines};
-use just_case_lines::token::token;
+use just_case_lines::token::{name, token};
 use just_eval::resolved_here;
 use just_host::execution_context::ExecutionContext;
 use just_syntax::expression::Expression;
@@ -19,44 +19,46 @@ use just_syntax::line::Line;
 use just_value::scope::Scope;
 use just_value::value::Value;
 use std::alloc::Global;
-use std::collections::BTreeMap;
 use std::process::Abort;
 use std::vec;
 
 // A line of a recipe with the parameter `p`, whose argument is `z`: what gives its interpolations, its pieces, each behind `~`,
-// whether it is continued, and what comes of it, behind what was asked. A piece is a text, or `@` for the value of the case's
-// next assignment, by the bytes of their names.
-type Row = (&'static str, &'static str, bool, &'static str);
+// whether it is continued, whether the recipe runs as a dependency, and what the line evaluates to, after what was asked. A
+// piece is a text, or `@` for the value of the case's next assignment, by the bytes of their names.
+type Row = (&'static str, &'static str, bool, bool, &'static str);
 
 const LINES: &[Row] = &[
-    ("run", "", false, ""),
-    ("run", "", true, ""),
-    ("run", "~  {{{{x", false, "  {{x"),
-    ("run", "~  {{{{x", true, "{{x"),
-    ("run", "~ \t\u{a0}x  ", true, "x  "),
-    ("run", "~{{{{{{{{", false, "{{{{"),
-    ("run", "~{{{~{{{{{", false, "{{{{{{"),
+    ("run", "", false, false, ""),
+    ("run", "", true, false, ""),
+    ("run", "~  {{{{x", false, false, "  {{x"),
+    ("run", "~  {{{{x", true, false, "{{x"),
+    ("run", "~ \t\u{a0}x  ", true, false, "x  "),
+    ("run", "~{{{{{{{{", false, false, "{{{{"),
+    ("run", "~{{{~{{{{{", false, false, "{{{{{{"),
     // Behind the first piece white space stays.
-    ("str a\nassign a\nrun", "~@~  x", true, "a  x"),
-    ("str \nassign a\nrun", "~@~ x", true, " x"),
-    ("str  a\nassign a\nrun", "~@", true, " a"),
+    ("str a\nassign a\nrun", "~@~  x", true, false, "a  x"),
+    ("str \nassign a\nrun", "~@~ x", true, false, " x"),
+    ("str  a\nassign a\nrun", "~@", true, false, " a"),
     (
         "str a\nstr b\nlist 2\nassign a\nstr c\nassign b\nrun",
         "~<~@~|~@~>",
         false,
+        false,
         "<a b|c>",
     ),
-    ("list 0\nassign a\nrun", "~<~@~>", false, "<>"),
+    ("list 0\nassign a\nrun", "~<~@~>", false, false, "<>"),
     // The interpolations are evaluated in their order, and the first refusal ends the line.
     (
         "cmd a\nassign a\ncmd b\nassign b\nrun",
         "~@~@",
+        false,
         false,
         "? a () (p = \"z\") ();? b () (p = \"z\") ();<a><b>",
     ),
     (
         "cmd a\nassign a\nlist 0\nassert\nassign b\ncmd c\nassign c\nrun",
         "~@~@~@",
+        false,
         false,
         "? a () (p = \"z\") ();refused",
     ),
@@ -66,11 +68,13 @@ const LINES: &[Row] = &[
         "cmd who\nfun g\nvar n\ncall g 0\nadd\nfun f n\ncall recipe_name 0\nfun r\nstr z\ncall f 1\nassign a\nrun",
         "~@",
         false,
+        false,
         "? who () (n = \"z\") ();z<who>",
     ),
     (
         "cmd who\nfun g\nvar n\ncall g 0\nadd\nfun f n\ncall recipe_name 0\nfun r\ncall r 0\nassign a\nrun",
         "~@",
+        false,
         false,
         "build",
     ),
@@ -79,11 +83,13 @@ const LINES: &[Row] = &[
         "str v\nassign e-1\nstr K\nassign k-1\ncmd who\nfun g\ncall g 0\nassign c\nrun",
         "~@",
         false,
+        false,
         "? who K=v () ();<who>",
     ),
     (
         "str v\nassign e-1\nstr K\nassign k-1\ncmd who\nfun g\ncall g 0\nfun f n\nstr z\ncall f 1\nassign c\nrun",
         "~@",
+        false,
         false,
         "? who K=v () (n = \"z\") ();<who>",
     ),
@@ -91,7 +97,30 @@ const LINES: &[Row] = &[
         "str v\nassign e-1\nstr K\nassign k-1\nstr who\ncall shell 1\nfun g\ncall g 0\nassign c\nrun",
         "~@",
         false,
-        "? who K=v () ();<who>",
+        false,
+        "? who [] K=v () ();<who>",
+    ),
+    (
+        "str echo\nstr a b\nstr c\ncall shell 3\nassign a\nrun",
+        "~@",
+        false,
+        false,
+        "? echo [\"a b\"\"c\"] () (p = \"z\") ();<echo>",
+    ),
+    // Whether the recipe runs as a dependency is known in a line, and in a body that it calls.
+    (
+        "call is_dependency 0\nassign a\ncall is_dependency 0\nfun f\ncall f 0\nassign b\nrun",
+        "~@~ ~@",
+        false,
+        false,
+        "false false",
+    ),
+    (
+        "call is_dependency 0\nassign a\ncall is_dependency 0\nfun f\ncall f 0\nassign b\nrun",
+        "~@~ ~@",
+        false,
+        true,
+        "true true",
     ),
 ];
 
@@ -104,7 +133,7 @@ fn lines_of_fragments(rt: HostRuntime) {
 }
 
 fn row_fails_each_way(rt: &impl Abort, alloc: Global, row: &Row) {
-    let (_, _, _, whole) = *row;
+    let (_, _, _, _, whole) = *row;
     for passed in 0..=questions(whole) {
         for how in WAYS {
             row_fails(rt, alloc, row, (passed, *how));
@@ -114,7 +143,7 @@ fn row_fails_each_way(rt: &impl Abort, alloc: Global, row: &Row) {
 
 // A line is told so where its questions fail in some way.
 fn row_fails(rt: &impl Abort, alloc: Global, row: &Row, failing: Failing) {
-    let (case, _, _, whole) = *row;
+    let (case, _, _, _, whole) = *row;
     let mut host = TellingHost::new(alloc, failing);
     tell_case(rt, alloc, &mut host, row);
     let wanted = told_failing(rt, alloc, whole, failing);
@@ -125,9 +154,9 @@ fn row_fails(rt: &impl Abort, alloc: Global, row: &Row, failing: Failing) {
 
 // Tells a line of pieces, behind what is asked.
 fn tell_case(rt: &impl Abort, alloc: Global, host: &mut TellingHost, row: &Row) {
-    let (case, pieces, continued, _) = *row;
+    let (case, _, _, _, _) = *row;
     let lines = parse_lines(alloc, case.as_bytes()).expect(rt, "no memory");
-    tell_pieces(rt, alloc, &lines, host, pieces, continued);
+    tell_pieces(rt, alloc, &lines, host, row);
     drop(lines);
 }
 
@@ -136,11 +165,12 @@ fn tell_pieces<'src>(
     alloc: Global,
     lines: &'src [CaseLine<'src>],
     host: &mut TellingHost,
-    pieces: &'static str,
-    continued: bool,
+    row: &Row,
 ) {
+    let (_, pieces, continued, is_dependency, _) = *row;
     let around = Around::of_lines(rt, alloc, lines);
     let mut called = called(rt, alloc);
+    called.is_dependency = is_dependency;
     add_attributes(&mut called, rt, alloc, lines);
     let line = line_of(rt, alloc, expressions_of(rt, alloc, lines), pieces);
     tell_around(&around, rt, alloc, host, &called, &line, continued);
@@ -200,7 +230,10 @@ fn tell_in<'src>(
     match called.evaluate(alloc, host, context) {
         Ok((scope, words, env)) => {
             drop(words);
-            tell_line(context, rt, alloc, host, env, &scope, line, continued);
+            is_resolved(context, rt, alloc, host, &scope, line);
+            let is_dependency = called.is_dependency;
+            let line = Evaluated::Line(line, continued);
+            tell_evaluated(context, rt, alloc, host, env, is_dependency, &scope, line);
             drop(scope);
         }
         Err(error) => {
@@ -210,29 +243,23 @@ fn tell_in<'src>(
     }
 }
 
-// Tells a line in a scope and an environment, behind what is asked. The line is resolved.
-fn tell_line<'src>(
+// Tells that a line is not resolved in a scope, where it is not.
+fn is_resolved<'src>(
     context: &ExecutionContext<'src, '_>,
     rt: &impl Abort,
     alloc: Global,
     host: &mut TellingHost,
-    env: BTreeMap<String, String>,
     scope: &Scope<'src, '_>,
     line: &Line<'src>,
-    continued: bool,
-)
-    requires room { 0 < context.now.recursion_limit }
-{
+) {
     let expressions = interpolated(rt, alloc, line);
     if !resolved_here(alloc, context, scope, None, &[], expressions).expect(rt, "no memory") {
         host.tell(rt, "unresolved;");
     }
-    let evaluated = Evaluated::Line(line, continued);
-    tell_evaluated(context, rt, alloc, host, env, scope, evaluated);
 }
 
-// A line of pieces, of which each interpolated one takes the next expression.
-fn line_of<'src>(
+/// A line of pieces, of which each interpolated one takes the next expression, and `?` is a variable without a number.
+pub(crate) fn line_of<'src>(
     rt: &impl Abort,
     alloc: Global,
     expressions: Vec<Expression<'src>>,
@@ -250,23 +277,28 @@ fn line_of<'src>(
     Line { fragments }
 }
 
-// A piece of a line. One that is interpolated takes the next expression.
+// A piece of a line.
 fn fragment_of<'src>(
     left: &mut vec::IntoIter<Expression<'src>>,
     rt: &impl Abort,
     text: &'static str,
 ) -> Fragment<'src> {
-    if text == "@" {
-        Fragment::Interpolation {
+    match text {
+        "@" => Fragment::Interpolation {
             expression: left.next().expect(rt, "no expression"),
-        }
-    } else {
-        Fragment::Text { token: token(text) }
+        },
+        "?" => Fragment::Interpolation {
+            expression: Expression::Variable {
+                name: name("v"),
+                number: None,
+            },
+        },
+        _ => Fragment::Text { token: token(text) },
     }
 }
 
-// The interpolations of a line.
-fn interpolated<'a, 'src>(
+/// The interpolations of a line.
+pub(crate) fn interpolated<'a, 'src>(
     rt: &impl Abort,
     alloc: Global,
     line: &'a Line<'src>,

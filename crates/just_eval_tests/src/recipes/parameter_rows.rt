@@ -1,36 +1,38 @@
 // The table of parameters and attributes of recipes.
 
 /// A case, parameters, arguments, whether the recipe may run as a dependency, what is asked before the first value is checked,
-/// if one is, and what comes of it, behind what was asked.
+/// what is checked, and the result, after what was asked.
 ///
 /// The case begins with the names of the parameters, so that their numbers are their places. The assignments `d-N`
 /// and `v-N` are the default and the value of the parameter N; `k-1` and `e-1` the key and the value of an `[env]` attribute,
 /// `k-2` and `e-2` those of a second.
 ///
-/// Parameters are written as words: `+` or `*` before the name for the kind, and behind a slash `f` for a flag, `m` for one
-/// that may be given more than once, `x` for an exported one. Arguments are written each behind `;`, with `|` between their
+/// Parameters are written as words: `+` or `*` before the name for the kind, and after a slash `f` for a flag, `m` for one
+/// that may be given more than once, `x` for an exported one. Arguments are written each after `;`, with `|` between their
 /// elements, `[]` being the one of no element.
 pub(crate) type Row = (
     &'static str,
     &'static str,
     &'static str,
     bool,
-    Option<&'static str>,
+    &'static str,
+    &'static str,
     &'static str,
 );
 
 /// Recipes of parameters and attributes.
 pub(crate) const ROWS: &[Row] = &[
     // No parameter, and no attribute.
-    ("run", "", "", false, None, "words; () env;"),
-    // Defaults see the earlier parameters.
+    ("run", "", "", false, "", "", "words; () env;"),
+    // A default can read the earlier parameters.
     (
         "only p q\nstr x\nassign d-p\nvar p\nassign d-q\nrun",
         "p q",
         ";[];[]",
         false,
-        Some(""),
-        "words x x; (p = \"x\"q = \"x\") env;",
+        "",
+        "p = \"x\";q = \"x\";",
+        "words \"x\" \"x\"; (p = \"x\"q = \"x\") env;",
     ),
     // A default is not evaluated where an argument is given.
     (
@@ -38,58 +40,121 @@ pub(crate) const ROWS: &[Row] = &[
         "p",
         ";a",
         false,
-        Some(""),
-        "words a; (p = \"a\") env;",
+        "",
+        "p = \"a\";",
+        "words \"a\"; (p = \"a\") env;",
     ),
-    // The value stands once for each element, and is evaluated once; not for a dependency.
+    // The value is repeated for each element, and evaluated once; not for a dependency. It can read the earlier parameters.
     (
         "only p\nstr v\nassign v-p\nlists\nrun",
         "p/m",
         ";a|b",
         false,
-        Some(""),
-        "words v v; (p = [\"v\", \"v\"]) env;",
+        "",
+        "p = [\"v\", \"v\"];",
+        "words \"v\" \"v\"; (p = [\"v\", \"v\"]) env;",
     ),
     (
         "only p\nstr v\nassign v-p\nlists\nrun",
         "p/m",
         ";a|b",
         true,
-        Some(""),
-        "words a b; (p = [\"a\", \"b\"]) env;",
+        "",
+        "p = [\"a\", \"b\"];",
+        "words \"a\" \"b\"; (p = [\"a\", \"b\"]) env;",
     ),
     (
         "only p\ncmd v\nassign v-p\nrun",
         "*p",
         ";a|b",
         false,
-        Some("? v () ();"),
-        "? v () ();words <v> <v>; (p = \"<v> <v>\") env;",
+        "? v () ();",
+        "p = [\"<v>\", \"<v>\"];",
+        "? v () ();words \"<v>\" \"<v>\"; (p = \"<v> <v>\") env;",
     ),
-    // Without lists a bound value has one element.
+    (
+        "only p q\nstr v\nstr w\nlist 2\nassign v-p\nvar p\nassign v-q\nlists\nrun",
+        "*p q",
+        ";a|b;c",
+        false,
+        "",
+        "p = [\"v\", \"w\", \"v\", \"w\"];q = [\"v\", \"w\", \"v\", \"w\"];",
+        "words \"v\" \"w\" \"v\" \"w\" \"v w v w\"; (p = [\"v\", \"w\", \"v\", \"w\"]q = [\"v\", \"w\", \"v\", \"w\"]) env;",
+    ),
+    // A parameter that may have many elements, by its kind or as one that is given more than once, gives each as a word,
+    // another their join as one word. Without lists the bound value is the join.
     (
         "only p\nrun",
         "p",
         ";a|b",
         false,
-        Some(""),
-        "words a b; (p = \"a b\") env;",
+        "",
+        "p = [\"a\", \"b\"];",
+        "words \"a b\"; (p = \"a b\") env;",
     ),
     (
         "only p\nlists\nrun",
         "p",
         ";a|b",
         false,
-        Some(""),
-        "words a b; (p = [\"a\", \"b\"]) env;",
+        "",
+        "p = [\"a\", \"b\"];",
+        "words \"a b\"; (p = [\"a\", \"b\"]) env;",
+    ),
+    (
+        "only p\nrun",
+        "p",
+        ";a b|c",
+        false,
+        "",
+        "p = [\"a b\", \"c\"];",
+        "words \"a b c\"; (p = \"a b c\") env;",
+    ),
+    (
+        "only p\nrun",
+        "p/m",
+        ";a b|c",
+        false,
+        "",
+        "p = [\"a b\", \"c\"];",
+        "words \"a b\" \"c\"; (p = \"a b c\") env;",
     ),
     (
         "only p\nrun",
         "+p",
         ";a b|c",
         false,
-        Some(""),
-        "words a b c; (p = \"a b c\") env;",
+        "",
+        "p = [\"a b\", \"c\"];",
+        "words \"a b\" \"c\"; (p = \"a b c\") env;",
+    ),
+    (
+        "only p\nlists\nrun",
+        "*p",
+        ";a b|c",
+        false,
+        "",
+        "p = [\"a b\", \"c\"];",
+        "words \"a b\" \"c\"; (p = [\"a b\", \"c\"]) env;",
+    ),
+    // A default of two elements, and one that reads what is bound of them.
+    (
+        "only p q\nstr x\nstr y\nlist 2\nassign d-p\nvar p\nassign d-q\nlists\nrun",
+        "p *q",
+        ";[];[]",
+        false,
+        "",
+        "p = [\"x\", \"y\"];q = [\"x\", \"y\"];",
+        "words \"x y\" \"x\" \"y\"; (p = [\"x\", \"y\"]q = [\"x\", \"y\"]) env;",
+    ),
+    (
+        "only p q\nstr x\nstr y\nlist 2\nassign d-p\nvar p\nassign d-q\nrun",
+        "+p *q",
+        ";[];[]",
+        false,
+        "",
+        "p = [\"x\", \"y\"];q = \"x y\";",
+        "words \"x\" \"y\" \"x y\"; (p = \"x y\"q = \"x y\") env;",
     ),
     // No element.
     (
@@ -97,7 +162,8 @@ pub(crate) const ROWS: &[Row] = &[
         "*p",
         ";[]",
         false,
-        Some(""),
+        "",
+        "p = [];",
         "words; (p = \"\") env;",
     ),
     (
@@ -105,7 +171,8 @@ pub(crate) const ROWS: &[Row] = &[
         "*p",
         ";[]",
         false,
-        Some(""),
+        "",
+        "p = [];",
         "words; (p = []) env;",
     ),
     (
@@ -113,15 +180,26 @@ pub(crate) const ROWS: &[Row] = &[
         "p/f",
         ";[]",
         false,
-        Some(""),
-        "words ; (p = \"\") env;",
+        "",
+        "p = [];",
+        "words \"\"; (p = \"\") env;",
+    ),
+    (
+        "only p\nrun",
+        "p/fm",
+        ";[]",
+        false,
+        "",
+        "p = [];",
+        "words; (p = \"\") env;",
     ),
     (
         "only p\nrun",
         "+p",
         ";[]",
         false,
-        None,
+        "",
+        "",
         "parameter `p` of recipe `build` requires at least one element",
     ),
     (
@@ -129,16 +207,37 @@ pub(crate) const ROWS: &[Row] = &[
         "p",
         ";[]",
         false,
-        None,
+        "",
+        "",
         "parameter `p` of recipe `build` requires at least one element",
     ),
-    // The number of arguments is looked at behind the attributes.
+    // Parameters are exported each by itself, and commands are shown that they are.
+    (
+        "only p q\nrun",
+        "p/x q",
+        ";a;b",
+        false,
+        "",
+        "p = \"a\";q = \"b\";",
+        "words \"a\" \"b\"; (export p = \"a\"q = \"b\") env;",
+    ),
+    (
+        "only p q\ncmd d\nassign d-q\nrun",
+        "+p/x *q/x",
+        ";a|b;[]",
+        false,
+        "",
+        "p = [\"a\", \"b\"];q = \"<d>\";",
+        "? d (export p = \"a b\") ();words \"a\" \"b\" \"<d>\"; (export p = \"a b\"export q = \"<d>\") env;",
+    ),
+    // The number of arguments is looked at after the attributes.
     (
         "only p\nrun",
         "p",
         "",
         false,
-        None,
+        "",
+        "",
         "internal error: arguments do not match parameter count",
     ),
     (
@@ -146,7 +245,8 @@ pub(crate) const ROWS: &[Row] = &[
         "",
         ";a",
         false,
-        None,
+        "",
+        "",
         "? e () ();internal error: arguments do not match parameter count",
     ),
     // Each attribute sees the environment so far; a value of no element sets nothing.
@@ -155,7 +255,8 @@ pub(crate) const ROWS: &[Row] = &[
         "",
         "",
         false,
-        None,
+        "",
+        "",
         "? e A=x () ();words; () env A=x B=<e>;",
     ),
     (
@@ -163,7 +264,8 @@ pub(crate) const ROWS: &[Row] = &[
         "",
         "",
         false,
-        None,
+        "",
+        "",
         "words; () env;",
     ),
     (
@@ -171,7 +273,8 @@ pub(crate) const ROWS: &[Row] = &[
         "",
         "",
         false,
-        None,
+        "",
+        "",
         "words; () env A=x y;",
     ),
     (
@@ -179,7 +282,8 @@ pub(crate) const ROWS: &[Row] = &[
         "",
         "",
         false,
-        None,
+        "",
+        "",
         "words; () env A=y;",
     ),
     (
@@ -187,34 +291,38 @@ pub(crate) const ROWS: &[Row] = &[
         "",
         "",
         false,
-        None,
+        "",
+        "",
         "list value [] in key of `env` attribute",
     ),
-    // The check refuses `no`, and what is behind it is not evaluated.
+    // The check refuses `no`, and what comes after it is not evaluated.
     (
         "only p q\ncmd d\nassign d-q\nrun",
         "p q",
         ";no;[]",
         false,
-        Some(""),
+        "",
+        "p = \"no\";",
         "argument of parameter `p` was refused: no",
     ),
-    // A default's command sees the environment and the earlier parameters; the body of a function that an attribute or a default
-    // calls sees the environment so far, and no parameter.
+    // A default's command sees the environment and the earlier parameters; the body of a function that an attribute or a
+    // default calls sees the environment so far, and no parameter.
     (
         "only p q\nstr A\nassign k-1\nstr x\nassign e-1\ncmd d\nassign d-q\nrun",
         "p q",
         ";a;[]",
         false,
-        Some(""),
-        "? d A=x (p = \"a\") ();words a <d>; (p = \"a\"q = \"<d>\") env A=x;",
+        "",
+        "p = \"a\";q = \"<d>\";",
+        "? d A=x (p = \"a\") ();words \"a\" \"<d>\"; (p = \"a\"q = \"<d>\") env A=x;",
     ),
     (
         "str K\nassign k-1\nstr v\nassign e-1\nstr L\nassign k-2\ncmd who\nfun g\ncall g 0\nassign e-2\nrun",
         "",
         "",
         false,
-        None,
+        "",
+        "",
         "? who K=v () ();words; () env K=v L=<who>;",
     ),
     (
@@ -222,8 +330,9 @@ pub(crate) const ROWS: &[Row] = &[
         "p",
         ";[]",
         false,
-        Some("? who K=v () ();? who K=v L=<who> () ();"),
-        "? who K=v () ();? who K=v L=<who> () ();words <who>; (p = \"<who>\") env K=v L=<who>;",
+        "? who K=v () ();? who K=v L=<who> () ();",
+        "p = \"<who>\";",
+        "? who K=v () ();? who K=v L=<who> () ();words \"<who>\"; (p = \"<who>\") env K=v L=<who>;",
     ),
     // The attribute and the first parameter's default ask before the first check.
     (
@@ -231,7 +340,64 @@ pub(crate) const ROWS: &[Row] = &[
         "p q",
         ";[];[]",
         false,
-        Some("? e () ();? c A=<e> () ();"),
-        "? e () ();? c A=<e> () ();? d A=<e> (p = \"<c>\") ();words <c> <d>; (p = \"<c>\"q = \"<d>\") env A=<e>;",
+        "? e () ();? c A=<e> () ();",
+        "p = \"<c>\";q = \"<d>\";",
+        "? e () ();? c A=<e> () ();? d A=<e> (p = \"<c>\") ();words \"<c>\" \"<d>\"; (p = \"<c>\"q = \"<d>\") env A=<e>;",
+    ),
+    // An attribute, a default and a value know the recipe's name, and whether it runs as a dependency, as does a body that
+    // they call.
+    (
+        "only p\nstr A\nassign k-1\ncall is_dependency 0\nassign e-1\ncall is_dependency 0\nassign d-p\nrun",
+        "p",
+        ";[]",
+        false,
+        "",
+        "p = \"false\";",
+        "words \"false\"; (p = \"false\") env A=false;",
+    ),
+    (
+        "only p\nstr A\nassign k-1\ncall is_dependency 0\nassign e-1\ncall is_dependency 0\nassign d-p\nrun",
+        "p",
+        ";[]",
+        true,
+        "",
+        "p = \"true\";",
+        "words \"true\"; (p = \"true\") env A=true;",
+    ),
+    (
+        "call is_dependency 0\nassign k-1\ncall recipe_name 0\nassign e-1\nrun",
+        "",
+        "",
+        true,
+        "",
+        "",
+        "words; () env true=build;",
+    ),
+    (
+        "only p q\ncall is_dependency 0\nfun f\ncall f 0\nassign v-p\ncall recipe_name 0\nassign d-q\nrun",
+        "p q",
+        ";a;[]",
+        false,
+        "",
+        "p = \"false\";q = \"build\";",
+        "words \"false\" \"build\"; (p = \"false\"q = \"build\") env;",
+    ),
+    (
+        "only p\ncall is_dependency 0\nfun f\ncall f 0\nassign d-p\nlists\nrun",
+        "p",
+        ";[]",
+        true,
+        "",
+        "p = \"true\";",
+        "words \"true\"; (p = \"true\") env;",
+    ),
+    (
+        "only p\ncall is_dependency 0\nassign d-p\nlists\nrun",
+        "*p",
+        ";[]",
+        false,
+        "",
+        "p = [];",
+        "words; (p = []) env;",
     ),
 ];

@@ -2,11 +2,12 @@
 
 ghost use Rattle.std.specs.Prelude.{◌<◌};
 
+use crate::bindings::tell_frame;
 use crate::compared::same;
 use crate::recipes::around::{Around, expression_of};
 use crate::recipes::called::{Called, Check, Given};
 use crate::recipes::failing::{Failing, NEVER, WAYS, questions, told_failing};
-use crate::recipes::hosts::{TellingHost, refusal, tell_environment, tell_frame};
+use crate::recipes::hosts::{TellingHost, refusal, tell_environment};
 use crate::recipes::parameter_rows::{ROWS, Row};
 use crate::recipes::texts::{push, same_failing};
 use just_case_lines::line::{Line as CaseLine, parse_lines};
@@ -19,6 +20,7 @@ use just_syntax::number::Number;
 use just_syntax::out_of_memory::OutOfMemory;
 use just_syntax::parameter::Parameter;
 use just_syntax::parameter_kind::ParameterKind;
+use just_value::element::Element;
 use just_value::error::Error;
 use just_value::scope::Scope;
 use just_value::value::Value;
@@ -29,20 +31,21 @@ use std::process::Abort;
 // What is told where a check refuses the first parameter.
 const REFUSED: &str = "argument of parameter `p` was refused: no";
 
-// Defaults and values come to what is wanted, also where questions fail, and a check that refuses all, or has no memory, ends
-// each recipe at its first parameter, which is `p`.
+// Defaults and values evaluate to what is wanted, also where questions fail and where the module exports all its variables, and a
+// check that refuses all, or has no memory, ends each recipe at its first parameter, which is `p`. Each value is checked once.
 #[test]
 fn defaults_and_values(rt: HostRuntime) {
     for row in ROWS {
         row_fails_each_way(&rt, rt.alloc(), row);
         ends_at_first(&rt, rt.alloc(), row, Check::RefusesAll, REFUSED);
         ends_at_first(&rt, rt.alloc(), row, Check::OutOfMemory, "no memory");
+        exports_by_itself(&rt, rt.alloc(), row);
     }
 }
 
-// Compares what comes of a recipe with what is wanted, also where its questions fail.
+// Compares what is told of a recipe with what is wanted, also where its questions fail.
 fn row_fails_each_way(rt: &impl Abort, alloc: Global, row: &Row) {
-    let (_, _, _, _, _, whole) = *row;
+    let (_, _, _, _, _, _, whole) = *row;
     for passed in 0..=questions(whole) {
         for how in WAYS {
             row_fails(rt, alloc, row, (passed, *how));
@@ -52,29 +55,46 @@ fn row_fails_each_way(rt: &impl Abort, alloc: Global, row: &Row) {
 
 // A recipe is told so where its questions fail in some way.
 fn row_fails(rt: &impl Abort, alloc: Global, row: &Row, failing: Failing) {
-    let (case, _, _, _, _, whole) = *row;
+    let (case, _, _, _, _, checks, whole) = *row;
     let mut host = TellingHost::new(alloc, failing);
-    tell_row(rt, alloc, &mut host, row, Check::RefusesNo);
+    let checked = tell_row(rt, alloc, &mut host, row, Check::RefusesNo, false);
     let wanted = told_failing(rt, alloc, whole, failing);
     same_failing(rt, case, failing, &host.told, &wanted);
+    if failing.0 < questions(whole) {
+        assert!(rt; checks.starts_with(&checked), "{case}: {checked}");
+    } else {
+        same(rt, case, &checked, checks);
+    }
     drop(wanted);
     drop(host);
 }
 
-// A recipe whose parameters are checked in some way ends so at its first check, behind what is asked before that. Where no
+// A recipe whose parameters are checked in some way ends so at its first check, after what is asked before that. Where no
 // parameter is checked it is told as ever.
 fn ends_at_first(rt: &impl Abort, alloc: Global, row: &Row, check: Check, end: &str) {
-    let (case, _, _, _, before, whole) = *row;
+    let (case, _, _, _, before, checks, whole) = *row;
     let mut host = TellingHost::new(alloc, NEVER);
-    tell_row(rt, alloc, &mut host, row, check);
-    match before {
-        Some(asked) => same(rt, case, behind(&host.told, asked), end),
+    let checked = tell_row(rt, alloc, &mut host, row, check, false);
+    match checks.split_once(';') {
+        Some((first, _)) => {
+            same(rt, case, checked.trim_end_matches(';'), first);
+            same(rt, case, behind(&host.told, before), end);
+        }
         None => same(rt, case, &host.told, whole),
     }
     drop(host);
 }
 
-// What is told behind what is asked.
+// A recipe is told as ever where the module's setting exports each variable: a parameter is exported by itself alone.
+fn exports_by_itself(rt: &impl Abort, alloc: Global, row: &Row) {
+    let (case, _, _, _, _, _, whole) = *row;
+    let mut host = TellingHost::new(alloc, NEVER);
+    drop(tell_row(rt, alloc, &mut host, row, Check::RefusesNo, true));
+    same(rt, case, &host.told, whole);
+    drop(host);
+}
+
+// What is told after what is asked.
 fn behind<'told>(told: &'told str, asked: &str) -> &'told str {
     match told.strip_prefix(asked) {
         Some(rest) => rest,
@@ -82,12 +102,20 @@ fn behind<'told>(told: &'told str, asked: &str) -> &'told str {
     }
 }
 
-// Tells what a recipe's parameters come to where they are checked so, behind what is asked.
-fn tell_row(rt: &impl Abort, alloc: Global, host: &mut TellingHost, row: &Row, check: Check) {
-    let (case, _, _, _, _, _) = *row;
+// Tells what a recipe's parameters evaluate to where they are checked so, after what is asked, and gives what was checked.
+fn tell_row(
+    rt: &impl Abort,
+    alloc: Global,
+    host: &mut TellingHost,
+    row: &Row,
+    check: Check,
+    exports_all: bool,
+) -> String {
+    let (case, _, _, _, _, _, _) = *row;
     let lines = parse_lines(alloc, case.as_bytes()).expect(rt, "no memory");
-    tell_lines(rt, alloc, &lines, host, row, check);
+    let checked = tell_lines(rt, alloc, &lines, host, row, check, exports_all);
     drop(lines);
+    checked
 }
 
 fn tell_lines<'src>(
@@ -97,12 +125,18 @@ fn tell_lines<'src>(
     host: &mut TellingHost,
     row: &Row,
     check: Check,
-) {
-    let around = Around::of_lines(rt, alloc, lines);
+    exports_all: bool,
+) -> String {
+    let mut around = Around::of_lines(rt, alloc, lines);
+    if exports_all {
+        around.export_all();
+    }
     let called = called_of(rt, alloc, lines, row, check);
     tell_around(&around, rt, alloc, host, &called);
+    let checked = called.checked(rt, alloc);
     drop(called);
     drop(around);
+    checked
 }
 
 /// Tells what a recipe's parameters come to that calls no function of a file.
@@ -126,7 +160,7 @@ fn called_of<'src>(
     row: &Row,
     check: Check,
 ) -> Called<'src> {
-    let (_, parameters, arguments, is_dependency, _, _) = *row;
+    let (_, parameters, arguments, is_dependency, _, _, _) = *row;
     let mut called = Called::new(alloc);
     called.check = check;
     called.is_dependency = is_dependency;
@@ -157,8 +191,8 @@ fn argument_of(rt: &impl Abort, alloc: Global, text: &str) -> Value {
     argument
 }
 
-// Adds the parameters that words describe. Their numbers are their places.
-fn add_parameters<'src>(
+/// Adds the parameters that words describe. Their numbers are their places.
+pub(crate) fn add_parameters<'src>(
     called: &mut Called<'src>,
     rt: &impl Abort,
     alloc: Global,
@@ -289,6 +323,7 @@ fn tell_given(
 ) -> Result<(), OutOfMemory> {
     told.push_str("words")?;
     for word in words {
+        let word = Element(word);
         write!(told, " {word}")?;
     }
     told.push(';')?;

@@ -1,4 +1,4 @@
-// Recipes with a thousand parameters, and lines of a thousand fragments. Twice as many take about twice as long.
+// Recipes with a thousand attributes and parameters, and lines of a thousand fragments. Twice as many take about twice as long.
 
 use crate::compared::same;
 use crate::recipes::called::{Called, parameter};
@@ -7,10 +7,12 @@ use crate::recipes::hosts::TellingHost;
 use crate::recipes::texts::{add, owned, push};
 use crate::recipes::{lines, parameters};
 use just_case_lines::token::{name, token};
+use just_syntax::attribute::Attribute;
 use just_syntax::expression::Expression;
 use just_syntax::fragment::Fragment;
 use just_syntax::line::Line;
 use just_syntax::number::Number;
+use just_syntax::string_literal::StringLiteral;
 use just_value::value::Value;
 use std::alloc::Global;
 use std::process::Abort;
@@ -24,7 +26,7 @@ fn variable<'src>(lexeme: &'src str, number: u64) -> Expression<'src> {
 }
 
 // So many parameters of one name, of which each but the first reads the one before where no argument is given, and an argument
-// for the first alone.
+// for the first alone; and as many attributes, each of which sets a variable of its own.
 fn in_a_row<'src>(rt: &impl Abort, alloc: Global, lexeme: &'src str, count: u64) -> Called<'src> {
     let mut called = Called::new(alloc);
     let argument = Value::from_text(alloc, "a").expect(rt, "no memory");
@@ -34,7 +36,28 @@ fn in_a_row<'src>(rt: &impl Abort, alloc: Global, lexeme: &'src str, count: u64)
         let parameter = parameter(lexeme, number, Some(default));
         called.push(rt, parameter, Value::new(alloc));
     }
+    for number in 0..count {
+        push_attribute(&mut called, rt, alloc, number);
+    }
     called
+}
+
+// Adds an attribute that sets a variable to the text `v`.
+fn push_attribute(called: &mut Called, rt: &impl Abort, alloc: Global, number: u64) {
+    let key = literal(format!(in alloc; "K{number:04}").expect(rt, "no memory"));
+    let attribute = Attribute::Env(key, literal(owned(rt, alloc, "v")));
+    let pushed = called.recipe.attributes.push(attribute, name("env"));
+    pushed.expect(rt, "no memory");
+}
+
+fn literal<'src>(cooked: String) -> Expression<'src> {
+    Expression::StringLiteral {
+        string_literal: StringLiteral {
+            cooked,
+            lexeme: "'..'",
+            indented: false,
+        },
+    }
 }
 
 // Adds a piece so often.
@@ -44,13 +67,17 @@ fn repeat(rt: &impl Abort, text: &mut String, piece: &str, count: u64) {
     }
 }
 
-// A word and a binding for each parameter.
+// A word and a binding for each parameter, and a variable for each attribute.
 fn wanted_in_a_row(rt: &impl Abort, alloc: Global, count: u64) -> String {
     let mut wanted = owned(rt, alloc, "words");
-    repeat(rt, &mut wanted, " a", count);
+    repeat(rt, &mut wanted, " \"a\"", count);
     add(rt, &mut wanted, "; (");
     repeat(rt, &mut wanted, "x = \"a\"", count);
-    add(rt, &mut wanted, ") env;");
+    add(rt, &mut wanted, ") env");
+    for number in 0..count {
+        write!(wanted, " K{number:04}=v").expect(rt, "no memory");
+    }
+    add(rt, &mut wanted, ";");
     wanted
 }
 

@@ -1,4 +1,4 @@
-// A scope of a thousand bindings, and two hundred frames within it.
+// A scope of a thousand bindings, and a thousand frames within it.
 
 use crate::compared::{same, tells};
 use crate::scope::{bind, holds, name_of, tell_own};
@@ -22,7 +22,7 @@ fn are_bound(rt: &impl Abort, alloc: Global, names: &[String]) {
     same(rt, name_of(&scope, 1000), "-");
     binds_only(&scope, rt, alloc, names);
     bind(&mut scope, rt, alloc, "x", 0, "outermost");
-    descend(&scope, rt, alloc, 200);
+    descend(&scope, rt, alloc, 1000);
     drop(scope);
 }
 

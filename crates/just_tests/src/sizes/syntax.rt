@@ -2,13 +2,18 @@
 
 use crate::compared::{equal, is_so, tells};
 use crate::modules::assignments;
+use crate::parts::{name, push, token};
 use crate::sizes::{Long, beside_themselves, borrowed, long, thousand, twice, variables};
 use crate::syntax::{Named, has_length, keeps, keys_twice, table_of};
 use crate::variables::{has, pairs, text_of};
+use just_syntax::attribute::Attribute;
+use just_syntax::attribute_set::AttributeSet;
+use just_syntax::expression::Expression;
 use just_syntax::number::Number;
+use just_syntax::string_literal::StringLiteral;
 use just_syntax::table::Table;
 use just_syntax::unindent;
-use just_syntax::variables::{overrides_of, references_of};
+use just_syntax::variables::{overrides_of, references_of, set_of};
 use std::alloc::Global;
 use std::collections::{HashMap, HashSet};
 use std::process::Abort;
@@ -60,6 +65,60 @@ fn a_thousand_variables(rt: HostRuntime) {
     let names = thousand(&rt, alloc);
     are_overridden(&rt, alloc, &names);
     are_referenced(&rt, alloc, &names);
+    are_in_a_set(&rt, alloc);
+}
+
+// Whether a set of a thousand numbers, each given twice, has them.
+fn are_in_a_set(rt: &impl Abort, alloc: Global) {
+    let mut numbers = Vec::new(alloc);
+    for place in 0..2000u64 {
+        push(rt, &mut numbers, Number::new(place % 1000));
+    }
+    let set = set_of(alloc, &numbers).expect(rt, "no memory");
+    equal(rt, "numbers", set.len(), 1000);
+    is_so(rt, "the last", has(&set, 999) && !has(&set, 1000));
+}
+
+// A thousand attributes are kept in their order, and a literal and a command of a long text as they are.
+#[test]
+fn a_thousand_attributes_and_pieces(rt: HostRuntime) {
+    let alloc = rt.alloc();
+    let names = thousand(&rt, alloc);
+    have_attributes(&rt, alloc, &names);
+    let text = names.join(alloc, "").expect(&rt, "no memory");
+    let literal = StringLiteral::new(alloc, &text, "'..'").expect(&rt, "no memory");
+    is_so(&rt, "literal", literal.cooked == text);
+    let command = Expression::backtick(alloc, &text, token("`..`")).expect(&rt, "no memory");
+    is_so(&rt, "command", holds_text(&command, &text));
+    let literal = Expression::literal(alloc, &text, "'..'").expect(&rt, "no memory");
+    is_so(&rt, "literal", holds_text(&literal, &text));
+}
+
+fn have_attributes(rt: &impl Abort, alloc: Global, names: &[String]) {
+    let mut attributes = AttributeSet::new(alloc);
+    for lexeme in names {
+        let pushed = attributes.push(Attribute::Other, name(lexeme));
+        pushed.expect(rt, "no memory");
+    }
+    let mut kept = String::new(alloc);
+    for (_, name) in attributes.iter() {
+        write!(kept, "{name}").expect(rt, "no memory");
+    }
+    drop(attributes);
+    is_so(
+        rt,
+        "attributes",
+        kept == names.join(alloc, "").expect(rt, "no memory"),
+    );
+}
+
+// Whether a literal or a command has this text.
+fn holds_text(expression: &Expression, text: &str) -> bool {
+    match expression {
+        Expression::StringLiteral { string_literal } => string_literal.cooked.as_str() == text,
+        Expression::Backtick { contents, token: _ } => contents.as_str() == text,
+        _ => false,
+    }
 }
 
 // Whether each name overrides itself, by its place among them.

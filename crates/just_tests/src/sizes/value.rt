@@ -1,8 +1,11 @@
 // Values of a thousand elements.
 
 use crate::compared::{is_so, tells};
+use crate::parts::token;
 use crate::sizes::{long, texts, thousand};
 use crate::value::{told, told_of_elements, told_of_own};
+use just_syntax::list_operator::ListOperator;
+use just_value::error::Error;
 use just_value::value::Value;
 use std::alloc::Global;
 use std::process::Abort;
@@ -46,6 +49,63 @@ fn made_of_a_thousand_elements(rt: HostRuntime) {
 // Whether a text is `ab.` so many times.
 fn repeats(rt: &impl Abort, alloc: Global, text: String, times: usize) {
     tells(rt, text, &long(rt, alloc, ("", "ab.", times, "")));
+}
+
+// Whether values joined, and made of one long text, are these texts.
+fn are_joined(rt: &impl Abort, alloc: Global, elements: &[String]) {
+    let value = Value::from_elements(texts(rt, alloc, "ab", 1000));
+    let joined = value.join(alloc).expect(rt, "no memory");
+    drop(value);
+    is_so(
+        rt,
+        "joined",
+        joined == long(rt, alloc, ("", "ab ", 999, "ab")),
+    );
+    let value = Value::from_text(alloc, &joined).expect(rt, "no memory");
+    is_so(rt, "from a text", is_one(&value, &joined));
+    let value = Value::from_string(alloc, elements.join(alloc, " ").expect(rt, "no memory"));
+    let value = value.expect(rt, "no memory");
+    let joined = elements.join(alloc, " ").expect(rt, "no memory");
+    is_so(rt, "from a string", is_one(&value, &joined));
+}
+
+fn is_one(value: &Value, text: &str) -> bool {
+    match value.elements() {
+        [element] => element.as_str() == text,
+        _ => false,
+    }
+}
+
+// Whether an operator between a thousand elements and as many, one, or one less, gives what it should.
+fn are_applied(rt: &impl Abort, alloc: Global) {
+    let many = Value::from_elements(texts(rt, alloc, "ab", 1000));
+    let one = Value::from_text(alloc, "c").expect(rt, "no memory");
+    let less = Value::from_elements(texts(rt, alloc, "c", 999));
+    gives(rt, alloc, &many, &many, "abab");
+    gives(rt, alloc, &many, &one, "abc");
+    gives(rt, alloc, &one, &many, "cab");
+    let refused = many.apply(alloc, &less, ListOperator::Join, token("/"));
+    match refused {
+        Err(Error::ListOperation { lhs, rhs, .. }) => {
+            is_so(rt, "refused", lhs == many && rhs == less);
+        }
+        _ => panic!(rt; "not refused"),
+    }
+}
+
+// Whether `+` between two values gives a thousand times this element.
+fn gives(rt: &impl Abort, alloc: Global, left: &Value, right: &Value, element: &str) {
+    let given = left.apply(alloc, right, ListOperator::Concatenate, token("+"));
+    match given {
+        Ok(value) => holds(rt, alloc, value, &texts(rt, alloc, element, 1000)),
+        Err(_) => panic!(rt; "a refusal"),
+    }
+}
+
+#[test]
+fn put_together_of_a_thousand_elements(rt: HostRuntime) {
+    are_joined(&rt, rt.alloc(), &thousand(&rt, rt.alloc()));
+    are_applied(&rt, rt.alloc());
 }
 
 #[test]

@@ -24,17 +24,17 @@ fn made_prints_long<T: Display + Drop>(
 }
 
 #[test]
-fn lists_of_hundreds_of_words(rt: HostRuntime) {
+fn lists_of_a_thousand_words(rt: HostRuntime) {
     let alloc = rt.alloc();
-    let words = ["a"; 300];
+    let words = ["a"; 1000];
     let list = List::or(alloc, words);
-    made_prints_long(&rt, alloc, list, ("", "a, ", 299, "or a"));
+    made_prints_long(&rt, alloc, list, ("", "a, ", 999, "or a"));
     let list = List::and(alloc, words);
-    made_prints_long(&rt, alloc, list, ("", "a, ", 299, "and a"));
+    made_prints_long(&rt, alloc, list, ("", "a, ", 999, "and a"));
     let list = List::or_ticked(alloc, words);
-    made_prints_long(&rt, alloc, list, ("", "`a`, ", 299, "or `a`"));
+    made_prints_long(&rt, alloc, list, ("", "`a`, ", 999, "or `a`"));
     let list = List::and_ticked(alloc, words);
-    made_prints_long(&rt, alloc, list, ("", "`a`, ", 299, "and `a`"));
+    made_prints_long(&rt, alloc, list, ("", "`a`, ", 999, "and `a`"));
 }
 
 // A thousand overrides, a directory, and a thousand arguments.

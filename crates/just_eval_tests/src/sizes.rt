@@ -1,0 +1,76 @@
+// Constants of a thousand elements, and of texts of a thousand pieces. Where memory is there each call must succeed: no clause
+// forbids one that gives up.
+
+use crate::cases::{Subject, told};
+use crate::compared::tells;
+use crate::constants::evaluates_to;
+use crate::interpreters::staged;
+use std::alloc::Global;
+use std::process::Abort;
+
+// A piece a thousand times, between two texts.
+fn thousand(rt: &impl Abort, alloc: Global, front: &str, piece: &str, back: &str) -> String {
+    let pieces = piece.repeat(alloc, 1000).expect(rt, "no memory");
+    format!(in alloc; "{front}{pieces}{back}").expect(rt, "no memory")
+}
+
+#[test]
+fn constants_of_a_thousand(rt: HostRuntime) {
+    is_a_list(&rt, rt.alloc());
+    is_a_text(&rt, rt.alloc());
+    is_an_interpreter(&rt, rt.alloc());
+    are_settings(&rt, rt.alloc());
+}
+
+// A list of a thousand elements and one, as a value, in the refusal where a text is wanted, and in a line.
+fn is_a_list(rt: &impl Abort, alloc: Global) {
+    let list = thousand(rt, alloc, "", "str a\n", "list 1000\nstr b\ncat");
+    let value = thousand(rt, alloc, "[", "\"a\", ", "\"b\"]");
+    let refusal = format!(in alloc; "list value {value} in setting `set`").expect(rt, "no memory");
+    let line = thousand(rt, alloc, "<", "a ", "b>");
+    evaluates_to(rt, alloc, &list, &value, &refusal, &line);
+}
+
+// A text of a thousand pieces, as a value, as a text, and in a line.
+fn is_a_text(rt: &impl Abort, alloc: Global) {
+    let literal = thousand(rt, alloc, "str ", "ab ", "c");
+    let value = thousand(rt, alloc, "\"", "ab ", "c\"");
+    let text = thousand(rt, alloc, "", "ab ", "c");
+    let line = thousand(rt, alloc, "<", "ab ", "c>");
+    evaluates_to(rt, alloc, &literal, &value, &text, &line);
+}
+
+// A command of a thousand elements in all.
+fn is_an_interpreter(rt: &impl Abort, alloc: Global) {
+    let list = thousand(rt, alloc, "", "str a\n", "list 1000");
+    let wanted = thousand(rt, alloc, "", " \"a\"", "");
+    let told = staged(rt, alloc, &list);
+    tells(rt, "an interpreter", told, wanted.trim_start_matches(' '));
+}
+
+// A setting of a list, one of an interpreter, and one of a text.
+fn are_settings(rt: &impl Abort, alloc: Global) {
+    let command = thousand(
+        rt,
+        alloc,
+        "only\n",
+        "str a\n",
+        "list 1000\nassign dotenv-command\n",
+    );
+    let shell = thousand(
+        rt,
+        alloc,
+        "str sh\n",
+        "str a\n",
+        "list 1000\nlist 2\nassign shell\n",
+    );
+    let tempdir = thousand(rt, alloc, "str ", "/a", "\nassign tempdir\nconst");
+    let case = format!(in alloc; "{command}{shell}{tempdir}").expect(rt, "no memory");
+    let command = thousand(rt, alloc, "dotenv_command [", "\"a\", ", "");
+    let command = command.trim_end_matches(", ");
+    let shell = thousand(rt, alloc, "];shell \"sh\"", " \"a\"", ";");
+    let tempdir = thousand(rt, alloc, "tempdir ", "/a", ";");
+    let wanted = format!(in alloc; "{command}{shell}{tempdir}").expect(rt, "no memory");
+    let told = told(rt, alloc, &case, &[], Subject::Settings);
+    tells(rt, "settings", told, &wanted);
+}
