@@ -1,7 +1,7 @@
 // Whether a case's run bears out what is constant before it.
 
 use crate::contradiction::Contradiction;
-use crate::evaluated::{begins_run, evaluated, contains_line};
+use crate::evaluated::{begins_run, contains_line, evaluated};
 use crate::foretold::{Foretold, Variable, foretell, taken};
 use crate::pairing::is_paired;
 use crate::stored_case::StoredCase;

@@ -46,6 +46,8 @@ impl BorneOut {
             open,
             refused,
         } = *self;
-        println!(rt; "{runs} runs bear out their constants: {settled} settled, {open} open, {refused} refused")
+        println!(rt;
+            "{runs} runs bear out their constants: {settled} settled, {open} open, {refused} refused"
+        )
     }
 }

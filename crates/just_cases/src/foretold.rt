@@ -74,11 +74,7 @@ pub(crate) fn taken<'text>(
 }
 
 // The last lines of a case that evaluates those variables which are not open, in their order.
-fn settled_then(
-    alloc: Global,
-    variables: &[Variable],
-    last: &str,
-) -> Result<String, OutOfMemory> {
+fn settled_then(alloc: Global, variables: &[Variable], last: &str) -> Result<String, OutOfMemory> {
     let mut lines = String::from_str(alloc, "order")?;
     for variable in variables {
         if !variable.is_open {
@@ -127,7 +123,9 @@ fn is_shut(alloc: Global, variables: &[Variable], line: &str) -> Result<bool, Ou
 
 // How a run is refused that reads a variable before it has a value.
 fn unevaluated(alloc: Global, name: &str) -> Result<String, OutOfMemory> {
-    Ok(format!(in alloc; "refused 6 Internal \"attempted to evaluate unevaluated variable `{name}`\"")?)
+    Ok(format!(in alloc;
+        "refused 6 Internal \"attempted to evaluate unevaluated variable `{name}`\""
+    )?)
 }
 
 // Marks the variable of this name as open.

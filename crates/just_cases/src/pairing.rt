@@ -18,8 +18,10 @@ pub(crate) fn is_paired(alloc: Global, text: &str, line: &str) -> Result<bool, O
     if refusal == "8 LeftOutRegex" {
         return Ok(text == "regular expression operators are left out");
     }
-    Ok(says_message(alloc, text, "assert failed: ", refusal, "1 Assert")?
-        || says_message(alloc, text, "internal error: ", refusal, "6 Internal")?)
+    Ok(
+        says_message(alloc, text, "assert failed: ", refusal, "1 Assert")?
+            || says_message(alloc, text, "internal error: ", refusal, "6 Internal")?,
+    )
 }
 
 // Whether a text says a message after its beginning that a refusal has after its number and name, quoted.

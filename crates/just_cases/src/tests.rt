@@ -20,20 +20,23 @@ const FILES: &[(&str, Option<Difference>)] = &[
     ("add\n\n=> 1\nbad line 1\n", None),
     (
         "str x\nassign a\nrun\n\n=> 2\na = \"x\"\n",
-        Some(Difference::Status { wanted: 2, given: 0 }),
+        Some(Difference::Status {
+            wanted: 2,
+            given: 0,
+        }),
     ),
     (
         "add\n\n=> 0\nbad line 1\n",
-        Some(Difference::Status { wanted: 0, given: 1 }),
+        Some(Difference::Status {
+            wanted: 0,
+            given: 1,
+        }),
     ),
     (
         "str x\nassign a\nrun\n\n=> 0\na = \"y\"\n",
         Some(Difference::Answer),
     ),
-    (
-        "add\n\n=> 1\nbad line 2\n",
-        Some(Difference::Answer),
-    ),
+    ("add\n\n=> 1\nbad line 2\n", Some(Difference::Answer)),
     // Files that are cut: in the answer, in the line of the status, and in the case.
     (
         "str x\nassign a\nrun\n\n=> 0\na = \"x\"",
@@ -49,7 +52,12 @@ const FILES: &[(&str, Option<Difference>)] = &[
 #[test]
 fn files_that_differ(rt: HostRuntime) {
     for (file, wanted) in FILES {
-        differs(&rt, file, check_file(rt.alloc(), &mut Tallies::new(), file.as_bytes()), *wanted);
+        differs(
+            &rt,
+            file,
+            check_file(rt.alloc(), &mut Tallies::new(), file.as_bytes()),
+            *wanted,
+        );
     }
     let unreadable = check_case(&rt, &mut Tallies::new(), "/no/such/folder", "case");
     assert_eq!(rt; unreadable.ok(), Some(Some(Difference::Unreadable)));
@@ -74,7 +82,10 @@ const HOSTILE: &[(&str, [Option<Difference>; 3])] = &[
     (
         "cmd c\nassign a\nreply x\nrun\n\n=> 0\n? command \"d\"\na = \"x\"\n",
         [
-            Some(Difference::Failing { passed: 0, how: How::Fault }),
+            Some(Difference::Failing {
+                passed: 0,
+                how: How::Fault,
+            }),
             Some(Difference::Cut { length: 26 }),
             Some(Difference::Write { writes: 4 }),
         ],
@@ -82,7 +93,10 @@ const HOSTILE: &[(&str, [Option<Difference>; 3])] = &[
     (
         "cmd c\nassign a\nreply x\nrun\n\n=> 0\n? command \"c\"\na = \"y\"\n",
         [
-            Some(Difference::Failing { passed: 1, how: How::Fault }),
+            Some(Difference::Failing {
+                passed: 1,
+                how: How::Fault,
+            }),
             Some(Difference::Cut { length: 26 }),
             Some(Difference::Write { writes: 7 }),
         ],
@@ -107,7 +121,12 @@ fn uses_differ(
     let mut tally = Tally::new();
     differs(rt, file, check_failing(alloc, &mut tally, stored), failing);
     differs(rt, file, check_cuts(alloc, &mut tally, stored), cut);
-    differs(rt, file, check_streams(alloc, &mut tally, stored), failed_write);
+    differs(
+        rt,
+        file,
+        check_streams(alloc, &mut tally, stored),
+        failed_write,
+    );
 }
 
 // Stored cases, and what is said to be constant before the run of each, with how the run contradicts it.
@@ -131,7 +150,10 @@ const CONSTANTS: &[(&str, &[(&str, Option<Contradiction>)])] = &[
     // The same in a dry run, and with a call there, and with an open variable.
     (
         "str a\nstr a\neq\nstr y\ncmd boom\nif\nassign a\ndry\nrun\n\n=> 0\na = \"y\"\n",
-        &[("a = \"y\"\n", None), ("a open\n", Some(Contradiction::Open))],
+        &[
+            ("a = \"y\"\n", None),
+            ("a open\n", Some(Contradiction::Open)),
+        ],
     ),
     (
         "list 0\nstr x\ncall trim 1\nand\nassign a\nrun\n\n=> 0\na = []\n",
@@ -204,7 +226,10 @@ const CONSTANTS: &[(&str, &[(&str, Option<Contradiction>)])] = &[
     (
         "list 0\nstr d\nadd\nassign x\nrun\n\n=> 2\nrefused 10 ListOperation [] + \"d\"\n",
         &[
-            ("refused: operator `+` cannot be applied to empty lists\n", None),
+            (
+                "refused: operator `+` cannot be applied to empty lists\n",
+                None,
+            ),
             (
                 "refused: operator `/` cannot be applied to empty lists\n",
                 Some(Contradiction::Refusal),
@@ -219,7 +244,10 @@ const CONSTANTS: &[(&str, &[(&str, Option<Contradiction>)])] = &[
         "list 0\nstr c\ncall quote 1\nand\nassert\nassign x\nrun\n\n=> 2\nrefused 1 Assert \"`[] && quote('c')`\"\n",
         &[
             ("refused: assert failed: `[] && quote('c')`\n", None),
-            ("refused: assert failed: `[]`\n", Some(Contradiction::Refusal)),
+            (
+                "refused: assert failed: `[]`\n",
+                Some(Contradiction::Refusal),
+            ),
             ("x open\n", Some(Contradiction::Refusal)),
         ],
     ),
@@ -239,7 +267,10 @@ const CONSTANTS: &[(&str, &[(&str, Option<Contradiction>)])] = &[
     ),
     (
         "list 0\nassert\nassign a\nrun\n\n=> 2\nrefused 1 Assert \"no\"\n",
-        &[("refused: assert failed: `[]`\n", Some(Contradiction::Refusal))],
+        &[(
+            "refused: assert failed: `[]`\n",
+            Some(Contradiction::Refusal),
+        )],
     ),
 ];
 
