@@ -142,8 +142,9 @@ def is_answer(run, whole):
         return True
     if run.status == 1:
         return whole.output.startswith(run.output)
-    *lines, last, end = run.output.split(b"\n")
-    return run.status == 2 and end == b"" and last in ANSWERED and lines == whole.output.split(b"\n")[: len(lines)]
+    *lines, end = run.output.split(b"\n")
+    asked = lines[:-1]
+    return run.status == 2 and end == b"" and lines[-1:] != [] and lines[-1] in ANSWERED and asked == whole.output.split(b"\n")[: len(asked)]
 
 
 def is_report(run, whole):
