@@ -143,8 +143,10 @@ def is_answer(run, whole):
     if run.status == 1:
         return whole.output.startswith(run.output)
     *lines, end = run.output.split(b"\n")
-    asked = lines[:-1]
-    return run.status == 2 and end == b"" and lines[-1:] != [] and lines[-1] in ANSWERED and asked == whole.output.split(b"\n")[: len(asked)]
+    if run.status != 2 or end or not lines:
+        return False
+    *asked, last = lines
+    return last in ANSWERED and asked == whole.output.split(b"\n")[: len(asked)]
 
 
 def is_report(run, whole):
