@@ -204,7 +204,9 @@ def main():
         library = f"{folder}/refusing.so"
         command = ["cc", "-shared", "-fPIC", "-O1", "-Wall", "-Werror", "-o", library, "-x", "c", "-", "-ldl"]
         subprocess.run(command, input=REFUSING.encode(), check=True)
-        tasks = [pool.submit(tried, built("just_case"), library, name, given, is_answer) for name, given in stored_cases()]
+        # the largest first, since each is one task
+        cases = sorted(stored_cases(), key=lambda case: -len(case[1]))
+        tasks = [pool.submit(tried, built("just_case"), library, name, given, is_answer) for name, given in cases]
         tasks += [pool.submit(tried, built(name), library, name, given_to(name), is_report) for name in examples]
         results = [it.result() for it in tasks]
     wrong = [it for _, found in results for it in found]
