@@ -108,9 +108,9 @@ __attribute__((constructor)) static void run_each(void)
 }
 """
 
-# The line that says so in an answer to a case, in a run and before any.
+# The line that says so in an answer to a case, in a run and before any; and what the library and std say of it.
 ANSWERED = [b"refused 12 OutOfMemory", b"refused: OutOfMemory"]
-SAID = b"out of memory"
+SAID = [b"out of memory", b"memory allocation failed", b"OutOfMemory"]
 
 
 class Run:
@@ -136,6 +136,11 @@ def runs(program, library, given):
         at += output + error
 
 
+def says_so(text):
+    """Whether a text says that memory ran out."""
+    return any(said in text for said in SAID)
+
+
 def is_answer(run, whole):
     """Whether a run over a case gave the whole answer, a front of it with status 1, or the questions so far and that memory ran out."""
     if (run.status, run.output) == (whole.status, whole.output):
@@ -156,9 +161,9 @@ def is_report(run, whole):
     lines, wanted = run.output.split(b"\n"), whole.output.split(b"\n")
     same = next((at for at, pair in enumerate(zip(lines, wanted)) if pair[0] != pair[1]), min(len(lines), len(wanted)))
     if run.status == 1:
-        return whole.output.startswith(run.output) and (SAID in run.error.lower() or b"OutOfMemory" in run.error)
+        return whole.output.startswith(run.output) and says_so(run.error)
     rest = lines[same + 1 :]
-    return run.status == whole.status and same < len(lines) and SAID in lines[same] and rest == wanted[len(wanted) - len(rest) :]
+    return run.status == whole.status and same < len(lines) and says_so(lines[same]) and rest == wanted[len(wanted) - len(rest) :]
 
 
 def stored_cases():

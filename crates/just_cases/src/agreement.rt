@@ -1,131 +1,140 @@
 // Whether a case's run bears out what is constant before it.
 
 use crate::contradiction::Contradiction;
-use crate::evaluated::{begins_run, contains_line, evaluated};
-use crate::foretold::{Foretold, Variable, foretell, taken};
-use crate::pairing::is_paired;
-use crate::stored_case::StoredCase;
+use crate::difference::Difference;
+use crate::outcome::Outcome;
+use just_bench::program::run;
 use just_syntax::out_of_memory::OutOfMemory;
+use just_value::element::Element;
 use std::alloc::Global;
 use std::str;
 
-/// A stored case that ends with `run`, and its answer.
-#[derive(Clone, Copy, Debug)]
-pub(crate) struct Run<'file> {
-    // The lines before `run`.
-    lines: &'file str,
-    answer: &'file str,
-    is_finished: bool,
+/// A case that ends with `run`, and then with line breaks alone, without that line.
+pub(crate) fn described(case: &str) -> Option<&str> {
+    case.trim_end_matches('\n').strip_suffix("\nrun")
 }
 
-impl<'file> Run<'file> {
-    /// The run of a case, if it has one that what is constant before it foretells.
-    ///
-    /// A run whose module is not resolved is none: the law that constants agree with every run asks that it is. Where the run's
-    /// module is resolved, the assignments are resolved before any run too, since less is asked of them there.
-    pub(crate) fn of_case(stored: &StoredCase<'file>) -> Option<Run<'file>> {
-        let case = str::from_utf8(stored.case).ok()?;
-        let answer = str::from_utf8(stored.answer).ok()?;
-        if stored.status == 1 || answer.starts_with("unresolved\n") {
-            return None;
-        }
-        Some(Run {
-            lines: case.trim_end_matches('\n').strip_suffix("\nrun")?,
-            answer,
-            is_finished: stored.status == 0,
-        })
+/// What comes of a run with this answer, once the same case is ended by `const`. Of a module that is not resolved, and of a bad
+/// case, nothing is told.
+pub(crate) fn check_agreement(
+    alloc: Global,
+    described: &str,
+    answer: &str,
+) -> Result<Outcome, OutOfMemory> {
+    let case = format!(in alloc; "{described}\nconst")?;
+    let mut constants = Vec::new(alloc);
+    run(alloc, &mut case.as_bytes(), &mut constants);
+    let Ok(constants) = str::from_utf8(&constants) else {
+        return Ok(Outcome::Same);
+    };
+    if is_told_nothing(answer) || is_told_nothing(constants) {
+        return Ok(Outcome::Same);
     }
-
-    /// What is constant before it.
-    pub(crate) fn constants(&self, alloc: Global) -> Result<String, OutOfMemory> {
-        evaluated(alloc, self.lines, "const")
-    }
-
-    /// How it contradicts what is said to be constant before it, if it does.
-    pub(crate) fn contradiction(
-        &self,
-        alloc: Global,
-        constants: &str,
-    ) -> Result<Option<Contradiction>, OutOfMemory> {
-        if constants.starts_with("unresolved\n") {
-            return Ok(Some(Contradiction::Unresolved));
-        }
-        let blocks = evaluated(alloc, self.lines, "blocks x")?;
-        let foretold = foretell(alloc, self.lines, taken(alloc, &blocks)?)?;
-        match (refusal_in(constants), &foretold.refused) {
-            (None, None) => Ok(self.contradicted_lines(&foretold, constants)),
-            (Some(text), Some((variable, line))) => {
-                let is_borne_out = is_paired(alloc, text, line)?
-                    && (!reaches(alloc, &blocks, variable)? || self.ends_with(line));
-                Ok((!is_borne_out).then_some(Contradiction::Refusal))
-            }
-            _ => Ok(Some(Contradiction::Refusal)),
+    let (variables, refusal) = variables_and_refusal(constants);
+    for line in variables.lines() {
+        if let Some(told) = contradicted(line, described, answer) {
+            return Ok(Outcome::Differs(Difference::Constants(told)));
         }
     }
-
-    // Whether this line is the last of its answer.
-    fn ends_with(&self, line: &str) -> bool {
-        self.answer.lines().last() == Some(line)
-    }
-
-    // How the lines of what is constant are contradicted, each of which is to be on the variable at its place.
-    fn contradicted_lines(&self, foretold: &Foretold, constants: &str) -> Option<Contradiction> {
-        let mut lines = constants.lines();
-        for variable in &foretold.variables {
-            let Some(line) = lines.next() else {
-                return Some(Contradiction::Variables);
-            };
-            if let Some(contradiction) = self.contradicted(line, *variable, &foretold.bindings) {
-                return Some(contradiction);
-            }
+    match refusal {
+        Some(text) if !is_refused_alike(alloc, text, described, answer)? => {
+            Ok(Outcome::Differs(Difference::Constants(Contradiction::Refusal)))
         }
-        lines.next().and(Some(Contradiction::Variables))
-    }
-
-    // How a line on a variable is contradicted, where these are the bindings of those that are settled.
-    fn contradicted(
-        &self,
-        line: &str,
-        variable: Variable,
-        bindings: &str,
-    ) -> Option<Contradiction> {
-        let Some(said) = line
-            .strip_prefix(variable.name)
-            .and_then(|rest| rest.strip_prefix(' '))
-        else {
-            return Some(Contradiction::Variables);
-        };
-        match (said == "open", variable.is_open) {
-            (true, true) => None,
-            (true, false) => Some(Contradiction::Open),
-            (false, true) => Some(Contradiction::Settled),
-            (false, false) => (!self.binds(line, bindings)).then_some(Contradiction::Value),
-        }
-    }
-
-    // Whether a line is among these bindings, and among those of the answer, which a refused run lacks.
-    fn binds(&self, line: &str, bindings: &str) -> bool {
-        contains_line(bindings, line) && (!self.is_finished || contains_line(self.answer, line))
+        _ => Ok(Outcome::BorneOut),
     }
 }
 
-// The text of the refusal that ends what is constant, which can have several lines and end in any character.
-fn refusal_in(constants: &str) -> Option<&str> {
-    let text = constants.strip_prefix("refused: ")?;
-    Some(text.strip_suffix('\n').unwrap_or(text))
+// The lines of what is constant that tell of variables, and the text of the refusal that ends them, which can have several
+// lines and end in any character.
+fn variables_and_refusal(constants: &str) -> (&str, Option<&str>) {
+    if let Some(text) = constants.strip_prefix("refused: ") {
+        return ("", Some(text.strip_suffix('\n').unwrap_or(text)));
+    }
+    match constants.split_once("\nrefused: ") {
+        Some((variables, text)) => (variables, Some(text.strip_suffix('\n').unwrap_or(text))),
+        None => (constants, None),
+    }
 }
 
-// Whether the first of two runs reaches a variable.
-fn reaches(alloc: Global, blocks: &str, variable: &str) -> Result<bool, OutOfMemory> {
-    let begun = format!(in alloc; "block {variable}")?;
-    let mut runs = 0usize;
-    for line in blocks.lines() {
-        if begins_run(line) {
-            runs = runs.saturating_add(1);
-        }
-        if runs == 1 && line == begun.as_str() {
-            return Ok(true);
+// Whether an answer is that of a module that is not resolved, or of a bad case.
+fn is_told_nothing(answer: &str) -> bool {
+    answer.starts_with("unresolved\n") || answer.starts_with("bad line ")
+}
+
+// How a line that tells of a variable is contradicted.
+fn contradicted(line: &str, described: &str, answer: &str) -> Option<Contradiction> {
+    if line.ends_with(" open") {
+        return (!reaches(described, answer)).then_some(Contradiction::Open);
+    }
+    (!has_value(line, answer)).then_some(Contradiction::Value)
+}
+
+// Whether the run asked something, or the case has a call or a command.
+fn reaches(described: &str, answer: &str) -> bool {
+    for line in answer.lines() {
+        if line.starts_with("? ") {
+            return true;
         }
     }
-    Ok(false)
+    for line in described.lines() {
+        if line.starts_with("call ") || line.starts_with("cmd ") {
+            return true;
+        }
+    }
+    false
+}
+
+// Whether each binding of the run with the name that a line has is that line.
+fn has_value(line: &str, answer: &str) -> bool {
+    let Some((name, _)) = line.split_once(" = ") else {
+        return true;
+    };
+    for bound in answer.lines() {
+        if let Some((bound_name, _)) = bound.split_once(" = ")
+            && bound_name == name
+            && bound != line
+        {
+            return false;
+        }
+    }
+    true
+}
+
+// Whether the run is refused; and where the case has no call and no command, that it is refused as this text says.
+fn is_refused_alike(
+    alloc: Global,
+    text: &str,
+    described: &str,
+    answer: &str,
+) -> Result<bool, OutOfMemory> {
+    let Some(refusal) = answer
+        .lines()
+        .last()
+        .and_then(|line| line.strip_prefix("refused "))
+    else {
+        return Ok(false);
+    };
+    if reaches(described, answer) {
+        return Ok(true);
+    }
+    Ok(is_paired(alloc, text, refusal)?)
+}
+
+// Whether a refusal before any run, by its text, is that of a run, by its number, its name and what it holds.
+fn is_paired(alloc: Global, text: &str, refusal: &str) -> Result<bool, OutOfMemory> {
+    if let Some(message) = text.strip_prefix("assert failed: ") {
+        let message = Element(message);
+        return Ok(refusal == format!(in alloc; "1 Assert {message}")?.as_str());
+    }
+    if let Some(message) = text.strip_prefix("internal error: ") {
+        let message = Element(message);
+        return Ok(refusal == format!(in alloc; "6 Internal {message}")?.as_str());
+    }
+    if text.starts_with("operator ") {
+        return Ok(refusal.starts_with("10 ListOperation "));
+    }
+    if text.starts_with("regular expression ") {
+        return Ok(refusal == "8 LeftOutRegex");
+    }
+    Ok(text.starts_with("list value ") && refusal.starts_with("9 ListInStringContext "))
 }

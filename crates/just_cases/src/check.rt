@@ -2,11 +2,11 @@
 
 ghost use Rattle.std.specs.Prelude.{◌≤◌};
 
-use crate::agreement::Run;
-use crate::borne_out::BorneOut;
+use crate::agreement::{check_agreement, described};
 use crate::cutting::check_cuts;
 use crate::difference::Difference;
 use crate::failing::check_failing;
+use crate::outcome::Outcome;
 use crate::stored_case::{StoredCase, cut};
 use crate::streams::check_streams;
 use crate::tally::Tally;
@@ -14,7 +14,7 @@ use just_bench::program::run;
 use just_syntax::out_of_memory::OutOfMemory;
 use std::alloc::{AllocError, Global};
 use std::rt::{Env, Files};
-use std::{env, fs, io};
+use std::{env, fs, io, str};
 
 /// Runs the cases of a folder, prints each that differs and how, and what was tried, and gives the exit status: 0 if no case
 /// differs, and else 1. The folder is the program's argument, or without one that in which it runs.
@@ -30,34 +30,27 @@ pub(crate) fn check_cases<R: AllocGlobal + Env + Eprint + Files + Print>(rt: &R)
     }
 }
 
-/// What was tried of all cases.
+// What was tried of all cases.
 #[derive(Clone, Copy, Debug)]
-pub(crate) struct Tallies {
+struct Tallies {
     cases: Tally,
-    constants: BorneOut,
+    runs_borne_out: usize,
     failed_questions: Tally,
     cuts: Tally,
     failed_streams: Tally,
-}
-
-impl Tallies {
-    /// Nothing was tried.
-    pub(crate) fn new() -> Tallies {
-        Tallies {
-            cases: Tally::new(),
-            constants: BorneOut::new(),
-            failed_questions: Tally::new(),
-            cuts: Tally::new(),
-            failed_streams: Tally::new(),
-        }
-    }
 }
 
 // The same, and gives what was tried.
 fn check_each<R: AllocGlobal + Env + Files + Print>(rt: &R) -> io::Result<Tallies> {
     let folder = case_folder(rt)?;
     let index = fs::read_to_string(rt, format!(in rt.alloc(); "{folder}/index")?)?;
-    let mut tallies = Tallies::new();
+    let mut tallies = Tallies {
+        cases: Tally::new(),
+        runs_borne_out: 0,
+        failed_questions: Tally::new(),
+        cuts: Tally::new(),
+        failed_streams: Tally::new(),
+    };
     for name in index.lines() {
         let difference = check_case(rt, &mut tallies, &folder, name)?;
         tallies.cases.count(difference.is_some());
@@ -71,8 +64,9 @@ fn check_each<R: AllocGlobal + Env + Files + Print>(rt: &R) -> io::Result<Tallie
 
 // Prints what was tried, each kind on a line.
 fn print_tallies<R: Print>(rt: &R, tallies: &Tallies) -> io::Result<()> {
+    let borne_out = tallies.runs_borne_out;
     tallies.cases.print(rt, "cases")?;
-    tallies.constants.print(rt)?;
+    println!(rt; "{borne_out} runs bear out their constants")?;
     tallies
         .failed_questions
         .print(rt, "questions failed by a fault and by want of memory")?;
@@ -90,8 +84,8 @@ fn case_folder<R: AllocGlobal + Env>(rt: &R) -> io::Result<String> {
     }
 }
 
-/// How the case of a folder with a name differs.
-pub(crate) fn check_case<R: AllocGlobal + Files>(
+// How the case of a folder with a name differs.
+fn check_case<R: AllocGlobal + Files>(
     rt: &R,
     tallies: &mut Tallies,
     folder: &str,
@@ -107,8 +101,8 @@ pub(crate) fn check_case<R: AllocGlobal + Files>(
     }
 }
 
-/// How the case differs whose file holds these bytes.
-pub(crate) fn check_file(
+// How the case differs whose file holds these bytes.
+fn check_file(
     alloc: Global,
     tallies: &mut Tallies,
     file: &[u8],
@@ -123,9 +117,10 @@ pub(crate) fn check_file(
     if difference.is_some() {
         return Ok(difference);
     }
-    let difference = check_constants(alloc, &mut tallies.constants, &stored)?;
-    if difference.is_some() {
-        return Ok(difference);
+    match check_constants(alloc, &stored)? {
+        Outcome::Differs(difference) => return Ok(Some(difference)),
+        Outcome::BorneOut => tallies.runs_borne_out = tallies.runs_borne_out.saturating_add(1),
+        Outcome::Same => {}
     }
     check_hostile_use(alloc, tallies, &stored)
 }
@@ -147,21 +142,13 @@ fn check_hostile_use(
     check_streams(alloc, &mut tallies.failed_streams, stored)
 }
 
-// How a case that is answered as its file says differs once it is evaluated before any run too.
-fn check_constants(
-    alloc: Global,
-    tally: &mut BorneOut,
-    stored: &StoredCase,
-) -> Result<Option<Difference>, OutOfMemory> {
-    let Some(run) = Run::of_case(stored) else {
-        return Ok(None);
+// What comes of a case that is answered as its file says, once it is evaluated before any run too.
+fn check_constants(alloc: Global, stored: &StoredCase) -> Result<Outcome, OutOfMemory> {
+    let (Ok(case), Ok(answer)) = (str::from_utf8(stored.case), str::from_utf8(stored.answer)) else {
+        return Ok(Outcome::Same);
     };
-    let constants = run.constants(alloc)?;
-    match run.contradiction(alloc, &constants)? {
-        Some(contradiction) => Ok(Some(Difference::Constants(contradiction))),
-        None => {
-            tally.count(&constants);
-            Ok(None)
-        }
+    match described(case) {
+        Some(described) => check_agreement(alloc, described, answer),
+        None => Ok(Outcome::Same),
     }
 }

@@ -3,21 +3,15 @@
 #![tactic(auto)]
 
 mod agreement;
-mod borne_out;
 mod check;
 mod contradiction;
 mod cutting;
 mod difference;
-mod evaluated;
 mod failing;
-mod foretold;
-mod pairing;
+mod outcome;
 mod stored_case;
 mod streams;
 mod tally;
-#[cfg(test)]
-mod tests;
-mod watched;
 
 use crate::check::check_cases;
 use std::process::ExitCode;

@@ -30,7 +30,12 @@ fn add<'src>(
         .insert(Assignment::new(Name::new(name, None), number, value))
 }
 
-fn lint(rt: &impl Print, alloc: Global, outer: &Scope, module: &Justfile) -> Result<()> {
+fn lint<'src>(
+    rt: &impl Print,
+    alloc: Global,
+    outer: &Scope<'src, '_>,
+    module: &Justfile<'src>,
+) -> Result<()> {
     let overrides = HashMap::new(alloc);
     let wanted = references_of(alloc, &module.assignments, &["s", "t"])?;
     let stage = Evaluator::evaluate_const_assignments(
