@@ -1,4 +1,4 @@
--- Two runs of modules that are the same for some variables and all that these reach.
+-- Two runs of modules that are the same for some variables and everything these reach.
 use Rattle.std.proofs.Common.{◌≡◌, ◌≢◌, inl, inr, ℕ, ◌-◌, List, [], ◌∷◌, Option, Some, None, refl, sym, ap, ◌∙◌, subst}
 use Rattle.just_syntax.specs.Plain.{Text, Assignment, Function, Expr}
 use Rattle.just_value.specs.Value.{Value}
@@ -16,7 +16,7 @@ use Rattle.just_agreement.specs.Cone.{IsEvaluated, numbered}
 use Rattle.just_agreement.proofs.Alike.{Alike, Whole, alike_lexical, alike_override, alike_to_the_end}
 use Rattle.just_agreement.proofs.Blocks.{AllMet, IsGiven, IsIn, Met, among_blocks, gave_same, met_outside, never_both, one_met, some_same}
 
--- Two modules that are the same for these variables, which are closed under what their assignments read.
+-- Two modules that are the same for these variables. The variables are closed under what their assignments read.
 pub record AreMatched (m w : Module) (outer : Frames) (C : ℕ → Type 0) : Type 0 where
   pub fixed : m.program.fixed ≡ w.program.fixed
   pub limit : m.limit ≡ w.limit
@@ -25,7 +25,7 @@ pub record AreMatched (m w : Module) (outer : Frames) (C : ℕ → Type 0) : Typ
   pub functions : (a : Assignment) → C a.number → IsEvaluated m outer a → (name : Text) → Reaches m.program.functions a.value name → function_at m.program.functions name ≡ function_at w.program.functions name
   pub closed : (a : Assignment) → C a.number → IsEvaluated m outer a → (n : ℕ) → Reads m.program.functions a.value n → C n
 
--- what is reached in one file is reached in another that defines the same of it
+-- what is reached in one file is reached in another that defines it in the same way
 reaches_same : (functions others : List Function) {e : Expr} {name : Text} → Reaches functions e name → ((g : Text) → Reaches functions e g → function_at functions g ≡ function_at others g) → Reaches others e name
 reaches_same functions others (Here n h) same = Here n h
 reaches_same functions others (Later g n h f found r) same = Later g n h f (sym (same g (Here n h)) ∙ found) (reaches_same functions others r (λ k z. same k (Later g n h f found z)))
@@ -38,13 +38,13 @@ reads_same functions others e n same (inr r) =
 pub gave_on : {A : Type 0} (v : A) (o : Outcome A) → o ≡ Gave v → o ≢ Stopped
 gave_on v o e z = absurd (cc)
 
--- the value of an assignment by the lexical rules, from all that it depends on
+-- the value of an assignment under lexical scope, from all that it depends on
 abbrev assigned_by : Fixed → List Function → ℕ → Option Text → Frames → Assignment → Tree Value
 assigned_by fixed functions limit o frames a =
     or_override o (eval (record { fixed = fixed; functions = functions }) (lexical (record { fixed = fixed; functions = functions }) (value_in frames) (limit - 1)) (situation_at fixed.settings.lists frames) a.value)
 
 module _ (m w : Module) (outer : Frames) (C : ℕ → Type 0) (matched : AreMatched m w outer C) where
-  -- where frames agree on what an assignment reads
+  -- if frames agree on what an assignment reads
   assigned_alike : (a : Assignment) (frames others : Frames) → C a.number → numbered m.assignments.all a.number ≡ Some a → value_in outer a.number ≡ None
       → (IsEvaluated m outer a → (n : ℕ) → Reads m.program.functions a.value n → value_in frames n ≡ value_in others n) → Alike Whole (assigned lexically m frames a) (assigned lexically w others a)
   assigned_alike a frames others among found unbound names =
@@ -106,7 +106,7 @@ module _ (m w : Module) (outer : Frames) (C : ℕ → Type 0) (matched : AreMatc
         more c (inl same) = subst (λ (x : Block). Agrees x × (value_in outer x.number ≡ None)) same first
         more c (inr at) = agreed c at
 
--- Two resolved runs agree on what they both reach of such variables.
+-- Two resolved runs agree on the blocks of such variables that they both reach.
 pub blocks_agree : (m w : Module) (outer : Frames) (C : ℕ → Type 0) → AreMatched m w outer C → (bs cs : List Block) → AllMet m outer [] bs → AllMet w outer [] cs → AreAnsweredAlike (events_of bs) (events_of cs)
     → (b c : Block) → IsIn bs b → IsIn cs c → C b.number → b.number ≡ c.number → b.outcome ≢ Stopped → c.outcome ≢ Stopped → (b.outcome ≡ c.outcome) × AreSame b.events c.events
 blocks_agree m w outer C matched bs cs one other talk b c at at' among number here there =

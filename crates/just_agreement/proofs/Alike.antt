@@ -28,8 +28,8 @@ use Rattle.just_laws.proofs.Ends.{AllEnd, HasCount, ends_any, row_counts}
 use Rattle.just_laws.proofs.Overlays.{parameters_same}
 use Rattle.just_agreement.specs.Foretold.{is_shut}
 
--- How far two trees are looked at: to the end; or to the first thing that is shut, where these numbers are open in the one
--- and those in the other.
+-- How far two trees are compared: to the end, or up to the first note that the const rules refuse. The open numbers of
+-- each tree are given.
 pub data Sight : Type 0 where
   Whole : Sight
   UpToShut : (ℕ → Bool) → (ℕ → Bool) → Sight
@@ -42,19 +42,19 @@ abbrev pub ends_at : Sight → Note → Bool
 ends_at Whole x = false
 ends_at (UpToShut one other) x = is_shut one x
 
--- what is shut in the one is shut in the other
+-- what is refused in the one is refused in the other
 abbrev pub IsSteady : Sight → Note → Type 0
 IsSteady Whole x = Unit {0}
 IsSteady (UpToShut one other) x = is_shut one x ≡ is_shut other x
 
--- the same questions, frames aside, and the same ends
+-- the same questions, frames aside, and the same outcomes
 pub data Alike {A : Type 0} (m : Sight) : Tree A → Tree A → Type 0 where
   Done : {o : Outcome A} → Alike m (done o) (done o)
   Both : {q r : Question} {k l : Answer → Tree A} → IsWhole m → q.blind ≡ r.blind → ((a : Answer) → Alike m (k a) (l a)) → Alike m (ask q k) (ask r l)
   Same : {x : Note} {t u : Tree A} → IsSteady m x → (ends_at m x ≡ false → Alike m t u) → Alike m (note x t) (note x u)
   SameCheck : {p : Parameter} {v : Value} {k l : Verdict → Tree A} → IsWhole m → ((a : Verdict) → Alike m (k a) (l a)) → Alike m (check p v k) (check p v l)
 
--- on from the values that are such
+-- continues with the values that have this property
 alike_such : {A B : Type 0} {m : Sight} (P : Outcome A → Type 0) {t u : Tree A} {k l : A → Tree B} → AllEnd P t → Alike m t u → ((v : A) → P (Gave v) → Alike m (k v) (l v)) → Alike m (bind t k) (bind u l)
 alike_such P p (Done {o = Gave v}) h = h v p
 alike_such P p (Done {o = Refused r}) h = Done
@@ -70,7 +70,7 @@ alike_if : {A : Type 0} {m : Sight} (b : Bool) {t u t' u' : Tree A} → Alike m 
 alike_if true h k = h
 alike_if false h k = k
 
--- two parts, and one end of their values
+-- two parts, and the same outcome for their values
 two : {A B D : Type 0} {m : Sight} {t t' : Tree A} {u u' : Tree B} (k : A → B → Tree D) → Alike m t t' → Alike m u u' → ((v : A) (w : B) → Alike m (k v w) (k v w)) → Alike m (bind t (λ v. bind u (λ w. k v w))) (bind t' (λ v. bind u' (λ w. k v w)))
 two k h h' l = alike_bind h (λ v. alike_bind h' (λ w. l v w))
 
@@ -98,13 +98,14 @@ steady_command : (m : Sight) (t : Token) → IsSteady m (Command t)
 steady_command Whole t = tt
 steady_command (UpToShut one other) t = refl
 
--- what is wanted of what stands in an expression: a variable that is not shut has one value, and a call is of these
+-- the condition on what occurs in an expression: a variable that is not refused has one value, and a call is one of
+-- these
 abbrev pub IsTold : Sight → (Text → Type 0) → Names → Names → Mention → Type 0
 IsTold m C names others (VariableOf None) = Unit {0}
 IsTold m C names others (VariableOf (Some n)) = (t : Token) → IsSteady m (Read t n) × (ends_at m (Read t n) ≡ false → names n ≡ others n)
 IsTold m C names others (CallOf f n) = C f
 
--- however its values are looked at, if each look is alike
+-- the rows are alike if each value is passed to functions that are alike
 abbrev pub AreRowsAlike : Sight → Row → Row → Type 0
 AreRowsAlike m row other = (look : ℕ → Value → Tree Value) → ((i : ℕ) (v : Value) → Alike m (look i v) (look i v)) → Alike m (row look) (other look)
 
@@ -161,8 +162,8 @@ alike_reply shown other (replies.Fails message) = Done
 alike_reply shown other (replies.Asks q next) = Both tt refl (λ a. alike_reply shown other (next a))
 alike_reply shown other replies.Stops = Done
 
--- Two files define the same functions of some names, closed under what these call, and what bodies read beyond their own
--- parameters has one value in two bases.
+-- Two files define the same functions for some names, closed under what these call. What the bodies read beyond their
+-- own parameters has one value in two bases.
 module _ (fixed : Fixed) (functions others : List Function) (base other : Names) (C : Text → Type 0)
     (same : (name : Text) → C name → function_at functions name ≡ function_at others name)
     (closed : (name further : Text) (f : Function) (n : ℕ) → C name → function_at functions name ≡ Some f → Stands f.body (CallOf further n) → C further)
@@ -173,7 +174,7 @@ module _ (fixed : Fixed) (functions others : List Function) (base other : Names)
   abbrev pub another : Program
   another = record { fixed = fixed; functions = others }
 
-  -- what a call may still do is alike, of these functions and so many values
+  -- calls of these functions, with this many values, are alike
   abbrev AreDeeperAlike : Deeper → Deeper → Type 0
   AreDeeperAlike AtLimit AtLimit = Unit {0}
   AreDeeperAlike (Room run) (Room run') =
@@ -229,7 +230,7 @@ module _ (fixed : Fixed) (functions others : List Function) (base other : Names)
       told name f vs reached found fits s (VariableOf (Some n)) h = λ t. (tt, λ e. parameters_same f.parameters vs base n fits other (λ beyond. held name f n reached found h beyond))
       told name f vs reached found fits s (CallOf further n) h = closed name further f n reached found h
 
--- Where two files define the same of what an expression reaches, and it reads the same, it means alike.
+-- If two files define the same for what an expression reaches, and it reads the same, its meanings are alike.
 pub alike_lexical : (fixed : Fixed) (functions others : List Function) (base other : Names) (k : ℕ) (s : Situation) (names : Names) (shown below : Frames) (e : Expr)
     → ((name : Text) → Reaches functions e name → function_at functions name ≡ function_at others name)
     → ((n : ℕ) → Stands e (VariableOf (Some n)) → s.names n ≡ names n) → ((n : ℕ) → ReadsBeyond functions e n → base n ≡ other n)
@@ -249,9 +250,9 @@ alike_lexical fixed functions others base other k s names shown below e same own
     told (VariableOf (Some n)) h = λ t. (tt, λ e. own n h)
     told (CallOf f n) h = Here n h
 
--- ---- paths
+-- ---- traces
 
--- trees that are alike to the end are so as the laws of two paths have it
+-- trees that are alike to the end are alike in the sense of `just_laws`
 pub alike_to_the_end : {A : Type 0} {t u : Tree A} → Alike Whole t u → frames.Alike t u
 alike_to_the_end Done = frames.Done
 alike_to_the_end (Both w blind k) = frames.Both blind (λ a. alike_to_the_end (k a))

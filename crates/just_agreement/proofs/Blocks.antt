@@ -1,4 +1,4 @@
--- What each block of a run found when the run came to it.
+-- The state of a run before each of its blocks.
 use Rattle.std.proofs.Common.{◌≡◌, ◌⊎◌, ⊎_elim, inl, inr, ℕ, zero, suc, Bool, true, false, List, [], ◌∷◌, ◌++◌, map, Contains, nat_eq, Option, Some, None, if◌then◌else◌, refl, sym, ap, ◌∙◌, subst, arith}
 use Rattle.std.proofs.lemmas.Bool.Decides.{nat_tests}
 use Rattle.std.specs.Option.{option_or}
@@ -44,7 +44,7 @@ pub among_behind : (es fs : List Event) (e : Event) → IsAmongEvents fs e → I
 among_behind [] fs e h = h
 among_behind (x ∷ es) fs e h = inr (among_behind es fs e h)
 
--- what is among the events of a block is among those of all
+-- an event of a block is an event of the run
 pub among_blocks : (bs : List Block) (b : Block) → IsIn bs b → (e : Event) → IsAmongEvents b.events e → IsAmongEvents (events_of bs) e
 among_blocks [] b h e k = absurd h
 among_blocks (x ∷ bs) b (inl same) e k = among_front x.events (events_of bs) e (subst (λ (y : Block). IsAmongEvents y.events e) (sym same) k)
@@ -61,7 +61,7 @@ gave_same v u e = cc
 pub never_both : {A : Type 0} (v : A) (x : Option A) → x ≡ Some v → x ≡ None → ⊥
 never_both v x h k = absurd (cc)
 
--- where an overlay gives nothing, what is below gives nothing
+-- if an overlay has no value, neither has what is below
 pub below_nothing : (frame : Frame) (names : Names) (n : ℕ) → over frame names n ≡ None → names n ≡ None
 below_nothing frame names n h = by (value_of (bound_at n frame)) h
   where
@@ -76,7 +76,7 @@ has_below frame names n h = by (value_of (bound_at n frame))
     by None = h
     by (Some v) = (v, refl)
 
--- a number that had none gets its value, and each other keeps what it had
+-- a number that had no value gets its value, and all others keep theirs
 pub stays : (frame : Frame) (names : Names) (b : Bound) → over frame names b.number ≡ None → (k : ℕ) (v : Value) → over frame names k ≡ Some v → over (with_bound frame b) names k ≡ Some v
 stays frame names b unbound k v h = ⊎_elim (λ put. absurd (never_both v _ h (subst (λ n. over frame names n ≡ None) put.0 unbound))) (λ kept. kept.1 names ∙ h) (over_put frame b k)
 
@@ -94,17 +94,17 @@ own_nothing frame outer n h = by (bound_at n frame) h
     by None e = refl
     by (Some b) e = absurd (cc)
 
--- what is put in is bound
+-- a number that was just bound is bound
 pub put_bound : (frame : Frame) (b : Bound) → bound_at b.number (with_bound frame b) ≡ Some b
 put_bound frame b = ⊎_elim (λ put. put.1) (λ kept. absurd (kept.0 refl)) (bound_put frame b b.number)
 
--- what is bound stays bound where a number is put in that had no binding
+-- a binding stays when a number without one is bound
 pub kept_bound : (frame : Frame) (outer : Frames) (new : Bound) (n : ℕ) (b : Bound) → innermost new.number (frame ∷ outer) ≡ None → bound_at n frame ≡ Some b
     → bound_at n (with_bound frame new) ≡ Some b
 kept_bound frame outer new n b unbound h =
     ⊎_elim (λ put. absurd (never_both b _ h (subst (λ j. bound_at j frame ≡ None) put.0 (own_nothing frame outer new.number unbound)))) (λ kept. kept.1 ∙ h) (bound_put frame new n)
 
--- ---- assignments by their numbers
+-- ---- assignments by number
 
 numbered_one : (xs : List Assignment) (n : ℕ) (a : Assignment) → numbered xs n ≡ Some a → IsOneOf (map (λ a. a.number) xs) n
 numbered_one [] n a h = absurd (cc)
@@ -114,7 +114,7 @@ numbered_one (x ∷ xs) n a h = by (nat_eq x.number n) refl h (λ is. numbered_o
     by true e is later = inl (grind (arith, nat_tests))
     by false e is later = inr (later is)
 
--- of distinct numbers, an assignment that is found by its name is that of its number
+-- if numbers are distinct, an assignment that its name finds is the one with its number
 pub found_numbered : (name : Text) (all : List Assignment) (a : Assignment) → AreDistinct (map (λ a. a.number) all) → value_at (λ a. a.name.lexeme) name all ≡ Some a → numbered all a.number ≡ Some a
 found_numbered name all a distinct found =
     found_is (λ a. a.name.lexeme) name (λ xs. AreDistinct (map (λ a. a.number) xs) × ((b : Assignment) → numbered xs b.number ≡ Some b → numbered all b.number ≡ Some b)) (λ a. numbered all a.number ≡ Some a)
@@ -137,8 +137,8 @@ found_numbered name all a distinct found =
 abbrev pub IsGiven : Frames → List Block → ℕ → Value → Type 0
 IsGiven outer bs k v = (value_in outer k ≡ Some v) ⊎ ((b : Block) × IsIn bs b × (b.number ≡ k) × (b.outcome ≡ Gave v))
 
--- Behind these blocks the run came to this one: the frame that it had made, and the assignment, which is not bound; what it
--- reads has a value.
+-- The state of the run after the blocks `before`, at this block: the frame so far, and the assignment, which is not
+-- bound. What it reads has a value.
 pub record Met (m : Module) (outer : Frames) (before : List Block) (b : Block) : Type 0 where
   pub frame : Frame
   pub assignment : Assignment
@@ -149,12 +149,12 @@ pub record Met (m : Module) (outer : Frames) (before : List Block) (b : Block) :
   pub given : (k : ℕ) (v : Value) → value_in (frame ∷ outer) k ≡ Some v → IsGiven outer before k v
   pub reads : (k : ℕ) → Reads m.program.functions assignment.value k → HasValue (value_in (frame ∷ outer)) k
 
--- each block behind those before it
+-- each block after those before it
 abbrev pub AllMet : Module → Frames → List Block → List Block → Type 0
 AllMet m outer before [] = Unit {0}
 AllMet m outer before (b ∷ bs) = Met m outer before b × AllMet m outer (b ∷ before) bs
 
--- a block is not of a number that is bound outside
+-- the number of a block is not bound outside
 pub met_outside : (m : Module) (outer : Frames) (before : List Block) (b : Block) → Met m outer before b → value_in outer b.number ≡ None
 met_outside m outer before b k = subst (λ n. value_in outer n ≡ None) k.number (below_nothing k.frame (value_in outer) k.assignment.number k.unbound)
 
@@ -181,7 +181,7 @@ one_met m outer before (x ∷ bs) all b front behind h (inr later) =
     one_met m outer (x ∷ before) bs all b (λ c at. ⊎_elim (λ same. behind c (inl same)) (λ at. front c at) at) (λ c at. behind c (inr at)) h.1 later
 
 module _ (m : Module) (outer : Frames) (distinct : AreDistinct (map (λ a. a.number) m.assignments.all)) where
-  -- what was taken, and what is bound outside, has a value
+  -- what was taken or is bound outside has a value
   abbrev pub AllHave : Frame → List ℕ → Type 0
   AllHave frame taken = (n : ℕ) → IsOneOf taken n ⊎ HasValue (value_in outer) n → HasValue (value_in (frame ∷ outer)) n
 

@@ -1,4 +1,4 @@
--- What a const stage finds, a run of the same module bears out.
+-- Soundness of constant evaluation: a run of the same module confirms what a const stage finds.
 use Rattle.std.proofs.Common.{◌≡◌, ◌≢◌, inl, inr, ℕ, zero, suc, ◌-◌, Bool, true, false, List, [], ◌∷◌, map, Some, None, if◌then◌else◌, refl, sym, ap, ◌∙◌, subst}
 use Rattle.just_syntax.specs.Plain.{Assignment}
 use Rattle.just_value.specs.ConstRefusal.{ConstRefusal, Backtick, FunctionCall, Variable}
@@ -26,24 +26,24 @@ use Rattle.just_agreement.proofs.Orders.{distinct_front}
 use Rattle.just_agreement.proofs.Stages as stages
 use Rattle.just_agreement.proofs.Stages.{IsFound, MetConst, found_outside, is_what_was_found, standing}
 
--- ---- paths
+-- ---- traces
 
 abbrev block_of : ℕ → List Event → Outcome Value → Block
 block_of n es o = record { number = n; events = es; outcome = o }
 
--- what is refused otherwise is refused alike
+-- any other refusal is the same in both
 foretells_refused : (is_open : ℕ → Bool) (n : ℕ) (es : List Event) (r : Refusal) → IsFinal r → AreConstant is_open es → Foretells is_open (Refused r) (block_of n es (Refused r))
 foretells_refused is_open n es (Const c) h k = absurd h
 foretells_refused is_open n es _ h k = (refl, k)
 
--- one more thing that is not shut, before what is foretold
+-- one more note that the const rules allow, before what is foretold
 foretells_note : (is_open : ℕ → Bool) (x : Note) (o : Outcome Value) (n : ℕ) (es : List Event) (p : Outcome Value) → is_shut is_open x ≡ false → Foretells is_open o (block_of n es p) → Foretells is_open o (block_of n (Noted x ∷ es) p)
 foretells_note is_open x (Gave v) n es p e h = (h.0, (e, h.1))
 foretells_note is_open x (Refused (Const c)) n es p e h = inr h
 foretells_note is_open x (Refused _) n es p e h = (h.0, (e, h.1))
 foretells_note is_open x Stopped n es p e h = tt
 
--- what is shut is refused by the const rules, and nothing else is
+-- exactly these notes are refused by the const rules
 refused_shut : (is_open : ℕ → Bool) (x : Note) → is_shut is_open x ≡ true → (c : ConstRefusal) × (constantly is_open x ≡ Some (Const c))
 refused_shut is_open (Read t n) e = (Variable t, ap (λ b. if b then Some (Const (Variable t)) else None) e)
 refused_shut is_open (Entered t) e = (FunctionCall t, refl)
@@ -62,7 +62,7 @@ module _ (one other : ℕ → Bool) (n : ℕ) where
       subst (λ r. Foretells other (unless_refused r o) (block_of n (Noted x ∷ es) p)) (sym c.1) (inl (sym same ∙ e))
   foretold_note x o es p false e same h = subst (λ r. Foretells other (unless_refused r o) (block_of n (Noted x ∷ es) p)) (sym (passed_open one x e)) (foretells_note other x o n es p (sym same ∙ e) (h e))
 
-  -- what the const rules make of a tree, the paths down one that is alike up to what is shut bear out
+  -- the outcome of a tree under the const rules foretells the traces of one that is alike up to what they refuse
   foretold : {t u : Tree Value} {es : List Event} {p : Outcome Value} → Alike (UpToShut one other) t u → AllEnd (IfRefused IsFinal) u → Path freely u es p → p ≢ Stopped → Foretells other (constant one t) (block_of n es p)
   foretold (Done {o = Gave v}) final Ends on = (refl, tt)
   foretold (Done {o = Refused r}) final Ends on = foretells_refused other n [] r final tt
@@ -73,7 +73,7 @@ module _ (one other : ℕ → Bool) (n : ℕ) where
   foretold a final interaction.Stops on = absurd (on refl)
   foretold a final (Shuts e) on = absurd (cc)
 
--- ---- a run's tree ends in no refusal of the const rules
+-- ---- no outcome of a run's tree is a refusal of the const rules
 
 final_lexical : (c : Program) (base : Names) (n : ℕ) → IsFinalDeeper (lexical c base n)
 final_lexical c base zero = tt
@@ -86,7 +86,7 @@ final_assigned m frames a =
 -- ---- the blocks of a run
 
 module _ (m : Constants) (lists : Bool) (outer : Frames) (n : Module) (others : Frames) (same : AreOfOneModule m lists outer n others) (ends : ℕ → Bool) (fs : List Found) (met : (f : Found) → IsIn fs f → MetConst m lists outer ends fs f) where
-  -- what the stage made of an assignment is alike, up to what is shut, to what the run makes of it
+  -- the tree of an assignment in the stage is alike to its tree in the run, up to what the const rules refuse
   assigned_alike : (f : Found) (k : MetConst m lists outer ends fs f) (frames : Frames) → ((j : ℕ) → Stands k.assignment.value (VariableOf (Some j)) → k.opened j ≡ false → value_in (k.frame ∷ outer) j ≡ value_in frames j)
       → Alike (UpToShut k.opened ends) (or_override (m.overrides k.assignment.number) (const_meaning (standing lists outer k.frame k.opened) k.assignment.value)) (assigned lexically n frames k.assignment)
   assigned_alike f k frames names =

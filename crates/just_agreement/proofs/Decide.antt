@@ -1,4 +1,4 @@
--- Two paths down one tree: the first difference is an answer.
+-- Determinacy: two traces of one tree first differ in an answer.
 use Rattle.std.proofs.Common.{◌≡◌, ◌≢◌, inl, inr, Bool, true, false, List, [], ◌∷◌, ◌++◌, Option, Some, None, if◌then◌else◌, append-nil, refl, sym, ap, subst}
 use mathlib.Core.List.{List-discrete}
 use native.Mathlib.Decide.{ℕ_discrete}
@@ -61,7 +61,7 @@ same_verdict Passed _ = no (λ e. absurd (cc))
 same_verdict (Denied t) _ = no (λ e. absurd (cc))
 same_verdict Untold _ = no (λ e. absurd (cc))
 
--- ---- paths
+-- ---- traces
 
 pub decide : {A : Type 0} {t : Tree A} {es fs : List Event} {o p : Outcome A} → Path freely t es o → Path freely t fs p → o ≢ Stopped → p ≢ Stopped → AgreeUpToAnswers es fs (o ≡ p)
 decide Ends Ends here there = refl
@@ -78,7 +78,7 @@ decide p (Shuts e) here there = absurd (cc)
 -- ---- a run as a tree
 
 module _ (closing : Closing) (m : Module) where
-  -- an assignment that is bound already is passed over; else its value is bound
+  -- an assignment that is already bound is skipped; otherwise its value is bound
   abbrev unless_bound : (Frames → Tree Frames) → Frames → Assignment → Option Bound → Tree Frames
   unless_bound on frames a (Some b) = on frames
   unless_bound on frames a None = bind (assigned closing m frames a) (λ v. on (bound_in_front frames (bound_of m.program.fixed.settings.export a v)))
@@ -91,11 +91,11 @@ module _ (closing : Closing) (m : Module) where
   run_tree frames [] = gives frames
   run_tree frames (t ∷ left) = next_name (λ frames. run_tree frames left) frames t (assignment_at m.assignments t.lexeme)
 
-  -- no events come behind those of the last block
+  -- no events come after those of the last block
   last_events : (es : List Event) {t : Tree Frames} {o : Outcome Frames} → Path freely t es o → Path freely t (es ++ []) o
   last_events es p = rw append-nil p
 
-  -- where a name stands for this assignment, and the rest goes on from there
+  -- the name is that of this assignment, and the run continues from there
   at_name : (frames : Frames) (t : Token) (left : List Token) (a : Assignment) {b : Bool} {y : Option Bound} {es : List Event} {o : Outcome Frames}
       → assignment_at m.assignments t.lexeme ≡ Some a → m.assignments.referenced a.number ≡ b → innermost a.number frames ≡ y
       → Path freely (if b then unless_bound (λ frames. run_tree frames left) frames a y else run_tree frames left) es o → Path freely (run_tree frames (t ∷ left)) es o

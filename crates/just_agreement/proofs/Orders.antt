@@ -1,4 +1,4 @@
--- Two orders of one module.
+-- Confluence of orders: two orders of one module.
 use Rattle.std.proofs.Common.{◌≡◌, ◌≢◌, ◌⊎◌, ⊎_elim, inl, inr, ℕ, Bool, true, false, List, [], ◌∷◌, ◌++◌, map, Some, None, refl, sym, ap, ap₂, ◌∙◌, subst}
 use Rattle.just_syntax.specs.Plain.{Token, Assignment}
 use Rattle.just_value.specs.Value.{Value}
@@ -16,7 +16,7 @@ use Rattle.just_agreement.specs.Cone.{numbered}
 use Rattle.just_agreement.proofs.Blocks.{AllMet, IsIn, all_met, bound_value, found_numbered, gave_same, in_of, kept_bound, met_outside, never_both, of_in, one_met, put_bound, some_same}
 use Rattle.just_agreement.proofs.Agreed.{AreMatched, blocks_agree, gave_on}
 
--- a block that bound this: the assignment of its number, with its value
+-- the block that made this binding: the assignment of its number, with its value
 pub record IsMade (m : Module) (bs : List Block) (n : ℕ) (b : Bound) : Type 0 where
   pub block : Block
   pub assignment : Assignment
@@ -65,7 +65,7 @@ module _ (m : Module) (outer : Frames) where
   refused_last frame (Halts a es k p) b r (inl same) e = let other : Stopped ≡ Refused r = ap (λ (x : Block). x.outcome) same ∙ e in absurd (cc)
   refused_last frame (Halts a es k p) b r (inr none) e = absurd none
 
-  -- where each block gave a value, the run finishes
+  -- if each block has a value, the run finishes
   all_gave : (frame : Frame) {left : List Token} {bs : List Block} {o : Outcome Frames} → Run lexically m (frame ∷ outer) left bs o → AreAssignments m.assignments left → o ≢ Stopped
       → ((b : Block) → IsIn bs b → (v : Value) × (b.outcome ≡ Gave v)) → (last : Frames) × (o ≡ Gave last)
   all_gave frame Finished named on gave = (frame ∷ outer, refl)
@@ -77,7 +77,7 @@ module _ (m : Module) (outer : Frames) where
   all_gave frame (Breaks a es s k p) named on gave = let v = gave _ (inl refl) in absurd (let other : Refused s ≡ Gave v.0 = v.1 in cc)
   all_gave frame (Halts a es k p) named on gave = absurd (on refl)
 
-  -- a block is of a number that is taken
+  -- the number of a block is taken
   taken_by : (frame : Frame) {left : List Token} {bs : List Block} {o : Outcome Frames} → ((t : Token) → IsIn left t → IsIn m.assignments.order t) → Run lexically m (frame ∷ outer) left bs o → (b : Block) → IsIn bs b → IsTakenBy m b.number
   taken_by frame within Finished b at = absurd at
   taken_by frame within Stops b at = absurd at
@@ -94,7 +94,7 @@ module _ (m : Module) (outer : Frames) where
 -- ---- a run that finishes
 
 module _ (m : Module) (outer : Frames) (distinct : AreDistinct (map (λ a. a.number) m.assignments.all)) where
-  -- what it binds in its own frame was there before, or a block made it
+  -- a binding in its own frame was there before, or a block made it
   pub makes : (frame : Frame) {left : List Token} {bs : List Block} {last : Frames} → Run lexically m (frame ∷ outer) left bs (Gave last) → (n : ℕ) (b : Bound) → bound_at n (own_frame last) ≡ Some b → (bound_at n frame ≡ Some b) ⊎ IsMade m bs n b
   makes frame Finished n b h = inl h
   makes frame (Passes a f e r) n b h = makes frame r n b h
@@ -129,7 +129,7 @@ module _ (m : Module) (outer : Frames) (distinct : AreDistinct (map (λ a. a.num
   stays_bound frame (Skips a c f e g r) n b h = stays_bound frame r n b h
   stays_bound frame (Binds a es v k p r) n b h = stays_bound _ r n b (kept_bound frame outer (bound_of m.program.fixed.settings.export a v) n b k.unbound h)
 
-  -- a block that gave a value bound it
+  -- a block with a value bound it
   pub block_bound : (frame : Frame) {left : List Token} {bs : List Block} {last : Frames} → Run lexically m (frame ∷ outer) left bs (Gave last) → (b : Block) (v : Value) → IsIn bs b → b.outcome ≡ Gave v
       → (a : Assignment) × (numbered m.assignments.all b.number ≡ Some a) × (bound_at b.number (own_frame last) ≡ Some (bound_of m.program.fixed.settings.export a v))
   block_bound frame Finished b v at e = absurd at
@@ -151,7 +151,7 @@ module _ (m : Module) (outer : Frames) (distinct : AreDistinct (map (λ a. a.num
   value_stays frame (Skips a c f e g r) n h = value_stays frame r n h
   value_stays frame (Binds a es v k p r) n h = value_stays _ r n (has_put frame (value_in outer) (bound_of m.program.fixed.settings.export a v) n (inr h))
 
-  -- what is taken has a value in the end
+  -- what is taken has a value at the end
   taken_has : (frame : Frame) {left : List Token} {bs : List Block} {last : Frames} → Run lexically m (frame ∷ outer) left bs (Gave last) → (t : Token) (a : Assignment) → IsIn left t → assignment_at m.assignments t.lexeme ≡ Some a
       → m.assignments.referenced a.number ≡ true → HasValue (value_in last) a.number
   taken_has frame Finished t a at found referenced = absurd at
@@ -168,7 +168,7 @@ module _ (m : Module) (outer : Frames) (distinct : AreDistinct (map (λ a. a.num
       value_stays _ r a.number (subst (λ (x : Assignment). HasValue (value_in (with_bound frame (bound_of m.program.fixed.settings.export c v) ∷ outer)) x.number) one (has_put frame (value_in outer) (bound_of m.program.fixed.settings.export c v) c.number (inl refl)))
   taken_has frame (Binds c es v k p r) t a (inr at) found referenced = taken_has _ r t a at found referenced
 
-  -- a value in the end was there before, or a block gave it
+  -- a value at the end was there before, or a block gave it
   gives_value : (frame : Frame) {left : List Token} {bs : List Block} {last : Frames} → Run lexically m (frame ∷ outer) left bs (Gave last) → (n : ℕ) (v : Value) → value_in last n ≡ Some v
       → (value_in (frame ∷ outer) n ≡ Some v) ⊎ ((b : Block) × IsIn bs b × (b.number ≡ n) × (b.outcome ≡ Gave v))
   gives_value frame Finished n v h = inl h
@@ -213,7 +213,7 @@ module _ (m : Module) (order : List Token) (referenced : ℕ → Bool) (outer : 
   outside : (c : Block) → IsIn cs c → value_in outer c.number ≡ None
   outside c at = met_outside w outer cs c (one_met w outer [] cs cs c (λ x none. absurd none) (λ x h. h) other_met at)
 
-  -- of a number that both make, the same is made
+  -- if both make a binding of a number, it is the same
   one_binding : (n : ℕ) (b c : Bound) → IsMade m bs n b → IsMade w cs n c → b ≡ c
   one_binding n b c k l = k.bound ∙ ap₂ (bound_of m.program.fixed.settings.export) assignment value ∙ sym l.bound
     where
@@ -224,11 +224,11 @@ module _ (m : Module) (order : List Token) (referenced : ℕ → Bool) (outer : 
       value = gave_same k.value l.value (sym k.gave ∙ (both k.block l.block k.among l.among (k.number ∙ sym l.number) (gave_on k.value k.block.outcome k.gave) (gave_on l.value l.block.outcome l.gave)).0 ∙ l.gave)
 
   module _ (frames : Frames) (finished : Run lexically m ([] ∷ outer) m.assignments.order bs (Gave frames)) where
-    -- in its own frame a finished run binds what its blocks made
+    -- a finished run binds in its own frame only what its blocks made
     made : (n : ℕ) (b : Bound) → bound_at n (own_frame frames) ≡ Some b → IsMade m bs n b
     made n b h = ⊎_elim (λ none. absurd (cc)) (λ made. made) (makes m outer distinct [] finished n b h)
 
-    -- the block that the run has for one of the other, where the other takes nothing else
+    -- the run's block for a block of the other, if the other takes nothing else
     pub partner : ((n : ℕ) → IsTakenBy w n → IsTakenBy m n) → (c : Block) → IsIn cs c → (b : Block) × IsIn bs b × (b.number ≡ c.number) × ((v : Value) × (b.outcome ≡ Gave v))
     partner within c at = ⊎_elim
         (λ out. absurd (never_both h.0 (value_in outer k.assignment.number) out (subst (λ n. value_in outer n ≡ None) (sym k.number) (outside c at))))
@@ -250,7 +250,7 @@ module _ (m : Module) (order : List Token) (referenced : ℕ → Bool) (outer : 
       end : (last : Frames) × (p ≡ Gave last)
       end = all_gave w outer [] q other.named on gave
 
-      -- what the other makes is bound here
+      -- a binding that the other makes is bound here
       bound_here : (n : ℕ) (c : Bound) → IsMade w cs n c → bound_at n (own_frame frames) ≡ Some c
       bound_here n c l =
           let b = partner within l.block l.among in

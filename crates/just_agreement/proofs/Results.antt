@@ -1,4 +1,4 @@
--- A run ends as its blocks say.
+-- The end of a run agrees with its blocks.
 use Rattle.std.proofs.Common.{◌≡◌, ⊎_elim, inl, inr, List, [], ◌∷◌, map, refl, sym, ap, ◌∙◌, subst}
 use Rattle.just_syntax.specs.Plain.{Token}
 use Rattle.just_value.specs.Value.{Value}
@@ -23,7 +23,7 @@ module _ (m : Module) (outer : Frames) where
   all_gave frame (Binds a es v k p r) b (inl same) = (v, sym (ap (λ (x : Block). x.outcome) same))
   all_gave frame (Binds a es v k p r) b (inr at) = all_gave _ r b at
 
-  -- after a refused block there is none
+  -- no block comes after a refused one
   refused_is_last : (frame : Frame) {left : List Token} {bs : List Block} {o : Outcome Frames} → Run lexically m (frame ∷ outer) left bs o → (b : Block) (r : Refusal) → IsIn bs b → b.outcome ≡ Refused r → IsLast bs b
   refused_is_last frame Finished b r at e = absurd at
   refused_is_last frame Stops b r at e = absurd at
@@ -37,7 +37,7 @@ module _ (m : Module) (outer : Frames) where
   refused_is_last frame (Halts a es k p) b r (inl same) e = let other : Stopped ≡ Refused r = ap (λ (x : Block). x.outcome) same ∙ e in absurd (cc)
   refused_is_last frame (Halts a es k p) b r (inr none) e = absurd none
 
-  -- a refused run of known names has a block that is refused so
+  -- a refused run of known names has a block with that refusal
   has_refused : (frame : Frame) {left : List Token} {bs : List Block} {o : Outcome Frames} → AreAssignments m.assignments left → Run lexically m (frame ∷ outer) left bs o
       → (r : Refusal) → o ≡ Refused r → (b : Block) × IsIn bs b × (b.outcome ≡ Refused r)
   has_refused frame named Finished r e = absurd (cc)

@@ -1,4 +1,4 @@
--- What each assignment of a const stage found when the stage came to it.
+-- The state of a const stage before each of its assignments.
 use Rattle.std.proofs.Common.{◌≡◌, ◌⊎◌, ⊎_elim, inl, inr, ℕ, Bool, true, false, ◌&&◌, ◌||◌, List, [], ◌∷◌, map, nat_eq, Some, None, if◌then◌else◌, refl, sym, ap, ◌∙◌, subst, arith}
 use Rattle.std.proofs.lemmas.Bool.Decides.{nat_tests}
 use Rattle.just_syntax.specs.Plain.{Token, Assignment}
@@ -33,16 +33,16 @@ final_shut : (r : Refusal) → IsFinal r → is_opened (Refused r) ≡ false
 final_shut (Const c) h = absurd h
 final_shut _ h = refl
 
--- how far a stage is, over these outer frames
+-- the standing of a stage over these outer frames
 abbrev pub standing : Bool → Frames → Frame → (ℕ → Bool) → Standing
 standing lists outer frame opened = record { lists = lists; frames = frame ∷ outer; is_open = opened }
 
--- the value is bound outside, or it is found
+-- the value is bound outside, or the stage found it
 abbrev pub IsFound : Frames → List Found → ℕ → Value → Type 0
 IsFound outer fs k v = (value_in outer k ≡ Some v) ⊎ ((f : Found) × IsIn fs f × (f.number ≡ k) × (f.outcome ≡ Gave v))
 
--- The stage came to this: what it had bound and opened, and the assignment, which is not bound. What stands in it is open
--- now exactly if it is in the end, and else has a value.
+-- The state of the stage at this assignment: what it has bound and opened so far. The assignment is not bound. A
+-- variable that occurs in it is open now exactly if it is open at the end; otherwise it has a value.
 pub record MetConst (m : Constants) (lists : Bool) (outer : Frames) (ends : ℕ → Bool) (fs : List Found) (f : Found) : Type 0 where
   pub frame : Frame
   pub opened : ℕ → Bool
@@ -59,7 +59,7 @@ pub found_outside : (m : Constants) (lists : Bool) (outer : Frames) (ends : ℕ 
 found_outside m lists outer ends fs f k = subst (λ n. value_in outer n ≡ None) k.number (below_nothing k.frame (value_in outer) k.assignment.number k.unbound)
 
 module _ (m : Constants) (lists : Bool) (outer : Frames) where
-  -- what has a value is not opened any more
+  -- a number with a value is not opened later
   stays_shut : (frame : Frame) (opened : ℕ → Bool) {left : List Token} {fs : List Found} {o : Outcome Standing} → Stage m (standing lists outer frame opened) left fs o → (k : ℕ) → HasValue (value_in (frame ∷ outer)) k → is_found_open fs k ≡ false
   stays_shut frame opened Finished k h = refl
   stays_shut frame opened Stops k h = refl
@@ -75,7 +75,7 @@ module _ (m : Constants) (lists : Bool) (outer : Frames) where
       shut false e rest = rest
   stays_shut frame opened (Breaks a s final new e) k h = ap (λ b. (b && nat_eq k a.number) || false) (final_shut s final)
 
-  -- the open numbers in the end
+  -- the open numbers at the end
   ends_open : (frame : Frame) (opened : ℕ → Bool) {left : List Token} {fs : List Found} {s : Standing} → Stage m (standing lists outer frame opened) left fs (Gave s) → (n : ℕ) → s.is_open n ≡ (opened n || is_found_open fs n)
   ends_open frame opened Finished n = sym (or_false (opened n))
   ends_open frame opened (Passes a f e r) n = ends_open frame opened r n
@@ -84,7 +84,7 @@ module _ (m : Constants) (lists : Bool) (outer : Frames) where
   ends_open frame opened (Settles a v new e r) n = ends_open _ opened r n
   ends_open frame opened (Opens {fs = fs} a c new e r) n = ends_open frame _ r n ∙ or_swap (nat_eq n a.number) (opened n) (is_found_open fs n)
 
-  -- a binding in the end was there before, or its value is found
+  -- a binding at the end was there before, or the stage found its value
   ends_bound : (frame : Frame) (opened : ℕ → Bool) {left : List Token} {fs : List Found} {s : Standing} → Stage m (standing lists outer frame opened) left fs (Gave s) → (n : ℕ) (b : Bound) → bound_at n (own_frame s.frames) ≡ Some b
       → (bound_at n frame ≡ Some b) ⊎ ((f : Found) × IsIn fs f × (f.number ≡ n) × (f.outcome ≡ Gave b.value))
   ends_bound frame opened Finished n b h = inl h
@@ -101,7 +101,7 @@ module _ (m : Constants) (lists : Bool) (outer : Frames) where
       (ends_bound _ opened r n b h)
   ends_bound frame opened (Opens a c new e r) n b h = ⊎_elim (λ old. inl old) (λ f. inr (f.0, inr f.1, f.2, f.3)) (ends_bound frame _ r n b h)
 
-  -- what is bound stays bound
+  -- a binding stays
   stays_bound : (frame : Frame) (opened : ℕ → Bool) {left : List Token} {fs : List Found} {s : Standing} → Stage m (standing lists outer frame opened) left fs (Gave s)
       → (n : ℕ) (b : Bound) → bound_at n frame ≡ Some b → bound_at n (own_frame s.frames) ≡ Some b
   stays_bound frame opened Finished n b h = h
@@ -111,7 +111,7 @@ module _ (m : Constants) (lists : Bool) (outer : Frames) where
   stays_bound frame opened (Settles a v new e r) n b h = stays_bound _ opened r n b (kept_bound frame outer (bound_of false a v) n b new.unbound h)
   stays_bound frame opened (Opens a c new e r) n b h = stays_bound frame _ r n b h
 
-  -- a value that is found is bound in the end
+  -- a value that the stage finds is bound at the end
   ends_settled : (frame : Frame) (opened : ℕ → Bool) {left : List Token} {fs : List Found} {s : Standing} → Stage m (standing lists outer frame opened) left fs (Gave s)
       → (f : Found) (v : Value) → IsIn fs f → f.outcome ≡ Gave v → (b : Bound) × (bound_at f.number (own_frame s.frames) ≡ Some b) × (b.value ≡ v)
   ends_settled frame opened Finished f v at e = absurd at
@@ -127,7 +127,7 @@ module _ (m : Constants) (lists : Bool) (outer : Frames) where
   ends_settled frame opened (Opens a c new k r) f v (inl same) e = let other : Refused (Const c) ≡ Gave v = ap (λ (x : Found). x.outcome) same ∙ e in absurd (cc)
   ends_settled frame opened (Opens a c new k r) f v (inr at) e = ends_settled frame _ r f v at e
 
-  -- a stage of known names is refused as it found
+  -- a refused stage of known names found that refusal
   pub ends_refused : (standing_at : Standing) {left : List Token} {fs : List Found} {o : Outcome Standing} → AreAssignments m.assignments left → Stage m standing_at left fs o
       → (r : Refusal) → o ≡ Refused r → (f : Found) × IsIn fs f × (f.outcome ≡ Refused r)
   ends_refused at named Finished r e = absurd (cc)
@@ -147,10 +147,10 @@ module _ (m : Constants) (lists : Bool) (outer : Frames) where
     settles = λ f v at e. ends_settled [] (λ n. false) r f v (in_of fs f at) e;
   }
 
-  -- ---- what is met
+  -- ---- the state before an assignment
 
   module _ (distinct : AreDistinct (map (λ a. a.number) m.assignments.all)) (ends : ℕ → Bool) (all : List Found) where
-    -- what was taken, and what is bound outside, is open or has a value
+    -- what was taken or is bound outside is open or has a value
     abbrev AllKnown : Frame → (ℕ → Bool) → List ℕ → Type 0
     AllKnown frame opened taken = (n : ℕ) → IsOneOf taken n ⊎ HasValue (value_in outer) n → (opened n ≡ true) ⊎ HasValue (value_in (frame ∷ outer)) n
 
@@ -167,7 +167,7 @@ module _ (m : Constants) (lists : Bool) (outer : Frames) where
         → InOrder (with_taken m.assignments (assignment_at m.assignments t.lexeme) taken) left → InOrder (if b then a.number ∷ taken else taken) left
     behind taken t left a b found e h = rw (found, e) at h
 
-    -- one number more is known
+    -- one more number is open or has a value
     one_more : (frame : Frame) (opened : ℕ → Bool) (taken : List ℕ) (n : ℕ) → (opened n ≡ true) ⊎ HasValue (value_in (frame ∷ outer)) n → AllKnown frame opened taken → AllKnown frame opened (n ∷ taken)
     one_more frame opened taken n h known k (inl (inl same)) = subst (λ j. (opened j ≡ true) ⊎ HasValue (value_in (frame ∷ outer)) j) same h
     one_more frame opened taken n h known k (inl (inr among)) = known k (inl among)

@@ -1,4 +1,4 @@
--- Answers decide: from one start the first difference is an answer.
+-- Determinacy: two evaluations from one start first differ in an answer.
 use Rattle.std.specs.Prelude.{◌≡◌, ◌≢◌, ◌⊎◌, Bool, List, [], ◌∷◌}
 use Rattle.just_syntax.specs.Plain.{Text, Token, Expr, Fragment, Parameter, Recipe}
 use Rattle.just_value.specs.Value.{Value}
@@ -10,7 +10,8 @@ use Rattle.just_meaning.specs.Meaning.{Program, Situation, Deeper, eval}
 use Rattle.just_meaning.specs.Module.{Module, Block, Closing, Run, events_of}
 use Rattle.just_meaning.specs.Parameters.{Arguments, parameters}
 
--- Equal to the end, where this holds; or the first difference is another answer to the same question, or to the same check.
+-- The events are equal to the end, where this holds, or the first difference is another answer to the same question or
+-- check.
 abbrev pub AgreeUpToAnswers : List Event → List Event → Type 0 → Type 0
 AgreeUpToAnswers [] [] end = end
 AgreeUpToAnswers (Asked q a ∷ es) (Asked r b ∷ fs) end = (q ≡ r) × ((a ≢ b) ⊎ ((a ≡ b) × AgreeUpToAnswers es fs end))
@@ -18,8 +19,9 @@ AgreeUpToAnswers (Checked p v a ∷ es) (Checked q w b ∷ fs) end = (p ≡ q) �
 AgreeUpToAnswers (Noted x ∷ es) (Noted y ∷ fs) end = (x ≡ y) × AgreeUpToAnswers es fs end
 AgreeUpToAnswers _ _ end = ⊥
 
--- Two evaluations from one start, neither stopped, agree up to answers: of an expression, of a line, of a recipe's
--- attributes and parameters, whatever calls may still do; and of a module's assignments, by either scoping.
+-- Determinacy: two evaluations from one start, neither stopped, agree up to answers. They are of an expression, of a
+-- line, or of a recipe's attributes and parameters, whatever calls may still do; or of a module's assignments, under
+-- either scoping discipline.
 pub record AnswersDecide : Type 0 where
   pub expressions : (c : Program) (d : Deeper) (s : Situation) (e : Expr) (es fs : List Event) (o p : Outcome Value)
       → Path freely (eval c d s e) es o → Path freely (eval c d s e) fs p → o ≢ Stopped → p ≢ Stopped → AgreeUpToAnswers es fs (o ≡ p)

@@ -1,4 +1,4 @@
--- What is found before any run, each run bears out.
+-- Soundness of constant evaluation: what a const stage finds, every run confirms.
 use Rattle.std.specs.Prelude.{◌≡◌, ◌≢◌, ◌⊎◌, ℕ, Bool, true, false, ◌&&◌, ◌||◌, Contains, List, [], ◌∷◌, nat_eq, Some}
 use Rattle.just_value.specs.Value.{Value}
 use Rattle.just_value.specs.Frames.{Bound, Frames, bound_at, own_frame, value_in}
@@ -9,26 +9,26 @@ use Rattle.just_meaning.specs.Module.{Module, Block, Run, lexically}
 use Rattle.just_meaning.specs.Resolved.{IsResolved, IsResolvedConst}
 use Rattle.just_meaning.specs.Stage.{Constants, Standing, Found, Stage, at_start}
 
--- a call, a command, or the reading of an open variable: what the const rules refuse
+-- what the const rules refuse: a call, a command, or the reading of an open variable
 abbrev pub is_shut : (ℕ → Bool) → Note → Bool
 is_shut is_open (Read t n) = is_open n
 is_shut is_open (Entered t) = true
 is_shut is_open (Command t) = true
 
--- such a thing is among the events
+-- one of these is among the events
 abbrev pub ReachShut : (ℕ → Bool) → List Event → Type 0
 ReachShut is_open [] = ⊥
 ReachShut is_open (Noted x ∷ es) = (is_shut is_open x ≡ true) ⊎ ReachShut is_open es
 ReachShut is_open (_ ∷ es) = ReachShut is_open es
 
--- no such thing is among the events, and nothing is asked or checked
+-- none of these is among the events, and nothing is asked or checked
 abbrev pub AreConstant : (ℕ → Bool) → List Event → Type 0
 AreConstant is_open [] = Unit {0}
 AreConstant is_open (Noted x ∷ es) = (is_shut is_open x ≡ false) × AreConstant is_open es
 AreConstant is_open _ = ⊥
 
--- What is found of an assignment, where these numbers are open, foretells its block in a run. One that is settled has that
--- value, one that is open reaches what is shut, and one that is refused is refused alike.
+-- With these open numbers, what a stage finds for an assignment foretells its block in a run. A settled assignment has
+-- that value, an open one reaches something that the const rules refuse, and a refused one has the same refusal.
 abbrev pub Foretells : (ℕ → Bool) → Outcome Value → Block → Type 0
 Foretells is_open (Gave v) b = (b.outcome ≡ Gave v) × AreConstant is_open b.events
 Foretells is_open (Refused (Const c)) b = ReachShut is_open b.events
@@ -39,29 +39,30 @@ abbrev pub is_opened : Outcome Value → Bool
 is_opened (Refused (Const c)) = true
 is_opened _ = false
 
--- the numbers that are found open
+-- the numbers that the stage found to be open
 abbrev pub is_found_open : List Found → ℕ → Bool
 is_found_open [] n = false
 is_found_open (f ∷ fs) n = (is_opened f.outcome && nat_eq n f.number) || is_found_open fs n
 
--- Where a stage stands in the end is what it found: the open numbers are those that are found open, each binding of
--- its own frame has the value that is found of its number, and each value that is found is bound there.
+-- The standing at the end is what the stage found. The open numbers are those found to be open, each binding in its own
+-- frame has the value found for its number, and each value found is bound there.
 pub record IsWhatWasFound (fs : List Found) (s : Standing) : Type 0 where
   pub opens : (n : ℕ) → s.is_open n ≡ is_found_open fs n
   pub binds : (n : ℕ) (b : Bound) → bound_at n (own_frame s.frames) ≡ Some b → (f : Found) × Contains fs f × (f.number ≡ n) × (f.outcome ≡ Gave b.value)
   pub settles : (f : Found) (v : Value) → Contains fs f → f.outcome ≡ Gave v
       → (b : Bound) × (bound_at f.number (own_frame s.frames) ≡ Some b) × (b.value ≡ v)
 
--- A const stage and a run have the same assignments and overrides, the same lists flag, and outer frames of the same values.
--- Their orders, what is referenced, the functions and all else are free.
+-- A const stage and a run have the same assignments and overrides, the same lists flag, and outer frames with the same
+-- values. Their orders, references, functions and all else are free.
 pub record AreOfOneModule (m : Constants) (lists : Bool) (outer : Frames) (n : Module) (others : Frames) : Type 0 where
   pub assignments : m.assignments.all ≡ n.assignments.all
   pub overrides : (k : ℕ) → m.overrides k ≡ n.overrides k
   pub same_lists : lists ≡ n.program.fixed.settings.lists
   pub values : (k : ℕ) → value_in outer k ≡ value_in others k
 
--- Of an assignment that a stage finds and a run reaches without being stopped in it, where both are resolved, the one
--- foretells the other. A stage that finishes is what it found, and the refusal of another is one that it found.
+-- Soundness of constant evaluation. If both are resolved, what the stage finds for an assignment foretells its block in
+-- a run that reaches it and is not stopped in it. The standing of a stage that finishes is what it found, and the
+-- refusal of any other is one that it found.
 pub record ConstAgrees : Type 0 where
   pub standings : (m : Constants) (lists : Bool) (outer : Frames) (fs : List Found) (s : Standing) → Stage m (at_start lists outer) m.assignments.order fs (Gave s) → IsWhatWasFound fs s
   pub refusals : (m : Constants) (lists : Bool) (outer : Frames) (fs : List Found) (r : Refusal) → IsResolvedConst m.assignments outer

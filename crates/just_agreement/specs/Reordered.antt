@@ -1,4 +1,4 @@
--- Two orders of one module.
+-- Confluence of orders: two orders of one module.
 use Rattle.std.specs.Prelude.{◌≡◌, ◌≢◌, ℕ, Bool, true, Contains, List, [], ◌∷◌, Some}
 use Rattle.just_syntax.specs.Plain.{Token, Assignment}
 use Rattle.just_value.specs.Frames.{Bound, Frames, bound_at, own_frame}
@@ -9,11 +9,11 @@ use Rattle.just_meaning.specs.Module.{Module, Block, Run, events_of, lexically}
 use Rattle.just_meaning.specs.Resolved.{IsResolved}
 use Rattle.just_laws.specs.Laws.{AreAnsweredAlike, AreSame}
 
--- the module in another order, where these variables are referenced
+-- the module in another order, with other references
 abbrev pub reordered : Module → List Token → (ℕ → Bool) → Module
 reordered m order referenced = record m { assignments = record { all = m.assignments.all; order = order; referenced = referenced } }
 
--- some name of the order is that of an assignment with this number, which is referenced
+-- some name of the order is that of a referenced assignment with this number
 pub record IsTakenBy (m : Module) (n : ℕ) : Type 0 where
   pub name : Token
   pub assignment : Assignment
@@ -22,20 +22,22 @@ pub record IsTakenBy (m : Module) (n : ℕ) : Type 0 where
   pub referenced : m.assignments.referenced assignment.number ≡ true
   pub number : assignment.number ≡ n
 
--- What two runs say of each other, by their blocks and how they end.
+-- How two runs agree in their blocks and in how they end.
 pub record Agree (m w : Module) (bs cs : List Block) (o p : Outcome Frames) : Type 0 where
-  -- an assignment that both reach, neither stopped in it, has one value or refusal, by the same questions, frames aside
+  -- an assignment that both reach, and neither is stopped in, has one value or refusal, by the same questions, frames
+  -- aside
   pub blocks : (b c : Block) → Contains bs b → Contains cs c → b.number ≡ c.number → b.outcome ≢ Stopped → c.outcome ≢ Stopped → (b.outcome ≡ c.outcome) × AreSame b.events c.events
-  -- where one is refused at an assignment that the other reaches, so is the other
+  -- if one is refused at an assignment that the other reaches, so is the other
   pub refusals : (b c : Block) (r : Refusal) → Contains bs b → Contains cs c → b.number ≡ c.number → b.outcome ≡ Refused r → c.outcome ≢ Stopped → p ≡ Refused r
-  -- where both finish, a number that both bind has one binding
+  -- if both finish, a number that both bind has one binding
   pub values : (frames last : Frames) (n : ℕ) (b c : Bound) → o ≡ Gave frames → p ≡ Gave last → bound_at n (own_frame frames) ≡ Some b → bound_at n (own_frame last) ≡ Some c → b ≡ c
-  -- where one finishes, so does the other, if it takes nothing else and is not stopped, and what it binds is bound there too
+  -- if one finishes, so does the other, provided it takes nothing else and is not stopped; the first binds all that it
+  -- binds
   pub finishes : (frames : Frames) → o ≡ Gave frames → ((n : ℕ) → IsTakenBy w n → IsTakenBy m n) → p ≢ Stopped
       → (last : Frames) × (p ≡ Gave last) × ((n : ℕ) (b : Bound) → bound_at n (own_frame last) ≡ Some b → bound_at n (own_frame frames) ≡ Some b)
 
--- Two runs of one module in two orders, or with two sets of references, both resolved, agree if whatever both ask, frames
--- aside, is answered alike.
+-- Confluence of orders. Two resolved runs of one module in two orders, or with two sets of references, agree if
+-- whatever both ask, frames aside, is answered alike.
 abbrev pub OrdersAgree : Type 0
 OrdersAgree = (m : Module) (order : List Token) (referenced : ℕ → Bool) (outer : Frames) (bs cs : List Block) (o p : Outcome Frames)
     → let w = reordered m order referenced in

@@ -1,4 +1,4 @@
--- The lines of a case's answer, each of which ends with a newline.
+-- The lines of a case's answer. Each ends with a newline.
 use Rattle.std.specs.Prelude.{List, [], ◌∷◌, ◌++◌, Option, Some, None, codes}
 use Rattle.std.specs.List.{flat_map}
 use Rattle.just_syntax.specs.ListOperator.{operator_text}
@@ -15,38 +15,38 @@ use Rattle.just_host.specs.Recorded.{Kept}
 abbrev pub line : Text → Text
 line text = text ++ codes "\n"
 
--- a question that was asked
+-- the line of a question
 abbrev pub question_line : Kept → Text
 question_line question = line (codes "? " ++ kept_printed question)
 
 abbrev pub question_lines : List Kept → Text
 question_lines = flat_map question_line
 
--- a name and its value
+-- the line of a name and its value
 abbrev pub value_line : Token → Value → Text
 value_line name value = line ((name.lexeme ++ codes " = ") ++ shown value)
 
--- a name whose value is still open
+-- the line of a name whose value is still open
 abbrev pub open_line : Token → Text
 open_line name = line (name.lexeme ++ codes " open")
 
--- what a scope binds
+-- the lines of a scope's bindings
 abbrev pub binding_lines : List Bound → Text
 binding_lines = flat_map (λ bound. value_line bound.name bound.value)
 
--- names, each behind a space
+-- names, each after a space
 abbrev pub name_words : List Token → Text
 name_words = flat_map (λ (name : Token). codes " " ++ name.lexeme)
 
--- the names of an order
+-- the line of the names of an order
 abbrev pub order_line : List Token → Text
 order_line names = line (codes "order" ++ name_words names)
 
--- texts with a space between two
+-- two texts separated by a space
 abbrev pub words : Text → Text → Text
 words one other = (one ++ codes " ") ++ other
 
--- why a run was refused: a number, a name, and what is said of it; no run is refused for an empty interpreter
+-- why a run was refused: a number, a name, and the message; no run is refused for an empty interpreter
 abbrev pub refusal_text : Refusal → Text
 refusal_text (Assert message t) = words (codes "1 Assert") (quoted message)
 refusal_text (Backtick t fault) = words (codes "2 Backtick") (quoted (fault_text fault))
@@ -62,7 +62,7 @@ refusal_text (RecursionLimit last) = words (codes "11 RecursionLimit") last.lexe
 refusal_text (Check parameter message) = words (codes "13 Check") (quoted message)
 refusal_text (EmptyInterpreter t) = []
 
--- the same, where there is none for want of memory
+-- the same, or `OutOfMemory` if there is no refusal
 abbrev pub refused_text : Option Refusal → Text
 refused_text (Some r) = refusal_text r
 refused_text None = codes "12 OutOfMemory"

@@ -1,4 +1,5 @@
-// The lines of a case's answer. It leans on values and on what is kept of questions: no evaluation is needed to print one.
+// The lines of a case's answer. It depends on values and on the records of questions: printing an answer needs no
+// evaluation.
 #![tactic(auto)]
 
 pub mod print;

@@ -1,4 +1,4 @@
-// What is printed of an evaluation.
+// Prints the result of an evaluation.
 
 ghost use Rattle.std.specs.Prelude.{◌≡◌, ◌++◌, OnOk, Some, codes, map, string_bytes};
 ghost use Rattle.std.specs.Map.{values_of};
@@ -23,7 +23,7 @@ use just_value::scope::Scope;
 use just_value::value::Value;
 use std::alloc::Global;
 
-/// Adds the questions, each on a line behind `? `.
+/// Adds the questions, each on a line after `? `.
 pub fn print_questions(text: &mut String, questions: &[Recorded]) -> Result<(), OutOfMemory>
     ensures { OnOk result (string_bytes text.new ≡ string_bytes text.old ++ question_lines (map recorded_view questions.now)) }
 {
@@ -33,7 +33,7 @@ pub fn print_questions(text: &mut String, questions: &[Recorded]) -> Result<(), 
     Ok(())
 }
 
-/// Adds a line on an order: `order`, and each variable that is taken.
+/// Adds the line of an order: `order`, and each variable that is taken.
 pub fn print_order(text: &mut String, taken: &[(Name, Number)]) -> Result<(), OutOfMemory>
     ensures { OnOk result (string_bytes text.new ≡ string_bytes text.old ++ order_line (map (λ taken. name_view taken.0) taken.now)) }
 {
@@ -45,7 +45,7 @@ pub fn print_order(text: &mut String, taken: &[(Name, Number)]) -> Result<(), Ou
     Ok(())
 }
 
-/// Adds a scope's own bindings by rising number, each on a line: the name and the value.
+/// Adds a scope's own bindings in ascending order of number, each on a line: the name and the value.
 pub fn print_bindings<'call>(
     text: &'call mut String,
     scope: &'call Scope,
@@ -58,7 +58,7 @@ pub fn print_bindings<'call>(
     Ok(())
 }
 
-/// Adds a line on a variable: its name and its value.
+/// Adds the line of a variable: its name and its value.
 pub fn print_value(text: &mut String, name: &Name, value: &Value) -> Result<(), OutOfMemory>
     ensures { OnOk result (string_bytes text.new ≡ string_bytes text.old ++ value_line (name_view name.now) value.now) }
 {
@@ -66,7 +66,7 @@ pub fn print_value(text: &mut String, name: &Name, value: &Value) -> Result<(), 
     Ok(())
 }
 
-/// Adds a line on a variable whose value is open.
+/// Adds the line of a variable whose value is open.
 pub fn print_open(text: &mut String, name: &Name) -> Result<(), OutOfMemory>
     ensures { OnOk result (string_bytes text.new ≡ string_bytes text.old ++ open_line (name_view name.now)) }
 {
@@ -74,7 +74,7 @@ pub fn print_open(text: &mut String, name: &Name) -> Result<(), OutOfMemory>
     Ok(())
 }
 
-/// Adds a line on why assignments were refused before any run: what is said of it.
+/// Adds a line with the reason why assignments were refused before any run.
 pub fn print_const_refusal(text: &mut String, refusal: &CompileError) -> Result<(), OutOfMemory>
     ensures { OnOk result (string_bytes text.new ≡ string_bytes text.old ++ const_refusal_line (compile_refusal refusal.now)) }
 {
@@ -85,7 +85,7 @@ pub fn print_const_refusal(text: &mut String, refusal: &CompileError) -> Result<
     Ok(())
 }
 
-/// Adds a line on a refusal: its number and name, and what is said of it.
+/// Adds the line of a refusal: its number and name, and its message.
 pub fn print_refusal(alloc: Global, text: &mut String, error: &Error) -> Result<(), OutOfMemory>
     ensures { OnOk result (string_bytes text.new ≡ string_bytes text.old ++ refusal_line (refusal error.now)) }
 {
@@ -119,7 +119,7 @@ pub fn print_refusal(alloc: Global, text: &mut String, error: &Error) -> Result<
     Ok(())
 }
 
-// Adds a line on a refusal with this number and name, of which a text is said.
+// Adds the line of a refusal with this number and name, and a quoted text.
 fn print_said(text: &mut String, refusal: &str, said: &str) -> Result<(), OutOfMemory>
     ensures { OnOk result (string_bytes text.new ≡ string_bytes text.old ++ line (words (words (codes "refused") refusal.now) (quoted said.now))) }
 {
@@ -128,7 +128,7 @@ fn print_said(text: &mut String, refusal: &str, said: &str) -> Result<(), OutOfM
     Ok(())
 }
 
-// Adds a line on a built-in function's own fault.
+// Adds the line of a built-in function's own fault.
 fn print_fault(text: &mut String, function: &Name, message: &str) -> Result<(), OutOfMemory>
     ensures { OnOk result (string_bytes text.new ≡ string_bytes text.old ++ refusal_line (Some (FunctionCall (name_view function.now) message.now))) }
 {

@@ -1,4 +1,4 @@
--- Answers by a host that is looked at as something else.
+-- Answers by a host that is viewed as another host.
 use Rattle.std.proofs.Common.{ℕ, IfSome, Option, Some, None, []}
 use Rattle.just_syntax.specs.Plain.{Text}
 use Rattle.just_value.specs.Frames.{Frames}
@@ -35,18 +35,18 @@ module _ {S T : Type 0} (step : Step S) (other : Step T) (see : S → T) (carrie
     evaluated_seen c Const outer printed status r = r
     evaluated_seen c (Blocks second) outer printed status r = blocks_seen step other see carried Starts Begins started r
 
-    -- an answer by the one is an answer by the other
+    -- an answer by the first host is an answer by the second
     pub answer_seen : (d : Described) (printed : Text) (status : ℕ) → AnswersLines step Starts d printed status → AnswersLines other Begins d printed status
     answer_seen (Describes c) printed status r = evaluated_seen c c.evaluation _ printed status r
     answer_seen (BadLine n) printed status r = r
 
--- what holds of an answer that is written may be more
+-- a property of a written answer may be weakened
 pub written_as : {old new : Option Text} {status : ℕ} (One Other : Text → ℕ → Type 0) → ((text : Text) (status : ℕ) → One text status → Other text status) → Written old new status One → Written old new status Other
 written_as One Other on (Whole text is added) = Whole text (on text _ is) added
 written_as One Other on (Part part rest whole one is added) = Part part rest whole one (on _ whole is) added
 written_as One Other on (Nothing one same) = Nothing one same
 
--- the same where it is known what a reader had left
+-- the same, if the rest of the reader is known
 pub known_as : (old new : Option Text) (status : ℕ) (One Other : Text → Text → ℕ → Type 0) → ((case text : Text) (status : ℕ) → One case text status → Other case text status)
     → (remaining : Option Text) → IfSome remaining (λ case. Written old new status (One case)) → IfSome remaining (λ case. Written old new status (Other case))
 known_as old new status One Other on None written = tt

@@ -1,4 +1,4 @@
--- What a run binds has no attributes.
+-- The bindings of a run have no attributes.
 use Rattle.std.proofs.Common.{◌≡◌, List, [], ◌∷◌, Some, refl, sym, ap}
 use Rattle.std.proofs.lemmas.List.Elements.{All-head, All-nil}
 use Rattle.std.proofs.lemmas.Map.Views.{All-values-insert_entry}
@@ -41,6 +41,6 @@ first_none : (bs : List Bound) → All HasNone bs → option_map without_attribu
 first_none [] h = refl
 first_none (b ∷ bs) h = ap (λ attributes. Some (record b { attributes = attributes })) (sym (All-head HasNone b bs h))
 
--- what a run in a scope that binds nothing binds first is the same without attributes
+-- removing the attributes from the first binding of a run in an empty scope does not change it
 pub first_given : {closing : Closing} {m : Module} (outer : Frames) {left : List Token} {bs : List Block} (given : Frames) → Run closing m ([] ∷ outer) left bs (Gave given) → option_map without_attributes (first_bound (values_of (own_frame given))) ≡ first_bound (values_of (own_frame given))
 first_given outer given r = first_none (values_of (own_frame given)) (given_none (All-nil HasNone) r)

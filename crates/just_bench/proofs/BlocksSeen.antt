@@ -1,4 +1,4 @@
--- Runs name by name of a host that is looked at as something else.
+-- Name-by-name runs of a host that is viewed as another host.
 use Rattle.std.proofs.Common.{ℕ, List, Option}
 use Rattle.just_syntax.specs.Plain.{Text, Token}
 use Rattle.just_value.specs.Frames.{Frames}

@@ -1,4 +1,4 @@
--- What two runs print, put together.
+-- The output of two runs.
 use Rattle.std.proofs.Common.{◌≡◌, ℕ, List, [], ◌++◌, Option, Some, None, Result, Ok, Err, IfOk, ap, ◌∙◌, subst, append_assoc}
 use Rattle.just_syntax.specs.Plain.{Text, Token}
 use Rattle.just_value.specs.Frames.{Frames}
@@ -37,7 +37,7 @@ module _ {S : Type 0} {step : Step S} {one_host : S} {first : Module} {outer : F
           is = Compared first_added.is (moved added.printed (Some two) added.is);
         }
 
--- what is printed of a case, by its module's two runs with hosts that are made of its own
+-- the output for a case, given that of its module's two runs with hosts around its own
 pub blocks_printed : {E S : Type 0} (step : Step S) (gives : ScriptedHost → S → Type 0) (c rest : Case) (second : List Token) (outer : Frames) (one other : ScriptedHost) (one_made other_made one_old other_old : S) (m : Module) (a b : Text) (result : Result ℕ E)
     → script_view one ≡ case_script c → gives one one_made → one_old ≡ one_made → script_view other ≡ case_script c → gives other other_made → other_old ≡ other_made → rest ≡ without_answers c → m ≡ case_module rest
     → IfOk result (λ status. Added a b (λ printed. BothResolvedPrint step one_old other_old m (in_order m second) outer printed status)) → IfOk result (λ status. Added a b (λ printed. BlocksPrints step (MadeOf gives) c second outer printed status))

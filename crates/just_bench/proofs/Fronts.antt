@@ -1,21 +1,21 @@
--- How the front of a text grows.
+-- The written prefix of a text.
 use Rattle.std.proofs.Common.{◌≡◌, ℕ, ◌-◌, List, ◌++◌, length, take, drop, arith, ap, sym, ◌∙◌, append_assoc}
 use Rattle.std.specs.Prelude.{Option}
 use Rattle.std.specs.Io.KnownBytes.{Appends}
 use Rattle.std.proofs.KnownBytes.{Appends-trans}
 use Rattle.std.proofs.lemmas.List.{length-drop, take-append-drop, take_all}
 
--- what is behind n bytes of the rest
+-- the rest after n of its bytes
 abbrev pub behind : ℕ → List ℕ → List ℕ
 behind n rest = take (length rest - n) (drop n rest)
 
--- n more bytes of the rest stand in front
+-- n bytes of the rest are added to the prefix
 pub grows : (text front rest : List ℕ) (n : ℕ) → text ≡ front ++ rest → text ≡ (front ++ take n rest) ++ behind n rest
 grows text front rest n whole =
     let all : behind n rest ≡ drop n rest = take_all (length rest - n) (drop n rest) (omega (arith, length-drop n rest)) in
     rw all (whole ∙ ap (λ t. front ++ t) (sym (take-append-drop n rest)) ∙ sym (append_assoc front (take n rest) (drop n rest)))
 
--- the front that was added, once more is added
+-- the prefix added so far, followed by n bytes more
 pub more_added : (old mid new : Option (List ℕ)) (text rest : List ℕ) (n : ℕ) → (front : List ℕ) × (text ≡ front ++ rest) × Appends old mid front → Appends mid new (take n rest)
     → (front : List ℕ) × (text ≡ front ++ behind n rest) × Appends old new front
 more_added old mid new text rest n (front, whole, added) more = (front ++ take n rest, grows text front rest n whole, Appends-trans old mid new front (take n rest) added more)

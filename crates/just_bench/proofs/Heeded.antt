@@ -1,4 +1,4 @@
--- A question that is answered by want of memory stops what asked it.
+-- A question answered by `NoMemory` stops the one who asked it.
 use Rattle.std.proofs.Common.{◌≡◌, ◌≢◌, ◌-◌, ℕ, zero, suc, Bool, true, false, List, [], ◌∷◌, ◌++◌, Option, Some, None, Result, Ok, Err, if◌then◌else◌, map, length, nat_eq, slice_get, refl, ap, subst, ◌∙◌}
 use Rattle.just_syntax.specs.Plain.{Text, Token, Assignment, Expr, Function, count}
 use Rattle.just_text.specs.Case.{capitalize, lowercase, uppercase}
@@ -28,14 +28,14 @@ use Rattle.just_meaning.specs.Meaning.{Program, Situation, Deeper, AtLimit, Room
 use Rattle.just_meaning.specs.Module.{Module, Block, Run, Finished, Stops as StopsRun, Unknown as UnknownName, Passes, Skips, Binds, Breaks, Halts, assigned, dynamically, events_of, or_override, situation_at}
 use Rattle.just_laws.proofs.Forms.{holds_eval}
 
--- no question was answered by want of memory
+-- no question was answered by `NoMemory`
 abbrev pub AllAnswered : List Event → Type 0
 AllAnswered [] = Unit {0}
 AllAnswered (interaction.Asked q a ∷ es) = (a ≢ Failed NoMemory) × AllAnswered es
 AllAnswered (interaction.Noted x ∷ es) = AllAnswered es
 AllAnswered (interaction.Checked p v a ∷ es) = AllAnswered es
 
--- ---- trees
+-- ---- interaction trees
 
 abbrev Heeds : (A : Type 0) → Tree A → Type 0
 Heeds A (done o) = Unit {0}
@@ -55,7 +55,7 @@ stopped : {A : Type 0} {es : List Event} {o : Outcome A} → Path freely (done S
 stopped Ends = refl
 stopped interaction.Stops = refl
 
--- on a path to another end no answer is want of memory
+-- on a path to any other end, no answer is `NoMemory`
 all_answered : {A : Type 0} {t : Tree A} {es : List Event} {o : Outcome A} → Path freely t es o → Heeds A t → o ≢ Stopped → AllAnswered es
 all_answered Ends h some = tt
 all_answered interaction.Stops h some = tt
@@ -87,7 +87,7 @@ truth_heeds : (lists : Bool) (r : Result Bool Text) → HeedsReply (says_truth l
 truth_heeds lists (Ok b) = tt
 truth_heeds lists (Err message) = tt
 
--- whichever question it is, it does not matter here
+-- the question itself does not matter here
 text_heeds : (absent : Reply) (odd faulty : Text → Text) → HeedsReply absent → HeedsReply (asks_text Executable absent odd faulty)
 text_heeds absent odd faulty h = (refl, at)
   where
@@ -201,7 +201,7 @@ argument_heeds true t [] = tt
 argument_heeds true t (text ∷ []) = tt
 argument_heeds true t (text ∷ next ∷ texts) = tt
 
--- each look at a value does so, and then the row
+-- each look at a value heeds `NoMemory`, and so does the row
 abbrev HeedsRow : Row → Type 0
 HeedsRow row = (look : ℕ → Value → Tree Value) → ((i : ℕ) (v : Value) → Heeds Value (look i v)) → Heeds (List Value) (row look)
 
@@ -249,7 +249,7 @@ append_answered (interaction.Asked q a ∷ es) fs (h, on) k = (h, append_answere
 append_answered (interaction.Noted x ∷ es) fs h k = append_answered es fs h k
 append_answered (interaction.Checked p v a ∷ es) fs h k = append_answered es fs h k
 
--- a run that is not stopped has answers alone
+-- in a run that is not stopped, no answer is `NoMemory`
 pub run_answered : {m : Module} {frames : Frames} {names : List Token} {bs : List Block} {o : Outcome Frames} → Run dynamically m frames names bs o → o ≢ Stopped → AllAnswered (events_of bs)
 run_answered Finished some = tt
 run_answered StopsRun some = tt

@@ -1,4 +1,4 @@
--- On a resolved module a run name by name by the chain of frames is one by the lexical rules.
+-- On a resolved module, a name-by-name run with dynamic scope is also one with lexical scope.
 use Rattle.std.proofs.Common.{List, [], ◌∷◌}
 use Rattle.just_syntax.specs.Plain.{Token}
 use Rattle.just_value.specs.Frames.{Frames}

@@ -1,4 +1,4 @@
--- What is printed before the end of an answer are whole lines.
+-- The text printed before the end of an answer consists of whole lines.
 use Rattle.std.proofs.Common.{◌≡◌, inl, inr, Bool, true, false, List, [], ◌∷◌, ◌++◌, Option, Some, None, codes, refl, sym, ap, subst, ◌∙◌, append_assoc}
 use Rattle.std.specs.List.{flat_map}
 use Rattle.std.proofs.lemmas.List.{append-nil}
@@ -22,7 +22,7 @@ is_order names = are_line (codes "order" ++ name_words names)
 are_refused : (r : Option Refusal) → AreLines (refusal_line r)
 are_refused r = are_line (words (codes "refused") (refused_text r))
 
--- lines after lines
+-- lines followed by lines
 pub lines_after : (a b : Text) → AreLines a → AreLines b → AreLines (a ++ b)
 lines_after a b h (inr (front, e)) = inr (a ++ front, ap (λ t. a ++ t) e ∙ sym (append_assoc a front (codes "\n")))
 lines_after a b h (inl e) = subst AreLines (sym (ap (λ t. a ++ t) e ∙ append-nil a)) h

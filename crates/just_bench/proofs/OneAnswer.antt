@@ -22,14 +22,14 @@ use Rattle.just_bench.proofs.Lines.{are_questions, are_unresolved, lines_after}
 use Rattle.just_bench.proofs.OneStage.{stage_one}
 use Rattle.just_bench.proofs.OneWalk.{both_one, wants_behind}
 
--- two tests of one thing
+-- two tests of the same proposition
 flags_one : (P : Type 0) (a b : Bool) → (IsTrue a ↔ P) → (IsTrue b ↔ P) → a ≡ b
 flags_one P true true p q = refl
 flags_one P false false p q = refl
 flags_one P true false p q = sym (q.1 (p.0 refl))
 flags_one P false true p q = p.1 (q.0 refl)
 
--- what does not say that memory was wanted was not stopped
+-- a run that does not report `OutOfMemory` was not stopped
 run_whole : {s : Script} {m : Module} {outer : Frames} {i : ℕ} (p : Text) (one : RunPrints by_script s m outer p i) → WantsNoMemory p → one.outcome ≢ Stopped
 run_whole p one wants e =
     (wants (unresolved_line one.resolved ++ question_lines one.kept) (lines_after _ _ (are_unresolved one.resolved) (are_questions one.kept))).0

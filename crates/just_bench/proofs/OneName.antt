@@ -1,4 +1,4 @@
--- A run of one name in a scope that binds nothing binds nothing, or one number.
+-- A run of one name in an empty scope binds nothing, or one number.
 use Rattle.std.proofs.Common.{◌≡◌, ◌⊎◌, inl, inr, List, [], ◌∷◌, Option, Some, None, refl, ap, ◌∙◌, sym, subst}
 use Rattle.std.specs.Map.{values_of}
 use Rattle.just_syntax.specs.Plain.{Token}
@@ -9,7 +9,7 @@ use Rattle.just_bench.specs.Blocks.{Extends, grown, in_order}
 use Rattle.just_bench.specs.FirstBinding.{first_bound, first_given}
 use Rattle.just_bench.specs.Run.{Step}
 
--- frames with a binding more, if there is one
+-- frames with an optional binding added
 abbrev pub with_one : Frames → Option Bound → Frames
 with_one frames None = frames
 with_one frames (Some b) = bound_in_front frames b
@@ -35,7 +35,7 @@ given_all {frames = frames} (Gave own) run = ap Gave (first_is_all frames own (b
 given_all (Refused r) run = refl
 given_all Stopped run = refl
 
--- with its first binding all that it binds is put on the frames
+-- adding the first binding of the run to the frames adds all its bindings
 pub extends_first : {closing : Closing} {S : Type 0} {step : Step S} {old new : S} {frames : Frames} (m : Module) (order : List Token) (t : Token) (given : Outcome Frames) (found : Outcome (Option Bound)) (outcome : Outcome Frames) → order ≡ t ∷ []
     → Ran step old closing (in_order m order) ([] ∷ frames) order given new → found ≡ first_given given → outcome ≡ and_then found (λ b. Gave (with_one frames b)) → Extends closing step old (in_order m (t ∷ [])) frames outcome new
 extends_first {closing = closing} {step = step} {old = old} {new = new} {frames = frames} m order t given found outcome same ran found_is is =

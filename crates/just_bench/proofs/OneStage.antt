@@ -1,4 +1,4 @@
--- A stage before any run comes to one outcome, unless it is stopped.
+-- A stage before any run has only one outcome, unless it is stopped.
 use Rattle.std.proofs.Common.{◌≡◌, ◌≢◌, false, Option, Some, None, List, [], ◌∷◌, refl, sym, ◌∙◌, if◌then◌else◌}
 use Rattle.just_syntax.specs.Plain.{Token, Assignment}
 use Rattle.just_value.specs.Frames.{Bound, innermost}
@@ -11,7 +11,7 @@ use Rattle.just_meaning.specs.Messages.{unknown_assignment_text}
 use Rattle.just_meaning.specs.Module.{bound_of}
 use Rattle.just_meaning.specs.Stage.{Constants, Standing, Stage, Staged, Found, Finished, Stops, Unknown, Passes, Skips, StaysOpen, Settles, Opens, Breaks, const_assigned, with_open, with_settled}
 
--- it goes on where a run alone tells the value
+-- it continues if the value is known only in a run
 abbrev refused_on : (Standing → Outcome Standing) → Standing → Assignment → Refusal → Outcome Standing
 refused_on on s a (Const c) = on (with_open s a.number)
 refused_on on s a r = Refused r
@@ -33,7 +33,7 @@ either : (bound : Option Bound) (o : Outcome Standing) → unless_bound bound o 
 either (Some b) o = refl
 either None o = refl
 
--- what a stage comes to
+-- the outcome of a stage
 abbrev comes_to : Constants → Standing → List Token → Outcome Standing
 comes_to m s [] = Gave s
 comes_to m s (t ∷ left) = named_on m (λ s. comes_to m s left) s t (assignment_at m.assignments t.lexeme)
@@ -64,6 +64,6 @@ comes (Settles a v new is on) some = rw (new.found, new.referenced, new.unbound,
 comes (Opens a c new is on) some = rw (new.found, new.referenced, new.unbound, new.unopened, is) (comes on some)
 comes {m = m} {s = s} {names = t ∷ left} (Breaks a r final new is) some = rw (new.found, new.referenced, new.unbound, new.unopened, is) (sym (final_on (λ s. comes_to m s left) s a r final))
 
--- two outcomes of one stage are one
+-- two outcomes of the same stage are equal
 pub stage_one : {m : Constants} {s : Standing} {names : List Token} (o p : Outcome Standing) → Staged m s names o → Staged m s names p → o ≢ Stopped → p ≢ Stopped → o ≡ p
 stage_one o p (fs, one) (gs, other) here there = comes one here ∙ sym (comes other there)

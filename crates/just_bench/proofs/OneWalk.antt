@@ -1,4 +1,4 @@
--- A scripted host decides a run name by name.
+-- A scripted host determines a name-by-name run.
 use Rattle.std.proofs.Common.{◌≡◌, ◌≢◌, ℕ, List, [], ◌∷◌, ◌++◌, Option, Some, None, refl, sym, ap, subst, ◌∙◌, append_assoc}
 use Rattle.just_syntax.specs.Plain.{Text, Token}
 use Rattle.std.specs.List.{flat_map}
@@ -19,11 +19,11 @@ use Rattle.just_bench.proofs.Decided.{chains_one}
 use Rattle.just_bench.proofs.Heeded.{run_answered}
 use Rattle.just_bench.proofs.Lines.{are_blocks, are_end, is_order, lines_after}
 
--- where a run name by name stands: its host with the questions so far, and the frames
+-- the state of a name-by-name run: its host with the questions so far, and the frames
 abbrev Place : Type 0
 Place = (Script × List Kept) × Frames
 
--- one name, from one place
+-- one name, from the same state
 extends_here : (h : Script × List Kept) (m : Module) (frames : Frames) (o p : Outcome Frames) (s t : Script × List Kept) (one : Extends dynamically (recording by_script) h m frames o s) (other : Extends dynamically (recording by_script) h m frames p t)
     → o ≢ Stopped → p ≢ Stopped → (o ≡ p) × (s ≡ t)
 extends_here h m frames o p s t one other here there =
@@ -46,7 +46,7 @@ never_stopped e = absurd (cc)
 gave_one : {A : Type 0} {v w : A} → Gave v ≡ Gave w → v ≡ w
 gave_one e = cc
 
--- ends of two runs name by name
+-- two name-by-name runs with the same end
 abbrev Same : List Turn → List Turn → Outcome Frames → Outcome Frames → Script × List Kept → Script × List Kept → Type 0
 Same us vs o p s t = (us ≡ vs) × (o ≡ p) × (s ≡ t)
 
@@ -68,7 +68,7 @@ module _ (m : Module) where
       let (same, ends) = extends_here h _ frames (without_value r) (without_value q) a b e d here there in
       (rw ends refl, same, ends)
 
--- what is printed of an order, and found
+-- the output and the result for an order
 order_here : (h : Script) (m : Module) (outer : Frames) (p q : Text) (f g : Option Found) (one : OrderPrints by_script h m outer p f) (other : OrderPrints by_script h m outer q g) → one.walks.outcome ≢ Stopped → other.walks.outcome ≢ Stopped → (p ≡ q) × (f ≡ g)
 order_here h m outer p q f g one other here there =
     let (turns, out, last) = turns_one m one.walks.walk other.walks.walk here there in
@@ -85,11 +85,11 @@ never_found e = absurd (cc)
 some_one : {A : Type 0} {f g : A} → Some f ≡ Some g → f ≡ g
 some_one e = cc
 
--- what found something was not stopped
+-- a run with a result was not stopped
 found_whole : {h : Script} {m : Module} {outer : Frames} {p : Text} (f : Found) (one : OrderPrints by_script h m outer p (Some f)) → one.walks.outcome ≢ Stopped
 found_whole {m = m} f one e = never_found (one.walks.finds ∙ ap (λ o. found_by o (with_blocks (λ n. None) (blocks_in one.walks.turns (taken_in m.assignments m.assignments.order)))) e)
 
--- what does not say that memory was wanted was not stopped
+-- a run that does not report `OutOfMemory` was not stopped
 order_whole : {h : Script} {m : Module} {outer : Frames} {found : Option Found} (p : Text) (one : OrderPrints by_script h m outer p found) → WantsNoMemory p → one.walks.outcome ≢ Stopped
 order_whole {m = m} p one wants e =
     let taken = taken_in m.assignments m.assignments.order in
@@ -98,7 +98,7 @@ order_whole {m = m} p one wants e =
     (wants (first ++ blocks) (lines_after first blocks (is_order (names_of taken)) (are_blocks (blocks_in one.walks.turns taken)))).0
     (one.text ∙ ap (λ lines. first ++ lines) (one.walks.text ∙ ap (λ o. blocks ++ end_line o) e) ∙ sym (append_assoc first blocks (refusal_line None)))
 
--- what comes after other lines does not say so either
+-- the text after other lines does not report it either
 pub wants_behind : (before text : Text) → AreLines before → WantsNoMemory (before ++ text) → WantsNoMemory text
 wants_behind before text lines wants front are =
     let both = wants (before ++ front) (lines_after before front lines are) in (
@@ -106,7 +106,7 @@ wants_behind before text lines wants front are =
       λ e. both.1 (ap (λ t. before ++ t) e ∙ sym (append_assoc before front (const_refusal_line None))),
     )
 
--- what is printed of an order are lines
+-- the output for an order consists of lines
 order_lines : {h : Script} {m : Module} {outer : Frames} {p : Text} {f : Option Found} → OrderPrints by_script h m outer p f → AreLines p
 order_lines {m = m} one =
     let blocks = blocks_in one.walks.turns (taken_in m.assignments m.assignments.order) in
@@ -114,7 +114,7 @@ order_lines {m = m} one =
     let lines : AreLines one.lines = subst AreLines (sym one.walks.text) (lines_after (flat_map block_lines blocks) (end_line one.walks.outcome) (are_blocks blocks) (are_end one.walks.outcome)) in
     subst AreLines (sym one.text) (lines_after (order_line names) one.lines (is_order names) lines)
 
--- what is printed of two runs
+-- the output of two runs
 pub both_one : (h k i j : Script) (from : h ≡ k) (other_from : i ≡ j) (first second : Module) (outer : Frames) (p q : Text) (s t : ℕ) → BothPrint by_script h i first second outer p s → BothPrint by_script k j first second outer q t → WantsNoMemory p → WantsNoMemory q → (p ≡ q) × (s ≡ t)
 both_one h k i j from other_from first second outer p q s t (FirstRefused a) (FirstRefused b) here there = ((order_one h k from first outer p q None None a b (order_whole p a here) (order_whole q b there)).0, refl)
 both_one h k i j from other_from first second outer p q s t (FirstRefused a) (SecondRefused {one = f} b more) here there = never_found (sym (order_one h k from first outer p _ None (Some f) a b (order_whole p a here) (found_whole f b)).1)

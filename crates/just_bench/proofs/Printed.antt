@@ -1,4 +1,4 @@
--- How what is printed of a run is put together.
+-- The output of a run.
 use Rattle.std.proofs.Common.{◌≡◌, ◌↔◌, ℕ, Bool, IsTrue, List, [], ◌∷◌, ◌++◌, Result, Ok, Err, IfOk, OnOk, append_assoc, refl, subst, ◌∙◌, ap}
 use Rattle.just_syntax.specs.Plain.{Text}
 use Rattle.just_value.specs.Frames.{Frames}
@@ -15,11 +15,11 @@ use Rattle.just_bench.specs.Run.{CaseRuns, RunPrints, Step, outcome_lines, recor
 use Rattle.just_bench.specs.Written.{Added}
 use Rattle.just_bench.specs.Module.{case_module}
 
--- three texts, one behind another
+-- three texts in a row
 pub three : (a b c d x y z : Text) → b ≡ a ++ x → c ≡ b ++ y → d ≡ c ++ z → d ≡ a ++ (x ++ (y ++ z))
 three a b c d x y z p q r = r ∙ ap (λ t. t ++ z) (q ∙ ap (λ t. t ++ y) p) ∙ append_assoc (a ++ x) y z ∙ append_assoc a x (y ++ z)
 
--- what is printed of a run, by its parts
+-- the output of a run, by its parts
 pub run_printed : {E S : Type 0} (step : Step S) (old : S) (m : Module) (outer : Frames) (resolved : Bool) (kept : List Kept) (outcome : Outcome Frames) (new : S) (asked : List Kept) (a b c d : Text) (result : Result ℕ E)
     → (IsTrue resolved ↔ IsResolved m.program.functions m.assignments outer)
     → (IsResolved m.program.functions m.assignments outer → Ran (recording step) (old, []) lexically m ([] ∷ outer) m.assignments.order outcome (new, kept))
@@ -43,7 +43,7 @@ run_printed step old m outer resolved kept outcome new asked a b c d (Ok status)
   };
 }
 
--- what is printed of a case, by its module's run with a host that is made of its own
+-- the output for a case, given that of its module's run with a host around its own
 pub case_printed : {E S : Type 0} (step : Step S) (gives : ScriptedHost → S → Type 0) (c rest : Case) (outer : Frames) (host : ScriptedHost) (made old : S) (m : Module) (a b : Text) (result : Result ℕ E)
     → script_view host ≡ case_script c → gives host made → old ≡ made → rest ≡ without_answers c → m ≡ case_module rest
     → IfOk result (λ status. Added a b (λ printed. RunPrints step old m outer printed status)) → IfOk result (λ status. Added a b (λ printed. CaseRuns step (MadeOf gives) c outer printed status))

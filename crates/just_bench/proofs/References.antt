@@ -1,4 +1,4 @@
--- Which variables a run is told to be referenced.
+-- The variables that a run takes as referenced.
 use Rattle.std.proofs.Common.{◌≡◌, ℕ, Option, Some, None, refl, ap, ◌∙◌}
 use Rattle.std.specs.Borrow.{Bor}
 use Rattle.std.specs.HashSet.{HashSet}
@@ -11,6 +11,6 @@ lent : {S : Type 0} (set : Option (Bor (HashSet ℕ S))) → is_referenced_in se
 lent None = refl
 lent (Some set) = refl
 
--- a set that is lent tells what it tells its owner
+-- a borrowed set has the same elements as the owned one
 pub same_references : {S : Type 0} (set : Option (Bor (HashSet ℕ S))) (owned : Option (HashSet ℕ S)) → option_copied set ≡ owned → is_referenced_in set ≡ referenced_in (option_map set_view owned)
 same_references set owned is = lent set ∙ ap (λ owned. referenced_in (option_map set_view owned)) is

@@ -1,4 +1,4 @@
--- What a command is answered with.
+-- Answers to commands.
 use Rattle.std.proofs.Common.{◌≡◌, List, [], ◌∷◌, map, Result, Ok, Err, refl}
 use Rattle.std.specs.declared.string.String.{String}
 use Rattle.just_value.specs.declared.error.CommandFault.{CommandFault}

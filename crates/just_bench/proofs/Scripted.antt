@@ -1,4 +1,4 @@
--- Hosts of a case, looked at as scripts.
+-- The hosts of a case, viewed as scripts.
 use Rattle.std.proofs.Common.{◌≡◌, ℕ, zero, suc, ap, ◌∙◌, Option, IfSome, Result, Ok, Err, IfOk}
 use Rattle.just_syntax.specs.Plain.{Text}
 use Rattle.just_value.specs.Frames.{Frames}
@@ -17,7 +17,7 @@ use Rattle.just_bench.specs.Run.{Step, by_script}
 use Rattle.just_bench.specs.Written.{Added, Written}
 use Rattle.just_bench.proofs.AnswersSeen.{answer_seen, evaluated_seen, known_as}
 
--- what a scripted host does
+-- the transitions of a scripted host
 abbrev pub scripted : Step ScriptedHost
 scripted old question answer new = AnswersByScript (script_view old) question.blind answer (script_view new)
 
@@ -29,7 +29,7 @@ bare_known old new status = known_as old new status (Answers scripted (MadeOf (�
     (λ case text status. answer_seen scripted by_script script_view (λ a q x b s. s) (MadeOf (λ host made. made ≡ host)) (λ script state. state ≡ script)
     (λ script made (host, says, given). ap script_view given ∙ says) _ text status)
 
--- the same of a case that is built already, in a scope
+-- the same for a case that is already built, in a scope
 pub bare_evaluated : {E : Type 0} (c : Case) (outer : Frames) (old new : Text) (result : Result ℕ E)
     → IfOk result (λ status. Added old new (λ printed. Evaluated scripted (MadeOf (λ host made. made ≡ host)) c c.evaluation outer printed status))
     → IfOk result (λ status. Added old new (λ printed. Evaluated by_script (λ script state. state ≡ script) c c.evaluation outer printed status))
@@ -41,9 +41,9 @@ bare_evaluated c outer old new (Ok status) a = record {
 }
 bare_evaluated c outer old new (Err e) a = tt
 
--- ---- one that fails from a question on
+-- ---- a host that fails from some question on
 
--- a host that fails, around a script
+-- a failing host, around a script
 abbrev pub failing_script : FailAt ScriptedHost → Failing Script
 failing_script host = record { host = script_view host.host; left = host.left; how = host.how }
 
@@ -61,7 +61,7 @@ passes_seen : (n : ℕ) (how : How) (old : ScriptedHost) (q : Question) (x : Ans
 passes_seen (suc n) how old q x new left p = p
 passes_seen zero how old q x new left (f, none) = (fails_seen how old q x new f, none)
 
--- what such a host does
+-- the transitions of such a host
 abbrev pub failing : Step (FailAt ScriptedHost)
 failing old question answer new = PassesOrFails scripted (failing_view old) question answer (failing_view new)
 

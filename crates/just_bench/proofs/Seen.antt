@@ -1,4 +1,4 @@
--- Hosts that are looked at as something else.
+-- Hosts viewed as other hosts.
 use Rattle.std.proofs.Common.{◌≡◌, inl, inr, List, [], ◌∷◌, ap, subst}
 use Rattle.just_syntax.specs.Plain.{Token}
 use Rattle.just_value.specs.Frames.{Frames}
@@ -12,7 +12,7 @@ use Rattle.just_meaning.specs.Module.{Closing, Module, Ran, events_of}
 use Rattle.just_bench.specs.Blocks.{Extends}
 use Rattle.just_bench.specs.Run.{Step, recording}
 
--- a step of the one is a step of the other
+-- a transition of the first host is a transition of the second
 abbrev pub Carries : {S T : Type 0} → Step S → Step T → (S → T) → Type 0
 Carries {S} step other see = (a : S) (q : Question) (x : Answer) (b : S) → step a q x b → other (see a) q x (see b)
 
@@ -23,19 +23,19 @@ module _ {S T : Type 0} (step : Step S) (other : Step T) (see : S → T) (carrie
   chain_seen a (Noted x ∷ es) b p = chain_seen a es b p
   chain_seen a (Checked x v y ∷ es) b p = absurd p
 
-  -- a run of the one is a run of the other
+  -- a run of the first host is a run of the second
   pub ran_seen : {closing : Closing} {m : Module} {frames : Frames} {names : List Token} {outcome : Outcome Frames} (a b : S) → Ran step a closing m frames names outcome b → Ran other (see a) closing m frames names outcome (see b)
   ran_seen a b r = record { blocks = r.blocks; run = r.run; chain = chain_seen a (events_of r.blocks) b r.chain }
 
-  -- the same of a run whose binding is put on frames
+  -- the same for a run whose bindings are added to frames
   pub extends_seen : {closing : Closing} {m : Module} {frames : Frames} {outcome : Outcome Frames} (a b : S) → Extends closing step a m frames outcome b → Extends closing other (see a) m frames outcome (see b)
   extends_seen a b e = record { given = e.given; ran = ran_seen a b e.ran; bound = e.bound }
 
--- the same beside the questions so far
+-- the same, together with the questions so far
 abbrev pub beside : {S T : Type 0} → (S → T) → S × List Kept → T × List Kept
 beside see a = (see a.0, a.1)
 
--- a recorder that was asked nothing is the host that it asks, beside no question
+-- a recorder without questions is its inner host, together with no questions
 pub recorder_seen : {H : Type 0} (step : Step H) {closing : Closing} {m : Module} {frames : Frames} {names : List Token} {outcome : Outcome Frames} (old new : Recorder H) → records_view old ≡ []
     → Ran (λ a q x b. RecordsAndAsks step (inner_host a) (records_view a) q x (inner_host b) (records_view b)) old closing m frames names outcome new → Ran (recording step) (inner_host old, []) closing m frames names outcome (inner_host new, records_view new)
 recorder_seen step {closing = closing} {m = m} {frames = frames} {names = names} {outcome = outcome} old new fresh ran =

@@ -1,4 +1,4 @@
--- What is printed before any run.
+-- The output of a stage before any run.
 use Rattle.std.proofs.Common.{◌≡◌, ◌↔◌, ◌++◌, ℕ, Bool, IsTrue, Result, Ok, Err, IfOk, refl, ap, ◌∙◌, append_assoc, subst}
 use Rattle.just_syntax.specs.Plain.{Text}
 use Rattle.just_value.specs.Frames.{Frames}
@@ -10,7 +10,7 @@ use Rattle.just_bench.specs.Run.{status_of, unresolved_line}
 use Rattle.just_bench.specs.Written.{Added}
 use Rattle.just_bench.specs.Settled.{ConstPrints, case_constants, stage_lines}
 
--- whether a case's stage is resolved, and what comes of it, one behind the other
+-- the output for a case: whether its stage is resolved, followed by its outcome
 stage_printed : (c : Case) (outer : Frames) (m : Constants) (lists resolved : Bool) (o : Outcome Standing) (old between new : Text) (status : ℕ) → m ≡ case_constants c → lists ≡ c.lists → IsTrue resolved ↔ IsResolvedConst m.assignments outer →
     Staged m (at_start lists outer) m.assignments.order o → between ≡ old ++ unresolved_line resolved → new ≡ between ++ stage_lines m o → status ≡ status_of o → Added old new (λ printed. ConstPrints c outer printed status)
 stage_printed c outer m lists resolved o old between new status constants same test staged first second ends = record {
@@ -26,7 +26,7 @@ stage_printed c outer m lists resolved o old between new status constants same t
   };
 }
 
--- the same, where there is a status
+-- the same, if there is a status
 pub status_printed : {E : Type 0} (r : Result ℕ E) (c : Case) (outer : Frames) (m : Constants) (lists resolved : Bool) (o : Outcome Standing) (old between new : Text) → m ≡ case_constants c → lists ≡ c.lists → IsTrue resolved ↔ IsResolvedConst m.assignments outer →
     Staged m (at_start lists outer) m.assignments.order o → between ≡ old ++ unresolved_line resolved → IfOk r (λ _. new ≡ between ++ stage_lines m o) → IfOk r (λ status. status ≡ status_of o) → IfOk r (λ status. Added old new (λ printed. ConstPrints c outer printed status))
 status_printed (Ok status) c outer m lists resolved o old between new constants same test staged first second ends = stage_printed c outer m lists resolved o old between new status constants same test staged first second ends

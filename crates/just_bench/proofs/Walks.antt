@@ -1,4 +1,4 @@
--- Runs name by name, put together.
+-- Composition of name-by-name runs.
 use Rattle.std.proofs.Common.{◌≡◌, ◌≤◌, ◌<◌, ◌+◌, ℕ, List, [], ◌∷◌, ◌++◌, Option, Some, None, refl, sym, ap, ◌∙◌, subst, add-one, append_assoc, drop, drop-cons, get_or, length, map, nat_eq, string_bytes}
 use Rattle.std.proofs.lemmas.List.{append-nil, drop_all}
 use Rattle.std.proofs.lemmas.Grind.{flat_map-append}
@@ -38,7 +38,7 @@ found_none (Some r) asked = refl
 lines_more : (bs cs : List Block) (end : Text) → flat_map block_lines bs ++ (flat_map block_lines cs ++ end) ≡ flat_map block_lines (bs ++ cs) ++ end
 lines_more bs cs end = sym (ap (λ lines. lines ++ end) (flat_map-append block_lines bs cs) ∙ append_assoc (flat_map block_lines bs) (flat_map block_lines cs) end)
 
--- what is left begins with the item
+-- the rest begins with the item
 front : {X Y : Type 0} (view : X → Y) (items : List X) (i : ℕ) (d : X) → i < length items → map view (drop i items) ≡ view (get_or items i d) ∷ map view (drop (i + 1) items)
 front view items i d fits = ap (map view) (drop-cons items i d fits) ∙ ap (λ j. view (get_or items i d) ∷ map view (drop j items)) (sym (add-one i))
 
@@ -86,7 +86,7 @@ module _ {S : Type 0} {step : Step S} {m : Module} where
     moved : {new : S × List Kept} {outcome : Outcome Frames} (t : Token) → Extends dynamically (recording step) h (in_order other (t ∷ [])) frames outcome new → Extends dynamically (recording step) h (in_order m (t ∷ [])) frames outcome new
     moved {new} {outcome} t e = subst (λ m. Extends dynamically (recording step) h (in_order m (t ∷ [])) frames outcome new) same e
 
-    -- a name more
+    -- one more name
     pub walked_on : (d : X) → i < length items → (mid : S × List Kept) (next : Frames) → Extends dynamically (recording step) h (in_order other (view (get_or items i d) ∷ [])) frames (Gave next) mid
         → (rest : List (Token × ℕ)) (asked' : ℕ → Option Text) (now' : Text) → rest ≡ still_coming coming (next_number coming (view (get_or items i d)))
         → asked' ≡ with_blocks asked (own (view (get_or items i d)) h mid coming) → now' ≡ now ++ flat_map block_lines (own (view (get_or items i d)) h mid coming)
@@ -125,15 +125,15 @@ module _ {S : Type 0} {step : Step S} {m : Module} where
           (so_far.is [] _ (subst (λ items. Walks step m h frames (map view items) coming asked [] (Some (record { frames = frames; asked = asked }))) (sym (drop_all i items none)) (finished h frames coming asked)));
     }
 
--- a map with no entry has no text
+-- an empty map has no text
 pub none_asked : {A S : Type 0} (m : HashMap ℕ (String A) S) → m.entries ≡ [] → text_numbered m ≡ (λ n. None)
 none_asked {A} m none = ap {B = ℕ → Option Text} (λ (entries : List (ℕ × String A)) (n : ℕ). option_map string_bytes (lookup (nat_eq n) entries)) none
 
--- the names of what is taken
+-- the names of the taken variables
 pub same_names : (taken others : List (Name × ℕ)) → taken ≡ others → map (λ variable. name_view variable.0) taken ≡ names_of (map taken_view others)
 same_names taken others same = ap (map (λ variable. name_view variable.0)) same ∙ sym (map-map (λ variable. variable.0) taken_view others)
 
--- a walk of the whole order, behind the line on what is taken
+-- a walk of the whole order, after the line of taken variables
 pub order_prints : {S : Type 0} {step : Step S} {m : Module} {found : Option Found} (old mid new : Text) (host : S) (kept : List Kept) (outer frames : Frames) (coming : List (Token × ℕ)) (asked : ℕ → Option Text)
     → kept ≡ [] → frames ≡ [] ∷ outer → coming ≡ taken_in m.assignments m.assignments.order → asked ≡ (λ n. None) → mid ≡ old ++ order_line (names_of coming)
     → Added mid new (λ printed. Walks step m (host, kept) frames m.assignments.order coming asked printed found) → Added old new (λ printed. OrderPrints step host m outer printed found)

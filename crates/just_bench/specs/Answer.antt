@@ -1,4 +1,4 @@
--- What a case is answered with.
+-- The answer to a case.
 use Rattle.std.specs.Prelude.{◌≡◌, ℕ, [], ◌∷◌, ◌++◌, map, codes, decimal}
 use Rattle.just_syntax.specs.Plain.{Text}
 use Rattle.just_value.specs.Frames.{Frames}
@@ -11,17 +11,17 @@ use Rattle.just_bench.specs.Blocks.{BlocksPrints}
 use Rattle.just_bench.specs.Run.{CaseRuns, Step}
 use Rattle.just_bench.specs.Settled.{ConstPrints}
 
--- a case is evaluated as it says, in a scope on these frames
+-- a case is evaluated in the way that it asks for, in a scope on these frames
 abbrev pub Evaluated : {S : Type 0} → Step S → (Script → S → Type 0) → Case → Evaluation → Frames → Text → ℕ → Type 0
 Evaluated step Starts c Run outer printed status = CaseRuns step Starts c outer printed status
 Evaluated step Starts c Const outer printed status = ConstPrints c outer printed status
 Evaluated step Starts c (Blocks second) outer printed status = BlocksPrints step Starts c second outer printed status
 
--- the case that lines describe is evaluated in a scope that binds nothing; or the place of the first bad line is printed
+-- the case that the lines describe is evaluated in an empty scope; or the index of the first bad line is printed
 abbrev pub AnswersLines : {S : Type 0} → Step S → (Script → S → Type 0) → Described → Text → ℕ → Type 0
 AnswersLines step Starts (Describes c) printed status = Evaluated step Starts c c.evaluation ([] ∷ []) printed status
 AnswersLines step Starts (BadLine n) printed status = (printed ≡ line (codes "bad line " ++ decimal n)) × (status ≡ 1)
 
--- the bytes of a case are answered with a text and a status
+-- the answer to the bytes of a case: a text and a status
 abbrev pub Answers : {S : Type 0} → Step S → (Script → S → Type 0) → Text → Text → ℕ → Type 0
 Answers step Starts case printed status = AnswersLines step Starts (described (map line_of (lines_of case))) printed status

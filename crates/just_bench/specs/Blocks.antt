@@ -1,4 +1,4 @@
--- What is printed of a case that is evaluated in two runs, name by name.
+-- The output for a case that is evaluated in two runs, name by name.
 use Rattle.std.specs.Prelude.{◌≡◌, ◌↔◌, ℕ, Bool, true, false, IsTrue, List, [], ◌∷◌, ◌++◌, ◌&&◌, drop, length, map, nat_eq, Option, Some, None, if◌then◌else◌, codes}
 use Rattle.std.specs.List.{flat_map, list_all}
 use Rattle.std.specs.Map.{values_of}
@@ -22,29 +22,29 @@ use Rattle.just_bench.specs.Taken.{taken_in}
 
 -- ---- one name
 
--- a module whose assignments have this order
+-- a module with this order of assignments
 abbrev pub in_order : Module → List Token → Module
 in_order m order = record m { assignments = record m.assignments { order = order } }
 
--- frames with some bindings more, one after another
+-- frames with some bindings added in turn
 abbrev pub grown : Frames → List Bound → Frames
 grown frames [] = frames
 grown frames (b ∷ bs) = grown (bound_in_front frames b) bs
 
--- A module is run in a scope on these frames, and what it binds is put on them.
+-- A module is run in a scope on these frames, and its bindings are added to them.
 pub record Extends (closing : Closing) {S : Type 0} (step : Step S) (old : S) (m : Module) (frames : Frames) (outcome : Outcome Frames) (new : S) : Type 0 where
   pub given : Outcome Frames
   pub ran : Ran step old closing m ([] ∷ frames) m.assignments.order given new
   pub bound : outcome ≡ and_then given (λ own. Gave (grown frames (values_of (own_frame own))))
 
--- ---- a run name by name
+-- ---- a name-by-name run
 
--- a name that was evaluated, and what was asked for it
+-- a name that was evaluated, and the questions asked for it
 pub record Turn : Type 0 where
   pub name : Token
   pub asked : List Kept
 
--- the questions behind those of another state
+-- the questions of a state after those of an earlier one
 abbrev pub asked_behind : {S : Type 0} → S × List Kept → S × List Kept → List Kept
 asked_behind old new = drop (length old.1) new.1
 
@@ -52,8 +52,8 @@ asked_behind old new = drop (length old.1) new.1
 abbrev pub turn : {S : Type 0} → Token → S × List Kept → S × List Kept → Turn
 turn t old new = record { name = t; asked = asked_behind old new }
 
--- The names of an order, one after another, from some frames: each is evaluated as a run of its own, on the frames that the
--- names before it left, and a refusal ends it.
+-- The names of an order are evaluated in turn, starting from some frames: each in a run of its own, on the frames that
+-- the names before it left. A refusal ends it.
 pub data Turns (closing : Closing) {S : Type 0} (step : Step S) (m : Module) : S × List Kept → Frames → List Token → List Turn → Outcome Frames → S × List Kept → Type 0 where
   Finished : {h : S × List Kept} {frames : Frames} → Turns closing step m h frames [] [] (Gave frames) h
   Goes : {h mid new : S × List Kept} {frames more : Frames} {t : Token} {left : List Token} {turns : List Turn} {o : Outcome Frames} → Extends closing (recording step) h (in_order m (t ∷ [])) frames (Gave more) mid
@@ -61,9 +61,9 @@ pub data Turns (closing : Closing) {S : Type 0} (step : Step S) (m : Module) : S
   Breaks : {h new : S × List Kept} {frames : Frames} {t : Token} {left : List Token} (r : Option Refusal) → Extends closing (recording step) h (in_order m (t ∷ [])) frames (without_value r) new
       → Turns closing step m h frames (t ∷ left) (turn t h new ∷ []) (without_value r) new
 
--- ---- what is printed of it
+-- ---- its output
 
--- what was asked for a variable
+-- the questions asked for a variable
 pub record Block : Type 0 where
   pub number : ℕ
   pub name : Token
@@ -74,17 +74,17 @@ abbrev pub next_number : List (Token × ℕ) → Token → Option ℕ
 next_number [] t = None
 next_number (v ∷ vs) t = if bytes_eq v.0.lexeme t.lexeme then Some v.1 else None
 
--- a turn is a block where it has a number
+-- a turn is a block if it has a number
 abbrev pub block_of : Turn → Option ℕ → List Block
 block_of turn None = []
 block_of turn (Some n) = record { number = n; name = turn.name; asked = turn.asked } ∷ []
 
--- the variables behind the one that has the number
+-- the remaining variables after a turn: without the first, if the turn has its number
 abbrev pub still_coming : List (Token × ℕ) → Option ℕ → List (Token × ℕ)
 still_coming coming None = coming
 still_coming coming (Some n) = drop 1 coming
 
--- the blocks of the variables that come, each at the next turn of its name
+-- the blocks of the remaining variables, each at the next turn of its name
 abbrev pub blocks_in : List Turn → List (Token × ℕ) → List Block
 blocks_in [] coming = []
 blocks_in (turn ∷ turns) coming = block_of turn (next_number coming turn.name) ++ blocks_in turns (still_coming coming (next_number coming turn.name))
@@ -93,7 +93,7 @@ blocks_in (turn ∷ turns) coming = block_of turn (next_number coming turn.name)
 abbrev pub block_lines : Block → Text
 block_lines b = line (codes "block " ++ b.name.lexeme) ++ question_lines b.asked
 
--- why it ended, if it was refused
+-- the reason for the end, if it was refused
 abbrev pub end_line : Outcome Frames → Text
 end_line (Gave frames) = []
 end_line (Refused r) = refusal_line (Some r)
@@ -107,19 +107,19 @@ abbrev pub with_blocks : (ℕ → Option Text) → List Block → ℕ → Option
 with_blocks asked [] = asked
 with_blocks asked (b ∷ bs) = with_blocks (with_block asked b) bs
 
--- what came of a run: what is bound, and the lines of the questions of each variable
+-- the result of a run: its bindings, and the lines of the questions of each variable
 pub record Found : Type 0 where
   pub frames : Frames
   pub asked : ℕ → Option Text
 
--- a refused run gives none
+-- a refused run has no result
 abbrev pub found_by : Outcome Frames → (ℕ → Option Text) → Option Found
 found_by (Gave frames) asked = Some (record { frames = frames; asked = asked })
 found_by (Refused r) asked = None
 found_by Stopped asked = None
 
--- The names of an order are evaluated by the chain of frames, and printed are the blocks of the variables that come and why it
--- ended.
+-- The names of an order are evaluated with dynamic scope (by the chain of frames). The output is the blocks of the
+-- remaining variables and the reason for the end.
 pub record Walks {S : Type 0} (step : Step S) (m : Module) (old : S × List Kept) (frames : Frames) (order : List Token) (coming : List (Token × ℕ)) (asked : ℕ → Option Text) (printed : Text) (found : Option Found) : Type 0 where
   pub turns : List Turn
   pub outcome : Outcome Frames
@@ -131,8 +131,8 @@ pub record Walks {S : Type 0} (step : Step S) (m : Module) (old : S × List Kept
 abbrev pub names_of : List (Token × ℕ) → List Token
 names_of = map (λ variable. variable.0)
 
--- A module is run in its order, name by name: always by the chain of frames, and by the lexical rules where it is resolved. The
--- variables that are taken are printed, and then their blocks.
+-- A module is run in its order, name by name: always with dynamic scope (by the chain of frames), and also with lexical
+-- scope if it is resolved. The output is the taken variables, followed by their blocks.
 pub record OrderPrints {S : Type 0} (step : Step S) (old : S) (m : Module) (outer : Frames) (printed : Text) (found : Option Found) : Type 0 where
   pub lines : Text
   pub walks : Walks step m (old, []) ([] ∷ outer) m.assignments.order (taken_in m.assignments m.assignments.order) (λ n. None) lines found
@@ -141,12 +141,12 @@ pub record OrderPrints {S : Type 0} (step : Step S) (old : S) (m : Module) (oute
 
 -- ---- two runs
 
--- a binding of the one run and one of the other, if that has one
+-- a binding of the first run, and the binding of the same number in the second, if there is one
 abbrev pub is_alike : Option Text → Option Text → Bound → Option Bound → Bool
 is_alike one_asked other_asked one None = true
 is_alike one_asked other_asked one (Some other) = is_same other.value one.value && option_eq bytes_eq one_asked other_asked
 
--- each variable that both bind has the same value and the same questions in both
+-- each variable bound by both has the same value and the same questions in both
 abbrev pub agree : Found → Found → Bool
 agree one other = list_all (λ (b : Bound). is_alike (one.asked b.number) (other.asked b.number) b (bound_at b.number (own_frame other.frames))) (values_of (own_frame one.frames))
 
@@ -154,7 +154,7 @@ abbrev pub agreement_line : Bool → Text
 agreement_line true = codes "same\n"
 agreement_line false = codes "different\n"
 
--- Two runs are printed: the second where the first is not refused, and whether they agree where neither is.
+-- The output of two runs: the second run follows if the first is not refused, and whether they agree if neither is.
 pub data BothPrint {S : Type 0} (step : Step S) (one_host other_host : S) (first second : Module) (outer : Frames) : Text → ℕ → Type 0 where
   FirstRefused : {text : Text} → OrderPrints step one_host first outer text None → BothPrint step one_host other_host first second outer text 2
   SecondRefused : {text more : Text} {one : Found} → OrderPrints step one_host first outer text (Some one) → OrderPrints step other_host second outer more None
@@ -162,7 +162,7 @@ pub data BothPrint {S : Type 0} (step : Step S) (one_host other_host : S) (first
   Compared : {text more : Text} {one other : Found} → OrderPrints step one_host first outer text (Some one) → OrderPrints step other_host second outer more (Some other)
       → BothPrint step one_host other_host first second outer (text ++ (more ++ agreement_line (agree one other))) 0
 
--- the same behind a line that says whether both are resolved
+-- the same after a line that reports whether both are resolved
 pub record BothResolvedPrint {S : Type 0} (step : Step S) (one_host other_host : S) (first second : Module) (outer : Frames) (printed : Text) (status : ℕ) : Type 0 where
   pub resolved : Bool
   pub test : IsTrue resolved ↔ IsResolved first.program.functions first.assignments outer × IsResolved second.program.functions second.assignments outer
@@ -170,7 +170,8 @@ pub record BothResolvedPrint {S : Type 0} (step : Step S) (one_host other_host :
   pub prints : BothPrint step one_host other_host first second outer lines status
   pub text : printed ≡ unresolved_line resolved ++ lines
 
--- A case is evaluated in two runs, in its order and then in another, each from a host on that starts by the script of the case.
+-- A case is evaluated in two runs, in its order and then in another, each with a host that starts by the script of the
+-- case.
 pub record BlocksPrints {S : Type 0} (step : Step S) (Starts : Script → S → Type 0) (c : Case) (second : List Token) (outer : Frames) (printed : Text) (status : ℕ) : Type 0 where
   pub one_host : S
   pub other_host : S

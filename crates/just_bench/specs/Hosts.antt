@@ -7,23 +7,23 @@ use Rattle.just_script.specs.Script.{Script}
 use Rattle.just_script.specs.View.{script_view}
 use Rattle.just_script.specs.declared.scripted_host.ScriptedHost.{ScriptedHost}
 
--- how a command is answered
+-- the answer to a command
 abbrev pub answer_of : Reply → Answer
 answer_of (Output text) = Replied text
 answer_of (Broken fault) = Failed fault
 
--- a host that answers commands, and has no answer to any other question
+-- a host that answers commands and has no answer to any other question
 abbrev pub script_of : List (Text × Text) → List Reply → Script
 script_of always replies = record { always = always; replies = map answer_of replies; texts = []; exists = []; numbers = [] }
 
--- how the host of a case answers
+-- the script of a case
 abbrev pub case_script : Case → Script
 case_script c = script_of c.always c.replies
 
--- a case of which the answers were taken
+-- a case whose answers were taken out
 abbrev pub without_answers : Case → Case
 without_answers c = record c { always = []; replies = [] }
 
--- a host that is made of one that answers by a script
+-- a host built around a host that answers by a script
 abbrev pub MadeOf : {S : Type 0} → (ScriptedHost → S → Type 0) → Script → S → Type 0
 MadeOf gives script made = (host : ScriptedHost) × (script_view host ≡ script) × gives host made

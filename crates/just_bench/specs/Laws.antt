@@ -10,11 +10,12 @@ use Rattle.just_bench.specs.Run.{by_script}
 abbrev pub AreLines : Text → Type 0
 AreLines text = (text ≡ []) ⊎ ((front : Text) × (text ≡ line front))
 
--- its last line is not the refusal for which memory ran out, in a run or before any
+-- the last line does not report `OutOfMemory`, neither in a run nor before any
 abbrev pub WantsNoMemory : Text → Type 0
 WantsNoMemory text = (front : Text) → AreLines front → (text ≢ front ++ refusal_line None) × (text ≢ front ++ const_refusal_line None)
 
--- Two answers of the program to one case, neither of which ends with such a line, are the same text with the same status.
+-- Two answers of the program to the same case, neither of which ends with such a line, are the same text with the same
+-- status.
 abbrev pub OneAnswer : Type 0
 OneAnswer = let Starts = λ (script state : Script). state ≡ script in
     (case p q : Text) (s t : ℕ) → Answers by_script Starts case p s → Answers by_script Starts case q t → WantsNoMemory p → WantsNoMemory q → (p ≡ q) × (s ≡ t)

@@ -1,11 +1,11 @@
--- The module of a case, and what it is evaluated in.
+-- The module of a case, and its context.
 use Rattle.std.specs.Prelude.{ℕ, max, Bool, true, false, [], Option, Some, None, codes}
 use Rattle.just_case_reader.specs.Case.{Case}
 use Rattle.just_host.specs.Fixed.{Fixed}
 use Rattle.just_host.specs.Settings.{Config, Settings, called_in, unset}
 use Rattle.just_meaning.specs.Module.{Module}
 
--- how the program counts as called
+-- how the program is assumed to be called
 abbrev pub case_config : Bool → Config
 case_config dry_run = record (called_in (codes "/work")) { dry_run = dry_run }
 
@@ -13,7 +13,7 @@ case_config dry_run = record (called_in (codes "/work")) { dry_run = dry_run }
 abbrev pub case_settings : Bool → Settings
 case_settings lists = record unset { lists = lists }
 
--- the file that a case counts as, and the directory that it lies in
+-- the file that a case is assumed to be, and its directory
 abbrev pub case_fixed : Case → Fixed
 case_fixed c = record {
   config = case_config c.dry_run;
@@ -28,7 +28,7 @@ case_fixed c = record {
   is_submodule = false;
 }
 
--- where it is not told, each variable is referenced
+-- without a set, each variable is referenced
 abbrev pub referenced_in : Option (ℕ → Bool) → ℕ → Bool
 referenced_in None n = true
 referenced_in (Some referenced) n = referenced n

@@ -1,4 +1,4 @@
--- What is printed of a case that is evaluated in a run.
+-- The output for a case that is evaluated in a run.
 use Rattle.std.specs.Prelude.{◌≡◌, ◌↔◌, ℕ, Bool, true, false, IsTrue, List, [], ◌∷◌, ◌++◌, Some, None, codes}
 use Rattle.std.specs.Map.{values_of}
 use Rattle.just_syntax.specs.Plain.{Text}
@@ -14,7 +14,7 @@ use Rattle.just_answer.specs.Answer.{binding_lines, question_lines, refusal_line
 use Rattle.just_bench.specs.Hosts.{case_script}
 use Rattle.just_bench.specs.Module.{case_module}
 
--- what leads a host from one state to another, by a question and its answer
+-- the transition relation of a host: its state, a question, the answer, and the new state
 abbrev pub Step : Type 0 → Type 1
 Step S = S → Question → Answer → S → Type 0
 
@@ -22,11 +22,11 @@ Step S = S → Question → Answer → S → Type 0
 abbrev pub by_script : Step Script
 by_script old question answer new = AnswersByScript old question.blind answer new
 
--- the steps of a host beside the questions that it was asked so far
+-- the transitions of a host together with the questions so far
 abbrev pub recording : {S : Type 0} → Step S → Step (S × List Kept)
 recording step old question answer new = RecordsAndAsks step old.0 old.1 question answer new.0 new.1
 
--- a line in front, where not all is resolved
+-- the line at the start, if not all is resolved
 abbrev pub unresolved_line : Bool → Text
 unresolved_line true = []
 unresolved_line false = codes "unresolved\n"
@@ -37,14 +37,15 @@ outcome_lines (Gave frames) = binding_lines (values_of (own_frame frames))
 outcome_lines (Refused r) = refusal_line (Some r)
 outcome_lines Stopped = refusal_line None
 
--- 0 where it was not refused
+-- 0 unless it was refused
 abbrev pub status_of : {A : Type 0} → Outcome A → ℕ
 status_of (Gave a) = 0
 status_of (Refused r) = 2
 status_of Stopped = 2
 
--- Whether the module is resolved, the questions of its run, and the bindings or the refusal are printed: by the lexical
--- rules where it is resolved, and always by the chain of frames. The host is asked from the old state on.
+-- The output says whether the module is resolved, then the questions of its run, and then the bindings or the refusal.
+-- The run always has dynamic scope (by the chain of frames), and also lexical scope if the module is resolved. The host
+-- starts in the old state.
 pub record RunPrints {S : Type 0} (step : Step S) (old : S) (m : Module) (outer : Frames) (printed : Text) (status : ℕ) : Type 0 where
   pub resolved : Bool
   pub test : IsTrue resolved ↔ IsResolved m.program.functions m.assignments outer
@@ -56,7 +57,7 @@ pub record RunPrints {S : Type 0} (step : Step S) (old : S) (m : Module) (outer 
   pub text : printed ≡ unresolved_line resolved ++ (question_lines kept ++ outcome_lines outcome)
   pub ends : status ≡ status_of outcome
 
--- A case is evaluated in a run, from a host on that starts by the script of the case.
+-- A case is evaluated in a run, with a host that starts by the script of the case.
 pub record CaseRuns {S : Type 0} (step : Step S) (Starts : Script → S → Type 0) (c : Case) (outer : Frames) (printed : Text) (status : ℕ) : Type 0 where
   pub host : S
   pub starts : Starts (case_script c) host

@@ -1,4 +1,4 @@
--- What is printed of a case that is evaluated before any run.
+-- The output for a case that is evaluated before any run.
 use Rattle.std.specs.Prelude.{◌≡◌, ◌↔◌, ℕ, Bool, IsTrue, List, [], ◌++◌, nat_eq, Option, Some, None, if◌then◌else◌}
 use Rattle.std.specs.List.{flat_map, list_any}
 use Rattle.just_syntax.specs.Plain.{Text, Token, Assignment}
@@ -16,7 +16,7 @@ use Rattle.just_bench.specs.Taken.{taken_in}
 abbrev pub assigned_in : List Assignment → ℕ → Bool
 assigned_in assignments n = list_any (λ (a : Assignment). nat_eq n a.number) assignments
 
--- where it is not told, each variable that is assigned is referenced
+-- without a set, each assigned variable is referenced
 abbrev pub const_references : Option (ℕ → Bool) → List Assignment → ℕ → Bool
 const_references None assignments = assigned_in assignments
 const_references (Some referenced) assignments = referenced
@@ -27,22 +27,23 @@ case_constants c = record {
   overrides = c.overrides;
 }
 
--- a line on a variable that has a value
+-- the line of a variable that has a value
 abbrev pub settled_line : Token → Option Value → Text
 settled_line t None = []
 settled_line t (Some v) = value_line t v
 
--- a line on a variable: its value, or that it is open
+-- the line of a variable: its value, or that it is open
 abbrev pub standing_line : Standing → Token × ℕ → Text
 standing_line s taken = if s.is_open taken.1 then open_line taken.0 else settled_line taken.0 (value_in s.frames taken.1)
 
--- the lines of the variables that are taken, or that of the refusal
+-- the lines of the taken variables, or that of the refusal
 abbrev pub stage_lines : Constants → Outcome Standing → Text
 stage_lines m (Gave s) = flat_map (standing_line s) (taken_in m.assignments m.assignments.order)
 stage_lines m (Refused r) = const_refusal_line (Some r)
 stage_lines m Stopped = const_refusal_line None
 
--- Whether the stage is resolved, and how its variables stand or why it is refused, are printed, by the const rules.
+-- The output says whether the stage is resolved, and then the state of its variables or the refusal, by the const
+-- rules.
 pub record ConstPrints (c : Case) (outer : Frames) (printed : Text) (status : ℕ) : Type 0 where
   pub resolved : Bool
   pub test : IsTrue resolved ↔ IsResolvedConst (case_constants c).assignments outer

@@ -1,4 +1,4 @@
--- Which variables of an order are taken.
+-- The variables that are taken from an order.
 use Rattle.std.specs.Prelude.{ℕ, Bool, List, [], ◌∷◌, nat_eq, Option, Some, None, if◌then◌else◌}
 use Rattle.std.specs.List.{list_any}
 use Rattle.just_syntax.specs.Plain.{Token, Assignment}
@@ -10,16 +10,16 @@ use Rattle.just_meaning.specs.Assignments.{Assignments, assignment_at}
 abbrev pub taken_view : Name × ℕ → Token × ℕ
 taken_view variable = (name_view variable.0, variable.1)
 
--- the number of an assignment, if that is referenced
+-- the number of an assignment, if it is referenced
 abbrev pub number_in : (ℕ → Bool) → Option Assignment → Option ℕ
 number_in referenced None = None
 number_in referenced (Some a) = if referenced a.number then Some a.number else None
 
--- the number of a name's assignment, if that is referenced
+-- the number of a name's assignment, if it is referenced
 abbrev pub referenced_number : Assignments → Token → Option ℕ
 referenced_number m t = number_in m.referenced (assignment_at m t.lexeme)
 
--- a name in front, if it has a number
+-- a name before the rest, if it has a number
 abbrev pub with_number : Token → Option ℕ → List (Token × ℕ) → List (Token × ℕ)
 with_number t None rest = rest
 with_number t (Some n) rest = (t, n) ∷ rest
@@ -29,11 +29,11 @@ abbrev pub referenced_names : Assignments → List Token → List (Token × ℕ)
 referenced_names m [] = []
 referenced_names m (t ∷ ts) = with_number t (referenced_number m t) (referenced_names m ts)
 
--- each number at its first place, but for those that came before
+-- the first occurrence of each number that did not occur before
 abbrev pub first_places : List ℕ → List (Token × ℕ) → List (Token × ℕ)
 first_places came [] = []
 first_places came (x ∷ xs) = if list_any (nat_eq x.1) came then first_places came xs else x ∷ first_places (x.1 ∷ came) xs
 
--- the names of an order whose assignments are referenced, each at its first place, with their numbers
+-- the names of an order whose assignments are referenced, each at its first occurrence, with their numbers
 abbrev pub taken_in : Assignments → List Token → List (Token × ℕ)
 taken_in m order = first_places [] (referenced_names m order)

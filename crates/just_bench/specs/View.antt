@@ -1,4 +1,4 @@
--- What a run of a case's module, what comes of it and a stage before any run are as plain data.
+-- A run of a case's module, its result and a stage before any run, as plain data.
 use Rattle.std.specs.Prelude.{List, max, map, string_bytes}
 use Rattle.std.specs.Option.{option_map}
 use Rattle.just_syntax.specs.View.{assignment_view, function_view, name_view, pairs_view, text_numbered}
@@ -37,11 +37,11 @@ run_view run = record {
   overrides = text_numbered run.overrides;
 }
 
--- a recorder's host, and what it was asked so far
+-- a recorder's inner host, and its records so far
 abbrev pub seen : {H : Type 0} → Recorder H → H × List Kept
 seen recorder = (inner_host recorder, records_view recorder)
 
--- what came of a run
+-- the result of a run
 abbrev pub found_view : Blocks → Found
 found_view blocks = record { frames = frames_view blocks.scope; asked = text_numbered blocks.questions }
 

@@ -1,4 +1,4 @@
-// What stands between an evaluation and the hosts of a case.
+// Wrappers around the hosts of cases.
 
 ghost use Rattle.std.specs.Prelude.{◌≡◌};
 ghost use Rattle.just_script.specs.View.{failing_view};
@@ -8,18 +8,18 @@ use just_host::host::Host;
 use just_script::fail_at::{FailAt, How};
 use just_script::scripted_host::ScriptedHost;
 
-/// What stands between an evaluation and the hosts of a case. `gives` tells which host is made of a case's own.
+/// A wrapper around the hosts of cases. `gives` relates the host of a case to the wrapped host.
 pub(crate) trait Around {
     type Made: Host + Drop;
 
     ghost gives: { Self → ScriptedHost → Self.Made → Type 0 };
 
-    /// The host that an evaluation asks, around one of the case. It takes no memory.
+    /// The host that an evaluation asks, which wraps the host of a case. It allocates nothing.
     fn around(&self, host: ScriptedHost) -> Self::Made
         ensures { gives self.now host result };
 }
 
-/// Nothing: the host of a case itself is asked.
+/// No wrapper: the host of a case itself is asked.
 #[derive(Drop)]
 pub(crate) struct Bare {}
 
@@ -33,7 +33,7 @@ impl Around for Bare {
     }
 }
 
-/// A host that fails from a question on.
+/// A host that fails from some question on.
 #[derive(Drop)]
 pub(crate) struct Failing {
     /// How many questions are passed on.

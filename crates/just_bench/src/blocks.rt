@@ -1,4 +1,4 @@
-// Two runs of a case in two orders, and what each asks for each variable.
+// Two runs of a case in two orders, and the questions that each asks for each variable.
 
 ghost use Rattle.std.specs.Prelude.{◌≡◌, ◌++◌, ◌∷◌, ◌↔◌, ◌<◌, ◌≤◌, [], IfOk, IfSome, IsTrue, OnOk, codes, drop, length, map, string_bytes};
 ghost use Rattle.std.specs.List.{flat_map};
@@ -38,15 +38,15 @@ use just_value::scope::Scope;
 use std::alloc::Global;
 use std::collections::HashMap;
 
-// What came of a run: the lines of the questions that were asked for each variable, and a scope with its bindings.
+// The result of a run: the lines of the questions asked for each variable, and a scope with its bindings.
 #[derive(Drop)]
 struct Blocks<'src, 'run> {
     questions: HashMap<Number, String>,
     scope: Scope<'src, 'run>,
 }
 
-/// Evaluates a case in two runs, each with a host of its own: in its order, and then in that of these names. Adds what
-/// each asks for each variable and, where none is refused, whether they agree, and gives the exit status.
+/// Evaluates a case in two runs, each with a host of its own: in its order, and then in that of these names. Adds the
+/// questions of each run for each variable and, if neither is refused, whether they agree, and returns the exit status.
 pub(crate) fn evaluate_blocks<'src, A: Around>(
     alloc: Global,
     text: &mut String,
@@ -73,8 +73,8 @@ pub(crate) fn evaluate_blocks<'src, A: Around>(
     )
 }
 
-// Runs a module in its order and in another, with hosts that were asked nothing. Adds `unresolved` where it is that in one of
-// them, what both runs ask and whether they agree, and gives the exit status.
+// Runs a module in its order and in another, with hosts that have no records. Adds `unresolved` if one of the two
+// orders is unresolved, then the questions of both runs and whether they agree, and returns the exit status.
 fn print_runs<'call, 'src, H: Host>(
     alloc: Global,
     text: &'call mut String,
@@ -98,8 +98,8 @@ fn print_runs<'call, 'src, H: Host>(
     )
 }
 
-// Whether a module is resolved in its order and in another. The order and the module stay as they were, unless memory is
-// wanted.
+// Whether a module is resolved in its order and in another. The order and the module are unchanged, unless memory runs
+// out.
 fn are_resolved<'src>(
     alloc: Global,
     run: &mut ModuleRun<'src>,
@@ -117,7 +117,8 @@ fn are_resolved<'src>(
     run.is_resolved_in(alloc, second, parent)
 }
 
-// Runs a module in two orders. Adds what each run asks, the second where the first is not refused, and whether they agree.
+// Runs a module in two orders. Adds the questions of each run, those of the second only if the first is not refused,
+// and whether they agree.
 fn print_both<'call, 'src, H: Host>(
     alloc: Global,
     text: &'call mut String,
@@ -146,8 +147,8 @@ fn print_both<'call, 'src, H: Host>(
     }
 }
 
-// Runs a module in an order, with a host that was asked nothing. Adds the variables that are taken, and behind each what is
-// asked for it. A refusal is added where it ends the run, of which then nothing is given.
+// Runs a module in an order, with a host that has no records. Adds the taken variables, and after each the questions
+// asked for it. A refusal that ends the run is added too; then there is no result.
 fn print_run<'call, 'src, 'run, H: Host>(
     alloc: Global,
     text: &'call mut String,
@@ -171,8 +172,8 @@ fn print_run<'call, 'src, 'run, H: Host>(
     print_turns(alloc, text, run, host, order, &taken, blocks)
 }
 
-// Evaluates the names of an order, one after another, behind what came of those before. Adds the blocks of the variables that
-// come, and a refusal where it ends this.
+// Evaluates the names of an order in turn, on the results of those before. Adds the blocks of the remaining variables,
+// and a refusal if there is one, which ends it.
 fn print_turns<'call, 'src, 'run, H: Host>(
     alloc: Global,
     text: &'call mut String,
@@ -199,8 +200,8 @@ fn print_turns<'call, 'src, 'run, H: Host>(
     Ok(Some(blocks))
 }
 
-// Evaluates a name, where the variables from a place on still come. Adds its block, if the next of them has this name, and
-// gives the place behind that, or the refusal.
+// Evaluates a name, given that the variables from an index on remain. Adds its block, if the next of them has this
+// name, and returns the index after it, or the refusal.
 fn print_turn<'call, 'src, H: Host>(
     alloc: Global,
     text: &'call mut String,
@@ -230,7 +231,7 @@ fn print_turn<'call, 'src, H: Host>(
     }
 }
 
-// Adds the block of a name, if the next variable has this name, and gives the place behind that.
+// Adds the block of a name, if the next variable has this name, and returns the index after it.
 fn add_block(
     alloc: Global,
     text: &mut String,
@@ -256,7 +257,7 @@ fn add_block(
     }
 }
 
-// The number of the variable at a place, if it has this name.
+// The number of the variable at an index, if it has this name.
 fn number_at(taken: &[(Name, Number)], at: usize, name: &Name) -> Option<Number>
     ensures number { result ≡ plain.next_number (drop at (map taken_view taken.now)) (name_view name.now) }
     ensures within { IfSome result (λ _. at < length taken.now) }
@@ -279,7 +280,7 @@ fn next_number(coming: &[(Name, Number)], name: &Name) -> Option<Number>
     }
 }
 
-// Adds a variable's name and the lines of its questions, and keeps these.
+// Adds a variable's name and the lines of its questions, and stores these lines.
 fn print_block(
     alloc: Global,
     text: &mut String,
@@ -298,14 +299,14 @@ fn print_block(
     Ok(())
 }
 
-// How many questions a host was asked.
+// The number of questions that a host was asked.
 fn count<H>(host: &Recorder<H>) -> usize
     ensures { result ≡ length (records_view host.now) }
 {
     host.questions().len()
 }
 
-// The questions that a host was asked behind so many.
+// The questions that a host was asked after the first `before`.
 fn asked_behind<H>(host: &Recorder<H>, before: usize) -> &[Recorded]
     ensures { map recorded_view result.now ≡ drop before (records_view host.now) }
 {
@@ -317,7 +318,7 @@ fn asked_behind<H>(host: &Recorder<H>, before: usize) -> &[Recorded]
     }
 }
 
-// Questions, each on a line.
+// Questions, one per line.
 fn question_lines(alloc: Global, questions: &[Recorded]) -> Result<String, OutOfMemory>
     ensures { IfOk result (λ lines. string_bytes lines ≡ answer.question_lines (map recorded_view questions.now)) }
 {
@@ -334,7 +335,7 @@ fn print_agreement(text: &mut String, agree: bool) -> Result<(), OutOfMemory>
     Ok(())
 }
 
-// Whether each variable that two runs bind has the same questions and the same value in both.
+// Whether each variable bound by both runs has the same questions and the same value in both.
 fn agree<'src>(one: &Blocks<'src, '_>, other: &Blocks<'src, '_>) -> bool
     ensures { result ≡ plain.agree (found_view one.now) (found_view other.now) }
 {
@@ -346,7 +347,7 @@ fn agree<'src>(one: &Blocks<'src, '_>, other: &Blocks<'src, '_>) -> bool
     true
 }
 
-// Whether a variable has in another run, if that binds it, the same questions and the same value as in one that binds it so.
+// Whether a variable has the same questions and the same value in both runs, or is not bound in the other.
 fn is_alike<'src>(one: &Blocks<'src, '_>, other: &Blocks<'src, '_>, binding: &Binding<'src>) -> bool
     ensures { let number = binding.now.number in
         result ≡ plain.is_alike (text_numbered one.now.questions number) (text_numbered other.now.questions number) (bound_view binding.now) (bound_at number (own_frame (frames_view other.now.scope))) }

@@ -1,4 +1,4 @@
-// What a case is evaluated in.
+// The context of a case.
 
 ghost use Rattle.std.specs.Prelude.{◌≡◌, [], IfOk, codes, false, map};
 ghost use Rattle.just_syntax.specs.View.{assignment_view, function_view, name_view};
@@ -16,7 +16,7 @@ use just_syntax::out_of_memory::OutOfMemory;
 use just_syntax::table::Table;
 use std::alloc::Global;
 
-// The file that a case counts as, and the directory that it lies in.
+// The file that a case is assumed to be, and its directory.
 const JUSTFILE: &str = "/work/justfile";
 
 const DIRECTORY: &str = "/work";
@@ -56,7 +56,7 @@ pub(crate) fn case_module<'src>(
     })
 }
 
-/// How the program counts as called.
+/// How the program is assumed to be called.
 pub(crate) fn case_config(alloc: Global, dry_run: bool) -> Result<Config, OutOfMemory>
     ensures { IfOk result (λ config. config_view config ≡ cases.case_config dry_run) }
 {
@@ -65,7 +65,7 @@ pub(crate) fn case_config(alloc: Global, dry_run: bool) -> Result<Config, OutOfM
     Ok(config)
 }
 
-/// What counts as found before.
+/// What the search is assumed to have found.
 pub(crate) fn case_search(alloc: Global) -> Result<Search, OutOfMemory>
     ensures { IfOk result (λ search. search_view search ≡ record { justfile = codes "/work/justfile"; working_directory = codes "/work" }) }
 {

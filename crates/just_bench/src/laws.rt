@@ -2,8 +2,8 @@
 
 ghost use Rattle.just_bench.specs.Laws.{OneAnswer};
 
-/// A case has one answer: two answers of the program to the same bytes, of which neither says in its last line that memory was
-/// wanted, are the same text with the same status.
+/// A case has one answer: two answers of the program to the same bytes, neither of which reports `OutOfMemory` in its
+/// last line, are the same text with the same status.
 pub fn one_answer()
     ensures { OneAnswer }
 {}

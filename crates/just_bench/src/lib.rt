@@ -1,5 +1,5 @@
-// A program over cases: it reads one, evaluates what it describes with the answers that it gives, and prints
-// what was asked and what came of it. It leans on the evaluator's public calls, the reader of cases, scripted hosts and the
+// A program over cases. It reads one, evaluates what it describes, with the answers that it lists, and prints the
+// questions and the result. It depends on the evaluator's public calls, the reader of cases, scripted hosts and the
 // lines of an answer, and for its law on that of `just_agreement` on answers.
 #![tactic(auto)]
 

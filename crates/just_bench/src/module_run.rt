@@ -34,16 +34,16 @@ use std::alloc::Global;
 use std::collections::{BTreeMap, HashMap, HashSet};
 use std::mem;
 
-/// What runs of a case's module are handed, beside a host and a scope.
+/// The arguments of runs of a case's module, except the host and the scope.
 #[derive(Drop)]
 pub(crate) struct ModuleRun<'src> {
     config: Config,
     dotenv: BTreeMap<String, String>,
     pub(crate) module: Justfile<'src>,
     overrides: HashMap<Number, String>,
-    /// How many calls may be pending, and one more.
+    /// One more than the number of calls that may be pending.
     recursion_limit: usize,
-    /// The numbers of the variables that are referenced, where they are told.
+    /// The numbers of the referenced variables, if they are given.
     pub(crate) references: Option<HashSet<Number>>,
     search: Search,
 }
@@ -76,8 +76,8 @@ impl<'src> ModuleRun<'src> {
         resolved(alloc, &self.module, parent, self.references.as_ref())
     }
 
-    /// Whether the module is resolved in a scope, were it in this order. The order and the module stay as they were, unless
-    /// memory is wanted: then the two orders have changed places.
+    /// Whether the module would be resolved in a scope if it had this order. The order and the module are unchanged,
+    /// unless memory runs out: then the two orders are swapped.
     pub(crate) fn is_resolved_in(
         &mut self,
         alloc: Global,
@@ -95,7 +95,7 @@ impl<'src> ModuleRun<'src> {
         Ok(resolved)
     }
 
-    /// Puts another order in place of the module's, and gives that. It takes no memory.
+    /// Replaces the module's order by another, and returns the old one. It allocates nothing.
     pub(crate) fn replace_order(&mut self, order: Vec<Name<'src>>) -> Vec<Name<'src>>
         ensures run { run_view self.new ≡ in_order (run_view self.old) (map name_view order.entry.items) }
         ensures order { map name_view result.items ≡ (run_view self.old).assignments.order }
@@ -103,7 +103,7 @@ impl<'src> ModuleRun<'src> {
         mem::replace(&mut self.module.evaluation_order, order)
     }
 
-    /// Evaluates the module in its order, in a scope whose bindings it sees.
+    /// Evaluates the module in its order, in a scope whose bindings it can read.
     pub(crate) fn evaluate<'run, H: Host>(
         &'run self,
         alloc: Global,
@@ -129,8 +129,8 @@ impl<'src> ModuleRun<'src> {
         )
     }
 
-    /// Evaluates the assignment of this name, as the next of a run whose bindings so far are a scope's, and binds its value
-    /// there, unless it is refused.
+    /// Evaluates the assignment with this name, as the next of a run whose bindings so far are those of a scope, and
+    /// binds its value there, unless it is refused.
     pub(crate) fn extend<H: Host>(
         &mut self,
         alloc: Global,
@@ -152,7 +152,7 @@ impl<'src> ModuleRun<'src> {
         }
     }
 
-    // What a run in the module's order binds first, with what a scope binds already.
+    // The first binding of a run in the module's order, on top of the bindings of a scope.
     fn next_binding<H: Host>(
         &self,
         alloc: Global,
@@ -168,7 +168,7 @@ impl<'src> ModuleRun<'src> {
     }
 }
 
-// What a scope binds first, once more but for attributes.
+// A copy of a scope's first binding, without attributes.
 fn first_binding<'src>(
     alloc: Global,
     scope: &Scope<'src, '_>,
@@ -181,7 +181,7 @@ fn first_binding<'src>(
     }
 }
 
-// A binding once more but for attributes, which an assignment has none of.
+// A copy of a binding, without attributes. An assignment has none.
 fn copied<'src>(alloc: Global, binding: &Binding<'src>) -> Result<Binding<'src>, OutOfMemory>
     ensures { IfOk result (λ copy. bound_view copy ≡ without_attributes (bound_view binding.now)) }
 {

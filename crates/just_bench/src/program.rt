@@ -1,4 +1,4 @@
-// The program: a case from a reader, its answer to a writer.
+// The program: it reads a case from a reader, and writes its answer to a writer.
 
 ghost use Rattle.std.specs.Prelude.{◌≡◌, ◌∷◌, ◌<◌, ◌≤◌, [], IfOk, IfSome, IsErr, length, string_bytes};
 ghost use Rattle.just_value.specs.View.{frames_view};
@@ -25,10 +25,10 @@ use std::alloc::Global;
 use std::io::{Read, Write};
 use std::mem;
 
-/// Reads a case, evaluates it, prints its answer, and gives the exit status: 0 for bindings, 2 for a refusal, want of memory in
-/// the evaluation among these, 1 for a case that is bad or longer than `LIMIT` bytes, a read or a write that failed, or want of
-/// memory outside the evaluation. The answer is written once it is whole, so nothing is written where a read fails, the case is
-/// too long, or memory outside the evaluation is refused.
+/// Reads a case, evaluates it, prints its answer, and returns the exit status: 0 for bindings; 2 for a refusal,
+/// including `OutOfMemory` in the evaluation; 1 for a case that is bad or longer than `LIMIT` bytes, a failed read or
+/// write, or a failed allocation outside the evaluation. The answer is written only once it is complete. So nothing is
+/// written if a read fails, the case is too long, or an allocation outside the evaluation fails.
 pub fn run<R: Read, W: Write>(alloc: Global, reader: &mut R, writer: &mut W) -> u8
     ensures answer { IfSome (R.remaining reader.old) (λ case. Written (W.contents writer.old) (W.contents writer.new) result (
         Answers by_script (λ script state. state ≡ script) case)) }
@@ -39,8 +39,8 @@ pub fn run<R: Read, W: Write>(alloc: Global, reader: &mut R, writer: &mut W) -> 
     exit_status(answer(alloc, reader, writer, &Bare {}))
 }
 
-/// [`run`], where the host passes the first `passed` questions of a run on, and fails at each later one, as `how` says. The
-/// status, and what want of memory leaves, are as there.
+/// As [`run`], but the host passes on only the first `passed` questions of a run, and fails at each later one in the
+/// way `how` says.
 pub fn run_failing<R: Read, W: Write>(
     alloc: Global,
     reader: &mut R,
@@ -57,12 +57,12 @@ pub fn run_failing<R: Read, W: Write>(
     exit_status(answer(alloc, reader, writer, &Failing { passed, how }))
 }
 
-/// Evaluates a case that is built already, in a scope whose bindings it sees. Adds what [`run`] would write of it, and gives the
-/// exit status: 0 or 2, as there.
+/// Evaluates a case that is already built, in a scope whose bindings it can read. Adds what [`run`] would write for it,
+/// and returns the exit status: 0 or 2, as there.
 ///
 /// # Errors
 ///
-/// `OutOfMemory`, where memory outside the evaluation was refused. What was added by then stands.
+/// `OutOfMemory`, if an allocation outside the evaluation fails. The text added by then remains.
 pub fn evaluate_in_scope<'src>(
     alloc: Global,
     text: &mut String,
@@ -76,7 +76,7 @@ pub fn evaluate_in_scope<'src>(
     evaluate_in(alloc, text, case, parent, &Bare {})
 }
 
-// The exit status, which is 1 where there is no answer.
+// The exit status, or 1 if there is no answer.
 fn exit_status(answered: Result<u8, StreamError>) -> u8
     ensures { result ≡ or_one answered }
 {
@@ -86,7 +86,7 @@ fn exit_status(answered: Result<u8, StreamError>) -> u8
     }
 }
 
-// What the texts of a case's expressions are pieces of, the bytes and the lines, outlives them here.
+// The bytes and the lines, which the texts of a case's expressions borrow, outlive them here.
 fn answer<R: Read, W: Write, A: Around>(
     alloc: Global,
     reader: &mut R,
@@ -106,7 +106,7 @@ fn answer<R: Read, W: Write, A: Around>(
     Ok(status)
 }
 
-// Adds what a case is answered with, and gives the exit status.
+// Adds the answer to a case, and returns the exit status.
 fn print_answer<A: Around>(
     alloc: Global,
     text: &mut String,
@@ -128,7 +128,7 @@ fn print_answer<A: Around>(
     }
 }
 
-// Evaluates a case in a scope that binds nothing, adds what is printed of it, and gives the exit status.
+// Evaluates a case in an empty scope, adds its output, and returns the exit status.
 fn evaluate<A: Around>(
     alloc: Global,
     text: &mut String,
@@ -143,7 +143,7 @@ fn evaluate<A: Around>(
     evaluate_in(alloc, text, case, &parent, around)
 }
 
-// The same in a scope, whose bindings the case sees.
+// The same in a scope, whose bindings the case can read.
 fn evaluate_in<'src, A: Around>(
     alloc: Global,
     text: &mut String,

@@ -1,4 +1,4 @@
-// A case that is evaluated in a run.
+// Evaluation of a case in a run.
 
 ghost use Rattle.std.specs.Prelude.{◌≡◌, ◌≤◌, ◌++◌, [], IfOk, OnOk, string_bytes};
 ghost use Rattle.just_value.specs.View.{ended, frames_view};
@@ -21,7 +21,7 @@ use just_value::error::Error;
 use just_value::scope::Scope;
 use std::alloc::Global;
 
-/// Evaluates a case in a run, in a scope whose bindings it sees. Adds what is printed of it, and gives the exit status.
+/// Evaluates a case in a run, in a scope whose bindings it can read. Adds its output, and returns the exit status.
 pub(crate) fn evaluate_run<'src, A: Around>(
     alloc: Global,
     text: &mut String,
@@ -38,8 +38,8 @@ pub(crate) fn evaluate_run<'src, A: Around>(
     print_evaluation(alloc, text, &run, &mut host, parent)
 }
 
-// Runs a module with a host that was asked nothing. Adds `unresolved` where it is that, the questions that the host was
-// asked, and the bindings or the refusal, and gives the exit status.
+// Runs a module with a host that has no records. Adds `unresolved` if it is unresolved, the questions that the host was
+// asked, and the bindings or the refusal, and returns the exit status.
 fn print_evaluation<'call, 'src, H: Host>(
     alloc: Global,
     text: &'call mut String,
@@ -69,7 +69,7 @@ pub(crate) fn print_resolved(text: &mut String, resolved: bool) -> Result<(), Ou
     Ok(())
 }
 
-// Adds the bindings or the refusal, and gives the exit status.
+// Adds the bindings or the refusal, and returns the exit status.
 fn print_outcome<'call, 'src>(
     alloc: Global,
     text: &'call mut String,

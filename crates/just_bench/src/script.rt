@@ -14,8 +14,8 @@ use just_value::error::CommandFault;
 use std::alloc::Global;
 use std::mem;
 
-/// A host that answers commands as a case says, and has no answer to any other question. The answers are taken out of the
-/// case.
+/// A host that answers commands by the script of a case, and has no answer to any other question. The script is taken
+/// out of the case.
 pub(crate) fn case_script(alloc: Global, case: &mut Case) -> ScriptedHost
     ensures host { script_view result ≡ cases.case_script (case_view case.old) }
     ensures rest { case_view case.new ≡ without_answers (case_view case.old) }
@@ -25,7 +25,7 @@ pub(crate) fn case_script(alloc: Global, case: &mut Case) -> ScriptedHost
     scripted(alloc, always, replies)
 }
 
-/// The same host, made without taking what the case says.
+/// The same host, with a copy of the script.
 pub(crate) fn script_copy(alloc: Global, case: &Case) -> Result<ScriptedHost, OutOfMemory>
     ensures { IfOk result (λ host. script_view host ≡ cases.case_script (case_view case.now)) }
 {
@@ -34,7 +34,7 @@ pub(crate) fn script_copy(alloc: Global, case: &Case) -> Result<ScriptedHost, Ou
     Ok(scripted(alloc, always, replies))
 }
 
-// A host that answers commands by these.
+// A host that answers commands by these replies.
 fn scripted(
     alloc: Global,
     always: Vec<(String, String)>,
@@ -51,7 +51,7 @@ fn scripted(
     )
 }
 
-// The pairs once more.
+// Copies of the pairs.
 fn pairs_copy(
     alloc: Global,
     pairs: &[(String, String)],
@@ -66,7 +66,7 @@ fn pairs_copy(
     Ok(copies)
 }
 
-// The replies once more.
+// Copies of the replies.
 fn replies_copy(
     alloc: Global,
     replies: &[Result<String, CommandFault>],
@@ -80,7 +80,7 @@ fn replies_copy(
     Ok(copies)
 }
 
-// A reply once more.
+// A copy of a reply.
 fn reply_copy(
     alloc: Global,
     reply: &Result<String, CommandFault>,

@@ -1,4 +1,4 @@
-// What is printed of a stage before any run.
+// The output of a stage before any run.
 
 ghost use Rattle.std.specs.Prelude.{◌≡◌, ◌↔◌, ◌++◌, ◌≤◌, IfOk, IsTrue, OnOk, map, string_bytes};
 ghost use Rattle.std.specs.List.{flat_map};
@@ -31,7 +31,7 @@ use just_value::scope::Scope;
 use std::alloc::Global;
 use std::collections::{HashMap, HashSet};
 
-// What a stage before any run is given, beside a scope.
+// The arguments of a stage before any run, except the scope.
 #[derive(Drop)]
 struct Stage<'src> {
     assignments: Table<Assignment<'src>>,
@@ -41,8 +41,8 @@ struct Stage<'src> {
     references: HashSet<Number>,
 }
 
-/// Evaluates a case before any run, by the const rules, in a scope whose bindings it sees. Adds what is printed of it, and
-/// gives the exit status. No host is there, and so nothing is asked.
+/// Evaluates a case before any run, by the const rules, in a scope whose bindings it can read. Adds its output, and
+/// returns the exit status. There is no host, so nothing is asked.
 pub(crate) fn evaluate_const<'src>(
     alloc: Global,
     text: &mut String,
@@ -76,7 +76,7 @@ impl<'src> Stage<'src> {
         })
     }
 
-    // Whether it is resolved in a scope.
+    // Whether the stage is resolved in a scope.
     fn is_resolved(&self, alloc: Global, parent: &Scope<'src, '_>) -> Result<bool, OutOfMemory>
         ensures { IfOk result (λ answer. IsTrue answer ↔ IsResolvedConst (stage_view self.now).assignments (frames_view parent.now)) }
     {
@@ -89,7 +89,7 @@ impl<'src> Stage<'src> {
         )
     }
 
-    // Evaluates it in a scope whose bindings it sees.
+    // Evaluates the stage in a scope whose bindings it can read.
     fn evaluate<'run>(
         &'run self,
         alloc: Global,
@@ -109,7 +109,7 @@ impl<'src> Stage<'src> {
         )
     }
 
-    // Adds the variables that are taken, or the refusal, and gives the exit status.
+    // Adds the taken variables, or the refusal, and returns the exit status.
     fn print_outcome(
         &self,
         alloc: Global,
@@ -136,7 +136,7 @@ impl<'src> Stage<'src> {
     }
 }
 
-// The variables that a case references: those that it tells, or else all that it assigns.
+// The variables that a case references: those that it lists, or else all that it assigns.
 fn case_references(
     alloc: Global,
     told: Option<HashSet<Number>>,

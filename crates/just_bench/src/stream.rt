@@ -1,4 +1,4 @@
-// Reads a case, and writes what is printed of it.
+// Reads cases, and writes their output.
 
 ghost use Rattle.std.specs.Prelude.{◌≡◌, ◌<◌, ◌≤◌, IfOk, OnErr, OnOk, IfSome, length, vec_len};
 ghost use Rattle.std.specs.Io.KnownBytes.{Appends};
@@ -12,15 +12,15 @@ use std::error::Error;
 use std::fmt;
 use std::io::{self, Read, Write};
 
-/// How many bytes a case has at most.
+/// The maximum number of bytes of a case.
 pub const LIMIT: usize = 1_000_000;
 
-/// Why a case was not read or an answer not written.
+/// Why a case was not read, or an answer not written.
 #[derive(Debug, Drop)]
 pub enum StreamError {
     /// A read or a write failed, or a write took no byte.
     Failed,
-    /// Memory was asked for and refused.
+    /// An allocation failed.
     OutOfMemory,
     /// The case has more than `LIMIT` bytes.
     TooLong,
@@ -72,12 +72,13 @@ impl From<io::Error> for StreamError {
     }
 }
 
-/// All bytes of a reader. Nothing is read behind a read that fails or gives no byte, nor once there are more than `LIMIT`.
+/// All bytes of a reader. It stops reading after a read that fails or returns no byte, or once there are more than
+/// `LIMIT`.
 ///
 /// # Errors
 ///
-/// `Failed` where a read fails, `TooLong` where there are more than `LIMIT` bytes, and `OutOfMemory` where memory was asked for
-/// and refused. What was read is lost: the bytes are dropped.
+/// `Failed`, if a read fails; `TooLong`, if there are more than `LIMIT` bytes; `OutOfMemory`, if an allocation fails.
+/// The bytes read so far are dropped.
 pub fn read_case<R: Read>(alloc: Global, reader: &mut R) -> Result<Vec<u8>, StreamError>
     ensures within { IfOk result (λ bytes. vec_len bytes ≤ LIMIT) }
     ensures whole { IfOk result (λ bytes. IfSome (R.remaining reader.old) (λ rest. bytes.items ≡ rest)) }
@@ -96,11 +97,12 @@ pub fn read_case<R: Read>(alloc: Global, reader: &mut R) -> Result<Vec<u8>, Stre
     Err(StreamError::TooLong)
 }
 
-/// Writes a whole text, and flushes. It takes no memory.
+/// Writes a whole text, and flushes. It allocates nothing.
 ///
 /// # Errors
 ///
-/// `Failed` where a write fails or takes no byte, or the flush fails. What was written stands: the front of the text.
+/// `Failed`, if a write fails or takes no byte, or if the flush fails. The part written by then remains: a prefix of
+/// the text.
 pub fn write_text<W: Write>(writer: &mut W, text: &str) -> Result<(), StreamError>
     ensures whole { OnOk result (Appends (W.contents writer.old) (W.contents writer.new) text.now) }
     ensures part { OnErr result (AppendsFront (W.contents writer.old) (W.contents writer.new) text.now) }

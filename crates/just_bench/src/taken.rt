@@ -1,4 +1,4 @@
-// Which variables of an order are taken.
+// The variables that are taken from an order.
 
 ghost use Rattle.std.specs.Prelude.{◌≡◌, ◌∷◌, ◌++◌, ℕ, [], IfOk, List, OnOk, map};
 ghost use Rattle.just_syntax.specs.Plain.{Token};
@@ -15,8 +15,8 @@ use just_syntax::table::Table;
 use std::alloc::Global;
 use std::collections::HashSet;
 
-/// The names of an order whose assignments are referenced, each at its first place, with their numbers. Where no set is
-/// given, each is referenced.
+/// The names of an order whose assignments are referenced, each at its first occurrence, with their numbers. Without a
+/// set, each is referenced.
 pub(crate) fn taken_variables<'src>(
     alloc: Global,
     assignments: &Table<Assignment>,
@@ -35,7 +35,7 @@ pub(crate) fn taken_variables<'src>(
     Ok(taken)
 }
 
-// The number of a name's assignment, if that is referenced.
+// The number of a name's assignment, if it is referenced.
 fn number_of(
     assignments: &Table<Assignment>,
     references: Option<&HashSet<Number>>,
@@ -52,14 +52,14 @@ fn number_of(
     Some(assignment.number)
 }
 
-// Takes a variable, unless its number was seen before.
+// Takes a variable, unless its number occurred before.
 fn take_once<'src>(
     seen: &mut HashSet<Number>,
     taken: &mut Vec<(Name<'src>, Number)>,
     name: Name<'src>,
     number: Number,
 ) -> Result<(), OutOfMemory>
-    // What is taken of those behind it too.
+    // Also for the names after it.
     ensures { OnOk result ((rest : List (Token × ℕ)) → map taken_view taken.new.items ++ first_places seen.new.keys rest ≡ map taken_view taken.old.items ++ first_places seen.old.keys ((name_view name.entry, number) ∷ rest)) }
 {
     if !seen.insert(number)? {

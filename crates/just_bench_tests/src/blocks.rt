@@ -1,4 +1,4 @@
-// What two runs under `blocks` ask, beside each run alone, and what is bound outside them.
+// What two runs under `blocks` ask, compared with each run alone, and with outer bindings.
 
 use crate::evaluations::answers_outside_nothing;
 use crate::fakes::{whole_reader, whole_writer};
@@ -8,7 +8,7 @@ use std::alloc::{AllocError, Global};
 use std::process::Abort;
 use std::str;
 
-// What a case with these last lines asks, each question on a line.
+// What a case with these last lines asks, one question per line.
 fn asked(rt: &impl Abort, alloc: Global, case: &str, end: &str) -> String {
     let case = format!(in alloc; "{case}\n{end}\n").expect(rt, "no memory");
     let mut out = whole_writer(alloc);
@@ -52,7 +52,7 @@ fn asked_in_blocks(
     asked(rt, alloc, case, &end)
 }
 
-// Under `blocks` a case asks what it asks in a run in either order.
+// Under `blocks` a case asks what it asks in a run in each order.
 fn asks_what_runs_ask(rt: &impl Abort, alloc: Global, case: &str, first: &str, second: &str) {
     let expected = asked_in_runs(rt, alloc, case, first, second);
     let both = asked_in_blocks(rt, alloc, case, first, second);
@@ -60,7 +60,7 @@ fn asks_what_runs_ask(rt: &impl Abort, alloc: Global, case: &str, first: &str, s
     is_so(rt, case, !both.is_empty());
 }
 
-// A case but for its last lines, and two orders.
+// A case without its last lines, and two orders.
 const CASES: &[(&str, &str, &str)] = &[
     (
         "cmd p\nassign a\ncmd q\nassign b\nvar a\nvar b\nadd\nassign d\nreply 1\nreply 2",
@@ -73,7 +73,7 @@ const CASES: &[(&str, &str, &str)] = &[
         "a b",
         "b a",
     ),
-    // The body reads what one order has not bound yet.
+    // The body reads what is not yet bound in one of the orders.
     (
         "cmd q\nvar a\nadd\nfun g\ncmd p\nassign a\ncall g 0\nassign b\nreply 1\nreply 2",
         "a b",
@@ -93,7 +93,7 @@ fn blocks_ask_what_runs_ask(rt: HostRuntime) {
     }
 }
 
-// A variable that is bound outside is taken, asks nothing, and is bound by neither run.
+// A variable that is bound outside is taken, but asks nothing, and neither run binds it.
 #[test]
 fn blocks_of_what_is_bound_outside(rt: HostRuntime) {
     answers_outside_nothing(

@@ -22,12 +22,12 @@ use std::alloc::Global;
 use std::collections::{BTreeMap, HashMap, HashSet};
 use std::process::Abort;
 
-// The file that a case counts as, and the directory that it lies in.
+// The file name that a case is given, and its directory.
 const JUSTFILE: &str = "/work/justfile";
 
 pub(crate) const DIRECTORY: &str = "/work";
 
-/// A case's module, and what its evaluation is lent beside a host and a scope.
+/// A case's module, and what its evaluation borrows besides a host and a scope.
 #[derive(Drop)]
 pub(crate) struct CaseRun<'src> {
     config: Config,
@@ -131,7 +131,7 @@ pub(crate) fn told_by_run<'call, 'src, H: Host>(
     text
 }
 
-/// How the program counts as called.
+/// The configuration of the program.
 pub(crate) fn config(rt: &impl Abort, alloc: Global, dry_run: bool) -> Config {
     let mut config = Config::new(alloc, DIRECTORY).expect(rt, "no memory");
     config.dry_run = dry_run;

@@ -24,9 +24,9 @@ const HEAD: &str = "only a b c d e\n";
 
 const TAIL: &str = "run";
 
-// Lines before the edit, lines after it, and the numbers that are changed.
+// Lines before the edit, lines after it, and the numbers that it changes.
 const EDITS: &[(&str, &str, &str)] = &[
-    // Nothing stands there.
+    // There are no lines.
     ("", "", ""),
     // Nothing is edited.
     (
@@ -34,31 +34,31 @@ const EDITS: &[(&str, &str, &str)] = &[
         "str x\nassign a\nvar a\nassign b\n",
         "",
     ),
-    // What is edited is read by another, and by one that reads that.
+    // What is edited is read by another variable, which is read by a third.
     (
         "str x\nassign a\nvar a\nassign b\nvar b\nassign c\nstr y\nassign d\n",
         "str z\nassign a\nvar a\nassign b\nvar b\nassign c\nstr y\nassign d\n",
         "0 1 2 ",
     ),
-    // What is edited is read by none.
+    // No variable reads what is edited.
     (
         "str x\nassign a\nvar a\nassign b\nvar b\nassign c\nstr y\nassign d\n",
         "str x\nassign a\nvar a\nassign b\nvar b\nassign c\nstr z\nassign d\n",
         "3 ",
     ),
-    // The order of the lines is another.
+    // Only the order of the lines differs.
     (
         "str x\nassign a\nvar a\nassign b\nstr y\nassign d\n",
         "str y\nassign d\nvar a\nassign b\nstr x\nassign a\n",
         "",
     ),
-    // Only the flag of an assignment is another.
+    // Only the flag of an assignment differs.
     (
         "str x\nassign a\nvar a\nassign b\n",
         "str x\nassign a\nvar a\nexport b\n",
         "1 ",
     ),
-    // An assignment is added, removed, or has another name.
+    // An assignment is added, removed or renamed.
     (
         "str x\nassign a\n",
         "str x\nassign a\nvar a\nassign b\n",
@@ -76,7 +76,7 @@ const EDITS: &[(&str, &str, &str)] = &[
     ),
     ("", "str x\nassign a\n", "0 "),
     ("str x\nassign a\n", "", "0 "),
-    // An override is added, removed, or another.
+    // An override is added, removed or replaced.
     (
         "str x\nassign a\nvar a\nassign b\nstr y\nassign c\n",
         "str x\nassign a\nvar a\nassign b\nstr y\nassign c\noverride a z\n",
@@ -115,31 +115,31 @@ const EDITS: &[(&str, &str, &str)] = &[
         "str z\nassign a\nvar a\nfun f\ncall f 0\nfun g\ncall g 0\nassign b\nstr y\nassign c\n",
         "0 1 ",
     ),
-    // A parameter is no variable outside: another override of its number changes its number alone.
+    // A parameter is not a variable of the module: another override of its number changes only that number.
     (
         "var e\nfun f e\nstr x\ncall f 1\nassign a\n",
         "var e\nfun f e\nstr x\ncall f 1\nassign a\noverride e z\n",
         "4 ",
     ),
-    // Functions that call each other for ever.
+    // Functions that call each other without end.
     (
         "call g 0\nfun f\ncall f 0\nfun g\ncall f 0\nassign a\nstr y\nassign b\n",
         "call g 0\nfun f\ncall f 0\ngroup\nfun g\ncall f 0\nassign a\nstr y\nassign b\n",
         "0 ",
     ),
-    // A function that is added stands before a built-in one of its name.
+    // An added function hides a built-in one of its name.
     (
         "str x\ncall trim 1\nassign a\nstr y\ncall quote 1\nassign b\n",
         "str x\ncall trim 1\nassign a\nstr y\ncall quote 1\nassign b\nvar e\nfun trim e\n",
         "0 ",
     ),
-    // Variables that read each other for ever, which no run takes.
+    // Variables that read each other without end; no run takes them.
     (
         "var b\nassign a\nvar a\nassign b\nstr x\nassign c\n",
         "var b\nassign a\nvar a\ngroup\nassign b\nstr x\nassign c\n",
         "0 1 ",
     ),
-    // All forms of expressions, one of which has another operand deep inside.
+    // All forms of expressions; in one of them an operand deep inside differs.
     (
         "cmd x\nvar a\nand\nstr y\nor\nstr z\nstr w\neq\nvar b\ngroup\nif\nlist 1\nstr v\nroot\njoin\nassign c\n",
         "cmd x\nvar a\nand\nstr y\nor\nstr z\nstr w\nne\nvar b\ngroup\nif\nlist 1\nstr v\nroot\njoin\nassign c\n",
@@ -152,7 +152,7 @@ const EDITS: &[(&str, &str, &str)] = &[
     ),
 ];
 
-// The same where `a` is bound outside: its expression is not evaluated, but its assignment counts.
+// The same with `a` bound outside: its expression is not evaluated, but its assignment counts.
 const BOUND_OUTSIDE: &[(&str, &str, &str)] = &[
     (
         "var c\nassign a\nvar a\nassign b\nstr x\nassign c\n",
@@ -179,7 +179,7 @@ pub(crate) fn changed_numbers(
     changed_in_lines(alloc, &before, &after, outer)
 }
 
-// What both came to, or the first refusal.
+// The values of both, or the first refusal.
 fn both<T: Drop, E: Drop>(one: Result<T, E>, other: Result<T, E>) -> Result<(T, T), E> {
     Ok((one?, other?))
 }
@@ -215,7 +215,7 @@ fn changed_between<'src>(
     numbers
 }
 
-// A module with what a case describes, and its overrides.
+// The module that a case describes, and its overrides.
 #[derive(Drop)]
 struct Module<'src> {
     justfile: Justfile<'src>,
@@ -249,7 +249,7 @@ impl<'src> Module<'src> {
     }
 }
 
-// The numbers that an edit changes, a space behind each.
+// The numbers that an edit changes, each followed by a space.
 fn told(alloc: Global, before: &str, after: &str, outer: &Scope) -> Result<String, Fail> {
     let before = case_text(alloc, before)?;
     let after = case_text(alloc, after)?;

@@ -1,4 +1,4 @@
-// Evaluations in a scope that binds something, and of what no lines describe.
+// Evaluations in a scope that binds something, and of expressions that no lines describe.
 
 use crate::case_run::CaseRun;
 use crate::texts::{ends, is_so, owned, same};
@@ -31,7 +31,7 @@ pub(crate) fn outer<'src, 'run>(rt: &impl Abort, alloc: Global, value: Value) ->
     scope
 }
 
-// What binds `o`, whose number is 0, to a value.
+// The binding of `o`, whose number is 0, to a value.
 fn binding<'src>(alloc: Global, value: Value) -> Binding<'src> {
     Binding {
         attributes: AttributeSet::new(alloc),
@@ -76,7 +76,7 @@ pub(crate) fn answers_outside_nothing(
     drop(parent);
 }
 
-// A case of an operator on a list of no element, its answer and its status.
+// A case of an operator on an empty list, its answer and its status.
 const OPERATORS: &[(&str, &str, u8)] = &[
     (
         "var o\nstr d\nadd\nassign a\nrun",
@@ -95,7 +95,7 @@ fn operators_on_lists(rt: HostRuntime) {
     }
 }
 
-// Where the host has no memory for an answer, the questions are printed all the same.
+// If the host runs out of memory for an answer, the questions are printed all the same.
 #[test]
 fn host_out_of_memory(rt: HostRuntime) {
     let alloc = rt.alloc();
@@ -110,7 +110,7 @@ fn host_out_of_memory(rt: HostRuntime) {
     );
 }
 
-// A case is refused so where the host has no memory behind the case's replies.
+// A case is refused like this if the host runs out of memory after the case's replies.
 fn answers_without_memory(rt: &impl Abort, alloc: Global, mut case: Case, answer: &str) {
     let pushed = case.replies.push(Err(CommandFault::OutOfMemory));
     pushed.expect(rt, "no memory");
@@ -137,7 +137,7 @@ fn bound_outside(rt: HostRuntime) {
     drop(parent);
 }
 
-// The same before any run, where a number that is bound outside has the value from there.
+// The same before any run: a number that is bound outside has its outer value.
 #[test]
 fn bound_outside_before_a_run(rt: HostRuntime) {
     answers_outside_nothing(
@@ -165,7 +165,7 @@ fn keeps_the_outer_value<'src>(
     is_so(rt, "asks nothing", host.questions().is_empty());
 }
 
-// A run gives a scope that binds nothing of its own, and the first number has the value `o`.
+// A run returns a scope with no bindings of its own, in which the first number has the value `o`.
 fn has_the_outer_value_alone<'call>(
     rt: &'call impl Abort,
     alloc: Global,
@@ -181,15 +181,16 @@ fn has_the_outer_value_alone<'call>(
     }
 }
 
-// A value prints so.
+// A value is printed like this.
 fn prints(rt: &impl Abort, alloc: Global, value: &Value, printed: &str) {
     let text = format!(in alloc; "{value}").expect(rt, "no memory");
     same(rt, "value", &text, printed);
 }
 
-// A format string, whether its start is indented, and the answer of a case that assigns it to `x`, whose commands are answered
-// by `1`, and then by `2`. It is written as its start, and then each interpolation and the text after it, with `@` between all. An
-// interpolation is a list, with `|` between its elements, or a command in backticks.
+// A format string, whether its start is indented, and the answer of a case that assigns it to `x`. The case's commands
+// are answered first by `1` and then by `2`. A format string is written as its start, then each interpolation and the
+// text after it, with `@` between all of these. An interpolation is a list, with `|` between its elements, or a command
+// in backticks.
 const FORMAT_STRINGS: &[(&str, bool, &str)] = &[
     ("<@a|b@>", false, "x = \"<a b>\"\n"),
     (
@@ -197,7 +198,8 @@ const FORMAT_STRINGS: &[(&str, bool, &str)] = &[
         false,
         "? command \"c\"\n? command \"d\"\nx = \"1-a+2!\"\n",
     ),
-    // The whole text is unindented, with what is interpolated, if its start is indented. Its other texts do not count for that.
+    // The whole text, with its interpolations, is unindented if its start is indented. Whether the other texts are does
+    // not matter.
     ("\n  x @a|b@\n    y\n", true, "x = \"x a b\\n  y\\n\"\n"),
     (
         "\n  x @a|b@\n    y\n",
@@ -217,7 +219,7 @@ fn format_strings(rt: HostRuntime) {
     }
 }
 
-// A format string that is written so. Each text after an interpolation is marked otherwise than the start.
+// The format string in this notation. Each text after an interpolation has the opposite mark of the start.
 fn format_string(
     rt: &impl Abort,
     alloc: Global,
@@ -248,7 +250,7 @@ fn literal(
     literal
 }
 
-// A command in backticks, or a list of what `|` separates.
+// A command in backticks, or a list of the parts between `|`.
 fn interpolated(rt: &impl Abort, alloc: Global, written: &'static str) -> Expression<'static> {
     if written.starts_with('`') {
         return Expression::Backtick {
@@ -295,7 +297,7 @@ fn answers_assigned(
     answers_outside(rt, alloc, case, answer, status);
 }
 
-// A table of `x`, whose number is 1, with an expression.
+// A table with `x`, whose number is 1, and an expression.
 fn assignments_of(
     rt: &impl Abort,
     alloc: Global,

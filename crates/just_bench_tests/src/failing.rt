@@ -1,4 +1,4 @@
-// Cases whose questions fail from one on.
+// Cases whose questions fail from some question on.
 
 use crate::fakes::{whole_reader, whole_writer};
 use crate::stored_case::STORED_CASE;
@@ -8,13 +8,13 @@ use just_script::fail_at::How;
 use std::alloc::Global;
 use std::process::Abort;
 
-// Commands and existence, which has no fault.
+// Commands and an existence check, which has no fault.
 const MIXED: &str = "str p\ncall path_exists 1\nassign a\ncmd c\nassign b\nreply x\nrun\n";
 
-// Two runs, of which each has a host of its own that fails.
+// Two runs, each with a host of its own that fails.
 const TWO_RUNS: &str = "cmd p\nassign a\nstr x\nassign b\nreply 1\nblocks b a\n";
 
-// A case, how many questions are passed on, how the others fail, the answer and the status.
+// A case, how many questions are passed on, how the others fail, the answer, and the status.
 const ROWS: &[(&str, usize, How, &str, u8)] = &[
     (
         STORED_CASE,
@@ -83,7 +83,7 @@ fn questions_that_fail(rt: HostRuntime) {
     }
 }
 
-// A case whose questions fail, behind so many in such a way, has this answer and this status.
+// A case whose questions fail in this way after this many has this answer and this status.
 fn answers_failing(
     rt: &impl Abort,
     alloc: Global,

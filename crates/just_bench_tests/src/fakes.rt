@@ -1,4 +1,4 @@
-// Readers and writers that give and take pieces, and fail.
+// Readers and writers that transfer pieces, and fail.
 
 use std::alloc::Global;
 use std::io::{self, Read, Write};
@@ -32,7 +32,7 @@ impl Read for PieceReader<'_> {
     }
 }
 
-// Gives `#` for ever, and counts the bytes.
+// Gives `#` without end, and counts the bytes.
 #[derive(Drop)]
 pub(crate) struct EndlessReader {
     pub(crate) given: usize,
@@ -46,8 +46,8 @@ impl Read for EndlessReader {
     }
 }
 
-// Takes some bytes a write, and fails after some writes, or where it is flushed. Counts the flushes, and the writes after a
-// flush or after a write that failed or took nothing.
+// Takes some bytes per write, and fails after some writes or when it is flushed. Counts the flushes, and the writes
+// after a flush or after a write that failed or took nothing.
 #[derive(Drop)]
 pub(crate) struct PieceWriter {
     pub(crate) written: Vec<u8>,
@@ -96,7 +96,7 @@ pub(crate) fn whole_reader(text: &[u8]) -> PieceReader<'_> {
     }
 }
 
-// A writer that takes all.
+// A writer that takes everything.
 pub(crate) fn whole_writer(alloc: Global) -> PieceWriter {
     PieceWriter {
         written: Vec::new(alloc),

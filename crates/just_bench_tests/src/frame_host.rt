@@ -1,4 +1,4 @@
-// A host that looks at the frames that its commands are shown.
+// A host that inspects the frames that its commands are shown.
 
 use just_host::command_question::CommandQuestion;
 use just_host::host::Host;
@@ -12,21 +12,22 @@ use just_value::frame::Frame;
 use just_value::scope::Scope;
 use std::alloc::Global;
 
-/// Answers each command with how many bindings the innermost frame has that it is shown, and keeps what all of them bind.
+/// Answers each command with the number of bindings of the innermost frame that it is shown, and records the bindings
+/// of all of them.
 #[derive(Drop)]
 pub(crate) struct FrameHost {
     shown: String,
 }
 
 impl FrameHost {
-    /// A host that was shown nothing.
+    /// A host that was shown nothing yet.
     pub(crate) fn new(alloc: Global) -> FrameHost {
         FrameHost {
             shown: String::new(alloc),
         }
     }
 
-    /// What the frames bound: each in parentheses, innermost first.
+    /// The bindings of the frames that it was shown: each frame in parentheses, innermost first.
     pub(crate) fn shown(&self) -> &str {
         &self.shown
     }
@@ -72,7 +73,7 @@ fn keep_frames<'call>(text: &'call mut String, scope: &'call Scope) -> Result<()
     Ok(())
 }
 
-// Adds what a frame binds, in parentheses.
+// Adds the bindings of a frame, in parentheses.
 fn keep_frame<'call>(text: &'call mut String, frame: &'call Frame) -> Result<(), OutOfMemory> {
     text.push('(')?;
     for binding in frame.bindings() {

@@ -1,4 +1,4 @@
-// Functions that a case defines, where something is bound outside, and the frames that their commands are shown.
+// Functions that a case defines, with outer bindings, and the frames that their commands are shown.
 
 use crate::case_run::told_by_run;
 use crate::evaluations::{answers_outside_nothing, outer};
@@ -10,7 +10,7 @@ use just_value::value::Value;
 use std::alloc::Global;
 use std::process::Abort;
 
-// A parameter that is bound outside is not resolved.
+// A module with a parameter that is bound outside is not resolved.
 #[test]
 fn parameter_bound_outside(rt: HostRuntime) {
     answers_outside_nothing(
@@ -22,7 +22,7 @@ fn parameter_bound_outside(rt: HostRuntime) {
     );
 }
 
-// A case's commands are shown frames that bind this, where `o` is bound outside to no element.
+// With `o` bound outside to no element, a case's commands are shown frames with these bindings.
 fn shows_frames(rt: &impl Abort, alloc: Global, case: &str, shown: &str) {
     let lines = parse_lines(alloc, case.as_bytes()).expect(rt, "no memory");
     let described = build(alloc, &lines).expect(rt, "no case");
@@ -33,9 +33,9 @@ fn shows_frames(rt: &impl Abort, alloc: Global, case: &str, shown: &str) {
     same(rt, case, host.shown(), shown);
 }
 
-// A case whose command is asked where a call is pending, and the frames that it is shown.
+// A case whose command is asked while a call is pending, and the frames that it is shown.
 const PENDING: &[(&str, &str)] = &[
-    // The frame of the called body, of its caller, of the module, and the one outside.
+    // The frames of the called body, of its caller and of the module, and the one outside.
     (
         "var o\nassign p\ncmd who\nfun g\ncall g 0\nfun f n\nstr z\ncall f 1\nassign a\nonly a\nrun",
         "()(n = \"z\")()(o = [])",

@@ -19,7 +19,7 @@ use std::alloc::{AllocError, Global};
 use std::collections::BTreeMap;
 use std::process::Abort;
 
-// What commands are asked with here.
+// The context of commands here.
 #[derive(Drop)]
 struct Asking {
     config: Config,
@@ -43,7 +43,7 @@ impl Asking {
         }
     }
 
-    // Asks a host for a command.
+    // Asks a host to run a command.
     fn ask<H: Host>(
         &self,
         alloc: Global,
@@ -82,7 +82,7 @@ impl Asking {
 // The environment of each command.
 const ENVIRONMENT: &[(&str, &str)] = &[("K", "v w"), ("L", "")];
 
-// A script of a text and a status, two commands that are always answered, and some other answers.
+// A script of a text and a status, two commands with fixed answers, and some other answers.
 fn script(rt: &impl Abort, alloc: Global) -> ScriptedHost {
     ScriptedHost::new(
         always(rt, alloc),
@@ -93,7 +93,7 @@ fn script(rt: &impl Abort, alloc: Global) -> ScriptedHost {
     )
 }
 
-// The commands that are always answered, with their answers: of one command the last counts.
+// The commands with fixed answers. For a command that occurs twice, the last answer counts.
 const ALWAYS: &[(&str, &str)] = &[("ls", "old"), ("pwd", "/work"), ("ls", "new")];
 
 fn always(rt: &impl Abort, alloc: Global) -> Vec<(String, String)> {
@@ -114,7 +114,7 @@ fn texts(rt: &impl Abort, alloc: Global) -> Vec<TextAnswer> {
     vec![in alloc; text, TextAnswer::OutOfMemory].expect(rt, "no memory")
 }
 
-// Commands in the order that they are asked in, and their answers.
+// Commands in the order in which they are asked, and their answers.
 const COMMANDS: &[(&str, &str)] = &[
     ("c", "Ok(\"x\")"),
     ("ls", "Ok(\"new\")"),
@@ -138,7 +138,7 @@ fn script_in_order(rt: HostRuntime) {
     drop(host);
 }
 
-// The answers of the other kinds, in their order.
+// The answers of the other kinds, in order.
 const TEXTS: &[&str] = &["Text(\"t\")", "OutOfMemory", "Absent", "Absent"];
 
 const EXISTS: &[bool] = &[true, false, false];
@@ -161,13 +161,13 @@ fn other_answers_in_order(rt: HostRuntime) {
     drop(host);
 }
 
-// A host says that something stands at a path, or not.
+// Whether something exists at a path, according to a host, is as expected.
 fn exists(rt: &impl Abort, alloc: Global, host: &mut ScriptedHost, expected: bool) {
     let answer = host.exists(alloc, "p").expect(rt, "no memory");
     assert_eq!(rt; answer, expected);
 }
 
-// A host tells how many processors there are.
+// The number of processors, according to a host, is as expected.
 fn numbers(rt: &impl Abort, alloc: Global, host: &mut ScriptedHost, expected: u64) {
     let answer = host.number(alloc, NumberQuestion::Cpus);
     assert_eq!(rt; answer.expect(rt, "no memory"), expected);
@@ -202,7 +202,7 @@ const FAILING: &[(usize, How, &str)] = &[
     ),
 ];
 
-// Two commands, a text, an existence and a number, of which the first ones are passed on.
+// Two commands, a text, an existence check and a number, the first of which are passed on.
 #[test]
 fn fails_from_a_question_on(rt: HostRuntime) {
     for (passed, how, expected) in FAILING {
@@ -210,7 +210,7 @@ fn fails_from_a_question_on(rt: HostRuntime) {
     }
 }
 
-// A host that fails behind so many questions, in such a way, answers them so.
+// A host that fails in this way after this many questions gives these answers.
 fn fails(rt: &impl Abort, alloc: Global, passed: usize, how: How, expected: &str) {
     let mut host = FailAt::new(script(rt, alloc), passed, how);
     let told = all_kinds_told(rt, alloc, &mut host);
@@ -218,7 +218,7 @@ fn fails(rt: &impl Abort, alloc: Global, passed: usize, how: How, expected: &str
     assert_eq!(rt; told.as_str(), expected, "{passed}");
 }
 
-// What comes of two commands, a text, an existence and a number.
+// The answers to two commands, a text, an existence check and a number.
 fn all_kinds_told<H: Host>(rt: &impl Abort, alloc: Global, host: &mut H) -> String {
     let commands = two_commands_told(rt, alloc, host);
     let text = text_told(rt, alloc, host);
@@ -235,7 +235,7 @@ fn two_commands_told<H: Host>(rt: &impl Abort, alloc: Global, host: &mut H) -> S
     format!(in alloc; "{one} {other}").expect(rt, "no memory")
 }
 
-// The arguments that a command is asked with, what is kept of the question, and its answer.
+// The arguments that a command is asked with, what is recorded of the question, and its answer.
 const RECORDED: &[(Option<&[&str]>, &str, &str)] = &[
     (
         Some(&["a b", "\""]),
@@ -271,7 +271,7 @@ fn records_each_question(rt: HostRuntime) {
     drop(asking);
 }
 
-// What a recorder asked a host is not asked again of that host, which is as the recorder left it.
+// What a recorder asked a host is not asked again, and the host is as the recorder left it.
 fn asks_on(rt: &impl Abort, alloc: Global, asking: &Asking) {
     let mut recorder = Recorder::new(alloc, script(rt, alloc));
     let first = asking.told(rt, alloc, &mut recorder, "c", None);
@@ -282,7 +282,7 @@ fn asks_on(rt: &impl Abort, alloc: Global, asking: &Asking) {
     same(rt, "the host in it", &second, "Err(Code(3))");
 }
 
-// What is kept of the last question, a command: its text, its arguments, and its environment.
+// What is recorded of the last question, a command: its text, its arguments, and its environment.
 fn last_kept(rt: &impl Abort, alloc: Global, questions: &[Recorded]) -> String {
     match questions.last() {
         Some(
@@ -322,7 +322,7 @@ fn kept(
     Ok(text)
 }
 
-// What a host answers a command with these arguments.
+// A host's answer to a command with these arguments.
 fn told_with<H: Host>(
     rt: &impl Abort,
     alloc: Global,
@@ -337,7 +337,7 @@ fn told_with<H: Host>(
     asking.told(rt, alloc, host, "c\t", Some(&words))
 }
 
-// Texts once more.
+// Copies of texts.
 fn all_owned(rt: &impl Abort, alloc: Global, texts: &[&str]) -> Vec<String> {
     let mut all = Vec::new(alloc);
     for text in texts {

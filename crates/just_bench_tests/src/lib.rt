@@ -1,6 +1,6 @@
-// Tests of what no stored case can say: a case that is cut, streams that fail, hosts, evaluations in a scope that binds
-// something, and what an edit of a module changes. They stand in a crate of their own since a crate with tests is proved twice,
-// and lean on `just_bench` and what is below it, and on `just_changes`.
+// Tests of what no stored case can express: a case that is cut, streams that fail, hosts, evaluations in a scope that
+// binds something, and what an edit of a module changes. They are a separate crate because a crate with tests is proved
+// twice. They build on `just_bench` and what is below it, and on `just_changes`.
 #![tactic(auto)]
 
 #[cfg(test)]

@@ -12,7 +12,7 @@ use just_value::scope::Scope;
 use std::alloc::Global;
 use std::process::Abort;
 
-// The case asks this, where `c` is always answered `y`, and binds this.
+// With `c` always answered by `y`, the case asks this and binds this.
 fn asks_and_binds(rt: &impl Abort, alloc: Global, case: &str, asked: &str, bound: &str) {
     let mut host = Recorder::new(alloc, always_y(rt, alloc));
     binds(rt, alloc, &mut host, case, bound);
@@ -34,7 +34,7 @@ fn always_y(rt: &impl Abort, alloc: Global) -> ScriptedHost {
     )
 }
 
-// The case binds this with a host.
+// With this host, the case binds this.
 fn binds<H: Host>(rt: &impl Abort, alloc: Global, host: &mut H, case: &str, bound: &str) {
     let lines = parse_lines(alloc, case.as_bytes()).expect(rt, "no memory");
     let described = build(alloc, &lines).expect(rt, "no case");
@@ -44,7 +44,7 @@ fn binds<H: Host>(rt: &impl Abort, alloc: Global, host: &mut H, case: &str, boun
     same(rt, case, &told, bound);
 }
 
-// The last line but one of a case, what it asks, and what it binds.
+// The line before the last of a case, what it asks, and what it binds.
 const ORDERS: &[(&str, &str, &str)] = &[
     (
         "order a b d",
@@ -66,7 +66,7 @@ fn two_orders(rt: HostRuntime) {
     }
 }
 
-// A text, a command and their sum, with this last line but one, ask this and bind this.
+// With this line before the last, a text, a command and their sum ask this and bind this.
 fn sum_asks_and_binds(rt: &impl Abort, alloc: Global, order: &str, asked: &str, bound: &str) {
     let case = format!(in alloc;
         "str x\nassign a\ncmd c\nassign b\nvar a\nvar b\nadd\nassign d\n{order}\nrun"
@@ -74,13 +74,13 @@ fn sum_asks_and_binds(rt: &impl Abort, alloc: Global, order: &str, asked: &str, 
     asks_and_binds(rt, alloc, &case, asked, bound);
 }
 
-// The last line but one of a case, and what it binds where commands are answered by the frames.
+// The line before the last of a case, and what it binds if commands are answered from the frames.
 const FRAMES: &[(&str, &str)] = &[
     ("order a b", "a = \"x\"\nb = \"1\"\n"),
     ("order b a", "a = \"x\"\nb = \"0\"\n"),
 ];
 
-// A host that looks at the frames may answer otherwise in another order.
+// A host that inspects the frames may answer otherwise in another order.
 #[test]
 fn frames_that_matter(rt: HostRuntime) {
     for (order, bound) in FRAMES {
@@ -88,7 +88,8 @@ fn frames_that_matter(rt: HostRuntime) {
     }
 }
 
-// A text and a command, with this last line but one, bind this where each command tells how many bindings it is shown.
+// With this line before the last, a text and a command bind this, if each command is answered by the number of bindings
+// that it is shown.
 fn binds_by_frames(rt: &impl Abort, alloc: Global, order: &str, bound: &str) {
     let case = format!(in alloc; "str x\nassign a\ncmd c\nassign b\n{order}\nrun").expect(
         rt,

@@ -1,4 +1,4 @@
-// Refusals that no case meets, as they are printed.
+// Refusals that no case meets, as printed.
 
 use crate::texts::same;
 use just_answer::print::print_refusal;
@@ -8,7 +8,7 @@ use just_value::error::Error;
 use std::alloc::Global;
 use std::process::Abort;
 
-// A refusal is printed so.
+// A refusal is printed like this.
 fn prints(rt: &impl Abort, alloc: Global, refusal: Error, wanted: &str) {
     let mut text = String::new(alloc);
     print_refusal(alloc, &mut text, &refusal).expect(rt, "no memory");
@@ -18,7 +18,7 @@ fn prints(rt: &impl Abort, alloc: Global, refusal: Error, wanted: &str) {
 
 #[test]
 fn refusals_of_no_case(rt: HostRuntime) {
-    // Nothing is said of what is not allowed before any run.
+    // Nothing is printed for what is not allowed before any run.
     let command = ConstError::Backtick(token("`c`"));
     for refusal in [
         command,

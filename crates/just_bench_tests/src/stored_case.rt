@@ -1,4 +1,4 @@
-// The stored case, and what is left of it where it is cut.
+// The stored case, and its prefixes.
 
 use crate::fakes::{whole_reader, whole_writer};
 use crate::texts::{ends, is_so, same_bytes};
@@ -6,7 +6,7 @@ use just_bench::program::run;
 use std::alloc::Global;
 use std::process::Abort;
 
-// The case that the program is stored with, and its answer.
+// The case stored with the program, and its answer.
 pub(crate) const STORED_CASE: &str = "cmd one\ncmd two\nand\nassign a\nreply\nreply x\nrun\n";
 
 pub(crate) const STORED_ANSWER: &str = "? command \"one\"\n? command \"two\"\na = \"x\"\n";
@@ -30,7 +30,7 @@ fn is_bad(rt: &impl Abort, alloc: Global, case: &[u8]) {
     is_so(rt, "a bad line", out.written.starts_with(b"bad line "));
 }
 
-// Cut behind any byte the stored case runs as a whole or is bad at the line that was cut.
+// Cut after any byte, the stored case runs as a whole or is bad at the line that was cut.
 #[test]
 fn stored_case_cut(rt: HostRuntime) {
     let alloc = rt.alloc();

@@ -1,11 +1,11 @@
-// What the errors of streams say.
+// The messages of stream errors.
 
 use crate::texts::same;
 use just_bench::stream::StreamError;
 use std::alloc::Global;
 use std::process::Abort;
 
-// Whether an error says this text, also under options.
+// An error has this message, with format options too.
 fn says(rt: &impl Abort, alloc: Global, error: StreamError, text: &str) {
     let told = format!(in alloc; "{error:>40}").expect(rt, "no memory");
     same(rt, "error", &told, text);

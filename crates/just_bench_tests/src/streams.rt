@@ -1,4 +1,4 @@
-// Readers and writers that fail, how often they are asked, and what is read and written of long and endless cases.
+// Readers and writers that fail, how often they are called, and what is read and written for long and endless cases.
 
 use crate::fakes::{EndlessReader, PieceReader, PieceWriter, whole_reader, whole_writer};
 use crate::stored_case::{STORED_ANSWER, STORED_CASE};
@@ -8,25 +8,25 @@ use just_bench::stream::{StreamError, read_case, write_text};
 use std::alloc::Global;
 use std::process::Abort;
 
-// How many bytes a case has at most.
+// The largest size of a case, in bytes.
 const LONGEST: usize = 1_000_000;
 
-// The stored case, of which each read gives so many bytes.
+// The stored case; each read gives this many bytes.
 fn stored_in_pieces<'t>(piece: usize) -> PieceReader<'t> {
     let mut case = whole_reader(STORED_CASE.as_bytes());
     case.piece = piece;
     case
 }
 
-// A writer of which each write takes so many bytes.
+// A writer; each write takes this many bytes.
 fn writer_of_pieces(alloc: Global, piece: usize) -> PieceWriter {
     let mut out = whole_writer(alloc);
     out.piece = piece;
     out
 }
 
-// A case is answered with this status. It is not read again after a read that fails or gives nothing, nothing is written after a
-// flush or after a write that fails or takes nothing, and the writer is flushed so often.
+// A case is answered with this status. It is not read again after a read that fails or gives nothing. Nothing is
+// written after a flush or after a write that fails or takes nothing. The writer is flushed this many times.
 fn answers(
     rt: &impl Abort,
     alloc: Global,
@@ -44,7 +44,7 @@ fn answers(
     );
 }
 
-// The stored case is answered where each read and each write takes so many bytes.
+// The stored case is answered if each read and each write transfers this many bytes.
 fn runs_in_pieces(rt: &impl Abort, alloc: Global, piece: usize) {
     let mut case = stored_in_pieces(piece);
     let mut out = writer_of_pieces(alloc, piece);
@@ -67,7 +67,7 @@ fn reads_no_further_behind_a_failed_read(rt: HostRuntime) {
     }
 }
 
-// After so many good reads, of so many that the stored case takes, nothing is written, and nothing is read after the first
+// After this many good reads, fewer than the stored case takes, nothing is written, and nothing is read after the first
 // read that failed.
 fn ends_at_a_failed_read(rt: &impl Abort, alloc: Global, good_reads: u64, reads: u64) {
     let mut case = stored_in_pieces(1);
@@ -94,7 +94,7 @@ fn ends_at_a_failed_write(rt: HostRuntime) {
     }
 }
 
-// After so many good writes, of so many that the stored answer takes, nothing more is written.
+// After this many good writes, fewer than the stored answer takes, nothing more is written.
 fn writes_no_further(rt: &impl Abort, alloc: Global, good_writes: u64, writes: u64) {
     let mut case = stored_in_pieces(usize::MAX);
     let mut out = writer_of_pieces(alloc, 1);
@@ -122,7 +122,8 @@ fn ends_at_a_write_that_takes_nothing(rt: HostRuntime) {
     is_so(&rt, "nothing is written", out.written.is_empty());
 }
 
-// Cases, their answers, and their statuses: one that is answered, one that assigns nothing, one that is refused, and a bad one.
+// Cases, their answers, and their statuses: one that is answered, one that assigns nothing, one that is refused, and a
+// bad one.
 const FLUSHED: &[(&str, &str, u8)] = &[
     (STORED_CASE, STORED_ANSWER, 0),
     ("run", "", 0),
@@ -134,8 +135,8 @@ const FLUSHED: &[(&str, &str, u8)] = &[
     ("add", "bad line 1\n", 1),
 ];
 
-// An answer is flushed once, after all of it is written. Where the flush fails a case is answered with status 1, and all is
-// written that is written else.
+// An answer is flushed once, after all of it is written. If the flush fails, the status is 1, and everything else is
+// written as usual.
 #[test]
 fn flushes_once(rt: HostRuntime) {
     for (case, answer, status) in FLUSHED {
@@ -174,7 +175,7 @@ fn reads_an_endless_case_to_its_limit(rt: HostRuntime) {
     is_so(&rt, "the limit", is_limited);
 }
 
-// Blank lines and `run`, with so many bytes.
+// Blank lines and `run`, this many bytes in all.
 fn long_case(rt: &impl Abort, alloc: Global, length: usize) -> Vec<u8> {
     let blank = vec![in alloc; b'\n'; length.saturating_sub(3)];
     let mut case = blank.expect(rt, "no memory");
@@ -183,7 +184,7 @@ fn long_case(rt: &impl Abort, alloc: Global, length: usize) -> Vec<u8> {
     case
 }
 
-// The longest case is read and answered, and one of a byte more is not.
+// The longest case is read and answered; one that is a byte longer is not.
 #[test]
 fn longest_case(rt: HostRuntime) {
     for (length, status, flushes) in [(1_000_000, 0, 1), (1_000_001, 1, 0)] {
@@ -191,7 +192,7 @@ fn longest_case(rt: HostRuntime) {
     }
 }
 
-// A case of so many bytes is answered with this status, and nothing is written.
+// A case of this many bytes is answered with this status, and nothing is written.
 fn long_case_ends(rt: &impl Abort, alloc: Global, length: usize, status: u8, flushes: u64) {
     let case = long_case(rt, alloc, length);
     let mut reader = whole_reader(&case);

@@ -1,32 +1,32 @@
--- The arguments of a call, one by one.
+-- The arguments of a call.
 use Rattle.std.proofs.Common.{◌≡◌, ℕ, ◌<◌, ◌≤◌, List, [], ◌∷◌, refl, sym, ap, ◌∙◌, arith, length, drop, map, get_or, unwrap_or, Option, Some, None, Bor, option_map, slice_get}
 use Rattle.std.proofs.lemmas.Option.{slice_get-get_or}
 use Rattle.just_value.specs.Value.{Value}
 use Rattle.just_builtins.specs.Argument.{value_at, values_given}
 
--- where one element is all that there is, its view is all of the value
+-- a value with exactly one element is the view of that element
 pub only : {A : Type 0} (f : A → List ℕ) (xs : List A) (x : A) (v : Value) (t : List ℕ) → map f xs ≡ v → length v ≡ 1 → x ≡ get_or xs 0 x → t ≡ f x → v ≡ t ∷ []
 only f [] x v t e n g h = absurd (omega (arith, ap length e))
 only f (y ∷ []) x v t e n g h = sym e ∙ ap (λ u. u ∷ []) (ap f (sym g) ∙ sym h)
 only f (y ∷ z ∷ zs) x v t e n g h = absurd (omega (arith, ap length e))
 
--- the argument that is read at a position
+-- the argument at a position
 pub read_at : (vs : List Value) (i : ℕ) (v : Value) → i < length vs → v ≡ get_or vs i v → value_at vs i ≡ v
 read_at vs i v within is = ap (λ found. unwrap_or found []) (slice_get-get_or vs i v within) ∙ sym is
 
--- the second of two
+-- the second of two arguments
 pub second : (vs : List Value) (v : Value) → length vs ≤ 2 → 1 < length vs → value_at vs 1 ≡ v → v ∷ [] ≡ drop 1 vs
 second [] v n m a = absurd (omega arith)
 second (x ∷ []) v n m a = absurd (omega arith)
 second (x ∷ y ∷ []) v n m a = ap (λ u. u ∷ []) (sym a)
 second (x ∷ y ∷ z ∷ zs) v n m a = absurd (omega arith)
 
--- the second that may be given
+-- the optional second argument
 pub given_second : (v : Value) (given : Option (Bor Value)) → option_map (λ value. value.now) given ≡ slice_get (v ∷ values_given given) 1
 given_second v None = refl
 given_second v (Some w) = refl
 
--- as many arguments as are given
+-- the list of exactly one argument
 pub one : (vs : List Value) (v : Value) → length vs ≡ 1 → value_at vs 0 ≡ v → vs ≡ v ∷ []
 one [] v n a = absurd (omega arith)
 one (x ∷ []) v n a = ap (λ y. y ∷ []) a
@@ -36,7 +36,7 @@ pub none : (vs : List Value) → length vs ≡ 0 → vs ≡ []
 none [] n = refl
 none (x ∷ xs) n = absurd (omega arith)
 
--- the first, and what is behind it
+-- the first argument, and the others
 pub first_of : (vs : List Value) (v : Value) → 1 ≤ length vs → value_at vs 0 ≡ v → vs ≡ v ∷ drop 1 vs
 first_of [] v n a = absurd (omega arith)
 first_of (x ∷ xs) v n a = ap (λ y. y ∷ xs) a

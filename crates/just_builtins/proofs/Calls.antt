@@ -1,4 +1,4 @@
--- Calls, and the trees of what they ask.
+-- Calls, and the interaction trees of their replies.
 use Rattle.std.proofs.Common.{◌≡◌, ◌≢◌, ℕ, refl, sym, List, [], ◌∷◌, Option, Some, None, Result, Ok, Err, string_bytes, subst, inl, inr}
 use Rattle.just_syntax.specs.Plain.{Text}
 use Rattle.just_value.specs.Value.{Value}
@@ -20,21 +20,21 @@ use Rattle.just_builtins.specs.Shape.{builtin_of}
 use Rattle.just_builtins.specs.Called.{Called, Returned, Said, tree, frames_for, outcome, Asked, AskedBy, AskedOr, Gives, GivesOr, IsNoneOf, Replies, RepliesAmong}
 use Rattle.just_builtins.specs.Table.{IsUnnamed}
 
--- a reply that asks nothing is gone down at once
+-- a reply without a question has a path without events
 path : (shown : Frames) (reply : Reply) (result : Result Value CallFault) → Gives reply result → Path freely (tree shown reply) [] (outcome result)
 path shown reply (Ok v) is = subst (λ r. Path freely (tree shown r) [] (Gave (Returned v))) (sym is) Ends
 path shown reply (Err (Message message)) is = subst (λ r. Path freely (tree shown r) [] (Gave (Said (string_bytes message)))) (sym is) Ends
 path shown reply (Err OutOfMemory) is = Stops
 path shown reply (Err Internal) is = absurd is
 
--- what is given is not `Internal`
+-- a given result is not `Internal`
 named : (reply : Reply) (result : Result Value CallFault) → Gives reply result → result ≡ Err Internal → ⊥
 named reply (Ok v) is e = absurd (cc)
 named reply (Err (Message message)) is e = absurd (cc)
 named reply (Err OutOfMemory) is e = absurd (cc)
 named reply (Err Internal) is e = absurd is
 
--- a reply that is left to the rest, where there is none yet
+-- an error is the same, whatever the rest would be
 gives_err : (next : Reply → Reply) (e : CallFault) → GivesOr next (Err e) → (rest : Reply) → Gives (next rest) (Err e)
 gives_err next (Message message) is rest = is rest
 gives_err next OutOfMemory is rest = tt
@@ -44,17 +44,17 @@ gives_err next Internal is rest = absurd is
 pub same_call : (f g : Function) (c : Context) (vs ws : List Value) (result : Result Value CallFault) → f ≡ g → vs ≡ ws → Replies g (reply (builtin_of g) c ws) result → Replies f (reply (builtin_of f) c vs) result
 same_call f g c vs ws result same alike is = rw (same, alike) is
 
--- what is expected of a function is of the same one
+-- equal functions expect the same number of arguments
 pub expected : (f g : Function) (n : ℕ) → f ≡ g → IsExpected f n → IsExpected g n
 expected f g n same is = subst (λ h. IsExpected h n) same is
 
 module _ {S : Type 0} {step : S → Question → Answer → S → Type 0} where
-  -- ---- functions that ask nothing: the host stays as it is
+  -- ---- functions that ask nothing: the host's state is unchanged
 
   pub told : {h : S} (shown : Frames) (reply : Reply) (result : Result Value CallFault) → Gives reply result → Asked step h shown reply result h
   told shown reply result is = (record { events = []; path = path shown reply result is; chain = refl }, named reply result is)
 
-  -- memory is refused, whatever would be asked
+  -- memory runs out before the first question
   pub at_once : {h : S} {t : Tree Called} (result : Result Value CallFault) → result ≡ Err OutOfMemory → Runs freely step h t (outcome result) h × (result ≢ Err Internal)
   at_once {h = h} {t = t} result is = (subst (λ r. Runs freely step h t (outcome r) h) (sym is) (record { events = []; path = Stops; chain = refl }), λ e. absurd (cc))
 
@@ -64,7 +64,7 @@ module _ {S : Type 0} {step : S → Question → Answer → S → Type 0} where
   told_by f shown reply (Err OutOfMemory) is = (record { events = []; path = Stops; chain = refl }, λ e. absurd (cc))
   told_by f shown reply (Err Internal) is = (record { events = []; path = Stops; chain = refl }, λ e. (is, refl))
 
-  -- the same, where those that ask nothing are among others of their shape
+  -- the same for the functions of a shape that ask nothing
   pub told_among : {h : S} (f : Function) (those : List Builtin) (b : Builtin) (shown : Frames) (reply : Reply) (result : Result Value CallFault) → RepliesAmong those b reply result → (IsNoneOf those b → IsUnnamed f) → AskedBy f step h shown reply result h
   told_among f those b shown reply (Ok v) is unnamed = told_by f shown reply (Ok v) is
   told_among f those b shown reply (Err (Message message)) is unnamed = told_by f shown reply (Err (Message message)) is
@@ -73,16 +73,16 @@ module _ {S : Type 0} {step : S → Question → Answer → S → Type 0} where
 
   -- ---- functions that ask
 
-  -- a question, and what its answer leads to
+  -- a question, and the result for its answer
   pub asked : {old new : S} (shown : Frames) (q : Blind) (next : Answer → Reply) (a : Answer) (result : Result Value CallFault) → step old (record { blind = q; shown = frames_for q shown }) a new → Gives (next a) result → Asked step old shown (Asks q next) result new
   asked shown q next a result taken is = (record { events = answered _ a ∷ []; path = asks (path shown (next a) result is); chain = (_, taken, refl) }, named (next a) result is)
 
-  -- the same, for a text
+  -- the same for a text
   pub asked_text : {old new : S} (shown : Frames) (q wanted : TextQuestion) (absent : Reply) (odd faulty : Text → Text) (a : Answer) (result : Result Value CallFault) → q ≡ wanted → step old (frameless (TextOf q)) a new → Gives (text_answered absent odd faulty a) result → Asked step old shown (asks_text wanted absent odd faulty) result new
   asked_text {old = old} {new = new} shown q wanted absent odd faulty a result same taken is =
       asked shown (TextOf wanted) (text_answered absent odd faulty) a result (subst (λ x. step old (frameless (TextOf x)) a new) same taken) is
 
-  -- the same, where memory may be refused before it is asked
+  -- the same, if memory may run out before the question is asked
   pub asked_once : {old new : S} (shown : Frames) (q : Blind) (next : Answer → Reply) (a : Answer) (result : Result Value CallFault) → AsksOnce step old (record { blind = q; shown = frames_for q shown }) a new → Gives (next a) result → (a ≡ Failed NoMemory → result ≡ Err OutOfMemory) → Asked step old shown (Asks q next) result new
   asked_once shown q next a result (inl taken) is wanting = asked shown q next a result taken is
   asked_once {old = old} {new = new} shown q next a result (inr without) is wanting =
@@ -90,11 +90,11 @@ module _ {S : Type 0} {step : S → Question → Answer → S → Type 0} where
 
   -- ---- by the shapes of arguments
 
-  -- a built-in function of a shape
+  -- a built-in function that has the shape
   pub of_builtin : {old new : S} (f : Function) (b other : Builtin) (c : Context) (vs : List Value) (shown : Frames) (result : Result Value CallFault) → b ≡ other → Asked step old shown (reply other c vs) result new → AskedBy f step old shown (reply b c vs) result new
   of_builtin {old = old} {new = new} f b other c vs shown result is (run, not_internal) = (subst (λ x. Runs freely step old (tree shown (reply x c vs)) (outcome result) new) (sym is) run, λ e. absurd (not_internal e))
 
-  -- a function of no name
+  -- a function without a name
   pub internal : {h : S} (f : Function) (shown : Frames) (reply : Reply) → IsUnnamed f → AskedBy f step h shown reply (Err Internal) h
   internal f shown reply unnamed = told_by f shown reply (Err Internal) unnamed
 
@@ -102,12 +102,12 @@ module _ {S : Type 0} {step : S → Question → Answer → S → Type 0} where
   pub same_asked : {old new : S} (f g : Function) (c : Context) (vs ws : List Value) (shown : Frames) (result : Result Value CallFault) → f ≡ g → vs ≡ ws → AskedBy g step old shown (reply (builtin_of g) c ws) result new → AskedBy f step old shown (reply (builtin_of f) c vs) result new
   same_asked f g c vs ws shown result same alike is = rw (same, alike) is
 
-  -- the same, where it asks nothing
+  -- the same, if it asks nothing
   pub same_told : {h : S} (f g : Function) (c : Context) (vs ws : List Value) (shown : Frames) (result : Result Value CallFault) → f ≡ g → vs ≡ ws → Replies g (reply (builtin_of g) c ws) result → AskedBy f step h shown (reply (builtin_of f) c vs) result h
   same_told f g c vs ws shown result same alike is = told_by f shown (reply (builtin_of f) c vs) result (same_call f g c vs ws result same alike is)
 
 module _ {S : Type 0} (step : S → Question → Answer → S → Type 0) where
-  -- a question, and what its answer leads to or leaves to the rest
+  -- a question whose answer gives a result, or leaves it to the rest
   pub asked_or : {old new : S} (shown : Frames) (q : Blind) (next : Reply → Answer → Reply) (a : Answer) (result : Result (Option Value) CallFault) → step old (record { blind = q; shown = frames_for q shown }) a new → GivesOr (λ rest. next rest a) result → AskedOr step old shown (λ rest. Asks q (next rest)) result new
   asked_or shown q next a (Ok (Some v)) taken is = λ rest. (asked shown q (next rest) a (Ok v) taken (is rest)).0
   asked_or shown q next a (Ok None) taken is = λ rest o last r.

@@ -1,4 +1,4 @@
--- Commands, and paths that may be empty.
+-- Commands, and tests for existence.
 use Rattle.std.proofs.Common.{◌≡◌, ◌<◌, Bool, true, false, nat_eq, if◌then◌else◌, List, [], ◌∷◌, Some, Result, Ok, Err, refl, sym, ap, subst, ◌∙◌, arith, length, drop, map}
 use Rattle.std.proofs.lemmas.Bool.Decides.{nat_tests}
 use Rattle.just_syntax.specs.Plain.{Text}
@@ -15,12 +15,12 @@ use Rattle.just_builtins.specs.declared.call_fault.CallFault.{CallFault}
 use Rattle.just_builtins.specs.declared.call_fault.CallFault.TheVariants.{Internal, Message, OutOfMemory}
 use Rattle.just_builtins.proofs.Calls.{asked_once, told}
 
--- a path that is not empty is asked for
+-- the host is asked for a path that is not empty
 pub existence_is : (c : Context) (truth : Bool → Value) (path : Text) (b : Bool) → b ≡ nat_eq (length path) 0 → b ≡ false → asks_existence c truth path ≡ Asks (ExistsAt (in_working_directory c path)) (existence_answered truth)
 existence_is c truth [] b is other = absurd (cc)
 existence_is c truth (x ∷ xs) b is other = refl
 
--- a command that is not in a dry run is asked for
+-- the host is asked for a command, except in a dry run
 shell_is : (c : Context) (vs : List Value) (command : Text) → 0 < length vs → value_at vs 0 ≡ command ∷ [] → c.fixed.config.dry_run ≡ false
     → asks_shell c (map first vs) ≡ Asks (command_question c.fixed c.environment [] command (Some (map first (drop 1 vs)))).blind command_answered
 shell_is c [] command some is dry = absurd (omega arith)
@@ -28,7 +28,7 @@ shell_is c (v ∷ vs) command some is dry =
     ap (λ b. if b then says (shell_call (first v ∷ map first vs)) else Asks (command_question c.fixed c.environment [] (first v) (Some (map first vs))).blind command_answered) dry
     ∙ ap (λ w. Asks (command_question c.fixed c.environment [] (first w) (Some (map first vs))).blind command_answered) is
 
--- what is stopped is stopped for want of memory
+-- a stopped result is `OutOfMemory`
 stops : (result : Result Value CallFault) → Gives Stops result → result ≡ Err OutOfMemory
 stops (Ok v) is = absurd (cc)
 stops (Err (Message message)) is = absurd (cc)
@@ -50,7 +50,7 @@ module _ {S : Type 0} {step : S → Question → Answer → S → Type 0} where
   shell_told shown c [] result some dry gave = absurd (omega arith)
   shell_told shown c (v ∷ vs) result some dry gave = rw dry (told shown (says (shell_call (map first (v ∷ vs)))) result gave)
 
-  -- nothing is asked of the empty path
+  -- the host is not asked for the empty path
   pub existence_told : {h : S} (shown : Frames) (c : Context) (truth : Bool → Value) (path : Text) (b : Bool) (result : Result Value CallFault) → b ≡ nat_eq (length path) 0 → b ≡ true → Gives (Answers (truth false)) result → Asked step h shown (asks_existence c truth path) result h
   existence_told shown c truth [] b result is empty gave = told shown (Answers (truth false)) result gave
   existence_told shown c truth (x ∷ xs) b result is empty gave = let full : nat_eq (length (x ∷ xs)) 0 ≡ false = grind (arith, nat_tests) in absurd (cc)

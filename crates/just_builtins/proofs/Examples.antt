@@ -1,4 +1,4 @@
--- The table at names that are written out.
+-- The table applied to literal names.
 use Rattle.std.proofs.Common.{◌≡◌, Some, None, true, codes, refl}
 use Rattle.just_builtins.specs.declared.builtin.Builtin.TheVariants.{JustfileDirectory, InvocationDirectoryNative}
 use Rattle.just_builtins.specs.declared.function.Function.TheVariants.{Nullary}

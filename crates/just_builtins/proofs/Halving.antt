@@ -1,4 +1,4 @@
--- What halving finds among names that rise.
+-- Binary search among strictly increasing names.
 use Rattle.std.proofs.Common.{◌≡◌, ℕ, suc, ◌+◌, ◌<◌, Bool, true, false, cond, List, [], ◌∷◌, ◌||◌, Some, None, Result, Ok, Err, inl, inr, refl, sym, ap, subst, ◌∙◌, arith, length, get_or, map, bytes_eq, is_some}
 use Rattle.std.specs.Cmp.Lexicographic.{slice_cmp}
 use Rattle.std.specs.List.{AllByRecursion, AllWithin, find, list_any, slice_get}
@@ -27,7 +27,7 @@ less Less is = refl
 less Equal is = absurd (cc)
 less Greater is = absurd (cc)
 
--- where each element fails the test, none is found
+-- `find` yields `None` if each element fails the test
 none : {X : Type 0} (p : X → Bool) (xs : List X) → ((k : ℕ) (d : X) → k < length xs → p (get_or xs k d) ≡ false) → find p xs ≡ None
 none p [] fails = refl
 none p (x ∷ xs) fails = ap (λ b. cond b (Some x) (find p xs)) (fails 0 x (omega arith)) ∙ none p xs (λ k d within. fails (suc k) d (omega arith))
@@ -36,7 +36,7 @@ module _ {X : Type 0} (key : X → Text) where
   abbrev by_key : X → X → Ordering
   by_key x y = order (key x) (key y)
 
-  -- what is below the first of those that rise is below all of them
+  -- what is below the first of strictly increasing elements is below all of them
   below_all : (x y : X) (xs : List X) → by_key x y ≡ Less → rises (map key (y ∷ xs)) ≡ true → AllByRecursion (λ z. by_key x z ≡ Less) (y ∷ xs)
   below_all x y [] below up = (below, tt)
   below_all x y (z ∷ xs) below up =
@@ -51,17 +51,17 @@ module _ {X : Type 0} (key : X → Text) where
       let parts = and_parts _ _ up in
       (below_all x y xs (less _ parts.0) parts.1, sorted (y ∷ xs) parts.1)
 
-  -- whether one is found is whether there is one
+  -- whether `find` yields an element is whether the name is among the keys
   is_any : (xs : List X) (name : Text) → is_some (find (λ x. bytes_eq (key x) name) xs) ≡ list_any (λ other. bytes_eq other name) (map key xs)
   is_any [] name = refl
   is_any (x ∷ xs) name = elim (bytes_eq (key x) name) as (λ b. is_some (cond b (Some x) (find (λ x. bytes_eq (key x) name) xs)) ≡ (b || list_any (λ other. bytes_eq other name) (map key xs))) [ true ↦ refl | false ↦ is_any xs name ]
 
   module _ (xs : List X) (name : Text) where
-    -- what the order of an element and the name says of the test
+    -- the order of an element's key and the name decides the test
     told : (k : ℕ) (d : X) {o : Ordering} → order (key (get_or xs k d)) name ≡ o → bytes_eq (key (get_or xs k d)) name ≡ is_eq o
     told k d is = sym (is_eq-slice_cmp (key (get_or xs k d)) name) ∙ ap is_eq is
 
-    -- where each is below the name or above it, none is found
+    -- `find` yields `None` if each key is below or above the name
     pub absent : (i : ℕ) → AllWithin (λ x. order (key x) name ≡ Less) xs 0 i → AllWithin (λ x. order (key x) name ≡ Greater) xs i (length xs) → find (λ x. bytes_eq (key x) name) xs ≡ None
     absent i below above = none (λ x. bytes_eq (key x) name) xs (λ k d within. elim (cases_lt k i) [ inl lt ↦ told k d (below k d (omega arith) lt) | inr le ↦ told k d (above k d le within) ])
 
@@ -69,14 +69,14 @@ module _ {X : Type 0} (key : X → Text) where
       earlier : (i j : ℕ) (d : X) → i < j → j < length xs → by_key (get_or xs i d) (get_or xs j d) ≡ Less
       earlier i j d before within = Less-from_sorted by_key xs i j d (sorted xs up) before within
 
-      -- a search by the name can go by halves
+      -- the elements are sorted for a binary search by the name
       pub searchable : IsNonDecreasingBy (λ x. ordering_index (order (key x) name)) xs
       searchable = searchable_from_sorted nat_list_cmp_total key xs name (λ k d low high.
           let this = get_or xs k d in
           let next = get_or xs (k + 1) d in
           ap is_lt (nat_list_cmp_total.antisymm (key next) (key this) ∙ ap ordering_reverse (earlier k (k + 1) d (omega arith) high)))
 
-      -- an element that has the name is the first one
+      -- an element with the name is the first one
       pub found : (i : ℕ) (d : X) → i < length xs → order (key (get_or xs i d)) name ≡ Equal → find (λ x. bytes_eq (key x) name) xs ≡ Some (get_or xs i d)
       found i d within same =
           let p = λ (x : X). bytes_eq (key x) name in
@@ -85,7 +85,7 @@ module _ {X : Type 0} (key : X → Text) where
           let before : (k : ℕ) → k < i → p (get_or xs k d) ≡ false = λ k lower. told k d (subst (λ t. order (key (get_or xs k d)) t ≡ Less) named (earlier k i d lower within)) in
           find_at p xs ∙ ap (slice_get xs) (position_or_len_is p xs i d (omega arith) before (λ _. at)) ∙ slice_get-get_or xs i d within
 
-      -- so whether a search ends at a place is whether there is one
+      -- whether the search succeeds is whether the name is among the keys
       pub tells : (r : Result ℕ ℕ) (d : X) → IsSearchInRange r (length xs) → IsBinarySearchResult (λ x. order (key x) name) xs r → is_ok r ≡ list_any (λ other. bytes_eq other name) (map key xs)
       tells (Ok i) d within at = ap is_some (sym (found i d within (at d))) ∙ is_any xs name
       tells (Err i) d within parted = ap is_some (sym (absent i (parted searchable).0 (parted searchable).1)) ∙ is_any xs name

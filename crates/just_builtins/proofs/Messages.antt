@@ -1,4 +1,4 @@
--- What is said where no variable is set.
+-- The message for variables that are not set.
 use Rattle.std.proofs.Common.{◌≡◌, ◌<◌, ◌≤◌, List, [], ◌∷◌, ◌++◌, Option, Some, None, IfSome, Iter, Bor, refl, ap, subst, ◌∙◌, arith, codes, get_or, length, map, option_and_then, option_map, string_bytes}
 use Rattle.std.specs.Fmt.{◌++?◌}
 use Rattle.std.specs.Iterator.{Drains}
@@ -25,7 +25,7 @@ many [] some = absurd (omega arith)
 many (k ∷ []) some = absurd (omega arith)
 many (k ∷ l ∷ ks) some = refl
 
--- what a slice's iterator gives until it ends is what the slice has
+-- the items of a slice's iterator are those of the slice
 pub drained : {A : Type 0} (s : Iter A) (keys : List A) (xs : List (Bor A)) → iter_rest s ≡ keys → Drains fronts s xs → map (λ x. x.now) xs ≡ keys
 drained s keys xs at (u, (t, yields, last)) = (YieldsList-end (YieldsList-from_slice keys at) xs t yields None u refl last).0
 

@@ -1,4 +1,4 @@
--- Paths put together.
+-- Joined paths.
 use Rattle.std.proofs.Common.{◌≡◌, ℕ, zero, suc, ◌<◌, List, [], ◌∷◌, refl, sym, ap, ◌∙◌, arith, length, drop}
 use Rattle.std.specs.Path.{path_join}
 use Rattle.just_syntax.specs.Plain.{Text}
@@ -7,13 +7,13 @@ use Rattle.just_value.specs.Value.{Value}
 use Rattle.just_builtins.specs.Argument.{value_at, first}
 use Rattle.just_builtins.specs.Meaning.{all_joined}
 
--- std's join is the definition's
+-- the join of std agrees with the definition
 joins : (base path : Text) → path_join base path ≡ joined base path
 unfolding path_join
 joins base [] = refl
 joins base (c ∷ cs) = refl
 
--- one more path, put behind those before it
+-- one more path, joined to those before it
 pub one_more : (base text new : Text) (vs : List Value) (i : ℕ) → i < length vs → value_at vs i ≡ text ∷ [] → new ≡ path_join base text → all_joined new (drop (suc i) vs) ≡ all_joined base (drop i vs)
 one_more base text new [] i within is e = absurd (omega arith)
 one_more base text new (v ∷ vs) zero within is e = ap (λ path. all_joined path vs) (e ∙ (joins base text ∙ ap (λ w. joined base (first w)) (sym is)))

@@ -1,4 +1,4 @@
--- A table in which each name that stands for another is written out.
+-- A table that lists each short name next to its long form.
 use Rattle.std.proofs.Common.{◌≡◌, ◌-◌, Bool, true, false, cond, if◌then◌else◌, List, [], ◌∷◌, ◌++◌, ◌&&◌, ◌||◌, Option, Some, None, refl, sym, ap, subst, ◌∙◌, arith, length, drop, map, codes, nat_eq, bytes_eq, find, is_some, option_map}
 use Rattle.std.specs.List.{ends_with, list_all}
 use Rattle.std.proofs.lemmas.Bool.{and_parts}
@@ -9,15 +9,15 @@ use Rattle.just_syntax.specs.Plain.{Text}
 use Rattle.just_builtins.specs.declared.function.Function.{Function}
 use Rattle.just_builtins.specs.Table.{find_in, is_among, whole_name, without_last}
 
--- where the name ends with `long`, it stands in the table with `short` for that
+-- if the name ends with `long`, the table has the name with `short` instead
 abbrev stands : (long short : Text) → List Text → Text → Bool
 stands long short written name = cond (ends_with nat_eq name long) (is_among written (without_last name (length long) ++ short)) true
 
--- each name stands in the table, and each shorter one that stands for it
+-- the table has each name, and each short form of it
 abbrev pub spells_out : List Text → List Text → Bool
 spells_out written names = list_all (stands [] [] written) names && (list_all (stands (codes "_directory") (codes "_dir") written) names && list_all (stands (codes "_directory_native") (codes "_dir_native") written) names)
 
--- a text with a known end ends with that
+-- a text ends with its own suffix
 ends : (front back : Text) → ends_with nat_eq (front ++ back) back ≡ true
 ends front back =
     let rest : drop (length (front ++ back) - length back) (front ++ back) ≡ back = drop_at front back _ (omega (arith, length-append front back)) in
@@ -26,11 +26,11 @@ ends front back =
 front_of : (front back : Text) → without_last (front ++ back) (length back) ≡ front
 front_of front back = take_at front back _ (omega (arith, length-append front back))
 
--- and what ends with it is what stands before, and it
+-- a text that ends with `back` is what precedes it, followed by `back`
 parts : (name back : Text) → ends_with nat_eq name back ≡ true → without_last name (length back) ++ back ≡ name
 parts name back is = ap (λ t. without_last name (length back) ++ t) ((bytes_eq-Decides back _).0 is) ∙ take-append-drop (length name - length back) name
 
--- what each of the names passes, a name among them passes
+-- a test that all names pass is passed by each name among them
 passes : (p : Text → Bool) (names : List Text) (name : Text) → list_all p names ≡ true → is_among names name ≡ true → p name ≡ true
 passes p [] name all among = absurd (cc)
 passes p (n ∷ names) name all among =
@@ -40,14 +40,14 @@ passes p (n ∷ names) name all among =
       | false ↦ λ _ later. passes p names name both.1 later
     ] refl among
 
--- a name with `long` at its end among them has its shorter one in the table
+-- if a name that ends with `long` is among the names, the table has its short form
 shorter : (long short front : Text) (written names : List Text) → list_all (stands long short written) names ≡ true → is_among names (front ++ long) ≡ true → is_among written (front ++ short) ≡ true
 shorter long short front written names all among =
     let there = is_among written (without_last (front ++ long) (length long) ++ short) in
     ap (λ t. is_among written (t ++ short)) (sym (front_of front long)) ∙ ap (λ b. cond b there true) (sym (ends front long)) ∙ passes (stands long short written) names (front ++ long) all among
 
 module _ (written names : List Text) (all : spells_out written names ≡ true) where
-  -- a name that stands for one of the names stands in the table
+  -- the table has each name whose long form is among the names
   spelled : (name : Text) → is_among names (whole_name name) ≡ true → is_among written name ≡ true
   spelled name among =
       let short = codes "_dir" in
@@ -67,18 +67,18 @@ module _ (written names : List Text) (all : spells_out written names ≡ true) w
         ] refl
       ] refl among
 
-  -- so the table has just the names that stand for these, if each of it stands for one
+  -- so the table has exactly those names, if the long form of each of its names is among them
   pub same_among : list_all (λ name. is_among names (whole_name name)) written ≡ true → (name : Text) → is_among written name ≡ is_among names (whole_name name)
   same_among back name =
       let P : Type 0 = is_among names (whole_name name) ≡ true in
       same_from_decides {P = P} (is_among written name) (is_among names (whole_name name)) (passes (λ t. is_among names (whole_name t)) written name back, spelled name) (λ is. is, λ is. is)
 
--- an entry is found where its name is among the names
+-- an entry is found exactly if its name is among the names
 named : (entries : List (Text × Function)) (name : Text) → is_some (find_in entries name) ≡ is_among (map (λ entry. entry.0) entries) name
 named [] name = refl
 named (e ∷ es) name = elim (bytes_eq e.0 name) as (λ b. is_some (option_map (λ entry. entry.1) (cond b (Some e) (find (λ entry. bytes_eq entry.0 name) es))) ≡ (b || is_among (map (λ entry. entry.0) es) name)) [ true ↦ refl | false ↦ named es name ]
 
--- what is found behind a name is what is looked for, where that holds of each entry's name
+-- the entry found for a name has the function g gives, if that holds for each entry
 agreed : (g : Text → Option Function) (entries : List (Text × Function)) (name : Text) (f : Function) → map (λ entry. g entry.0) entries ≡ map (λ entry. Some entry.1) entries → find_in entries name ≡ Some f → g name ≡ Some f
 agreed g [] name f all found = absurd (cc)
 agreed g (e ∷ es) name f all found =
@@ -89,7 +89,7 @@ agreed g (e ∷ es) name f all found =
       | false ↦ λ _ later. agreed g es name f tail later
     ] refl found
 
--- a table that has each name with its function answers as the one that has whole names alone
+-- a table of long and short names gives the same look-ups as the table of long names alone
 pub same_found : (written entries : List (Text × Function)) → spells_out (map (λ entry. entry.0) written) (map (λ entry. entry.0) entries) ≡ true → map (λ entry. find_in entries (whole_name entry.0)) written ≡ map (λ entry. Some entry.1) written → (name : Text) → find_in written name ≡ find_in entries (whole_name name)
 same_found written entries all each name =
     elim (find_in written name) as (λ o. find_in written name ≡ o → o ≡ find_in entries (whole_name name)) [

@@ -1,11 +1,11 @@
--- The texts of arguments, one after another.
+-- The texts of arguments.
 use Rattle.std.proofs.Common.{◌≡◌, ℕ, zero, suc, ◌+◌, ◌<◌, ◌≤◌, List, [], ◌∷◌, ◌++◌, refl, sym, ap, ◌∙◌, arith, add-one, length, drop, map, string_bytes}
 use Rattle.std.specs.declared.string.String.{String}
 use Rattle.just_syntax.specs.Plain.{Text}
 use Rattle.just_value.specs.Value.{Value}
 use Rattle.just_builtins.specs.Argument.{value_at}
 
--- what is left begins with the argument
+-- the rest begins with the argument
 ahead : (vs : List Value) (i : ℕ) (v : Value) → i < length vs → value_at vs i ≡ v → drop i vs ≡ v ∷ drop (suc i) vs
 ahead [] i v within is = absurd (omega arith)
 ahead (x ∷ xs) zero v within is = ap (λ y. y ∷ xs) is
@@ -15,7 +15,7 @@ behind : {A : Type 0} (f : A → Text) (old : List A) (x : A) (rest : List Text)
 behind f [] x rest = refl
 behind f (y ∷ ys) x rest = ap (λ ts. f y ∷ ts) (behind f ys x rest)
 
--- one more text, put behind those before it
+-- one more text, after those before it
 pub one_more : {A : Type 0} (g : Value → Text) (vs : List Value) (i : ℕ) (v : Value) (old new : List (String A)) (item : String A) (all : List Text) → i < length vs → value_at vs i ≡ v → new ≡ old ++ item ∷ [] → string_bytes item ≡ g v
     → map string_bytes old ++ map g (drop i vs) ≡ all → map string_bytes new ++ map g (drop (i + 1) vs) ≡ all
 one_more g vs i v old new item all within is grown says so =
@@ -33,11 +33,11 @@ nil : (ts : List Text) → ts ++ [] ≡ ts
 nil [] = refl
 nil (t ∷ ts) = ap (λ us. t ∷ us) (nil ts)
 
--- and nothing is left behind the last
+-- and nothing is left after the last
 pub all_done : (g : Value → Text) (vs : List Value) (i : ℕ) (texts all : List Text) → length vs ≤ i → texts ++ map g (drop i vs) ≡ all → texts ≡ all
 all_done g vs i texts all past so = sym (nil texts) ∙ ap (λ ts. texts ++ ts) (sym (left g vs i past)) ∙ so
 
--- a change of each text, at once or one after another
+-- mapping each text twice is mapping it once
 pub each_changed : (f : Text → Text) (g : Value → Text) (vs : List Value) → map f (map g vs) ≡ map (λ v. f (g v)) vs
 each_changed f g [] = refl
 each_changed f g (v ∷ vs) = ap (λ ts. f (g v) ∷ ts) (each_changed f g vs)

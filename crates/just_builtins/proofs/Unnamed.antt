@@ -1,4 +1,4 @@
--- Functions that no name stands for.
+-- Functions without a name.
 use Rattle.std.proofs.Common.{◌≡◌, ◌≢◌, Bool, true, false, cond, List, [], ◌∷◌, Option, Some, refl, sym, ap, ◌∙◌, bytes_eq, find, filter, map, option_map}
 use Rattle.just_syntax.specs.Plain.{Text}
 use Rattle.just_builtins.specs.declared.function.Function.{Function}
@@ -10,24 +10,24 @@ abbrev pub NoneOf : List Function → Function → Type 0
 NoneOf [] f = Unit {0}
 NoneOf (g ∷ gs) f = (g ≢ f) × NoneOf gs f
 
--- what is none of those that pass a test, which it passes itself, is none of all
+-- a function that passes a test is none of all, if it is none of those that pass the test
 none_of_all : (q : Function → Bool) (f g : Function) (b : Bool) (gs : List Function) → q f ≡ true → q g ≡ b → NoneOf (cond b (g ∷ gs) gs) f → (g ≢ f) × NoneOf gs f
 none_of_all q f g true gs own is none = none
 none_of_all q f g false gs own is none = ((λ e. let other : false ≡ true = sym is ∙ (ap q e ∙ own) in absurd (cc)), none)
 
--- where the first entry's function is another, and none is found behind it
+-- if the first entry has another function and the rest does not give f, the whole does not give f
 unnamed_at : (f : Function) (e : Text × Function) (b : Bool) (behind : Option (Text × Function)) → e.1 ≢ f → option_map (λ entry. entry.1) behind ≢ Some f → option_map (λ entry. entry.1) (cond b (Some e) behind) ≢ Some f
 unnamed_at f e true behind other none found = other (let same : e.1 ≡ f = cc in same)
 unnamed_at f e false behind other none found = none found
 
--- where no entry's function is f, none is found
+-- if no entry has the function f, no look-up gives it
 unnamed_in : (q : Function → Bool) (f : Function) → q f ≡ true → (entries : List (Text × Function)) → NoneOf (filter q (map (λ entry. entry.1) entries)) f → (name : Text) → find_in entries name ≢ Some f
 unnamed_in q f own [] none name = λ found. absurd (cc)
 unnamed_in q f own (e ∷ es) none name =
     let parts = none_of_all q f e.1 (q e.1) (filter q (map (λ entry. entry.1) es)) own refl none in
     unnamed_at f e (bytes_eq e.0 name) (find (λ entry. bytes_eq entry.0 name) es) parts.0 (unnamed_in q f own es parts.1 name)
 
--- a function is unnamed that is none of the table's that pass a test, which it passes itself
+-- a function that passes a test has no name, if it is none of the table's functions that pass the test
 pub unnamed : (q : Function → Bool) (f : Function) → q f ≡ true → NoneOf (filter q (map (λ entry. entry.1) table)) f → IsUnnamed f
 unfolding function_named
 unnamed q f own none name found = unnamed_in q f own table none (whole_name name) found
@@ -92,7 +92,7 @@ abbrev pub is_value_binary_opt : Function → Bool
 is_value_binary_opt (ValueBinaryOpt b) = true
 is_value_binary_opt _ = false
 
--- the shapes that no built-in has
+-- the shapes of no built-in function
 abbrev pub is_of_no_builtin : Function → Bool
 is_of_no_builtin (BinaryOptValueStr b) = true
 is_of_no_builtin (BinaryToValue b) = true

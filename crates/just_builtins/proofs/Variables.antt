@@ -1,4 +1,4 @@
--- Variables of the environment, one after another.
+-- Environment variables.
 use Rattle.std.proofs.Common.{◌≡◌, ℕ, zero, suc, ◌+◌, ◌<◌, ◌≤◌, Bool, true, false, cond, List, [], ◌∷◌, Option, Some, None, Result, Ok, Err, refl, sym, ap, subst, ◌∙◌, arith, add-one, bytes_eq, drop, drop-cons, get_or, length, map, option_map, string_bytes}
 use Rattle.std.specs.BTreeMap.{is_at}
 use Rattle.std.specs.Cmp.Lexicographic.{slice_cmp}
@@ -27,7 +27,7 @@ swapped s t =
     same_from_decides {P = s ≡ t} (bytes_eq s t) (bytes_eq t s) (bytes_eq-Decides s t)
     ((λ holds. sym ((bytes_eq-Decides t s).0 holds)), (λ same. (bytes_eq-Decides t s).1 (sym same)))
 
--- what a map has for a key is what stands first behind it, in the list of its pairs
+-- a map's value for a key is the first value for it in the list of pairs
 at_first : {A : Type 0} (b c : Bool) (pair : Text × Text) (text : String A) (behind : Option (Text × Text)) (other : Option (String A)) → b ≡ c → pair.1 ≡ string_bytes text → option_map (λ p. p.1) behind ≡ option_map string_bytes other
     → option_map (λ p. p.1) (cond b (Some pair) behind) ≡ option_map string_bytes (cond c (Some text) other)
 at_first true true pair text behind other same is rest = cc
@@ -46,13 +46,13 @@ pub from_dotenv : (dotenv : List (Text × Text)) (key : Text) (rest : Reply) (te
 from_dotenv dotenv key rest text v found is =
     ap (λ e. or_asks e (asks_text (Variable key) rest (variable_not_unicode key) (variable_unreadable key))) found ∙ ap Answers (sym is)
 
--- what is left begins with the key
+-- the rest begins with the key
 pub front : {A : Type 0} (keys : List (String A)) (i : ℕ) (s : String A) (key : Text) → i < length keys → s ≡ get_or keys i s → key ≡ string_bytes s → map string_bytes (drop i keys) ≡ key ∷ map string_bytes (drop (i + 1) keys)
 front keys i s key within is same =
     ap (map string_bytes) (drop-cons keys i s within) ∙ ap (λ x. string_bytes x ∷ map string_bytes (drop (suc i) keys)) (sym is)
     ∙ ap (λ j. string_bytes s ∷ map string_bytes (drop j keys)) (sym (add-one i)) ∙ ap (λ t. t ∷ map string_bytes (drop (i + 1) keys)) (sym same)
 
--- and nothing is left behind the last
+-- and nothing is left after the last
 pub nothing_left : {A : Type 0} (keys : List (String A)) (i : ℕ) → length keys ≤ i → map string_bytes (drop i keys) ≡ []
 nothing_left [] zero past = refl
 nothing_left [] (suc i) past = refl
@@ -60,14 +60,14 @@ nothing_left (k ∷ ks) zero past = absurd (omega arith)
 nothing_left (k ∷ ks) (suc i) past = nothing_left ks i (omega arith)
 
 module _ {S : Type 0} (step : S → Question → Answer → S → Type 0) (shown : Frames) where
-  -- a variable that the dotenv map does not have
+  -- a variable that the dotenv map lacks
   pub asked_variable : {old new : S} (dotenv : List (Text × Text)) (key : Text) (a : Answer) (result : Result (Option Value) CallFault) → entry dotenv key ≡ None → step old (frameless (TextOf (Variable key))) a new
       → GivesOr (λ rest. text_answered rest (variable_not_unicode key) (variable_unreadable key) a) result → AskedOr step old shown (variable dotenv key) result new
   asked_variable {old = old} {new = new} dotenv key a result none taken is =
       subst (λ e. AskedOr step old shown (λ rest. or_asks e (asks_text (Variable key) rest (variable_not_unicode key) (variable_unreadable key))) result new) (sym none)
       (asked_or step shown (TextOf (Variable key)) (λ rest. text_answered rest (variable_not_unicode key) (variable_unreadable key)) a result taken is)
 
-  -- one of several variables, where the run from it on is one of all
+  -- one of several variables, if a run from it on is a run of all
   module _ (dotenv : List (Text × Text)) (old mid new : S) (keys left : List Text) (key : Text)
       (from : (rest : Reply) (o : Outcome Called) (last : S) → Runs freely step mid (tree shown (first_set dotenv rest (key ∷ left))) o last → Runs freely step old (tree shown (first_set dotenv rest keys)) o last)
       (r : Result (Option Value) CallFault) (turn : AskedOr step mid shown (variable dotenv key) r new) where
@@ -83,7 +83,7 @@ module _ {S : Type 0} (step : S → Question → Answer → S → Type 0) (shown
         subst (λ x. AskedOr step old shown (λ rest. first_set dotenv rest keys) x new) (sym out)
         (λ rest. (from rest (outcome (Err e)) new (all (first_set dotenv rest left)).0, (all (first_set dotenv rest left)).1))
 
-  -- all of them, and then what is done where none is set
+  -- all of them, and then the result if none is set
   module _ (c : Context) (default : Option Value) (old new : S) (keys given : List Text) (same : given ≡ keys) (r : Result (Option Value) CallFault) (run : AskedOr step old shown (λ rest. first_set c.fixed.dotenv rest given) r new) where
     here : AskedOr step old shown (λ rest. first_set c.fixed.dotenv rest keys) r new
     here = subst (λ ks. AskedOr step old shown (λ rest. first_set c.fixed.dotenv rest ks) r new) same run

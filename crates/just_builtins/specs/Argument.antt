@@ -23,12 +23,12 @@ text_at vs i = first (value_at vs i)
 abbrev pub text_given : List Value → ℕ → Option Text
 text_given vs i = option_map first (slice_get vs i)
 
--- the arguments of a text that may be given
+-- the arguments for an optional text
 abbrev pub texts_given : Option (Bor Text) → List Value
 texts_given (Some text) = (text.now ∷ []) ∷ []
 texts_given None = []
 
--- the argument that may be given
+-- the arguments for an optional value
 abbrev pub values_given : Option (Bor Value) → List Value
 values_given (Some value) = value.now ∷ []
 values_given None = []
@@ -37,10 +37,10 @@ values_given None = []
 abbrev pub HasOneEach : List Value → Type 0
 HasOneEach vs = (i : ℕ) → i < length vs → length (value_at vs i) ≡ 1
 
--- a function may have that many arguments
+-- a function may have this many arguments
 abbrev pub IsExpected : Function → ℕ → Type 0
 IsExpected f n = (fewest_arguments f ≤ n) × (n ≤ most_arguments f)
 
--- each argument at a text position has one element
+-- each argument at the position of a text has one element
 abbrev pub HasTexts : Function → List Value → Type 0
 HasTexts f vs = (i : ℕ) → i < length vs → is_text f i ≡ true → length (value_at vs i) ≡ 1

@@ -1,4 +1,4 @@
--- What built-in functions ask of the host, and what each answer leads to.
+-- The questions of built-in functions to the host, and the reply for each answer.
 use Rattle.std.specs.Prelude.{Bool, false, ◌++◌, List, [], ◌∷◌, Option, Some, None, option_map, if◌then◌else◌, bytes_eq, codes, decimal, find, map}
 use Rattle.std.specs.List.{join_by}
 use Rattle.just_syntax.specs.Plain.{Text}
@@ -16,8 +16,8 @@ use Rattle.just_host.specs.declared.number_question.NumberQuestion.{NumberQuesti
 use Rattle.just_builtins.specs.Message.{no_answer, no_directory, directory_not_unicode, directory_unreadable, not_canonicalized, canonical_not_unicode, not_read, executable_unknown, executable_not_unicode, variable_not_unicode, variable_unreadable, no_variable, not_found}
 use Rattle.just_builtins.specs.Reply.{Reply, Answers, Fails, Asks, Stops, says}
 
--- What the answer to a question for a text leads to: the text; what is done where there is none; what is said of what is
--- no text, and of a fault. Any other answer is want of memory.
+-- The reply for an answer to a question for a text: the text; `absent`, if there is none; a message for something that
+-- is not text, and one for a fault. Any other answer counts as out of memory.
 abbrev pub text_answered : Reply → (Text → Text) → (Text → Text) → Answer → Reply
 text_answered absent odd faulty (Replied text) = says text
 text_answered absent odd faulty Absent = absent
@@ -30,7 +30,7 @@ asks_text q absent odd faulty = Asks (TextOf q) (text_answered absent odd faulty
 
 -- ---- the system
 
--- the system's word for a part of itself; the built-in's name is in the message
+-- the system's name for a part of itself; the message contains the name of the built-in function
 abbrev pub asks_system : Text → TextQuestion → Reply
 asks_system name q = asks_text q (Fails (no_answer name)) (λ text. no_answer name) (λ text. no_answer name)
 
@@ -38,12 +38,12 @@ asks_system name q = asks_text q (Fails (no_answer name)) (λ text. no_answer na
 abbrev pub asks_executable : Reply
 asks_executable = asks_text Executable (Fails (executable_unknown not_found)) executable_not_unicode executable_unknown
 
--- a directory of the user's
+-- one of the user's directories
 abbrev pub asks_directory : DirectoryKind → Reply
 asks_directory kind =
     asks_text (Directory kind) (Fails (no_directory (directory_word kind))) (directory_not_unicode (directory_word kind)) (directory_unreadable (directory_word kind))
 
--- what the answer to a question for a number leads to: its digits
+-- the reply for an answer to a question for a number: its decimal digits
 abbrev pub number_answered : Answer → Reply
 number_answered (Numbered n) = says (decimal n)
 number_answered _ = Stops
@@ -56,50 +56,50 @@ asks_number q = Asks (NumberOf q) number_answered
 abbrev pub in_working_directory : Context → Text → Text
 in_working_directory c path = joined (working_directory c.fixed) path
 
--- the path, free of links, of what stands at a path
+-- the canonical path, free of links, of the file at a path
 abbrev pub asks_canonical : Context → Text → Reply
 asks_canonical c path =
     asks_text (Canonicalize (in_working_directory c path)) (Fails (not_canonicalized path not_found)) canonical_not_unicode (not_canonicalized path)
 
--- what a file holds
+-- the contents of a file
 abbrev pub asks_contents : Context → Text → Reply
 asks_contents c path = asks_text (Read (in_working_directory c path)) (Fails (not_read path not_found)) (not_read path) (not_read path)
 
--- the path of the executable of a name, looked for from the working directory
+-- the path of the executable with this name, searched for from the working directory
 abbrev pub asks_which : Context → Text → Reply → Reply
 asks_which c name absent = asks_text (Which name (working_directory c.fixed)) absent (λ text. text) (λ text. text)
 
--- what the answer to whether something is there leads to
+-- the reply for an answer on existence
 abbrev pub existence_answered : (Bool → Value) → Answer → Reply
 existence_answered truth (Found there) = Answers (truth there)
 existence_answered truth _ = Stops
 
--- whether something stands at a path; nothing does at the empty one, and that is not asked
+-- whether something exists at a path; nothing does at the empty path, for which the host is not asked
 abbrev pub asks_existence : Context → (Bool → Value) → Text → Reply
 asks_existence c truth [] = Answers (truth false)
 asks_existence c truth (b ∷ bs) = Asks (ExistsAt (in_working_directory c (b ∷ bs))) (existence_answered truth)
 
--- ---- variables of the environment
+-- ---- environment variables
 
--- the text that a list of pairs has for a key
+-- the text for a key in a list of pairs
 abbrev pub entry : List (Text × Text) → Text → Option Text
 entry pairs key = option_map (λ pair. pair.1) (find (λ pair. bytes_eq pair.0 key) pairs)
 
--- the text, if there is one, else what is done without it
+-- the text, if there is one, otherwise the other reply
 abbrev pub or_asks : Option Text → Reply → Reply
 or_asks (Some text) other = says text
 or_asks None other = other
 
--- the dotenv map's text for a key, else what the host answers, and where there is none the rest
+-- the dotenv map's text for a key, otherwise the host's, and `rest` if there is none
 abbrev pub variable : List (Text × Text) → Text → Reply → Reply
 variable dotenv key rest = or_asks (entry dotenv key) (asks_text (Variable key) rest (variable_not_unicode key) (variable_unreadable key))
 
--- the first of these variables that is set
+-- the value of the first of these variables that is set
 abbrev pub first_set : List (Text × Text) → Reply → List Text → Reply
 first_set dotenv unset [] = unset
 first_set dotenv unset (key ∷ keys) = variable dotenv key (first_set dotenv unset keys)
 
--- what is done where none is set: the default, else a message
+-- the reply if none is set: the default, or a message
 abbrev pub unset : List Text → Option Value → Reply
 unset keys (Some default) = Answers default
 unset keys None = Fails (no_variable keys)
@@ -114,17 +114,17 @@ faulted (Code n) = Fails (fault_text (Code n))
 faulted (Message text) = Fails (fault_text (Message text))
 faulted NoMemory = Stops
 
--- what the answer to a command leads to
+-- the reply for an answer to a command
 abbrev pub command_answered : Answer → Reply
 command_answered (Replied text) = says text
 command_answered (Failed fault) = faulted fault
 command_answered _ = Stops
 
--- words as they stand in a call of `shell`
+-- a call of `shell`, as it is written
 abbrev pub shell_call : List Text → Text
 shell_call words = codes "shell(" ++ (join_by (λ word. word) (codes ", ") (map quoted words) ++ codes ")")
 
--- a command, with further arguments; in a dry run it is shown, and nothing is asked
+-- a command with its arguments; in a dry run the call is shown, and the host is not asked
 abbrev pub asks_shell : Context → List Text → Reply
 asks_shell c [] = Stops
 asks_shell c (command ∷ arguments) =

@@ -1,4 +1,4 @@
--- How a call of a built-in function ends, and the tree of what it asks.
+-- The result of a call of a built-in function, and the interaction tree of its questions.
 use Rattle.std.specs.Prelude.{◌≡◌, ◌≢◌, ⊤, Option, Some, None, Result, Ok, Err, List, [], ◌∷◌, string_bytes}
 use Rattle.just_syntax.specs.Plain.{Text}
 use Rattle.just_value.specs.Value.{Value}
@@ -13,24 +13,24 @@ use Rattle.just_builtins.specs.declared.function.Function.{Function}
 use Rattle.just_builtins.specs.Reply.{Reply, Answers, Fails, Asks, Stops}
 use Rattle.just_builtins.specs.Table.{IsUnnamed}
 
--- the function gave a value, or said why there is none
+-- the function returned a value, or a message why there is none
 pub data Called : Type 0 where
   Returned : Value → Called
   Said : Text → Called
 
--- a command shows the frames that can be seen, and no other question shows any
+-- the frames that a question shows: the visible ones for a command, none for the others
 abbrev pub frames_for : Blind → Frames → Frames
 frames_for (CommandOf c) shown = shown
 frames_for _ shown = []
 
--- the reply, with the frames put into its questions
+-- the interaction tree of a reply, whose questions show the frames
 abbrev pub tree : Frames → Reply → Tree Called
 tree shown (Answers v) = gives (Returned v)
 tree shown (Fails message) = gives (Said message)
 tree shown (Asks q next) = ask (record { blind = q; shown = frames_for q shown }) (λ a. tree shown (next a))
 tree shown Stops = done Stopped
 
--- how a call ended; a function that is not of its shape is stopped before anything is asked
+-- the outcome of a call; a function whose tag does not belong to its shape is stopped before it asks anything
 abbrev pub outcome : Result Value CallFault → Outcome Called
 outcome (Ok v) = Gave (Returned v)
 outcome (Err (Message message)) = Gave (Said (string_bytes message))
@@ -42,28 +42,28 @@ abbrev pub IsNoneOf : List Builtin → Builtin → Type 0
 IsNoneOf [] builtin = ⊤
 IsNoneOf (other ∷ others) builtin = (other ≢ builtin) × IsNoneOf others builtin
 
--- the result is the reply, which asks nothing, unless memory is wanting
+-- the result is the reply, which asks nothing, unless memory runs out
 abbrev pub Gives : Reply → Result Value CallFault → Type 0
 Gives reply (Ok v) = reply ≡ Answers v
 Gives reply (Err (Message message)) = reply ≡ Fails (string_bytes message)
 Gives reply (Err OutOfMemory) = ⊤
 Gives reply (Err Internal) = ⊥
 
--- the same, but that it is `Internal` where no name stands for the function
+-- the same, but it is `Internal` if the function has no name
 abbrev pub Replies : Function → Reply → Result Value CallFault → Type 0
 Replies f reply (Ok v) = reply ≡ Answers v
 Replies f reply (Err (Message message)) = reply ≡ Fails (string_bytes message)
 Replies f reply (Err OutOfMemory) = ⊤
 Replies f reply (Err Internal) = IsUnnamed f
 
--- the same, but that it is `Internal` where the built-in function is none of these
+-- the same, but it is `Internal` if the built-in function is none of these
 abbrev pub RepliesAmong : List Builtin → Builtin → Reply → Result Value CallFault → Type 0
 RepliesAmong those builtin reply (Ok v) = reply ≡ Answers v
 RepliesAmong those builtin reply (Err (Message message)) = reply ≡ Fails (string_bytes message)
 RepliesAmong those builtin reply (Err OutOfMemory) = ⊤
 RepliesAmong those builtin reply (Err Internal) = IsNoneOf those builtin
 
--- the result is the reply, or it is left to what is done else, unless memory is wanting
+-- the result is the reply's, or there is none yet and the reply is `rest`, unless memory runs out
 abbrev pub GivesOr : (Reply → Reply) → Result (Option Value) CallFault → Type 0
 GivesOr reply (Ok (Some v)) = (rest : Reply) → reply rest ≡ Answers v
 GivesOr reply (Ok None) = (rest : Reply) → reply rest ≡ rest
@@ -71,18 +71,17 @@ GivesOr reply (Err (Message message)) = (rest : Reply) → reply rest ≡ Fails 
 GivesOr reply (Err OutOfMemory) = ⊤
 GivesOr reply (Err Internal) = ⊥
 
--- ---- functions that ask: what the host is asked, and then what they answer
+-- ---- functions that ask: the questions to the host, and then their replies
 
--- the call is a run of the reply's tree, and its result is not `Internal`
+-- the call is a run of the reply's interaction tree, and its result is not `Internal`
 abbrev pub Asked : {S : Type 0} → (S → Question → Answer → S → Type 0) → S → Frames → Reply → Result Value CallFault → S → Type 0
 Asked step old shown reply result new = Runs freely step old (tree shown reply) (outcome result) new × (result ≢ Err Internal)
 
--- the same, but that it is `Internal` where no name stands for the function, before anything is asked
+-- the same, but it is `Internal` if the function has no name; then nothing is asked
 abbrev pub AskedBy : {S : Type 0} → Function → (S → Question → Answer → S → Type 0) → S → Frames → Reply → Result Value CallFault → S → Type 0
 AskedBy f step old shown reply result new = Runs freely step old (tree shown reply) (outcome result) new × (result ≡ Err Internal → IsUnnamed f × (new ≡ old))
 
--- Where there is a result, it is the reply's. Where there is none yet, whatever the rest then comes to is what the reply
--- comes to.
+-- If there is a result, it is the reply's. If there is none yet, any run of `rest` from here is a run of the reply.
 abbrev pub AskedOr : {S : Type 0} → (S → Question → Answer → S → Type 0) → S → Frames → (Reply → Reply) → Result (Option Value) CallFault → S → Type 0
 AskedOr step old shown reply (Ok (Some v)) new = (rest : Reply) → Runs freely step old (tree shown (reply rest)) (Gave (Returned v)) new
 AskedOr {S} step old shown reply (Ok None) new = (rest : Reply) (o : Outcome Called) (last : S) → Runs freely step new (tree shown rest) o last → Runs freely step old (tree shown (reply rest)) o last

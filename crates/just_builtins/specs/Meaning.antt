@@ -1,4 +1,4 @@
--- What each built-in function answers, and what it asks. One line a function.
+-- The reply of each built-in function: its value, message or questions. One line per function.
 use Rattle.std.specs.Prelude.{ℕ, ◌++◌, Bool, true, false, ◌||◌, List, [], ◌∷◌, Option, Some, None, Result, Ok, Err, unwrap_or, if◌then◌else◌, bytes_eq, codes, decimal, length, map, slice_get}
 use Rattle.std.specs.List.{join_by}
 use Rattle.std.specs.Str.{trim, trim_start, trim_end}
@@ -23,16 +23,16 @@ use Rattle.just_builtins.specs.Reply.{Reply, Answers, Fails, says}
 use Rattle.just_builtins.specs.declared.builtin.Builtin.{Builtin}
 use Rattle.just_builtins.specs.declared.builtin.Builtin.TheVariants as builtin
 
--- what is done with a text, if there is one, else the message
+-- the reply for a text, or the message if there is none
 abbrev pub or_fails : Option Text → Text → (Text → Reply) → Reply
 or_fails (Some text) message go = go text
 or_fails None message go = Fails message
 
--- whether the module has lists
+-- whether the module has lists enabled
 abbrev pub has_lists : Context → Bool
 has_lists c = c.fixed.settings.lists
 
--- a truth as a value: with lists one text or none, else `true` or `false`
+-- a boolean as a value: with lists one text or the empty list, otherwise `true` or `false`
 abbrev pub truth : Bool → Bool → Value
 truth true b = from_condition b
 truth false true = codes "true" ∷ []
@@ -44,11 +44,11 @@ is_false text = bytes_eq text [] || bytes_eq text (codes "0") || bytes_eq text (
 abbrev pub is_true : Text → Bool
 is_true text = bytes_eq text (codes "1") || bytes_eq text (codes "true")
 
--- a text as a truth, or why it is none
+-- a text as a boolean, or why it is not one
 abbrev pub text_truth : Text → Result Bool Text
 text_truth text = if is_false text then Ok false else (if is_true text then Ok true else Err (not_boolean text))
 
--- a value as a truth, or why it is none
+-- a value as a boolean, or why it is not one
 abbrev pub value_truth : Value → Result Bool Text
 value_truth [] = Ok false
 value_truth (text ∷ []) = text_truth text
@@ -58,12 +58,13 @@ abbrev pub says_truth : Bool → Result Bool Text → Reply
 says_truth lists (Ok b) = Answers (truth lists b)
 says_truth lists (Err message) = Fails message
 
--- Each element changed. Without lists, the words of the joined text are, and are put together again by spaces.
+-- A function applied to each element. Without lists, to each word of the joined text; the words are joined by spaces
+-- again.
 abbrev pub each : Bool → (Text → Text) → Value → Value
 each true change v = map change v
 each false change v = joined (map change (words (joined v))) ∷ []
 
--- the text in another case, if it can have one
+-- the text in another case, if it is ASCII
 abbrev pub cased : (Text → Option Text) → Text → Reply
 cased change text = or_fails (change text) (past_ascii text) says
 
@@ -71,7 +72,7 @@ cased change text = or_fails (change text) (past_ascii text) says
 abbrev pub part : Text → (Text → Option Text) → Text → Reply
 part name of p = or_fails (of p) (not_extracted name p) says
 
--- `.` in place of the empty path
+-- `.` instead of the empty path
 abbrev pub or_dot : Text → Text
 or_dot [] = codes "."
 or_dot (b ∷ bs) = b ∷ bs
@@ -85,16 +86,16 @@ without_extension p =
     or_fails (path.file_stem p) (not_extracted (codes "file stem") p) (λ stem.
     says (path.joined directory stem)))
 
--- paths put together from the left, each behind what the ones before it made
+-- paths joined from left to right
 abbrev pub all_joined : Text → List Value → Text
 all_joined base [] = base
 all_joined base (v ∷ vs) = all_joined (path.joined base (first v)) vs
 
--- what is done with the parent of a path that is to have one
+-- the reply for the parent of a path, which must have one
 abbrev pub with_parent : Text → (Text → Reply) → Reply
 with_parent p go = or_fails (path.parent p) (no_parent p) go
 
--- what is done with the path of the file that the call stands in
+-- the reply for the path of the file that contains the call
 abbrev pub with_source : Context → (Text → Reply) → Reply
 with_source c go = with_parent c.fixed.justfile (λ directory. go (path.joined directory c.name.path))
 
@@ -105,7 +106,7 @@ abbrev pub jobs : Option ℕ → Value
 jobs (Some n) = decimal n ∷ []
 jobs None = []
 
--- by white space, or at the places of a separator
+-- split at white space, or at the occurrences of a separator
 abbrev pub split_at : Text → Option Text → Value
 split_at text None = words text
 split_at text (Some separator) = split text separator

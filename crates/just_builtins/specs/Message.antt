@@ -1,4 +1,4 @@
--- What built-in functions say that give no value.
+-- Messages of built-in functions that return no value.
 use Rattle.std.specs.Prelude.{◌++◌, List, [], ◌∷◌, codes, map}
 use Rattle.just_syntax.specs.Plain.{Text}
 use Rattle.just_value.specs.Listed.{listed}
@@ -24,7 +24,7 @@ past_ascii text = codes "`" ++ (text ++ codes "` holds characters past ASCII")
 abbrev pub outside_recipe : Text
 outside_recipe = codes "`recipe_name()` can only be used within a recipe"
 
--- what is said of what a host does not find
+-- the message for something that a host does not find
 abbrev pub not_found : Text
 not_found = codes "not found"
 
@@ -68,7 +68,7 @@ variable_unreadable key text = codes "environment variable `" ++ (key ++ (codes 
 abbrev pub ticked : Text → Text
 ticked text = codes "`" ++ (text ++ codes "`")
 
--- that none of these variables is set
+-- none of these variables is set
 abbrev pub no_variable : List Text → Text
 no_variable [] = codes "empty environment variable list with no default"
 no_variable (key ∷ []) = codes "environment variable `" ++ (key ++ codes "` not present")

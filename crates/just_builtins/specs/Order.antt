@@ -1,4 +1,4 @@
--- Names in the order of their bytes.
+-- Names in strict order of bytes.
 use Rattle.std.specs.Prelude.{Bool, true, List, [], ◌∷◌, ◌&&◌}
 use Rattle.std.specs.Cmp.Lexicographic.{slice_cmp}
 use Rattle.std.specs.Ordering.{is_lt, nat_cmp}
@@ -9,7 +9,7 @@ abbrev pub is_below : Text → List Text → Bool
 is_below name [] = true
 is_below name (next ∷ names) = is_lt (slice_cmp nat_cmp name next)
 
--- each name is below the next, so that none stands twice
+-- each name is below the next, so there are no duplicates
 abbrev pub rises : List Text → Bool
 rises [] = true
 rises (name ∷ names) = is_below name names && rises names

@@ -1,11 +1,11 @@
--- What the shapes take.
+-- The arguments of each shape.
 use Rattle.std.specs.Prelude.{ℕ, Bool as Truth, true, false, ◌==◌, ◌^◌, ◌-◌, List, [], ◌∷◌}
 use Rattle.just_builtins.specs.declared.builtin.Builtin.{Builtin}
 use Rattle.just_builtins.specs.declared.builtin.Builtin.TheVariants.{Bool, Capitalize, EncodeUriComponent, Error, Extension, FileName, FileStem, InvocationDirectory, InvocationDirectoryNative, JustVersion, Justfile, JustfileDirectory, Len, Lowercase, ModuleDirectory, ModuleFile, ModulePath, ParentDirectory, RecipeName, Show, SourceDirectory, SourceFile, Trim, TrimEnd, TrimStart, Uppercase, WithoutExtension}
 use Rattle.just_builtins.specs.declared.function.Function.{Function}
 use Rattle.just_builtins.specs.declared.function.Function.TheVariants.{Binary, BinaryOptToValue, BinaryOptValueStr, BinaryOptValueStrToValue, BinaryPlus, BinaryStrValue, BinaryToValue, Nullary, Ternary, Unary, UnaryMap, UnaryPlus, UnaryToValue, ValueBinary, ValueBinaryOpt, ValueNullary, ValueUnary}
 
--- how few arguments a call may have
+-- the least number of arguments of a call
 abbrev pub fewest_arguments : Function → ℕ
 fewest_arguments (Nullary b) = 0
 fewest_arguments (Unary b) = 1
@@ -25,11 +25,11 @@ fewest_arguments (ValueUnary b) = 1
 fewest_arguments (ValueBinary b) = 2
 fewest_arguments (ValueBinaryOpt b) = 1
 
--- no call has more arguments than can be counted
+-- the greatest number of arguments that can be counted
 abbrev pub boundless : ℕ
 boundless = 2 ^ 64 - 1
 
--- how many arguments a call may have
+-- the greatest number of arguments of a call
 abbrev pub most_arguments : Function → ℕ
 most_arguments (Nullary b) = 0
 most_arguments (Unary b) = 1
@@ -69,7 +69,7 @@ is_text (ValueUnary b) i = false
 is_text (ValueBinary b) i = false
 is_text (ValueBinaryOpt b) i = false
 
--- the tag
+-- the built-in function of a shape
 abbrev pub builtin_of : Function → Builtin
 builtin_of (Nullary b) = b
 builtin_of (Unary b) = b
@@ -89,7 +89,7 @@ builtin_of (ValueUnary b) = b
 builtin_of (ValueBinary b) = b
 builtin_of (ValueBinaryOpt b) = b
 
--- ---- those that ask nothing, of shapes that others have that ask
+-- ---- built-in functions that ask nothing, of shapes with others that ask
 
 abbrev pub unasked_nullary : List Builtin
 unasked_nullary =

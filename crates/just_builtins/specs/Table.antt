@@ -1,4 +1,4 @@
--- The built-in functions: the name of each, its shape and its tag.
+-- The table of built-in functions: the name, the shape and the tag of each.
 use Rattle.std.specs.Prelude.{◌≢◌, ℕ, ◌++◌, ◌-◌, List, [], ◌∷◌, Bool as Truth, Option, Some, length, take, if◌then◌else◌, codes, nat_eq, bytes_eq, find, option_map}
 use Rattle.std.specs.List.{ends_with, list_any}
 use Rattle.just_syntax.specs.Plain.{Text}
@@ -73,7 +73,7 @@ table =
     ∷ (codes "without_extension", Unary WithoutExtension)
     ∷ []
 
--- the names of those that are left out
+-- the names of the functions that are left out
 abbrev pub left_out : List Text
 left_out =
     codes "absolute_path"
@@ -98,18 +98,18 @@ left_out =
     ∷ codes "uuid"
     ∷ []
 
--- the text without that many bytes at its end
+-- the text without its last n bytes
 abbrev pub without_last : Text → ℕ → Text
 without_last name n = take (length name - n) name
 
--- `_dir` at the end of a name stands for `_directory`, and `_dir_native` for `_directory_native`
+-- the long form of a name: `_dir` at its end is short for `_directory`, and `_dir_native` for `_directory_native`
 abbrev pub whole_name : Text → Text
 whole_name name =
     if ends_with nat_eq name (codes "_dir") then without_last name 4 ++ codes "_directory"
     else (if ends_with nat_eq name (codes "_dir_native") then without_last name 11 ++ codes "_directory_native"
     else name)
 
--- what stands first behind a name
+-- the first entry for a name
 abbrev pub find_in : List (Text × Function) → Text → Option Function
 find_in entries name = option_map (λ entry. entry.1) (find (λ entry. bytes_eq entry.0 name) entries)
 
@@ -117,14 +117,14 @@ find_in entries name = option_map (λ entry. entry.1) (find (λ entry. bytes_eq 
 abbrev pub is_among : List Text → Text → Truth
 is_among names name = list_any (λ other. bytes_eq other name) names
 
--- the function that a name stands for
+-- the function with this name
 unfoldable pub function_named : Text → Option Function
 function_named name = find_in table (whole_name name)
 
--- whether a name is one of those that are left out
+-- whether a name is that of a function that is left out
 unfoldable pub is_left_out : Text → Truth
 is_left_out name = is_among left_out (whole_name name)
 
--- no name stands for the function
+-- no name gives the function
 abbrev pub IsUnnamed : Function → Type 0
 IsUnnamed f = (name : Text) → function_named name ≢ Some f

@@ -5,7 +5,7 @@ ghost use Rattle.just_builtins.specs.Argument.{texts_given, value_at, values_giv
 
 use just_value::value::Value;
 
-/// The text at a position, from 0: the one element of the argument there.
+/// The text at a position, counted from 0: the only element of the argument there.
 pub fn text_at(arguments: &[Value], position: usize) -> &str
     requires there { position < length arguments.now }
     requires text { length (value_at arguments.now position) ≡ 1 }
@@ -15,7 +15,7 @@ pub fn text_at(arguments: &[Value], position: usize) -> &str
     &elements[0]
 }
 
-/// The text that is the second argument, if there is one.
+/// The second argument, which is a text, if there is one.
 pub fn second_text(arguments: &[Value]) -> Option<&str>
     requires few { length arguments.now ≤ 2 }
     requires text { 1 < length arguments.now → length (value_at arguments.now 1) ≡ 1 }

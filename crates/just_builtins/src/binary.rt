@@ -1,4 +1,4 @@
-// The built-in functions that take two arguments, one or two, or two and more.
+// The built-in functions that take two arguments, one or two, or at least two.
 
 ghost use Rattle.std.specs.Prelude.{◌≡◌, ◌<◌, ◌∷◌, ◌++◌, [], IfOk, length, option_map, string_bytes};
 ghost use Rattle.just_value.specs.Frames.{Frames};
@@ -22,7 +22,7 @@ use just_value::value::Value;
 use std::alloc::Global;
 use std::path::PathBuf;
 
-/// What a built-in function answers that takes two texts.
+/// The reply of a built-in function that takes two texts.
 pub fn binary(alloc: Global, builtin: Builtin, arguments: &[Value]) -> Result<Value, CallFault>
     requires count { length arguments.now ≡ 2 }
     requires texts { HasOneEach arguments.now }
@@ -32,7 +32,7 @@ pub fn binary(alloc: Global, builtin: Builtin, arguments: &[Value]) -> Result<Va
     trimmed(alloc, builtin, text_at(arguments, 0), pattern)
 }
 
-// The first text without the second at an end.
+// The first text with the second removed at one end.
 fn trimmed(alloc: Global, builtin: Builtin, text: &str, pattern: &str) -> Result<Value, CallFault>
     ensures { (c : function.Context) → Replies (Binary builtin) (reply builtin c ((text.now ∷ []) ∷ (pattern.now ∷ []) ∷ [])) result }
 {
@@ -46,7 +46,7 @@ fn trimmed(alloc: Global, builtin: Builtin, text: &str, pattern: &str) -> Result
     Ok(Value::from_text(alloc, text)?)
 }
 
-/// What a built-in function answers that takes a text, and a second where it is given.
+/// The reply of a built-in function that takes a text and an optional text.
 pub fn binary_opt_to_value(
     alloc: Global,
     builtin: Builtin,
@@ -67,7 +67,7 @@ pub fn binary_opt_to_value(
     }
 }
 
-/// What a built-in function answers that takes a value, and a text where it is given.
+/// The reply of a built-in function that takes a value and an optional text.
 pub fn binary_opt_value_str_to_value(
     alloc: Global,
     builtin: Builtin,
@@ -86,7 +86,7 @@ pub fn binary_opt_value_str_to_value(
     }
 }
 
-/// What a built-in function answers that takes two texts or more.
+/// The reply of a built-in function that takes at least two texts.
 pub fn binary_plus(alloc: Global, builtin: Builtin, arguments: &[Value]) -> Result<Value, CallFault>
     requires { HasOneEach arguments.now }
     ensures { (c : function.Context) → Replies (BinaryPlus builtin) (reply builtin c arguments.now) result }
@@ -100,7 +100,7 @@ pub fn binary_plus(alloc: Global, builtin: Builtin, arguments: &[Value]) -> Resu
     }
 }
 
-// Paths put together from the left. The one text grows in its place.
+// Joins paths from left to right, in one buffer.
 fn joined(alloc: Global, arguments: &[Value]) -> Result<String, OutOfMemory>
     requires { HasOneEach arguments.now }
     ensures { IfOk result (λ path. string_bytes path ≡ all_joined [] arguments.now) }
@@ -112,7 +112,7 @@ fn joined(alloc: Global, arguments: &[Value]) -> Result<String, OutOfMemory>
     Ok(path.into_string())
 }
 
-/// What a built-in function answers that takes a text and a value.
+/// The reply of a built-in function that takes a text and a value.
 pub fn binary_str_value(
     alloc: Global,
     context: &Context,
@@ -127,7 +127,7 @@ pub fn binary_str_value(
     extended(alloc, context, builtin, text, &arguments[1])
 }
 
-// The value with the text put to each element.
+// The value with the text added to each element.
 fn extended(
     alloc: Global,
     context: &Context,
@@ -145,7 +145,7 @@ fn extended(
     }
 }
 
-/// What a built-in function asks and answers that takes two values.
+/// The questions and the reply of a built-in function that takes two values.
 pub fn value_binary<'call, H: Host>(
     alloc: Global,
     host: &'call mut H,
@@ -162,7 +162,7 @@ pub fn value_binary<'call, H: Host>(
     }
 }
 
-/// What a built-in function asks and answers that takes a value, and a second where it is given.
+/// The questions and the reply of a built-in function that takes a value and an optional value.
 pub fn value_binary_opt<'call, H: Host>(
     alloc: Global,
     host: &'call mut H,

@@ -1,21 +1,21 @@
-// The built-in functions, each with a tag.
+// The tags of the built-in functions.
 
-/// A built-in function. What each of them asks of a host and answers is said at [`Function::call`].
+/// A built-in function. [`Function::call`] specifies its questions to the host and its reply.
 ///
 /// [`Function::call`]: crate::function::Function::call
 #[derive(Clone, Copy, Debug, PartialEq, Eq)]
 pub enum Builtin {
-    /// A value with a text behind each element.
+    /// A value with a text appended to each element.
     Append,
     /// The name of the processor's architecture.
     Arch,
-    /// The truth of a value.
+    /// A value as a boolean.
     Bool,
     /// The user's cache directory.
     CacheDirectory,
-    /// A path, free of links.
+    /// The canonical form of a path, free of links.
     Canonicalize,
-    /// A text with its first letter in upper case, and each later one in lower.
+    /// A text with its first letter in upper case, and all others in lower case.
     Capitalize,
     /// The user's directory for configuration.
     ConfigDirectory,
@@ -27,13 +27,13 @@ pub enum Builtin {
     DataLocalDirectory,
     /// A text with its reserved bytes escaped.
     EncodeUriComponent,
-    /// What the first of some variables of the environment holds that is set, or a default.
+    /// The value of the first of some environment variables that is set, or a default.
     Env,
-    /// What the first of some variables of the environment holds that is set.
+    /// The value of the first of some environment variables that is set.
     EnvVar,
     /// The same, or a default.
     EnvVarOrDefault,
-    /// No value, and its argument as the message.
+    /// Fails with its argument as the message.
     Error,
     /// The directory of the user's own executables.
     ExecutableDirectory,
@@ -51,13 +51,13 @@ pub enum Builtin {
     InvocationDirectoryNative,
     /// Whether the recipe runs as a dependency.
     IsDependency,
-    /// Paths put together from the left.
+    /// Joins paths from left to right.
     Join,
-    /// The elements of a value with a text between them.
+    /// The elements of a value, joined by a text.
     JoinList,
     /// The path of the running program.
     JustExecutable,
-    /// The number of the running process.
+    /// The id of the running process.
     JustPid,
     /// The version.
     JustVersion,
@@ -65,7 +65,7 @@ pub enum Builtin {
     Justfile,
     /// The directory of the root justfile.
     JustfileDirectory,
-    /// How many elements a value has.
+    /// The number of elements of a value.
     Len,
     /// A text in lower case.
     Lowercase,
@@ -75,59 +75,59 @@ pub enum Builtin {
     ModuleFile,
     /// The module's path within the root module.
     ModulePath,
-    /// How many processors there are.
+    /// The number of processors.
     NumCpus,
-    /// How many recipes may run at once, where that is limited.
+    /// How many recipes may run at once, if that is limited.
     NumJobs,
     /// The name of the operating system.
     Os,
-    /// The name of the family that the operating system is of.
+    /// The name of the operating system's family.
     OsFamily,
     /// The parent of a path.
     ParentDirectory,
-    /// Whether something stands at a path.
+    /// Whether something exists at a path.
     PathExists,
-    /// A value with a text before each element.
+    /// A value with a text prepended to each element.
     Prepend,
     /// A value with each element quoted for a shell.
     Quote,
-    /// What a file holds.
+    /// The contents of a file.
     Read,
     /// The name of the recipe.
     RecipeName,
-    /// A text with another in place of a third.
+    /// A text with each occurrence of a text replaced by another.
     Replace,
-    /// The path of an executable, which is to be there.
+    /// The path of an executable, which must exist.
     Require,
-    /// The user's directory for files that last as long as the user is there.
+    /// The user's directory for files that last as long as the user is logged in.
     RuntimeDirectory,
-    /// What a command writes.
+    /// The output of a command.
     Shell,
     /// A value as it is displayed.
     Show,
-    /// The directory of the file that the call stands in.
+    /// The directory of the file that contains the call.
     SourceDirectory,
-    /// The path of the file that the call stands in.
+    /// The path of the file that contains the call.
     SourceFile,
     /// The pieces of a text.
     Split,
-    /// A text without white space at both ends.
+    /// A text with white space removed at both ends.
     Trim,
-    /// A text without white space at its end.
+    /// A text with white space removed at its end.
     TrimEnd,
-    /// A text without a pattern at its end, once.
+    /// A text with a pattern removed at its end, at most once.
     TrimEndMatch,
-    /// A text without a pattern at its end, as often as it stands there.
+    /// A text with a pattern removed at its end, as often as it occurs there.
     TrimEndMatches,
-    /// A text without white space at its start.
+    /// A text with white space removed at its start.
     TrimStart,
-    /// A text without a pattern at its start, once.
+    /// A text with a pattern removed at its start, at most once.
     TrimStartMatch,
-    /// A text without a pattern at its start, as often as it stands there.
+    /// A text with a pattern removed at its start, as often as it occurs there.
     TrimStartMatches,
     /// A text in upper case.
     Uppercase,
-    /// The path of an executable, if it is there.
+    /// The path of an executable, if it exists.
     Which,
     /// A path without the extension of its file name.
     WithoutExtension,

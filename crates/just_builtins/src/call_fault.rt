@@ -1,4 +1,4 @@
-// Why a call of a built-in function gave no value.
+// Why a call of a built-in function returned no value.
 
 ghost use Rattle.std.specs.Prelude.{◌≡◌};
 ghost use Rattle.just_builtins.specs.declared.call_fault.CallFault.TheVariants.{OutOfMemory as Wanted};
@@ -9,14 +9,14 @@ use std::alloc::{AllocError, AllocFailed};
 use std::error::Error;
 use std::fmt;
 
-/// Why a call of a built-in function gave no value.
+/// Why a call of a built-in function returned no value.
 #[derive(Debug, Drop)]
 pub enum CallFault {
-    /// The function is not of its shape. `get` never gives such a one.
+    /// The tag does not belong to the shape. This never happens for a function from `get`.
     Internal,
     /// The function's own message.
     Message(String),
-    /// Memory was asked for and refused, or a host said so.
+    /// An allocation failed, or a host reported that one did.
     OutOfMemory,
 }
 

@@ -20,8 +20,8 @@ use std::alloc::Global;
 ///
 /// # Errors
 ///
-/// `Message` where there is none, where its path is no text, and at the host's fault; `OutOfMemory` where memory
-/// was asked for and refused, or where the host says so.
+/// `Message`, if there is none, if its path is not text, or on the host's fault. `OutOfMemory`, if an allocation fails,
+/// or if the host reports it.
 pub(crate) fn directory<H: Host>(
     alloc: Global,
     host: &mut H,
@@ -33,7 +33,7 @@ pub(crate) fn directory<H: Host>(
     directory_answered(alloc, kind.word(), answer)
 }
 
-// What the answer to it leads to.
+// The result for the host's answer.
 fn directory_answered(alloc: Global, word: &str, answer: TextAnswer) -> Result<Value, CallFault>
     ensures { Gives (text_answered (Fails (no_directory word.now)) (directory_not_unicode word.now) (directory_unreadable word.now) (text_replied answer)) result }
 {

@@ -1,4 +1,4 @@
-// Variables of the environment.
+// Environment variables.
 
 ghost use Rattle.std.specs.Prelude.{◌≡◌, Option, map, option_map, string_bytes};
 ghost use Rattle.just_value.specs.Frames.{Frames};
@@ -18,13 +18,13 @@ use just_value::value::Value;
 use std::alloc::Global;
 use std::collections::BTreeMap;
 
-/// What the first of these variables holds that is set, by the dotenv map or else by the host, which is asked for
-/// one after another; the default where none is set.
+/// The value of the first of these variables that is set, in the dotenv map or else by the host, which is asked for one
+/// after another; the default if none is set.
 ///
 /// # Errors
 ///
-/// `Message` where none is set and there is no default, and where a variable that is asked for holds no text or
-/// cannot be read; `OutOfMemory` where memory was asked for and refused, or where the host says so.
+/// `Message`, if none is set and there is no default, or if a variable asked for is not text or cannot be read.
+/// `OutOfMemory`, if an allocation fails, or if the host reports it.
 pub fn environment<'call, H: Host>(
     alloc: Global,
     host: &'call mut H,
@@ -41,7 +41,7 @@ pub fn environment<'call, H: Host>(
     }
 }
 
-// What the first of these variables holds that is set.
+// The value of the first of these variables that is set.
 fn first_set<H: Host>(
     alloc: Global,
     host: &mut H,
@@ -58,7 +58,7 @@ fn first_set<H: Host>(
     Ok(None)
 }
 
-// What a variable holds, if it is set.
+// The value of a variable, if it is set.
 fn variable<H: Host>(
     alloc: Global,
     host: &mut H,
@@ -76,7 +76,7 @@ fn variable<H: Host>(
     }
 }
 
-// What the answer to it leads to.
+// The result for the host's answer.
 fn variable_answered(
     alloc: Global,
     key: &str,
@@ -99,7 +99,7 @@ fn variable_answered(
     }
 }
 
-// What is answered where none of the variables is set.
+// The result if none of the variables is set.
 fn unset(alloc: Global, keys: &[String], default: Option<&Value>) -> Result<Value, CallFault>
     ensures { Gives (spec.unset (map string_bytes keys.now) (option_map (λ value. value.now) default.entry)) result }
 {

@@ -20,7 +20,7 @@ use just_syntax::out_of_memory::OutOfMemory;
 use just_value::value::Value;
 use std::alloc::Global;
 
-// A path, behind the working directory.
+// A path joined to the working directory.
 fn in_working_directory(alloc: Global, context: &Context, path: &str) -> Result<String, OutOfMemory>
     ensures { IfOk result (λ text. string_bytes text ≡ spec.in_working_directory (function_context_view context.now) path.now) }
 {
@@ -28,12 +28,12 @@ fn in_working_directory(alloc: Global, context: &Context, path: &str) -> Result<
     path::join(alloc, &directory, path)
 }
 
-/// The path, free of links, of what stands at a path in the working directory.
+/// The canonical path, free of links, of the file at a path in the working directory.
 ///
 /// # Errors
 ///
-/// `Message` where there is none, where it is no text, and at the host's fault; `OutOfMemory` where memory was
-/// asked for and refused, or where the host says so.
+/// `Message`, if there is none, if it is not text, or on the host's fault. `OutOfMemory`, if an allocation fails, or if
+/// the host reports it.
 pub fn canonicalize<'call, H: Host>(
     alloc: Global,
     host: &'call mut H,
@@ -47,7 +47,7 @@ pub fn canonicalize<'call, H: Host>(
     canonical_answered(alloc, path, answer)
 }
 
-// What the answer to it leads to.
+// The result for the host's answer.
 fn canonical_answered(alloc: Global, path: &str, answer: TextAnswer) -> Result<Value, CallFault>
     ensures { Gives (spec.text_answered (Fails (not_canonicalized path.now not_found)) canonical_not_unicode (not_canonicalized path.now) (text_replied answer)) result }
 {
@@ -67,12 +67,12 @@ fn canonical_answered(alloc: Global, path: &str, answer: TextAnswer) -> Result<V
     }
 }
 
-/// What the file at a path in the working directory holds.
+/// The contents of the file at a path in the working directory.
 ///
 /// # Errors
 ///
-/// `Message` where there is none, where it holds no text, and at the host's fault; `OutOfMemory` where memory was
-/// asked for and refused, or where the host says so.
+/// `Message`, if there is none, if its contents are not text, or on the host's fault. `OutOfMemory`, if an allocation
+/// fails, or if the host reports it.
 pub fn read<'call, H: Host>(
     alloc: Global,
     host: &'call mut H,
@@ -86,7 +86,7 @@ pub fn read<'call, H: Host>(
     contents_answered(alloc, path, answer)
 }
 
-// What the answer to it leads to.
+// The result for the host's answer.
 fn contents_answered(alloc: Global, path: &str, answer: TextAnswer) -> Result<Value, CallFault>
     ensures { Gives (spec.text_answered (Fails (not_read path.now not_found)) (not_read path.now) (not_read path.now) (text_replied answer)) result }
 {
@@ -103,12 +103,12 @@ fn contents_answered(alloc: Global, path: &str, answer: TextAnswer) -> Result<Va
     }
 }
 
-/// Whether something stands at a path in the working directory, as a truth. Nothing does at the empty path, and
-/// the host is not asked.
+/// Whether something exists at a path in the working directory, as a boolean value. Nothing exists at the empty path,
+/// for which the host is not asked.
 ///
 /// # Errors
 ///
-/// `OutOfMemory` where memory was asked for and refused, or where the host says so.
+/// `OutOfMemory`, if an allocation fails, or if the host reports it.
 pub fn path_exists<'call, H: Host>(
     alloc: Global,
     host: &'call mut H,
@@ -126,14 +126,14 @@ pub fn path_exists<'call, H: Host>(
     existence_answered(alloc, lists, answer)
 }
 
-// That nothing is there.
+// The value for a path where nothing exists.
 fn nowhere(alloc: Global, lists: bool) -> Result<Value, CallFault>
     ensures { Gives (Answers (truth lists false)) result }
 {
     Ok(truth(alloc, lists, false)?)
 }
 
-// What the answer to it leads to.
+// The result for the host's answer.
 fn existence_answered(
     alloc: Global,
     lists: bool,

@@ -33,48 +33,48 @@ use just_value::value::Value;
 use std::alloc::Global;
 use std::ops::RangeInclusive;
 
-/// A built-in function, and what it takes. A text is an argument of one element, a value any argument.
+/// A built-in function, with the shape of its arguments. A text is an argument of one element, a value any argument.
 #[derive(Clone, Copy, Debug, PartialEq, Eq)]
 pub enum Function {
     /// Nothing.
     Nullary(Builtin),
     /// One text.
     Unary(Builtin),
-    /// One value, each element by itself.
+    /// One value, whose elements are mapped.
     UnaryMap(Builtin),
-    /// One text or more.
+    /// At least one text.
     UnaryPlus(Builtin),
-    /// One text. It gives a value.
+    /// One text. It returns a value.
     UnaryToValue(Builtin),
     /// Two texts.
     Binary(Builtin),
-    /// A text, and a second where it is given. It gives a value.
+    /// A text and an optional text. It returns a value.
     BinaryOptToValue(Builtin),
-    /// A value, and a text where it is given.
+    /// A value and an optional text.
     BinaryOptValueStr(Builtin),
-    /// A value, and a text where it is given. It gives a value.
+    /// A value and an optional text. It returns a value.
     BinaryOptValueStrToValue(Builtin),
-    /// Two texts or more.
+    /// At least two texts.
     BinaryPlus(Builtin),
     /// A text and a value.
     BinaryStrValue(Builtin),
-    /// Two texts. It gives a value.
+    /// Two texts. It returns a value.
     BinaryToValue(Builtin),
     /// Three texts.
     Ternary(Builtin),
-    /// Nothing. It gives a value.
+    /// Nothing. It returns a value.
     ValueNullary(Builtin),
     /// One value.
     ValueUnary(Builtin),
     /// Two values.
     ValueBinary(Builtin),
-    /// A value, and a second where it is given.
+    /// A value and an optional value.
     ValueBinaryOpt(Builtin),
 }
 
 impl Function {
-    /// How few and how many arguments a call may have; where any number will do, the most is `usize::MAX`. It takes no memory.
-    /// Upstream's `Function::expected_arguments`.
+    /// The least and the greatest number of arguments of a call; if there is no greatest, it is `usize::MAX`. It
+    /// allocates nothing. Upstream's `Function::expected_arguments`.
     pub fn expected_arguments(&self) -> RangeInclusive<usize>
         ensures fewest { range_inclusive_start result ≡ fewest_arguments self.now }
         ensures most { range_inclusive_end result ≡ most_arguments self.now }
@@ -100,7 +100,7 @@ impl Function {
         }
     }
 
-    /// Whether the argument at a position, from 0, is to have exactly one element. It takes no memory.
+    /// Whether the argument at a position, counted from 0, must have exactly one element. It allocates nothing.
     pub fn is_text(&self, position: usize) -> bool
         ensures { result ≡ is_text self.now position }
     {
@@ -124,14 +124,14 @@ impl Function {
         }
     }
 
-    /// Calls it with the values of its arguments: what it asks of the host, and its value. Upstream's
-    /// `Evaluator::evaluate_builtin_function`, once these are evaluated.
+    /// Calls the function with the values of its arguments: it asks the host, and returns the value. Upstream's
+    /// `Evaluator::evaluate_builtin_function`, after the arguments are evaluated.
     ///
     /// # Errors
     ///
-    /// `Message` where the function says why it gives no value; `OutOfMemory` where memory was asked for and refused, or where
-    /// the host says so; `Internal` only where no name stands for the function, and then nothing is asked. What the host was
-    /// asked before a refusal stays asked.
+    /// `Message`, if the function gives a reason why it has no value. `OutOfMemory`, if an allocation fails, or if the
+    /// host reports it. `Internal`, only if the function has no name; then nothing is asked. The questions asked before
+    /// a refusal are not undone.
     pub fn call<'call, H: Host>(
         self,
         alloc: Global,
@@ -148,7 +148,7 @@ impl Function {
         self.answer(alloc, host, context, arguments)
     }
 
-    // What it asks and answers, by its shape.
+    // The questions and the reply, by its shape.
     fn answer<'call, H: Host>(
         self,
         alloc: Global,
@@ -201,18 +201,17 @@ impl Function {
     }
 }
 
-/// The built-in function of a name, unless it is left out. `_dir` at the end of a name stands for `_directory`, and
-/// `_dir_native` for `_directory_native`. It takes no memory. Upstream's `function::get`, where none is left out.
+/// The built-in function with this name, unless it is left out. `_dir` at the end of a name is short for `_directory`,
+/// and `_dir_native` for `_directory_native`. It allocates nothing. Upstream's `function::get`, where none is left out.
 pub fn get(name: &str) -> Option<Function>
     ensures { result ≡ function_named name.now }
 {
     find_function(&TABLE, name)
 }
 
-/// All names of built-in functions, each with the function that it stands for, in the strict order of their bytes: 77 names of
-/// 63 functions, since a name that ends with `_directory` or `_directory_native` has a shorter one with `_dir` or
-/// `_dir_native` beside it. [`Function::expected_arguments`] and [`Function::is_text`] tell what each takes. It takes no
-/// memory.
+/// All names of built-in functions, each with its function, in strict order of bytes: 77 names of 63 functions, since a
+/// name that ends with `_directory` or `_directory_native` also has a short form with `_dir` or `_dir_native`.
+/// [`Function::expected_arguments`] and [`Function::is_text`] describe the arguments of each. It allocates nothing.
 pub fn functions() -> &'static [(&'static str, Function)]
     ensures rising { IsTrue (rises (map (λ entry. entry.0.now) result.now)) }
     ensures named { (name : Text) → find_in (map entry_view result.now) name ≡ function_named name }
@@ -220,8 +219,8 @@ pub fn functions() -> &'static [(&'static str, Function)]
     &TABLE
 }
 
-/// Whether a name is one of a built-in function that is left out. `_dir` and `_dir_native` at its end stand for
-/// what they stand for in [`get`]. It takes no memory.
+/// Whether a name is that of a built-in function that is left out. `_dir` and `_dir_native` at its end are expanded as
+/// in [`get`]. It allocates nothing.
 pub fn is_left_out(name: &str) -> bool
     ensures { result ≡ is_left_out name.now }
 {

@@ -1,5 +1,5 @@
-// The built-in functions: the table of their names, and what each of them asks and answers. It leans on hosts and what is
-// below them, and on no definition of evaluation.
+// The built-in functions: the table of their names, and the questions and the reply of each. It depends on `just_host`
+// and the crates below it, but on no definition of evaluation.
 #![tactic(auto)]
 
 mod argument;

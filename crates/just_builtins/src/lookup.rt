@@ -1,4 +1,4 @@
-// Executables, looked for from the working directory.
+// Executables, searched for from the working directory.
 
 ghost use Rattle.std.specs.Prelude.{[]};
 ghost use Rattle.just_value.specs.Frames.{Frames};
@@ -17,12 +17,12 @@ use just_host::text_question::TextQuestion;
 use just_value::value::Value;
 use std::alloc::Global;
 
-/// The path of the executable of a name; no element where there is none.
+/// The path of the executable with this name; the empty list if there is none.
 ///
 /// # Errors
 ///
-/// `Message` where the path is no text, and at the host's fault; `OutOfMemory` where memory was asked for and
-/// refused, or where the host says so.
+/// `Message`, if the path is not text, or on the host's fault. `OutOfMemory`, if an allocation fails, or if the host
+/// reports it.
 pub fn which<'call, H: Host>(
     alloc: Global,
     host: &'call mut H,
@@ -40,7 +40,7 @@ pub fn which<'call, H: Host>(
     which_answered(alloc, answer)
 }
 
-// What the answer to it leads to.
+// The result for the host's answer.
 fn which_answered(alloc: Global, answer: TextAnswer) -> Result<Value, CallFault>
     ensures { Gives (text_answered (Answers []) (λ text. text) (λ text. text) (text_replied answer)) result }
 {
@@ -52,12 +52,12 @@ fn which_answered(alloc: Global, answer: TextAnswer) -> Result<Value, CallFault>
     }
 }
 
-/// The path of the executable of a name.
+/// The path of the executable with this name.
 ///
 /// # Errors
 ///
-/// `Message` where there is none, where the path is no text, and at the host's fault; `OutOfMemory` where memory
-/// was asked for and refused, or where the host says so.
+/// `Message`, if there is none, if the path is not text, or on the host's fault. `OutOfMemory`, if an allocation fails,
+/// or if the host reports it.
 pub fn require<'call, H: Host>(
     alloc: Global,
     host: &'call mut H,
@@ -75,7 +75,7 @@ pub fn require<'call, H: Host>(
     require_answered(alloc, name, answer)
 }
 
-// What the answer to it leads to.
+// The result for the host's answer.
 fn require_answered(alloc: Global, name: &str, answer: TextAnswer) -> Result<Value, CallFault>
     ensures { Gives (text_answered (Fails (no_executable name.now)) (λ text. text) (λ text. text) (text_replied answer)) result }
 {

@@ -1,4 +1,4 @@
-// What built-in functions say that give no value.
+// Messages of built-in functions that return no value.
 
 ghost use Rattle.std.specs.Prelude.{◌≡◌, IfOk, map, string_bytes};
 ghost use Rattle.just_builtins.specs.Message as spec;
@@ -7,24 +7,24 @@ use just_syntax::out_of_memory::OutOfMemory;
 use just_value::list::List;
 use std::alloc::Global;
 
-/// What is said of what a host does not find.
+/// The message for something that a host does not find.
 pub const NOT_FOUND: &str = "not found";
 
-/// Why a path has no part of a kind: ``could not extract file name from `..` ``.
+/// A path has no part of this kind: ``could not extract file name from `..` ``.
 pub fn not_extracted(alloc: Global, part: &str, path: &str) -> Result<String, OutOfMemory>
     ensures { IfOk result (λ text. string_bytes text ≡ spec.not_extracted part.now path.now) }
 {
     Ok(format!(in alloc; "could not extract {part} from `{path}`")?)
 }
 
-/// Why there is no directory of a path: ``path `/` has no parent``.
+/// A path has no directory: ``path `/` has no parent``.
 pub fn no_parent(alloc: Global, path: &str) -> Result<String, OutOfMemory>
     ensures { IfOk result (λ text. string_bytes text ≡ spec.no_parent path.now) }
 {
     Ok(format!(in alloc; "path `{path}` has no parent")?)
 }
 
-/// Why there is no directory of the justfile.
+/// The justfile has no directory.
 pub fn no_justfile_directory(alloc: Global, path: &str) -> Result<String, OutOfMemory>
     ensures { IfOk result (λ text. string_bytes text ≡ spec.no_justfile_directory path.now) }
 {
@@ -34,14 +34,14 @@ pub fn no_justfile_directory(alloc: Global, path: &str) -> Result<String, OutOfM
     Ok(text)
 }
 
-/// Why a text is no truth: `` `yes` is not a valid boolean string``.
+/// A text is not a boolean: `` `yes` is not a valid boolean string``.
 pub fn not_boolean(alloc: Global, text: &str) -> Result<String, OutOfMemory>
     ensures { IfOk result (λ message. string_bytes message ≡ spec.not_boolean text.now) }
 {
     Ok(format!(in alloc; "`{text}` is not a valid boolean string")?)
 }
 
-/// Why a value of two elements or more is no truth.
+/// A value of two elements or more is not a boolean.
 pub fn many_for_boolean(alloc: Global) -> Result<String, OutOfMemory>
     ensures { IfOk result (λ message. string_bytes message ≡ spec.many_for_boolean) }
 {
@@ -52,14 +52,14 @@ pub fn many_for_boolean(alloc: Global) -> Result<String, OutOfMemory>
     Ok(text)
 }
 
-/// Why a text has no other case: `` `é` holds characters past ASCII``.
+/// The case of a text cannot be changed: `` `é` holds characters past ASCII``.
 pub fn past_ascii(alloc: Global, text: &str) -> Result<String, OutOfMemory>
     ensures { IfOk result (λ message. string_bytes message ≡ spec.past_ascii text.now) }
 {
     Ok(format!(in alloc; "`{text}` holds characters past ASCII")?)
 }
 
-/// Why there is no recipe's name.
+/// There is no recipe.
 pub fn outside_recipe(alloc: Global) -> Result<String, OutOfMemory>
     ensures { IfOk result (λ message. string_bytes message ≡ spec.outside_recipe) }
 {
@@ -67,91 +67,91 @@ pub fn outside_recipe(alloc: Global) -> Result<String, OutOfMemory>
     Ok(text)
 }
 
-/// That the host gives no text for a built-in function.
+/// The host has no text for a built-in function.
 pub fn no_answer(alloc: Global, name: &str) -> Result<String, OutOfMemory>
     ensures { IfOk result (λ message. string_bytes message ≡ spec.no_answer name.now) }
 {
     Ok(format!(in alloc; "`{name}` has no answer")?)
 }
 
-/// That there is no directory of a kind: `cache directory not found`.
+/// There is no directory of a kind: `cache directory not found`.
 pub fn no_directory(alloc: Global, word: &str) -> Result<String, OutOfMemory>
     ensures { IfOk result (λ message. string_bytes message ≡ spec.no_directory word.now) }
 {
     Ok(format!(in alloc; "{word} directory not found")?)
 }
 
-/// That a directory's path is no text.
+/// A directory's path is not text.
 pub fn directory_not_unicode(alloc: Global, word: &str, text: &str) -> Result<String, OutOfMemory>
     ensures { IfOk result (λ message. string_bytes message ≡ spec.directory_not_unicode word.now text.now) }
 {
     Ok(format!(in alloc; "unable to convert {word} directory path to string: {text}")?)
 }
 
-/// Why a directory is not known.
+/// A directory cannot be determined.
 pub fn directory_unreadable(alloc: Global, word: &str, text: &str) -> Result<String, OutOfMemory>
     ensures { IfOk result (λ message. string_bytes message ≡ spec.directory_unreadable word.now text.now) }
 {
     Ok(format!(in alloc; "{word} directory cannot be read: {text}")?)
 }
 
-/// Why there is no path free of links: ``I/O error canonicalizing `a`: not found``.
+/// There is no canonical path: ``I/O error canonicalizing `a`: not found``.
 pub fn not_canonicalized(alloc: Global, path: &str, text: &str) -> Result<String, OutOfMemory>
     ensures { IfOk result (λ message. string_bytes message ≡ spec.not_canonicalized path.now text.now) }
 {
     Ok(format!(in alloc; "I/O error canonicalizing `{path}`: {text}")?)
 }
 
-/// That a path free of links is no text.
+/// A canonical path is not text.
 pub fn canonical_not_unicode(alloc: Global, text: &str) -> Result<String, OutOfMemory>
     ensures { IfOk result (λ message. string_bytes message ≡ spec.canonical_not_unicode text.now) }
 {
     Ok(format!(in alloc; "canonical path is not valid unicode: {text}")?)
 }
 
-/// Why there is no text of a file: ``I/O error reading `a`: not found``.
+/// A file has no text: ``I/O error reading `a`: not found``.
 pub fn not_read(alloc: Global, path: &str, text: &str) -> Result<String, OutOfMemory>
     ensures { IfOk result (λ message. string_bytes message ≡ spec.not_read path.now text.now) }
 {
     Ok(format!(in alloc; "I/O error reading `{path}`: {text}")?)
 }
 
-/// That there is no executable of a name.
+/// There is no executable with this name.
 pub fn no_executable(alloc: Global, name: &str) -> Result<String, OutOfMemory>
     ensures { IfOk result (λ message. string_bytes message ≡ spec.no_executable name.now) }
 {
     Ok(format!(in alloc; "could not find executable `{name}`")?)
 }
 
-/// Why the running program's path is not known.
+/// The running program's path cannot be determined.
 pub fn executable_unknown(alloc: Global, text: &str) -> Result<String, OutOfMemory>
     ensures { IfOk result (λ message. string_bytes message ≡ spec.executable_unknown text.now) }
 {
     Ok(format!(in alloc; "error getting current executable: {text}")?)
 }
 
-/// That the running program's path is no text.
+/// The running program's path is not text.
 pub fn executable_not_unicode(alloc: Global, text: &str) -> Result<String, OutOfMemory>
     ensures { IfOk result (λ message. string_bytes message ≡ spec.executable_not_unicode text.now) }
 {
     Ok(format!(in alloc; "executable path is not valid unicode: {text}")?)
 }
 
-/// That a variable of the environment holds no text.
+/// The value of an environment variable is not text.
 pub fn variable_not_unicode(alloc: Global, key: &str, text: &str) -> Result<String, OutOfMemory>
     ensures { IfOk result (λ message. string_bytes message ≡ spec.variable_not_unicode key.now text.now) }
 {
     Ok(format!(in alloc; "environment variable `{key}` is not unicode: `{text}`")?)
 }
 
-/// Why it is not known what a variable of the environment holds.
+/// The value of an environment variable cannot be determined.
 pub fn variable_unreadable(alloc: Global, key: &str, text: &str) -> Result<String, OutOfMemory>
     ensures { IfOk result (λ message. string_bytes message ≡ spec.variable_unreadable key.now text.now) }
 {
     Ok(format!(in alloc; "environment variable `{key}` cannot be read: {text}")?)
 }
 
-/// That none of these variables is set: ``environment variables `a` and `b` not present``.
+/// None of these variables is set: ``environment variables `a` and `b` not present``.
 pub fn no_variable(alloc: Global, keys: &[String]) -> Result<String, OutOfMemory>
     ensures { IfOk result (λ message. string_bytes message ≡ spec.no_variable (map string_bytes keys.now)) }
 {

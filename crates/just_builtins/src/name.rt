@@ -1,4 +1,4 @@
-// Names of built-in functions, looked up by halving. No memory is taken.
+// Look-ups of names of built-in functions by binary search. They allocate nothing.
 
 ghost use Rattle.std.specs.Prelude.{◌≡◌, IsTrue, map};
 ghost use Rattle.just_builtins.specs.Order.{rises};
@@ -7,7 +7,7 @@ ghost use Rattle.just_builtins.specs.View.{entry_view};
 
 use crate::function::Function;
 
-/// The function behind a name, in a table whose names stand in the strict order of their bytes.
+/// The function for a name, in a table whose names are in strict order of bytes.
 pub fn find_function(table: &[(&str, Function)], name: &str) -> Option<Function>
     requires { IsTrue (rises (map (λ entry. entry.0.now) table.now)) }
     ensures { result ≡ spec.find_in (map entry_view table.now) name.now }
@@ -18,7 +18,7 @@ pub fn find_function(table: &[(&str, Function)], name: &str) -> Option<Function>
     }
 }
 
-/// Whether a name is among others, which stand in the strict order of their bytes.
+/// Whether a name is among others, which are in strict order of bytes.
 pub fn is_among(names: &[&str], name: &str) -> bool
     requires { IsTrue (rises (map (λ name. name.now) names.now)) }
     ensures { result ≡ spec.is_among (map (λ name. name.now) names.now) name.now }

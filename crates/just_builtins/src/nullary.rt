@@ -26,7 +26,7 @@ use just_syntax::out_of_memory::OutOfMemory;
 use just_value::value::Value;
 use std::alloc::Global;
 
-/// What a built-in function asks and answers that takes nothing and gives a text.
+/// The questions and the reply of a built-in function that takes nothing and returns a text.
 pub fn nullary<'call, H: Host>(
     alloc: Global,
     host: &'call mut H,
@@ -54,7 +54,7 @@ pub fn nullary<'call, H: Host>(
     }
 }
 
-// What such a one answers that asks nothing.
+// The reply of such a function that asks nothing.
 fn nullary_unasked(alloc: Global, context: &Context, builtin: Builtin) -> Result<Value, CallFault>
     ensures { RepliesAmong unasked_nullary builtin (spec.reply builtin (function_context_view context.now) []) result }
 {
@@ -79,7 +79,7 @@ fn nullary_unasked(alloc: Global, context: &Context, builtin: Builtin) -> Result
     }
 }
 
-/// What a built-in function answers that takes nothing and gives a value.
+/// The reply of a built-in function that takes nothing and returns a value.
 pub fn value_nullary(alloc: Global, context: &Context, builtin: Builtin) -> Result<Value, CallFault>
     ensures { Replies (ValueNullary builtin) (spec.reply builtin (function_context_view context.now) []) result }
 {
@@ -94,7 +94,7 @@ pub fn value_nullary(alloc: Global, context: &Context, builtin: Builtin) -> Resu
     }
 }
 
-// How many recipes may run at once, where that is limited.
+// How many recipes may run at once, if that is limited.
 fn jobs(alloc: Global, jobs: Option<u64>) -> Result<Value, OutOfMemory>
     ensures { IfOk result (λ v. v ≡ spec.jobs jobs) }
 {
@@ -107,7 +107,7 @@ fn jobs(alloc: Global, jobs: Option<u64>) -> Result<Value, OutOfMemory>
     }
 }
 
-// The name of the recipe that the call belongs to.
+// The name of the recipe that contains the call.
 fn recipe_name(alloc: Global, context: &Context) -> Result<Value, CallFault>
     ensures { Gives (spec.or_fails (function_context_view context.now).recipe outside_recipe says) result }
 {

@@ -1,4 +1,4 @@
-// Parts of paths, and paths put together.
+// Parts of paths, and joined paths.
 
 ghost use Rattle.std.specs.Prelude.{◌≡◌, IfOk, [], option_copied, string_bytes};
 ghost use Rattle.just_builtins.specs.Called.{Gives};
@@ -14,7 +14,7 @@ use just_value::value::Value;
 use std::alloc::Global;
 use std::path::PathBuf;
 
-/// A part of a path, or that it has none of that kind.
+/// A part of a path, or the message that it has no part of this kind.
 pub fn part(alloc: Global, kind: &str, found: Option<&str>, path: &str) -> Result<Value, CallFault>
     ensures { Gives (spec.or_fails (option_copied found.entry) (not_extracted kind.now path.now) says) result }
 {
@@ -24,7 +24,7 @@ pub fn part(alloc: Global, kind: &str, found: Option<&str>, path: &str) -> Resul
     }
 }
 
-/// The parent of a path, `.` for the empty one.
+/// The parent of a path; `.` instead of the empty one.
 pub fn parent_directory(alloc: Global, path: &str) -> Result<Value, CallFault>
     ensures { Gives (spec.parent_directory path.now) result }
 {

@@ -1,3 +1,3 @@
-// Paths, which are texts.
+// Paths as texts.
 
 pub use just_text::path::{extension, file_name, file_stem, join, parent};

@@ -22,13 +22,12 @@ use just_value::error::CommandFault;
 use just_value::value::Value;
 use std::alloc::Global;
 
-/// What a command writes, which is the first text, with the further ones as its arguments. In a dry run the call
-/// is shown, and the host is not asked.
+/// The output of a command, which is the first text, with the others as its arguments. In a dry run the call is shown,
+/// and the host is not asked.
 ///
 /// # Errors
 ///
-/// `Message` with the host's fault; `OutOfMemory` where memory was asked for and refused, or where the host says
-/// so.
+/// `Message` with the host's fault. `OutOfMemory`, if an allocation fails, or if the host reports it.
 pub fn shell<'call, H: Host>(
     alloc: Global,
     host: &'call mut H,
@@ -57,7 +56,7 @@ pub fn shell<'call, H: Host>(
     command_answered(alloc, answer)
 }
 
-// What the answer to a command leads to.
+// The result for the host's answer.
 fn command_answered(alloc: Global, answer: Result<String, CommandFault>) -> Result<Value, CallFault>
     ensures { Gives (spec.command_answered (replied answer)) result }
 {
@@ -68,7 +67,7 @@ fn command_answered(alloc: Global, answer: Result<String, CommandFault>) -> Resu
     }
 }
 
-// The texts behind the first.
+// The texts after the first.
 fn further_texts(alloc: Global, arguments: &[Value]) -> Result<Vec<String>, OutOfMemory>
     requires { HasOneEach arguments.now }
     ensures { IfOk result (λ texts. map string_bytes texts.items ≡ map first (drop 1 arguments.now)) }
@@ -80,7 +79,7 @@ fn further_texts(alloc: Global, arguments: &[Value]) -> Result<Vec<String>, OutO
     Ok(texts)
 }
 
-// The texts as they stand in a call of `shell`.
+// The texts as a call of `shell`.
 fn shell_call(alloc: Global, arguments: &[Value]) -> Result<Value, CallFault>
     requires { HasOneEach arguments.now }
     ensures { Gives (says (spec.shell_call (map first arguments.now))) result }

@@ -1,4 +1,4 @@
-// The files that a call stands in, and their directories.
+// The files that contain calls, and their directories.
 
 ghost use Rattle.just_host.specs.View.{function_context_view};
 ghost use Rattle.just_builtins.specs.Called.{Gives};
@@ -32,7 +32,7 @@ pub fn directory_of(alloc: Global, path: &str) -> Result<Value, CallFault>
     }
 }
 
-/// The path of the file that the call stands in.
+/// The path of the file that contains the call.
 pub fn source_file(alloc: Global, context: &Context) -> Result<Value, CallFault>
     ensures { Gives (spec.with_source (function_context_view context.now) says) result }
 {
@@ -46,7 +46,7 @@ pub fn source_file(alloc: Global, context: &Context) -> Result<Value, CallFault>
     }
 }
 
-/// The directory of the file that the call stands in.
+/// The directory of the file that contains the call.
 pub fn source_directory(alloc: Global, context: &Context) -> Result<Value, CallFault>
     ensures { Gives (spec.with_source (function_context_view context.now) (λ file. spec.with_parent file says)) result }
 {
@@ -60,7 +60,7 @@ pub fn source_directory(alloc: Global, context: &Context) -> Result<Value, CallF
     }
 }
 
-// That a path has no directory.
+// The message that a path has no directory.
 fn no_parent(alloc: Global, path: &str) -> Result<Value, CallFault>
     ensures { Gives (Fails (no_parent path.now)) result }
 {

@@ -1,4 +1,4 @@
-// What is asked about the system and the running program.
+// Questions about the system and the running program.
 
 ghost use Rattle.just_value.specs.Frames.{Frames};
 ghost use Rattle.just_host.specs.View.{numbered, text_question_view, text_replied};
@@ -17,12 +17,11 @@ use just_syntax::out_of_memory::OutOfMemory;
 use just_value::value::Value;
 use std::alloc::Global;
 
-/// The system's word for a part of itself, which the built-in function of this name asks for.
+/// The system's name for a part of itself, which the built-in function `name` asks for.
 ///
 /// # Errors
 ///
-/// `Message` where the host gives no text; `OutOfMemory` where memory was asked for and refused, or where the
-/// host says so.
+/// `Message`, if the host has no text. `OutOfMemory`, if an allocation fails, or if the host reports it.
 pub fn system<H: Host>(
     alloc: Global,
     host: &mut H,
@@ -35,7 +34,7 @@ pub fn system<H: Host>(
     system_answered(alloc, name, answer)
 }
 
-// What the answer to it leads to.
+// The result for the host's answer.
 fn system_answered(alloc: Global, name: &str, answer: TextAnswer) -> Result<Value, CallFault>
     ensures { Gives (text_answered (Fails (no_answer name.now)) (λ text. no_answer name.now) (λ text. no_answer name.now) (text_replied answer)) result }
 {
@@ -52,8 +51,8 @@ fn system_answered(alloc: Global, name: &str, answer: TextAnswer) -> Result<Valu
 ///
 /// # Errors
 ///
-/// `Message` where the host has none, where it is no text, and at a fault; `OutOfMemory` where memory was asked
-/// for and refused, or where the host says so.
+/// `Message`, if the host has none, if it is not text, or on a fault. `OutOfMemory`, if an allocation fails, or if the
+/// host reports it.
 pub fn executable<H: Host>(alloc: Global, host: &mut H) -> Result<Value, CallFault>
     ensures { (shown : Frames) → Asked H.step host.old shown asks_executable result host.new }
 {
@@ -61,7 +60,7 @@ pub fn executable<H: Host>(alloc: Global, host: &mut H) -> Result<Value, CallFau
     executable_answered(alloc, answer)
 }
 
-// What the answer to it leads to.
+// The result for the host's answer.
 fn executable_answered(alloc: Global, answer: TextAnswer) -> Result<Value, CallFault>
     ensures { Gives (text_answered (Fails (executable_unknown not_found)) executable_not_unicode executable_unknown (text_replied answer)) result }
 {
@@ -85,7 +84,7 @@ fn executable_answered(alloc: Global, answer: TextAnswer) -> Result<Value, CallF
 ///
 /// # Errors
 ///
-/// `OutOfMemory` where memory was asked for and refused, or where the host says so.
+/// `OutOfMemory`, if an allocation fails, or if the host reports it.
 pub fn number<H: Host>(
     alloc: Global,
     host: &mut H,
@@ -97,7 +96,7 @@ pub fn number<H: Host>(
     number_answered(alloc, answer)
 }
 
-// What the answer to it leads to.
+// The result for the host's answer.
 fn number_answered(alloc: Global, answer: Result<u64, OutOfMemory>) -> Result<Value, CallFault>
     ensures { Gives (number_answered (numbered answer)) result }
 {

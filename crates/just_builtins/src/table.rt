@@ -1,10 +1,10 @@
-// The names of the built-in functions.
+// The table of built-in functions.
 
 use crate::builtin::Builtin;
 use crate::function::Function;
 
-/// Each built-in function behind its name, and behind the shorter name that stands for that, if there is one. The names
-/// stand in the strict order of their bytes.
+/// The built-in functions by their names, and by their short names, if they have one, in strict order of the names'
+/// bytes.
 pub const TABLE: [(&str, Function); 77] = [
     ("append", Function::BinaryStrValue(Builtin::Append)),
     ("arch", Function::Nullary(Builtin::Arch)),
@@ -166,7 +166,7 @@ pub const TABLE: [(&str, Function); 77] = [
     ),
 ];
 
-/// The names of the built-in functions that are left out, in the strict order of their bytes. None has a shorter one.
+/// The names of the built-in functions that are left out, in strict order of bytes. None has a short form.
 pub const LEFT_OUT: [&str; 20] = [
     "absolute_path",
     "blake3",

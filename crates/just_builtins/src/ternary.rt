@@ -14,7 +14,7 @@ use just_text::replace::replace;
 use just_value::value::Value;
 use std::alloc::Global;
 
-/// What a built-in function answers that takes three texts.
+/// The reply of a built-in function that takes three texts.
 pub fn ternary(alloc: Global, builtin: Builtin, arguments: &[Value]) -> Result<Value, CallFault>
     requires count { length arguments.now ≡ 3 }
     requires texts { HasOneEach arguments.now }
@@ -25,7 +25,7 @@ pub fn ternary(alloc: Global, builtin: Builtin, arguments: &[Value]) -> Result<V
     replaced(alloc, builtin, text_at(arguments, 0), from, to)
 }
 
-// The first text with the third in place of the second.
+// The first text with each occurrence of the second replaced by the third.
 fn replaced(
     alloc: Global,
     builtin: Builtin,

@@ -1,4 +1,4 @@
-// Truths as values, and values as truths.
+// Booleans as values, and values as booleans.
 
 ghost use Rattle.std.specs.Prelude.{◌≡◌, IfOk};
 ghost use Rattle.just_builtins.specs.Called.{Gives};
@@ -10,7 +10,7 @@ use just_syntax::out_of_memory::OutOfMemory;
 use just_value::value::Value;
 use std::alloc::Global;
 
-/// A truth as a value: with lists one element or none, else `true` or `false`.
+/// A boolean as a value: with lists one element or none, otherwise `true` or `false`.
 pub fn truth(alloc: Global, lists: bool, condition: bool) -> Result<Value, OutOfMemory>
     ensures { IfOk result (λ v. v ≡ spec.truth lists condition) }
 {
@@ -20,7 +20,7 @@ pub fn truth(alloc: Global, lists: bool, condition: bool) -> Result<Value, OutOf
     Value::from_text(alloc, if condition { "true" } else { "false" })
 }
 
-/// The truth of a value, as a value.
+/// A value converted to a boolean, as a value.
 pub fn value_truth(alloc: Global, lists: bool, value: &Value) -> Result<Value, CallFault>
     ensures { Gives (spec.says_truth lists (spec.value_truth value.now)) result }
 {
@@ -31,7 +31,7 @@ pub fn value_truth(alloc: Global, lists: bool, value: &Value) -> Result<Value, C
     }
 }
 
-// The truth of a text, as a value.
+// A text converted to a boolean, as a value.
 fn text_truth(alloc: Global, lists: bool, text: &str) -> Result<Value, CallFault>
     ensures { Gives (spec.says_truth lists (spec.text_truth text.now)) result }
 {

@@ -30,7 +30,7 @@ use just_text::{case, quote, uri};
 use just_value::value::Value;
 use std::alloc::Global;
 
-/// What a built-in function asks and answers that takes a text and gives one.
+/// The questions and the reply of a built-in function that takes a text and returns one.
 pub fn unary<'call, H: Host>(
     alloc: Global,
     host: &'call mut H,
@@ -48,7 +48,7 @@ pub fn unary<'call, H: Host>(
     }
 }
 
-// What such a one answers that asks nothing.
+// The reply of such a function that asks nothing.
 fn unary_unasked(alloc: Global, builtin: Builtin, text: &str) -> Result<Value, CallFault>
     ensures { (c : function.Context) → RepliesAmong unasked_unary builtin (reply builtin c ((text.now ∷ []) ∷ [])) result }
 {
@@ -73,7 +73,7 @@ fn unary_unasked(alloc: Global, builtin: Builtin, text: &str) -> Result<Value, C
     }
 }
 
-// A text in another case, or that it has none.
+// A text in another case, or the message that it is not ASCII.
 fn cased(alloc: Global, changed: Option<String>, text: &str) -> Result<Value, CallFault>
     ensures { Gives (or_fails (option_map string_bytes changed) (past_ascii text.now) says) result }
 {
@@ -83,7 +83,7 @@ fn cased(alloc: Global, changed: Option<String>, text: &str) -> Result<Value, Ca
     }
 }
 
-/// What a built-in function answers that takes a value, each element by itself.
+/// The reply of a built-in function that takes a value and maps its elements.
 pub fn unary_map(alloc: Global, builtin: Builtin, value: &Value) -> Result<Value, CallFault>
     ensures { (c : function.Context) → Replies (UnaryMap builtin) (reply builtin c (value.now ∷ [])) result }
 {
@@ -96,7 +96,7 @@ pub fn unary_map(alloc: Global, builtin: Builtin, value: &Value) -> Result<Value
     }
 }
 
-// Each text in quotes.
+// The texts, each in quotes.
 fn quoted(alloc: Global, texts: &[String]) -> Result<Vec<String>, OutOfMemory>
     ensures { IfOk result (λ v. map string_bytes v.items ≡ map single_quoted (map string_bytes texts.now)) }
 {
@@ -107,7 +107,7 @@ fn quoted(alloc: Global, texts: &[String]) -> Result<Vec<String>, OutOfMemory>
     Ok(all)
 }
 
-/// What a built-in function asks and answers that takes one text or more.
+/// The questions and the reply of a built-in function that takes at least one text.
 pub fn unary_plus<'call, H: Host>(
     alloc: Global,
     host: &'call mut H,
@@ -125,7 +125,7 @@ pub fn unary_plus<'call, H: Host>(
     }
 }
 
-/// What a built-in function asks and answers that takes a text and gives a value.
+/// The questions and the reply of a built-in function that takes a text and returns a value.
 pub fn unary_to_value<'call, H: Host>(
     alloc: Global,
     host: &'call mut H,
@@ -142,7 +142,7 @@ pub fn unary_to_value<'call, H: Host>(
     }
 }
 
-/// What a built-in function asks and answers that takes a value.
+/// The questions and the reply of a built-in function that takes a value.
 pub fn value_unary<'call, H: Host>(
     alloc: Global,
     host: &'call mut H,
@@ -158,7 +158,7 @@ pub fn value_unary<'call, H: Host>(
     }
 }
 
-// What such a one answers that asks nothing.
+// The reply of such a function that asks nothing.
 fn value_unary_unasked(
     alloc: Global,
     context: &Context,

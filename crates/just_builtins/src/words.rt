@@ -1,4 +1,4 @@
-// Values with each element changed.
+// Values with an affix added to each element.
 
 ghost use Rattle.std.specs.Prelude.{◌≡◌, ◌∷◌, ◌++◌, [], IfOk, map, string_bytes};
 ghost use Rattle.just_text.specs.Split.{words};
@@ -10,8 +10,8 @@ use just_text::{affix, join_list, split};
 use just_value::value::Value;
 use std::alloc::Global;
 
-/// The value with a text behind each element; without lists, behind each word of the joined elements, which are
-/// put together again by spaces.
+/// The value with a text appended to each element; without lists, to each word of the joined elements, which are joined
+/// by spaces again.
 pub fn append(alloc: Global, lists: bool, suffix: &str, value: &Value) -> Result<Value, OutOfMemory>
     ensures { IfOk result (λ v. v ≡ each lists (λ text. text ++ suffix.now) value.now) }
 {
@@ -24,8 +24,8 @@ pub fn append(alloc: Global, lists: bool, suffix: &str, value: &Value) -> Result
     spaced(alloc, &texts)
 }
 
-/// The value with a text before each element; without lists, before each word of the joined elements, which are
-/// put together again by spaces.
+/// The value with a text prepended to each element; without lists, to each word of the joined elements, which are
+/// joined by spaces again.
 pub fn prepend(
     alloc: Global,
     lists: bool,
@@ -51,7 +51,7 @@ fn words_of(alloc: Global, value: &Value) -> Result<Vec<String>, OutOfMemory>
     split::split_whitespace(alloc, &text)
 }
 
-// One element: the texts with one space between them.
+// One element: the texts, joined by spaces.
 fn spaced(alloc: Global, texts: &[String]) -> Result<Value, OutOfMemory>
     ensures { IfOk result (λ v. v ≡ joined (map string_bytes texts.now) ∷ []) }
 {

@@ -1,4 +1,4 @@
--- Names get numbers.
+-- Numbers given to names.
 use Rattle.std.proofs.Common.{◌≡◌, ◌≢◌, ℕ, suc, true, List, [], ◌∷◌, ◌++◌, Option, Some, None, refl, ap, ◌∙◌, ⊎_elim, if◌then◌else◌}
 use Rattle.std.proofs.Math.Path.{fun_ext}
 use Rattle.std.specs.Str.{bytes_eq}
@@ -7,11 +7,11 @@ use Rattle.std.proofs.lemmas.Slice.Eq.{bytes_eq-Decides}
 use Rattle.just_syntax.specs.Plain.{Text}
 use Rattle.just_case_lines.specs.Numbering.{Names, number_of, numbered, with_name, with_names}
 
--- a name that came before changes nothing, and has the number that it had
+-- a known name changes nothing, and keeps its number
 pub known : (names : Names) (name : Text) (n : ℕ) → names.number name ≡ Some n → names ≡ with_name names name
 known names name n had = rw (had) refl
 
--- a new name has the next number from then on, and other names keep theirs
+-- a new name gets the next number, and other names keep theirs
 pub grown : (names : Names) (name : Text) (f : Text → Option ℕ) (n : ℕ) → names.number name ≡ None → f name ≡ Some names.count → ((other : Text) → other ≢ name → f other ≡ names.number other) → n ≡ suc names.count → record { number = f; count = n } ≡ with_name names name
 grown names name f n new named others counted =
     let at : (other : Text) → f other ≡ (if bytes_eq other name then Some names.count else names.number other) =
@@ -21,7 +21,7 @@ grown names name f n new named others counted =
     (cases_Bool (bytes_eq other name)) in
     rw (new, fun_ext at, counted) refl
 
--- one more name behind those so far
+-- one more name after those so far
 with_last : (names : Names) (xs : List Text) (x : Text) → with_names names (xs ++ x ∷ []) ≡ with_name (with_names names xs) x
 with_last names [] x = refl
 with_last names (y ∷ ys) x = with_last (with_name names y) ys x

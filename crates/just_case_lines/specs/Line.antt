@@ -1,4 +1,4 @@
--- What a line of a case says.
+-- The lines of a case.
 use Rattle.std.specs.Prelude.{ℕ, zero, suc, Bool, true, false, List, [], ◌∷◌, ◌++◌, ◌==◌, length, Option, Some, None, if◌then◌else◌, codes}
 use Rattle.std.specs.List.{slice_split}
 use Rattle.std.specs.Str.{bytes_eq, is_utf8}
@@ -9,7 +9,7 @@ use Rattle.just_case_lines.specs.declared.operator.BinaryOperator.{BinaryOperato
 use Rattle.just_case_lines.specs.declared.operator.BinaryOperator.TheVariants.{Add, Join, Cat, And, Or, Equal, NotEqual, Match, Mismatch, AssertMessage, When}
 use Rattle.just_case_lines.specs.Rest.{is_name, names, number, word_of, rest_of}
 
--- a line; literals and commands have their texts, and the lexemes that stand for these
+-- a line; literals and commands have their text and their lexeme
 pub data Line : Type 0 where
   Skipped : Line
   Bad : Line
@@ -42,7 +42,7 @@ abbrev pub says_nothing : Line → Bool
 says_nothing Skipped = true
 says_nothing _ = false
 
--- a line whose word has nothing behind it, and which puts expressions together
+-- a line of a single word that combines expressions
 abbrev pub operator_line : Text → Line
 operator_line word =
     if bytes_eq word (codes "root") then Unary Root else
@@ -62,7 +62,7 @@ operator_line word =
     if bytes_eq word (codes "when") then Binary When else
     Bad
 
--- a line whose word has nothing behind it
+-- a line of a single word
 abbrev pub bare_line : Text → Line
 bare_line word =
     if bytes_eq word (codes "if") then If else
@@ -72,32 +72,32 @@ bare_line word =
     if bytes_eq word (codes "const") then Const else
     operator_line word
 
--- a line that has a name, or is bad without one
+-- a line with a name; bad if it is not one
 abbrev pub named : Text → Line → Line
 named name line = if is_name name then line else Bad
 
--- a line that has a number, or is bad without one
+-- a line with a number; bad if there is none
 abbrev pub numbered : Option ℕ → (ℕ → Line) → Line
 numbered None line = Bad
 numbered (Some n) line = line n
 
--- a line that has names, or is bad if one is none
+-- a line with names; bad if one of them is not a name
 abbrev pub listed : Option (List Text) → Line → Line
 listed None line = Bad
 listed (Some names) line = line
 
--- a line that has a name, and more of them or none
+-- a line with at least one name
 abbrev pub led : Option (List Text) → Line → Line
 led None line = Bad
 led (Some []) line = Bad
 led (Some (name ∷ names)) line = line
 
--- 0 is no limit
+-- a limit is not 0
 abbrev pub limit : ℕ → Line
 limit zero = Bad
 limit (suc n) = Limit (suc n)
 
--- a line with another word, by its word and what stands behind it
+-- a line with a rarer word, by its word and the text after it
 abbrev pub rare_line : Text → Text → Line
 rare_line word rest =
     if bytes_eq word (codes "fun") then led (names rest) (Function rest) else
@@ -109,7 +109,7 @@ rare_line word rest =
     if length rest == 0 then bare_line word else
     Bad
 
--- a line by its word and what stands behind it
+-- a line by its word and the text after it
 abbrev pub line_of_word : Text → Text → Line
 line_of_word word rest =
     if bytes_eq word (codes "var") then named rest (Variable rest) else
@@ -125,7 +125,7 @@ line_of_word word rest =
     if bytes_eq word (codes "export") then named rest (Assign rest true) else
     rare_line word rest
 
--- it is empty, or it begins with `#`
+-- the text is empty, or begins with `#`
 abbrev pub is_skipped : Text → Bool
 is_skipped [] = true
 is_skipped (byte ∷ bytes) = byte == 35
@@ -133,11 +133,11 @@ is_skipped (byte ∷ bytes) = byte == 35
 abbrev pub line_of_text : Text → Line
 line_of_text text = if is_skipped text then Skipped else line_of_word (word_of text) (rest_of text)
 
--- a line by its bytes, which is bad if they are no text
+-- a line by its bytes; bad if they are not text
 abbrev pub line_of : Text → Line
 line_of bytes = if is_utf8 bytes then line_of_text bytes else Bad
 
--- the pieces without a last one that is empty
+-- the pieces without an empty last one
 abbrev pub without_empty_end : List Text → List Text
 without_empty_end [] = []
 without_empty_end ([] ∷ []) = []

@@ -1,4 +1,4 @@
--- What the error of a line says.
+-- Messages of line errors.
 use Rattle.std.specs.Prelude.{codes}
 use Rattle.just_syntax.specs.OutOfMemory.{no_memory_text}
 use Rattle.just_syntax.specs.Plain.{Text}

@@ -1,4 +1,4 @@
--- What lines do to the expressions that are not yet assigned, of which the last stands first.
+-- The effect of lines on the expressions that are not yet assigned, the last pushed first.
 use Rattle.std.specs.Prelude.{ℕ, zero, suc, false, List, [], ◌∷◌, Option, Some, None, codes}
 use Rattle.std.specs.Option.{option_map}
 use Rattle.just_syntax.specs.declared.conditional_operator.ConditionalOperator.TheVariants.{Equality, Inequality, RegexMatch, RegexMismatch}
@@ -12,14 +12,14 @@ use Rattle.just_case_lines.specs.Token.{token_of}
 use Rattle.just_case_lines.specs.Line.{Line, Literal, Command, Variable, Unary, Binary, If, ListOf, Call, Assign, Function, Run, Const, Blocks}
 use Rattle.just_case_lines.specs.Numbering.{Names, number_of}
 
--- what an operator makes of one expression
+-- an operator applied to one expression
 abbrev pub of_operand : UnaryOperator → Expr → Expr
 of_operand Root e = plain.JoinOnly (token_of (codes "/")) e
 of_operand Not e = plain.Not e
 of_operand Group e = plain.Group e
 of_operand Assert e = plain.AssertOnly e (token_of (codes "assert"))
 
--- what an operator makes of two expressions
+-- an operator applied to two expressions
 abbrev pub together : BinaryOperator → Expr → Expr → Expr
 together Add l r = plain.Concatenation l (token_of (codes "+")) r
 together Join l r = plain.Join l (token_of (codes "/")) r
@@ -33,17 +33,18 @@ together Mismatch l r = plain.Comparison l RegexMismatch r (token_of (codes "!~"
 together AssertMessage l r = plain.Assert l r (token_of (codes "assert"))
 together When l r = plain.ConditionalOnly l r
 
--- so many expressions from the top before these, in the order in which they were pushed, and what is left below
+-- n expressions taken from the top and prepended to `parts`, in the order in which they were pushed; and the
+-- expressions below
 abbrev pub several : ℕ → Exprs → List Expr → Option (Exprs × List Expr)
 several zero parts es = Some (parts, es)
 several (suc n) parts [] = None
 several (suc n) parts (e ∷ es) = several n (Cons e parts) es
 
--- what is made of so many expressions stands in their place
+-- the expressions taken are replaced by the form built from them
 abbrev pub of_several : (Exprs → Expr) → Option (Exprs × List Expr) → Option (List Expr)
 of_several form taken = option_map (λ taken. form taken.0 ∷ taken.1) taken
 
--- the expressions behind a line, or none where it wants more than there are, or ends the case and there are some
+-- the expressions after a line; `None` if the line needs more than there are, or ends the case and there are some
 abbrev pub stack_after : Line → Names → List Expr → Option (List Expr)
 stack_after (Literal text lexeme) names es = Some (plain.StringLiteral (record { cooked = text; lexeme = lexeme; indented = false }) ∷ es)
 stack_after (Command text lexeme) names es = Some (plain.Backtick text (token_of lexeme) ∷ es)

@@ -1,4 +1,4 @@
--- What lines, the expressions that are not yet assigned and the numbers of names are as plain data.
+-- Lines, the expressions that are not yet assigned and the numbers of names, as plain data.
 use Rattle.std.specs.Prelude.{List, map, string_bytes, reverse}
 use Rattle.std.specs.BTreeMap.{btree_map_len, get_by}
 use Rattle.std.specs.Cmp.Lexicographic.{slice_cmp}

@@ -1,5 +1,5 @@
-// The lines of a case: what each says, the expressions that they put together, and the numbers of their names. It leans on
-// syntax and values alone.
+// The lines of a case, the expressions that they build, and the numbers of their names. It depends on `just_syntax` and
+// `just_value` alone.
 #![tactic(auto)]
 
 pub mod line;

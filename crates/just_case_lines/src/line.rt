@@ -1,4 +1,4 @@
-// The lines of a case, each read by itself.
+// The lines of a case, each parsed by itself.
 
 ghost use Rattle.std.specs.Prelude.{◌≡◌, ◌==◌, Some, IfOk, codes, if◌then◌else◌, length, map, position};
 ghost use Rattle.std.specs.List.{after_first, before_first};
@@ -12,12 +12,12 @@ use just_syntax::out_of_memory::OutOfMemory;
 use std::alloc::Global;
 use std::str;
 
-/// A line of a case. It owns what is no piece of the case's bytes.
+/// A line of a case. It owns texts that are not slices of the case's bytes.
 #[derive(Debug, Drop)]
 pub enum Line<'case> {
     /// An empty line, or one that begins with `#`.
     Skipped,
-    /// What is no line of a case.
+    /// Not a valid line.
     Bad,
     /// `str T`: a literal is pushed.
     Literal { text: &'case str, lexeme: String },
@@ -25,50 +25,50 @@ pub enum Line<'case> {
     Command { text: &'case str, lexeme: String },
     /// `var N`: a variable is pushed.
     Variable { name: &'case str },
-    /// The expression on top becomes a part of another.
+    /// The expression on top becomes a part of another one.
     Unary(UnaryOperator),
-    /// The two expressions on top are put together.
+    /// The two expressions on top are combined.
     Binary(BinaryOperator),
-    /// `if`: a condition, a consequence and an otherwise are put together.
+    /// `if`: a condition, a consequence and an `otherwise` are combined.
     If,
-    /// `list K`: so many expressions become a list.
+    /// `list K`: K expressions become a list.
     List { count: u16 },
-    /// `call N K`: so many expressions become the arguments of a call.
+    /// `call N K`: K expressions become the arguments of a call.
     Call { name: &'case str, count: u16 },
     /// `assign N` or `export N`: the expression on top is assigned.
     Assign { name: &'case str, export: bool },
     /// `fun N P ..`: the expression on top is a function's body.
     Function { names: &'case str },
-    /// `override N T`: a variable's value is given from outside.
+    /// `override N T`: overrides a variable's value.
     Override { name: &'case str, text: &'case str },
     /// `dotenv N T`: a variable of the dotenv map.
     Dotenv { name: &'case str, text: &'case str },
     /// `order N ..`: the order of evaluation.
     Order { names: &'case str },
-    /// `only N ..`: the variables that are referenced.
+    /// `only N ..`: the referenced variables.
     Only { names: &'case str },
-    /// `reply T`: the next command gives a text.
+    /// `reply T`: the next command outputs a text.
     Reply { text: &'case str },
     /// `fail K`: the next command ends with a status.
     Fail { code: u16 },
-    /// `always T`: the last command gives a text, whenever it comes.
+    /// `always T`: the last command outputs a text, whenever it is run.
     Always { text: &'case str },
-    /// `lists`: lists are on.
+    /// `lists`: enables lists.
     Lists,
-    /// `dry`: commands are shown, and none is run.
+    /// `dry`: commands are shown instead of run.
     Dry,
-    /// `limit K`: how many calls may be pending, and one more.
+    /// `limit K`: the recursion limit, which is one more than the number of calls that may be pending.
     Limit { limit: u16 },
     /// `run`: the assignments are evaluated.
     Run,
     /// `const`: the assignments are evaluated before any run.
     Const,
-    /// `blocks N ..`: the assignments are evaluated in two runs, of which the second has this order.
+    /// `blocks N ..`: the assignments are evaluated in two runs, the second in this order.
     Blocks { names: &'case str },
 }
 
 impl<'case> Line<'case> {
-    /// Whether it says nothing.
+    /// Whether the line is skipped.
     pub fn is_skipped(&self) -> bool
         ensures { result ≡ says_nothing (line_view self.now) }
     {
@@ -100,7 +100,7 @@ fn parse_line<'case>(alloc: Global, bytes: &'case [u8]) -> Result<Line<'case>, O
     }
 }
 
-// One line that is a text.
+// One line, given as text.
 fn parse_text<'case>(alloc: Global, text: &'case str) -> Result<Line<'case>, OutOfMemory>
     ensures { IfOk result (λ line. line_view line ≡ line_of_text text.now) }
 {
@@ -121,7 +121,7 @@ fn is_skipped(text: &str) -> bool
     }
 }
 
-// A line by its word and what stands behind it. The words of which a case has many come first.
+// A line by its word and the text after it. The most frequent words come first.
 fn parse_word<'case>(
     alloc: Global,
     word: &str,
@@ -151,7 +151,7 @@ fn parse_word<'case>(
     })
 }
 
-// A line with another word.
+// A line with a rarer word.
 fn parse_rare<'case>(
     alloc: Global,
     word: &str,
@@ -182,14 +182,14 @@ fn parse_rare<'case>(
     })
 }
 
-// A line with these names, of which it has to have one.
+// A line with these names, which is bad if there are none.
 fn led_line<'case>(names: &[&str], line: Line<'case>) -> Line<'case>
     ensures { line_view result ≡ led (Some (map (λ name. name.now) names.now)) (line_view line.entry) }
 {
     if names.is_empty() { Line::Bad } else { line }
 }
 
-// A line that is bad if anything stands behind its word.
+// A line that is bad if there is any text after its word.
 fn closed_line<'case>(word: &str, rest: &str) -> Line<'case>
     ensures { line_view result ≡ (if length rest.now == 0 then bare_line word.now else Bad) }
 {
@@ -200,7 +200,7 @@ fn closed_line<'case>(word: &str, rest: &str) -> Line<'case>
     }
 }
 
-// `var` with what stands behind it.
+// `var` with the text after it.
 fn variable_line(rest: &str) -> Line<'_>
     ensures { line_view result ≡ named rest.now (Variable rest.now) }
 {
@@ -211,7 +211,7 @@ fn variable_line(rest: &str) -> Line<'_>
     }
 }
 
-// `assign`, or `export`, with what stands behind it.
+// `assign`, or `export`, with the text after it.
 fn assign_line(rest: &str, export: bool) -> Line<'_>
     ensures { line_view result ≡ named rest.now (Assign rest.now export) }
 {
@@ -222,7 +222,7 @@ fn assign_line(rest: &str, export: bool) -> Line<'_>
     }
 }
 
-// `list` with what stands behind it.
+// `list` with the text after it.
 fn list_line(rest: &str) -> Line<'_>
     ensures { line_view result ≡ numbered (number rest.now) ListOf }
 {
@@ -232,7 +232,7 @@ fn list_line(rest: &str) -> Line<'_>
     }
 }
 
-// `call` with what stands behind it.
+// `call` with the text after it.
 fn call_line(rest: &str) -> Line<'_>
     ensures { line_view result ≡ named (word_of rest.now) (numbered (number (rest_of rest.now)) (Call (word_of rest.now))) }
 {
@@ -243,7 +243,7 @@ fn call_line(rest: &str) -> Line<'_>
     }
 }
 
-// `override` with what stands behind it.
+// `override` with the text after it.
 fn override_line(rest: &str) -> Line<'_>
     ensures { line_view result ≡ named (word_of rest.now) (Override (word_of rest.now) (rest_of rest.now)) }
 {
@@ -255,7 +255,7 @@ fn override_line(rest: &str) -> Line<'_>
     }
 }
 
-// `dotenv` with what stands behind it.
+// `dotenv` with the text after it.
 fn dotenv_line(rest: &str) -> Line<'_>
     ensures { line_view result ≡ named (word_of rest.now) (Dotenv (word_of rest.now) (rest_of rest.now)) }
 {
@@ -267,7 +267,7 @@ fn dotenv_line(rest: &str) -> Line<'_>
     }
 }
 
-// `limit` with what stands behind it.
+// `limit` with the text after it.
 fn limit_line(rest: &str) -> Line<'_>
     ensures { line_view result ≡ numbered (number rest.now) limit }
 {
@@ -277,7 +277,7 @@ fn limit_line(rest: &str) -> Line<'_>
     }
 }
 
-// `fail` with what stands behind it.
+// `fail` with the text after it.
 fn fail_line(rest: &str) -> Line<'_>
     ensures { line_view result ≡ numbered (number rest.now) Fail }
 {
@@ -287,7 +287,7 @@ fn fail_line(rest: &str) -> Line<'_>
     }
 }
 
-// A line whose word has nothing behind it.
+// A line of a single word.
 fn bare_line<'case>(word: &str) -> Line<'case>
     ensures { line_view result ≡ bare_line word.now }
 {
@@ -301,7 +301,7 @@ fn bare_line<'case>(word: &str) -> Line<'case>
     }
 }
 
-// A line that puts the expressions on top together.
+// A line that combines the expressions on top.
 fn operator_line<'case>(word: &str) -> Line<'case>
     ensures { line_view result ≡ operator_line word.now }
 {
@@ -325,7 +325,7 @@ fn operator_line<'case>(word: &str) -> Line<'case>
     }
 }
 
-// Bytes up to their first newline, and what stands behind that. With no newline the second part is empty.
+// The bytes before and after the first newline. Without a newline the second part is empty.
 fn split_line(bytes: &[u8]) -> (&[u8], &[u8])
     ensures line { result.0.now ≡ before_first (λ byte. byte == 10) bytes.now }
     ensures rest { result.1.now ≡ after_first (λ byte. byte == 10) bytes.now }
@@ -336,7 +336,7 @@ fn split_line(bytes: &[u8]) -> (&[u8], &[u8])
     }
 }
 
-// Where the first newline stands.
+// The index of the first newline.
 fn newline_place(bytes: &[u8]) -> Option<usize>
     ensures { result ≡ position (λ byte. byte == 10) bytes.now }
 {

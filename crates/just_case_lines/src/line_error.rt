@@ -1,4 +1,4 @@
-// Why a line was not done.
+// Why a line failed.
 
 ghost use Rattle.std.specs.Prelude.{◌≡◌};
 ghost use Rattle.just_case_lines.specs.declared.line_error.LineError.TheVariants.{OutOfMemory as Wanted};
@@ -9,12 +9,12 @@ use std::alloc::{AllocError, AllocFailed};
 use std::error::Error;
 use std::fmt;
 
-/// Why a line was not done.
+/// Why a line failed.
 #[derive(Debug, Drop)]
 pub enum LineError {
-    /// It does not go with the lines before it.
+    /// It does not fit the lines before it.
     Bad,
-    /// Memory was asked for and refused, or an expression nests deeper than the stack has room for.
+    /// An allocation failed, or an expression nests too deeply for the stack.
     OutOfMemory,
 }
 

@@ -7,8 +7,8 @@ use just_syntax::out_of_memory::OutOfMemory;
 use std::alloc::Global;
 use std::collections::BTreeMap;
 
-/// Names and their numbers: each name's is its place among the different names, from 0, in the order in which
-/// they first came.
+/// Names and their numbers. The number of a name is its index, counted from 0, among the different names in the order
+/// of their first occurrence.
 #[derive(Debug, Drop)]
 pub struct Numbering<'src> {
     numbers: BTreeMap<&'src str, Number>,
@@ -20,7 +20,7 @@ impl<'src> Numbering<'src> {
     ghost use Rattle.just_case_lines.specs.Numbering.{no_names, number_of, numbers_of, parameters_of, with_name, with_names};
     ghost use Rattle.just_case_lines.specs.View.{numbering_view};
 
-    /// No name. It takes no memory.
+    /// No names. It allocates nothing.
     pub fn new(alloc: Global) -> Numbering<'src>
         ensures { numbering_view result ≡ no_names }
     {
@@ -29,11 +29,11 @@ impl<'src> Numbering<'src> {
         }
     }
 
-    /// The number of a name, which is the next one for a name that did not come before.
+    /// The number of a name; a new name gets the next number.
     ///
     /// # Errors
     ///
-    /// `OutOfMemory`, where memory was asked for and refused: the names stay as they were.
+    /// `OutOfMemory`, if an allocation fails: the names are unchanged.
     pub fn number_of(&mut self, name: &'src str) -> Result<Number, OutOfMemory>
         ensures number { IfOk result (λ number. number ≡ number_of (numbering_view self.old) name.now) }
         ensures ok { OnOk result (numbering_view self.new ≡ with_name (numbering_view self.old) name.now) }
@@ -49,11 +49,11 @@ impl<'src> Numbering<'src> {
         }
     }
 
-    /// The numbers of names, in their order.
+    /// The numbers of names, in order. New names are added.
     ///
     /// # Errors
     ///
-    /// `OutOfMemory`, where memory was asked for and refused: the names before the one that found none have come.
+    /// `OutOfMemory`, if an allocation fails: the names before the one whose allocation failed have been added.
     pub fn numbers_of(
         &mut self,
         alloc: Global,
@@ -69,11 +69,11 @@ impl<'src> Numbering<'src> {
         Ok(numbers)
     }
 
-    /// Parameters of these names, in their order.
+    /// Parameters with these names, in order. New names are added.
     ///
     /// # Errors
     ///
-    /// `OutOfMemory`, where memory was asked for and refused: the names before the one that found none have come.
+    /// `OutOfMemory`, if an allocation fails: the names before the one whose allocation failed have been added.
     pub fn parameters_of(
         &mut self,
         alloc: Global,

@@ -1,6 +1,6 @@
-// What the words without a rest make of expressions.
+// The operators that single words apply to expressions.
 
-/// What is made of one expression.
+/// Operators on one expression.
 #[derive(Clone, Copy, Debug, PartialEq, Eq)]
 pub enum UnaryOperator {
     /// `root`: a join without a left side.
@@ -13,7 +13,7 @@ pub enum UnaryOperator {
     Assert,
 }
 
-/// What is made of two expressions.
+/// Operators on two expressions.
 #[derive(Clone, Copy, Debug, PartialEq, Eq)]
 pub enum BinaryOperator {
     /// `add`: a concatenation.

@@ -1,4 +1,4 @@
-// What stands behind the word of a line.
+// The text after the word of a line.
 
 ghost use Rattle.std.specs.Prelude.{◌≡◌, ◌==◌, ◌∷◌, ◌++◌, [], Some, None, IfOk, map, position};
 ghost use Rattle.std.specs.List.{list_all};
@@ -8,10 +8,10 @@ ghost use Rattle.just_case_lines.specs.Rest.{if_names, is_name, is_name_part, is
 use just_syntax::out_of_memory::OutOfMemory;
 use std::alloc::Global;
 
-/// The greatest number that a case may hold.
+/// The greatest number that a case may contain.
 pub(crate) const LARGEST: u16 = 1000;
 
-// The most digits that a number may have.
+// The greatest number of digits that a number may have.
 const MOST_DIGITS: usize = 4;
 
 /// Whether a text is a name: an ASCII letter or `_`, and then letters, digits, `_` and `-`.
@@ -24,28 +24,28 @@ pub(crate) fn is_name(text: &str) -> bool
     }
 }
 
-// Whether each byte may stand behind the first of a name.
+// Whether each byte may occur after the first byte of a name.
 fn are_name_parts(bytes: &[u8]) -> bool
     ensures { result ≡ list_all is_name_part bytes.now }
 {
     bytes.iter().all(|byte| is_name_part(*byte))
 }
 
-// Whether a byte may stand first in a name.
+// Whether a byte may be the first byte of a name.
 fn is_name_start(byte: u8) -> bool
     ensures { result ≡ is_name_start byte }
 {
     byte == b'_' || byte.is_ascii_alphabetic()
 }
 
-// Whether a byte may stand behind the first of a name.
+// Whether a byte may occur after the first byte of a name.
 fn is_name_part(byte: u8) -> bool
     ensures { result ≡ is_name_part byte }
 {
     byte == b'-' || byte.is_ascii_digit() || is_name_start(byte)
 }
 
-/// The number that one to four digits write, if it is at most 1000.
+/// The number given by one to four digits, if it is at most 1000.
 pub(crate) fn parse_number(text: &str) -> Option<u16>
     ensures { result ≡ number text.now }
 {
@@ -67,7 +67,7 @@ pub(crate) fn parse_number(text: &str) -> Option<u16>
     }
 }
 
-/// A text up to its first space, and what stands behind that space. With no space the second is empty.
+/// The texts before and after the first space. Without a space the second is empty.
 pub(crate) fn split_word(text: &str) -> (&str, &str)
     ensures word { result.0.now ≡ word_of text.now }
     ensures rest { result.1.now ≡ rest_of text.now }
@@ -78,18 +78,19 @@ pub(crate) fn split_word(text: &str) -> (&str, &str)
     }
 }
 
-// Where the first space stands. Each line is cut at one or two, and bytes are searched faster than characters.
+// The index of the first space. Each line is split once or twice, and searching bytes is faster than searching
+// characters.
 fn space_place(bytes: &[u8]) -> Option<usize>
     ensures { result ≡ position (λ byte. byte == 32) bytes.now }
 {
     bytes.iter().position(|byte| *byte == b' ')
 }
 
-/// The names that stand in a text with a space between two, if there is nothing else. The empty text has none.
+/// The names in a text, separated by single spaces, if it contains nothing else. The empty text has none.
 ///
 /// # Errors
 ///
-/// `OutOfMemory`, where memory was asked for and refused.
+/// `OutOfMemory`, if an allocation fails.
 pub fn parse_names<'case>(
     alloc: Global,
     text: &'case str,

@@ -19,20 +19,19 @@ use just_syntax::number::Number;
 use just_syntax::out_of_memory::OutOfMemory;
 use std::alloc::Global;
 
-// How many forms may nest in one another. What walks over an expression without evaluating it, as dropping it and the test of
-// resolution do, takes at most 416 bytes of stack a level in either build of the program, and so ends within 8 MiB. Evaluation
-// has a stack budget of its own, which ends it at fewer levels, whatever the form.
+// The greatest depth of nesting. Code that traverses an expression without evaluating it, such as dropping it or the
+// test of resolution, uses at most 416 bytes of stack per level in either build of the program, and so fits into 8 MiB.
+// Evaluation has a stack budget of its own, which ends it at fewer levels, whatever the form.
 const MOST_LEVELS: usize = 19_000;
 
-/// The expressions that are not yet assigned. A line takes its operands from the top, of which the uppermost is
-/// the rightmost. What it holds after an error is not said.
+/// The expressions that are not yet assigned. A line takes its operands from the top; the uppermost is the rightmost.
+/// Its contents are unspecified after an error.
 #[derive(Debug, Drop)]
 pub struct Stack<'src> {
     expressions: Vec<Nested<Expression<'src>>>,
 }
 
-// A part, and how many forms stand in one another there. It is of any type, since the prover then drops no expression where
-// one is refused.
+// A part, and its depth of nesting. It is generic, so that a failing push needs no code that drops an expression.
 #[derive(Debug, Drop)]
 struct Nested<T> {
     part: T,
@@ -40,7 +39,7 @@ struct Nested<T> {
 }
 
 impl<'src> Stack<'src> {
-    /// No expression. It takes no memory.
+    /// An empty stack. It allocates nothing.
     pub fn new(alloc: Global) -> Stack<'src>
         ensures { stack_view result ≡ [] }
     {
@@ -60,7 +59,7 @@ impl<'src> Stack<'src> {
     ///
     /// # Errors
     ///
-    /// `Bad`, where there is none.
+    /// `Bad`, if there is none.
     pub fn pop(&mut self) -> Result<Expression<'src>, LineError>
         ensures ok { IfOk result (λ e. stack_view self.old ≡ view e ∷ stack_view self.new) }
         ensures bad { IfErr result (λ e. IfBad e (stack_view self.old ≡ [])) }
@@ -75,7 +74,7 @@ impl<'src> Stack<'src> {
     ///
     /// # Errors
     ///
-    /// `OutOfMemory`, where memory was asked for and refused.
+    /// `OutOfMemory`, if an allocation fails.
     pub fn literal(&mut self, alloc: Global, text: &str, lexeme: &'src str) -> Result<(), LineError>
         ensures { (names : Names) → Done result (stack_after (lines.Literal text.now lexeme.now) names (stack_view self.old)) (stack_view self.new) }
     {
@@ -86,7 +85,7 @@ impl<'src> Stack<'src> {
     ///
     /// # Errors
     ///
-    /// `OutOfMemory`, where memory was asked for and refused.
+    /// `OutOfMemory`, if an allocation fails.
     pub fn command(&mut self, alloc: Global, text: &str, lexeme: &'src str) -> Result<(), LineError>
         ensures { (names : Names) → Done result (stack_after (lines.Command text.now lexeme.now) names (stack_view self.old)) (stack_view self.new) }
     {
@@ -97,19 +96,19 @@ impl<'src> Stack<'src> {
     ///
     /// # Errors
     ///
-    /// `OutOfMemory`, where memory was asked for and refused.
+    /// `OutOfMemory`, if an allocation fails.
     pub fn variable(&mut self, lexeme: &'src str, number: Number) -> Result<(), LineError>
         ensures { (names : Names) → number ≡ number_of names lexeme.now → Done result (stack_after (lines.Variable lexeme.now) names (stack_view self.old)) (stack_view self.new) }
     {
         self.push(Expression::variable(name(lexeme), number), 0)
     }
 
-    /// Puts what is made of the expression on top in its place.
+    /// Replaces the expression on top by the operator applied to it.
     ///
     /// # Errors
     ///
-    /// `Bad`, where there is none; `OutOfMemory`, where memory was asked for and refused or the expression would nest deeper
-    /// than the stack has room for. Then what was taken from the top may be gone.
+    /// `Bad`, if there is none; `OutOfMemory`, if an allocation fails or the expression would nest too deeply for the
+    /// stack. In either case the expressions taken from the top may be lost.
     pub fn unary(&mut self, alloc: Global, operator: UnaryOperator) -> Result<(), LineError>
         ensures { (names : Names) → Done result (stack_after (lines.Unary operator) names (stack_view self.old)) (stack_view self.new) }
     {
@@ -117,11 +116,11 @@ impl<'src> Stack<'src> {
         self.push(of_operand(operator, operand), deeper(levels))
     }
 
-    /// Puts the two expressions on top together, of which the uppermost is the right one.
+    /// Combines the two expressions on top; the uppermost is the right operand.
     ///
     /// # Errors
     ///
-    /// As those of `unary`, where there are fewer than two.
+    /// As for `unary`, but `Bad` if there are fewer than two.
     pub fn binary(&mut self, alloc: Global, operator: BinaryOperator) -> Result<(), LineError>
         ensures { (names : Names) → Done result (stack_after (lines.Binary operator) names (stack_view self.old)) (stack_view self.new) }
     {
@@ -130,11 +129,11 @@ impl<'src> Stack<'src> {
         self.push(together(operator, lhs, rhs), deeper(left.max(right)))
     }
 
-    /// Puts a condition, a consequence and, on top, an otherwise together.
+    /// Combines a condition, a consequence and, on top, an `otherwise`.
     ///
     /// # Errors
     ///
-    /// As those of `unary`, where there are fewer than three.
+    /// As for `unary`, but `Bad` if there are fewer than three.
     pub fn conditional(&mut self, alloc: Global) -> Result<(), LineError>
         ensures { (names : Names) → Done result (stack_after lines.If names (stack_view self.old)) (stack_view self.new) }
     {
@@ -149,11 +148,11 @@ impl<'src> Stack<'src> {
         self.push(conditional, deeper(first.max(second).max(third)))
     }
 
-    /// Makes a list of so many expressions from the top, in the order in which they were pushed.
+    /// Builds a list of `count` expressions from the top, in the order in which they were pushed.
     ///
     /// # Errors
     ///
-    /// As those of `unary`, where there are fewer.
+    /// As for `unary`, but `Bad` if there are fewer than `count`.
     pub fn list(&mut self, alloc: Global, count: usize) -> Result<(), LineError>
         ensures { (names : Names) → Done result (stack_after (lines.ListOf count) names (stack_view self.old)) (stack_view self.new) }
     {
@@ -161,11 +160,11 @@ impl<'src> Stack<'src> {
         self.push(Expression::list(elements, token("[")), deeper(levels))
     }
 
-    /// Makes a call, whose arguments are so many expressions from the top, in the order in which they were pushed.
+    /// Builds a call whose arguments are `count` expressions from the top, in the order in which they were pushed.
     ///
     /// # Errors
     ///
-    /// As those of `unary`, where there are fewer.
+    /// As for `unary`, but `Bad` if there are fewer than `count`.
     pub fn call(&mut self, alloc: Global, lexeme: &'src str, count: usize) -> Result<(), LineError>
         ensures { (names : Names) → Done result (stack_after (lines.Call lexeme.now count) names (stack_view self.old)) (stack_view self.new) }
     {
@@ -173,7 +172,8 @@ impl<'src> Stack<'src> {
         self.push(Expression::call(name(lexeme), arguments), deeper(levels))
     }
 
-    // Takes so many expressions from the top, in the order in which they were pushed, and tells the levels of the deepest.
+    // Takes `count` expressions from the top, in the order in which they were pushed, and returns the depth of the
+    // deepest too.
     fn pop_several(
         &mut self,
         alloc: Global,
@@ -189,7 +189,7 @@ impl<'src> Stack<'src> {
         Ok(told_apart(alloc, taken)?)
     }
 
-    // Pushes an expression of so many levels, if it may have so many.
+    // Pushes an expression of this depth, if it is not too great.
     fn push(&mut self, expression: Expression<'src>, levels: usize) -> Result<(), LineError>
         ensures { Done result (Some (view expression.entry ∷ stack_view self.old)) (stack_view self.new) }
     {
@@ -197,7 +197,7 @@ impl<'src> Stack<'src> {
         Ok(())
     }
 
-    // Takes the expression on top, to be a part of another, and tells its levels.
+    // Takes the expression on top, to become a part of another, and returns its depth too.
     fn pop_boxed(&mut self, alloc: Global) -> Result<(Box<Expression<'src>>, usize), LineError>
         ensures ok { IfOk result (λ taken. stack_view self.old ≡ view taken.0.value ∷ stack_view self.new) }
         ensures bad { IfErr result (λ e. IfBad e (stack_view self.old ≡ [])) }
@@ -206,7 +206,7 @@ impl<'src> Stack<'src> {
     }
 }
 
-// Pushes a part of so many levels, if it may have so many.
+// Pushes a part of this depth, if it is not too great.
 fn nest<T: Drop>(parts: &mut Vec<Nested<T>>, part: T, levels: usize) -> Result<(), OutOfMemory>
     ensures { OnOk result (parts.new.items ≡ parts.old.items ++ record { part = part; levels = levels } ∷ []) }
 {
@@ -217,7 +217,7 @@ fn nest<T: Drop>(parts: &mut Vec<Nested<T>>, part: T, levels: usize) -> Result<(
     Ok(())
 }
 
-// Takes the part on top, in a box, and tells its levels.
+// Takes the part on top, in a box, and returns its depth too.
 fn pop_boxed<T: Drop>(
     alloc: Global,
     parts: &mut Vec<Nested<T>>,
@@ -231,7 +231,7 @@ fn pop_boxed<T: Drop>(
     }
 }
 
-// Parts, and the levels of the deepest.
+// The parts, and the depth of the deepest.
 fn told_apart<T: Drop>(alloc: Global, taken: Vec<Nested<T>>) -> Result<(Vec<T>, usize), OutOfMemory>
     ensures { IfOk result (λ told. told.0.items ≡ map (λ nested. nested.part) taken.items) }
 {
@@ -244,12 +244,12 @@ fn told_apart<T: Drop>(alloc: Global, taken: Vec<Nested<T>>) -> Result<(Vec<T>, 
     Ok((parts, levels))
 }
 
-// The levels of a form whose deepest part has so many.
+// The depth of a form whose deepest part has this depth.
 fn deeper(levels: usize) -> usize {
     levels.saturating_add(1)
 }
 
-// What an operator makes of one expression.
+// An operator applied to one expression.
 fn of_operand<'src>(operator: UnaryOperator, operand: Box<Expression<'src>>) -> Expression<'src>
     ensures { view result ≡ of_operand operator (view operand.entry.value) }
 {
@@ -265,7 +265,7 @@ fn of_operand<'src>(operator: UnaryOperator, operand: Box<Expression<'src>>) -> 
     }
 }
 
-// Two expressions, put together.
+// Two expressions combined by an operator.
 fn together<'src>(
     operator: BinaryOperator,
     lhs: Box<Expression<'src>>,
@@ -306,7 +306,7 @@ fn together<'src>(
     }
 }
 
-// A comparison, whose operator is written so.
+// A comparison whose operator has this lexeme.
 fn comparison<'src>(
     lhs: Box<Expression<'src>>,
     operator: ConditionalOperator,

@@ -11,7 +11,7 @@ use just_syntax::place::Place;
 use just_syntax::token::Token;
 use std::alloc::Global;
 
-/// A token of a case: all of them stand at the start of one file.
+/// A token of a case; all tokens are at the start of the same file.
 pub fn token(lexeme: &str) -> Token<'_>
     ensures { token_view result ≡ token_of lexeme.now }
 {
@@ -25,11 +25,11 @@ pub fn name(lexeme: &str) -> Name<'_>
     Name::new(lexeme, Some(Place::start_of("justfile")))
 }
 
-/// Names of a case, in their order.
+/// Names of a case, in order.
 ///
 /// # Errors
 ///
-/// `OutOfMemory`, where memory was asked for and refused.
+/// `OutOfMemory`, if an allocation fails.
 pub fn names<'src>(alloc: Global, lexemes: &[&'src str]) -> Result<Vec<Name<'src>>, OutOfMemory>
     ensures { IfOk result (λ names. map name_view names.items ≡ map token_of (map (λ lexeme. lexeme.now) lexemes.now)) }
 {

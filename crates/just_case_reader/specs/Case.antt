@@ -1,29 +1,30 @@
--- What a case says, as plain data.
+-- The contents of a case, as plain data.
 use Rattle.std.specs.Prelude.{ℕ, Bool, List, Option}
 use Rattle.just_syntax.specs.Plain.{Text, Token, Assignment, Function}
 use Rattle.just_value.specs.Refusal.{Fault}
 
--- how a command is answered: by what it writes, or by a fault
+-- the answer to a command: its output, or a fault
 pub data Reply : Type 0 where
   Output : Text → Reply
   Broken : Fault → Reply
 
--- how a case is evaluated: in a run, before any run, or in two runs of which the second has this order
+-- how a case is evaluated: in a run, before any run, or in two runs, the second in this order
 pub data Evaluation : Type 0 where
   Run : Evaluation
   Const : Evaluation
   Blocks : List Token → Evaluation
 
--- what a case says; assignments and functions stand by the bytes of their names, dotenv variables by those of their keys
+-- the contents of a case; assignments and functions are sorted by the bytes of their names, dotenv variables by those
+-- of their keys
 pub record Case : Type 0 where
   pub assignments : List Assignment
   pub evaluation_order : List Token
   pub functions : List Function
   pub overrides : ℕ → Option Text
-  -- which variables are referenced, where that is told
+  -- the referenced variables, if the case lists them
   pub references : Option (ℕ → Bool)
   pub dotenv : List (Text × Text)
-  -- commands with the texts that they are always answered with
+  -- commands, each with the text that always answers it
   pub always : List (Text × Text)
   pub replies : List Reply
   pub lists : Bool

@@ -1,4 +1,4 @@
--- What the lines of a case make of it, one after another.
+-- Building a case from its lines.
 use Rattle.std.specs.Prelude.{ℕ, suc, pos, Bool, true, false, not, List, [], ◌∷◌, ◌++◌, ◌&&◌, map, nat_eq, Option, Some, None, if◌then◌else◌, unwrap_or}
 use Rattle.std.specs.BTreeMap.{insert_entry}
 use Rattle.std.specs.Cmp.Lexicographic.{slice_cmp}
@@ -17,8 +17,8 @@ use Rattle.just_case_lines.specs.Rest.{names}
 use Rattle.just_case_lines.specs.Stack.{stack_after}
 use Rattle.just_case_lines.specs.Token.{token_of}
 
--- The case so far, whether its end came, the order that a line told, the expressions that are not yet assigned, the last
--- command, and the names.
+-- The case so far, whether its end was read, the order given by a line, the expressions that are not yet assigned, the
+-- last command, and the names.
 pub record Reading : Type 0 where
   pub case : Case
   pub is_over : Bool
@@ -27,11 +27,11 @@ pub record Reading : Type 0 where
   pub last_command : Option Text
   pub names : Names
 
--- the names of a text, of which there are none where it is bad
+-- the names in a text; empty if it is bad
 abbrev pub names_in : Text → List Text
 names_in text = unwrap_or (names text) []
 
--- all but the first
+-- all names but the first
 abbrev pub parameters_in : List Text → List Text
 parameters_in [] = []
 parameters_in (name ∷ parameters) = parameters
@@ -49,8 +49,8 @@ abbrev pub is_new : List Text → List plain.Function → Bool
 is_new [] functions = false
 is_new (name ∷ parameters) functions = not (is_some (value_at defined_name name functions))
 
--- What is no line, a name that is assigned or a function that is defined a second time, names that are none, and an answer
--- that stands behind no command, do not fit.
+-- A line does not fit if it is not valid, if it assigns a name or defines a function a second time, if one of its names
+-- is not valid, or if it answers the last command when there is none.
 abbrev pub fits : Line → Reading → Bool
 fits Bad r = false
 fits (Assign name export) r = not (is_some (value_at assigned_name name r.case.assignments))
@@ -61,7 +61,7 @@ fits (Blocks text) r = is_some (names text)
 fits (Always text) r = is_some r.last_command
 fits _ r = true
 
--- ---- what a line changes, part by part
+-- ---- the changes by a line, part by part
 
 abbrev pub names_after : Line → Names → Names
 names_after (Variable name) known = with_name known name
@@ -90,7 +90,7 @@ defines (name ∷ parameters) known (e ∷ es) functions =
     with_value defined_name functions (record { body = e; name = token_of name; parameters = parameters_of known parameters })
 defines _ known _ functions = functions
 
--- the expression on top is the body of the first name, whose parameters the others are
+-- the expression on top becomes the body of the function with the first name, whose parameters are the other names
 abbrev pub functions_after : Line → Reading → List plain.Function
 functions_after (Function text) r = defines (names_in text) r.names r.stack r.case.functions
 functions_after _ r = r.case.functions
@@ -111,7 +111,7 @@ abbrev pub command_after : Line → Option Text → Option Text
 command_after (Command text lexeme) last = Some text
 command_after _ last = last
 
--- the last command is answered so whenever it comes
+-- the last command always gets this answer
 abbrev pub always_after : Line → Reading → List (Text × Text)
 always_after (Always text) r = r.case.always ++ (unwrap_or r.last_command [], text) ∷ []
 always_after _ r = r.case.always
@@ -165,7 +165,7 @@ case_after line r = record {
   evaluation = evaluation_after line r.case.evaluation;
 }
 
--- a line that leaves these expressions
+-- the state after a line that leaves these expressions
 abbrev pub with_stack : Line → Reading → List Expr → Reading
 with_stack line r stack = record {
   case = case_after line r;
@@ -178,15 +178,15 @@ with_stack line r stack = record {
 
 -- ---- the lines
 
--- what comes of a line; none, where it is bad
+-- the state after a line; `None` if the line is bad
 abbrev pub read : Line → Reading → Option Reading
 read line r = if fits line r then option_map (with_stack line r) (stack_after line r.names r.stack) else None
 
--- the same, where each line behind the end is bad that is not skipped
+-- the same, but after the end each line that is not skipped is bad
 abbrev pub step : Line → Reading → Option Reading
 step line r = if r.is_over && not (says_nothing line) then None else read line r
 
--- no line
+-- the state before the first line
 abbrev pub nothing : Reading
 nothing = record {
   case = record {
@@ -210,29 +210,29 @@ nothing = record {
   names = no_names;
 }
 
--- the case of lines that came to their end; the order that a line told stands in place of that of the assignments
+-- the case after its end was read; an order given by a line replaces that of the assignments
 abbrev pub whole : Reading → Case
 whole r = record r.case { evaluation_order = unwrap_or r.told_order r.case.evaluation_order }
 
--- the case, if its end came
+-- the case, if its end was read
 abbrev pub finished : Reading → Option Case
 finished r = if r.is_over then Some (whole r) else None
 
--- a case, or the place of the first bad line, from 1
+-- a case, or the number of the first bad line, counted from 1
 pub data Described : Type 0 where
   Describes : Case → Described
   BadLine : ℕ → Described
 
--- what comes behind a line, or that it is bad, where it has this place
+-- the result of the lines after a line, or that the line with number n is bad
 abbrev pub or_bad : ℕ → Option Reading → (Reading → Described) → Described
 or_bad n None behind = BadLine n
 or_bad n (Some r) behind = behind r
 
--- what lines describe behind others, where the first has this place; a case without an end is bad behind its last line
+-- the result of lines, the first of which has number n; a case without an end is bad after its last line
 abbrev pub described_from : ℕ → Reading → List Line → Described
 described_from n r [] = if r.is_over then Describes (whole r) else BadLine n
 described_from n r (line ∷ lines) = or_bad n (step line r) (λ next. described_from (suc n) next lines)
 
--- what the lines of a case describe
+-- the result of the lines of a case
 abbrev pub described : List Line → Described
 described lines = described_from 1 nothing lines

@@ -1,4 +1,4 @@
--- What the error of a case says.
+-- Messages of case errors.
 use Rattle.std.specs.Prelude.{◌++◌, codes, decimal}
 use Rattle.just_syntax.specs.OutOfMemory.{no_memory_text}
 use Rattle.just_syntax.specs.Plain.{Text}

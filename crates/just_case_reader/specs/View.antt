@@ -1,4 +1,4 @@
--- What cases are as plain data.
+-- Cases as plain data.
 use Rattle.std.specs.Prelude.{ℕ, Bool, map, nat_eq, Result, Ok, Err, string_bytes}
 use Rattle.std.specs.HashSet.{HashSet}
 use Rattle.std.specs.List.{list_any}
@@ -43,7 +43,7 @@ case_view c = record {
   evaluation = evaluation_view c.evaluation;
 }
 
--- a case so far
+-- the state of the builder
 abbrev pub reading_view : Builder → Reading
 reading_view b = record {
   case = case_view b.case;

@@ -1,4 +1,4 @@
-// A case so far.
+// Builds a case line by line.
 
 ghost use Rattle.std.specs.Prelude.{◌≡◌, ◌∷◌, IfErr, IfOk, None, OnOk, Some, false, true, map};
 ghost use Rattle.std.specs.Option.{is_some, option_map};
@@ -30,21 +30,21 @@ use just_syntax::variables::set_of;
 use just_value::error::CommandFault;
 use std::alloc::Global;
 
-/// A case so far, and what the next line needs of those before it.
+/// A case so far, and the state that later lines need.
 #[derive(Drop)]
 pub(crate) struct Builder<'src> {
     case: Case<'src>,
     is_over: bool,
-    // The command of the last line that pushed one.
+    // The command of the last line that pushed a command.
     last_command: Option<&'src str>,
     numbering: Numbering<'src>,
-    // The evaluation order, where a line told it.
+    // The evaluation order, if a line gave one.
     order: Option<Vec<Name<'src>>>,
     stack: Stack<'src>,
 }
 
 impl<'src> Builder<'src> {
-    /// No line. It takes no memory.
+    /// The state before the first line. It allocates nothing.
     pub(crate) fn new(alloc: Global) -> Builder<'src>
         ensures { reading_view result ≡ nothing }
     {
@@ -58,7 +58,7 @@ impl<'src> Builder<'src> {
         }
     }
 
-    /// The whole case, if its end came. The order that a line told stands in place of that of the assignments.
+    /// The whole case, if its end was read. An order given by a line replaces that of the assignments.
     pub(crate) fn finished(self) -> Option<Case<'src>>
         ensures { option_map case_view result ≡ finished (reading_view self.entry) }
     {
@@ -72,7 +72,7 @@ impl<'src> Builder<'src> {
         is_over.then_some(case)
     }
 
-    /// Does what a line says. Behind the end every line is bad that is not skipped.
+    /// Executes a line. After the end, every line that is not skipped is bad.
     pub(crate) fn take(&mut self, alloc: Global, line: &'src Line<'src>) -> Result<(), LineError>
         ensures { Done result (step (line_view line.now) (reading_view self.old)) (reading_view self.new) }
     {
@@ -82,7 +82,7 @@ impl<'src> Builder<'src> {
         self.read(alloc, line)
     }
 
-    // Does what a line says that does not stand behind the end.
+    // Executes a line before the end.
     fn read(&mut self, alloc: Global, line: &'src Line<'src>) -> Result<(), LineError>
         ensures { Done result (read (line_view line.now) (reading_view self.old)) (reading_view self.new) }
     {
@@ -115,7 +115,7 @@ impl<'src> Builder<'src> {
         }
     }
 
-    // Pushes a command, which is the last one from then on.
+    // Pushes a command, and remembers it as the last one.
     fn command(
         &mut self,
         alloc: Global,
@@ -136,7 +136,7 @@ impl<'src> Builder<'src> {
         self.stack.variable(name, number)
     }
 
-    // Assigns the expression on top to a name that has none.
+    // Assigns the expression on top to a name that has no assignment yet.
     fn assign(&mut self, lexeme: &'src str, export: bool) -> Result<(), LineError>
         ensures { Done result (read (lines.Assign lexeme.now export) (reading_view self.old)) (reading_view self.new) }
     {
@@ -155,7 +155,7 @@ impl<'src> Builder<'src> {
         insert_new(&mut self.case.assignments, assignment)
     }
 
-    // Defines a function: its name, and those of its parameters.
+    // Defines a function: its name, and the names of its parameters.
     fn function(&mut self, alloc: Global, text: &'src str) -> Result<(), LineError>
         ensures { Done result (read (lines.Function text.now) (reading_view self.old)) (reading_view self.new) }
     {
@@ -166,7 +166,7 @@ impl<'src> Builder<'src> {
         }
     }
 
-    // Defines a function, of which there is none of this name, with the expression on top as its body.
+    // Defines a function whose name is new, with the expression on top as its body.
     fn define(
         &mut self,
         alloc: Global,
@@ -185,7 +185,7 @@ impl<'src> Builder<'src> {
         insert_new(&mut self.case.functions, function)
     }
 
-    // Gives a variable's value from outside.
+    // Overrides a variable's value.
     fn override_with(&mut self, alloc: Global, name: &'src str, text: &str) -> Result<(), LineError>
         ensures { Done result (read (lines.Override name.now text.now) (reading_view self.old)) (reading_view self.new) }
     {
@@ -195,7 +195,7 @@ impl<'src> Builder<'src> {
         Ok(())
     }
 
-    // Gives a variable of the dotenv map.
+    // Adds a variable to the dotenv map.
     fn dotenv(&mut self, alloc: Global, name: &str, text: &str) -> Result<(), LineError>
         ensures { Done result (read (lines.Dotenv name.now text.now) (reading_view self.old)) (reading_view self.new) }
     {
@@ -205,7 +205,7 @@ impl<'src> Builder<'src> {
         Ok(())
     }
 
-    // Tells the evaluation order, in place of one told before.
+    // Sets the evaluation order; this replaces an earlier one.
     fn order(&mut self, alloc: Global, text: &'src str) -> Result<(), LineError>
         ensures { Done result (read (lines.Order text.now) (reading_view self.old)) (reading_view self.new) }
     {
@@ -215,7 +215,7 @@ impl<'src> Builder<'src> {
         Ok(())
     }
 
-    // Tells the referenced variables, in place of those told before.
+    // Sets the referenced variables; this replaces earlier ones.
     fn only(&mut self, alloc: Global, text: &'src str) -> Result<(), LineError>
         ensures { Done result (read (lines.Only text.now) (reading_view self.old)) (reading_view self.new) }
     {
@@ -244,7 +244,7 @@ impl<'src> Builder<'src> {
         Ok(())
     }
 
-    // Answers the last command with a text whenever it comes.
+    // Answers the last command with a text whenever it is run.
     fn always(&mut self, alloc: Global, text: &str) -> Result<(), LineError>
         ensures { Done result (read (lines.Always text.now) (reading_view self.old)) (reading_view self.new) }
     {
@@ -257,7 +257,7 @@ impl<'src> Builder<'src> {
         Ok(())
     }
 
-    // Puts lists on.
+    // Enables lists.
     fn lists(&mut self) -> Result<(), LineError>
         ensures { Done result (read lines.Lists (reading_view self.old)) (reading_view self.new) }
     {
@@ -265,7 +265,7 @@ impl<'src> Builder<'src> {
         Ok(())
     }
 
-    // Commands are shown, and none is run.
+    // Commands are shown instead of run.
     fn dry_run(&mut self) -> Result<(), LineError>
         ensures { Done result (read lines.Dry (reading_view self.old)) (reading_view self.new) }
     {
@@ -273,7 +273,7 @@ impl<'src> Builder<'src> {
         Ok(())
     }
 
-    // How many calls may be pending, and one more.
+    // Sets the recursion limit, which is one more than the number of calls that may be pending.
     fn limit(&mut self, limit: usize) -> Result<(), LineError>
         ensures { Done result (read (lines.Limit limit) (reading_view self.old)) (reading_view self.new) }
     {
@@ -281,7 +281,7 @@ impl<'src> Builder<'src> {
         Ok(())
     }
 
-    // Ends the case with two runs, of which the second has the order of these names.
+    // Ends the case with two runs, the second in the order of these names.
     fn blocks(&mut self, alloc: Global, text: &'src str) -> Result<(), LineError>
         ensures { Done result (read (lines.Blocks text.now) (reading_view self.old)) (reading_view self.new) }
     {
@@ -306,7 +306,7 @@ impl<'src> Builder<'src> {
     }
 }
 
-// The names of a line, which is bad where something else stands there.
+// The names of a line, which is bad if it contains anything else.
 fn names_of<'src>(alloc: Global, text: &'src str) -> Result<Vec<&'src str>, LineError>
     ensures ok { IfOk result (λ list. names text.now ≡ Some (map (λ name. name.now) list.items)) }
     ensures bad { IfErr result (λ e. IfBad e (names text.now ≡ None)) }
@@ -314,8 +314,8 @@ fn names_of<'src>(alloc: Global, text: &'src str) -> Result<Vec<&'src str>, Line
     parse_names(alloc, text)?.ok_or(LineError::Bad)
 }
 
-// Puts a value into a table that has none of its key. One that takes an earlier one's place, so that there are no more than
-// before, is bad.
+// Inserts a value with a new key into a table. It is bad if the key already has a value, that is, if the table does not
+// grow.
 fn insert_new<V: Keyed + Drop>(table: &mut Table<V>, value: V) -> Result<(), LineError>
     ensures inserted { OnOk result (table.new ≡ with_value V.key_text table.old value) }
     ensures new { OnOk result (is_some (value_at V.key_text (V.key_text value) table.old) ≡ false) }

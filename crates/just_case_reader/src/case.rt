@@ -1,4 +1,4 @@
-// What a case describes.
+// The contents of a case.
 
 ghost use Rattle.std.specs.Prelude.{◌≡◌, ◌+◌, [], IfOk, OnOk, length, map};
 ghost use Rattle.just_case_reader.specs.Reading.{Describes, BadLine, described, described_from, nothing};
@@ -22,10 +22,10 @@ use std::collections::{BTreeMap, HashMap, HashSet};
 use std::error::Error;
 use std::fmt;
 
-// How many calls may be pending, and one more, where a case does not say it.
+// The recursion limit of a case that does not set it: one more than the number of calls that may be pending.
 const RECURSION_LIMIT: usize = 100;
 
-/// What a case describes.
+/// The contents of a case.
 #[derive(Debug, Drop)]
 pub struct Case<'src> {
     pub assignments: Table<Assignment<'src>>,
@@ -33,23 +33,23 @@ pub struct Case<'src> {
     pub evaluation_order: Vec<Name<'src>>,
     pub functions: Table<FunctionDefinition<'src>>,
     pub overrides: HashMap<Number, String>,
-    /// The numbers of the variables that are referenced, where they are told.
+    /// The numbers of the referenced variables, if the case lists them.
     pub references: Option<HashSet<Number>>,
     pub dotenv: BTreeMap<String, String>,
-    /// Commands, and the texts that they are always answered with. Of one command the last pair counts.
+    /// Commands, and the texts that always answer them. For each command the last pair counts.
     pub always: Vec<(String, String)>,
-    /// How other commands are answered, in their order.
+    /// The answers to other commands, in order.
     pub replies: Vec<Result<String, CommandFault>>,
     pub lists: bool,
     pub dry_run: bool,
-    /// How many calls may be pending, and one more.
+    /// One more than the number of calls that may be pending.
     pub recursion_limit: usize,
-    /// What the case ends with, `run`, `const` or `blocks`.
+    /// The kind of evaluation that ends the case: `run`, `const` or `blocks`.
     pub evaluation: Evaluation<'src>,
 }
 
 impl<'src> Case<'src> {
-    /// A case that describes nothing. It takes no memory.
+    /// An empty case. It allocates nothing.
     pub(crate) fn new(alloc: Global) -> Case<'src>
         ensures { case_view result ≡ nothing.case }
     {
@@ -73,14 +73,14 @@ impl<'src> Case<'src> {
 /// Why there is no case.
 #[derive(Debug, Drop)]
 pub enum CaseError {
-    /// The place of the first bad line, from 1.
+    /// The number of the first bad line, counted from 1.
     BadLine(usize),
-    /// Memory was asked for and refused, or an expression has more than 19,000 levels of nesting: it could not be dropped on a
-    /// stack of 8 MiB.
+    /// An allocation failed, or an expression has more than 19,000 levels of nesting, so that it could not be dropped
+    /// on a stack of 8 MiB.
     OutOfMemory,
 }
 
-/// Writes `bad line N`, where N is the line's place from 1, or `out of memory`.
+/// Writes `bad line N`, where N is the line's number, counted from 1, or `out of memory`.
 impl fmt::Display for CaseError {
     ghost use Rattle.std.specs.Prelude.{Some};
     ghost use Rattle.just_case_reader.specs.Said.{case_error_text};
@@ -103,9 +103,8 @@ impl Error for CaseError {}
 ///
 /// # Errors
 ///
-/// `BadLine` with the place of the first bad line. A case that ends with none of `run`, `const` and `blocks` is
-/// bad at the line after its last. `OutOfMemory` where memory was asked for and refused, or where an expression nests
-/// deeper than the stack has room for.
+/// `BadLine` with the number of the first bad line. A case that does not end with `run`, `const` or `blocks` is bad at
+/// the line after its last. `OutOfMemory`, if an allocation fails, or if an expression nests too deeply for the stack.
 pub fn build<'src>(alloc: Global, lines: &'src [Line<'src>]) -> Result<Case<'src>, CaseError>
     ensures case { IfOk result (λ case. described (map line_view lines.now) ≡ Describes (case_view case)) }
     ensures bad { (place : _) → result ≡ Err (CaseError.BadLine place) → described (map line_view lines.now) ≡ BadLine place }
@@ -117,7 +116,7 @@ pub fn build<'src>(alloc: Global, lines: &'src [Line<'src>]) -> Result<Case<'src
         .ok_or(CaseError::BadLine(lines.len().saturating_add(1)))
 }
 
-// Does what lines say, up to the first bad one.
+// Executes lines, up to the first bad one.
 fn take_all<'src>(
     builder: &mut Builder<'src>,
     alloc: Global,

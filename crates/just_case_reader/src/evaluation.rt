@@ -9,6 +9,6 @@ pub enum Evaluation<'src> {
     Run,
     /// Before any run, by the const rules.
     Const,
-    /// In a run in their order, and in another run in the order of these names.
+    /// In a run in their own order, and in another run in the order of these names.
     Blocks { order: Vec<Name<'src>> },
 }

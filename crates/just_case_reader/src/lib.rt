@@ -1,4 +1,5 @@
-// Cases: what the lines of one describe. It leans on syntax, values and lines: no host is needed to read a case.
+// Cases, built from their lines. It depends on `just_syntax`, `just_value` and `just_case_lines`: reading a case needs
+// no host.
 #![tactic(auto)]
 
 mod builder;

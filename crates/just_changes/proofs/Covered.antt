@@ -1,4 +1,4 @@
--- Where two versions may differ: at what one of them knows.
+-- Two versions can differ only at nodes that one of them knows.
 use Rattle.std.proofs.Common.{◌≡◌, ◌⊎◌, inl, inr, ⊎_elim, ℕ, Bool, true, false, cond, List, [], ◌∷◌, ◌++◌, map, nat_eq, if◌then◌else◌, Option, Some, None, refl, ap, sym, ◌∙◌, subst, arith, string_bytes}
 use Rattle.std.specs.Option.{option_map}
 use Rattle.std.specs.HashMap.{HashMap, keys}
@@ -16,7 +16,7 @@ use Rattle.just_changes.specs.Nodes.{PlainNode, OfFunction, OfVariable, IsListed
 use Rattle.just_changes.specs.View.{IsWhole, all_nodes, version_view}
 use Rattle.just_changes.proofs.Spreading.{listed_append}
 
--- nothing stands at a node
+-- the version has nothing at this node
 abbrev pub IsAbsent : Version → PlainNode → Type 0
 IsAbsent v (OfFunction t) = v.function t ≡ None
 IsAbsent v (OfVariable n) = (v.assignment n ≡ None) × (v.override n ≡ None)
@@ -48,7 +48,7 @@ overrides_covered (e ∷ more) n = by (nat_eq n e.0) refl (overrides_covered mor
     by true is rest = inl (inl (let k : e.0 ≡ n = grind (arith, nat_tests) in ap OfVariable k))
     by false is rest = ⊎_elim (λ k. inl (inr k)) (λ k. inr k) rest
 
--- in front of, or behind, other nodes
+-- before or after other nodes
 in_front : (xs ys : List PlainNode) (x : PlainNode) → IsListed xs x → IsListed (xs ++ ys) x
 in_front xs ys x h = (listed_append xs ys x).1 (inl h)
 
@@ -89,7 +89,7 @@ absent_same : (v u : Version) (x : PlainNode) → IsAbsent v x → IsAbsent u x 
 absent_same v u (OfFunction t) h k = h ∙ sym k
 absent_same v u (OfVariable n) h k = (h.0 ∙ sym k.0, h.1 ∙ sym k.1)
 
--- what neither knows is the same, and of what one knows a test has told
+-- what neither version knows is the same, and what one of them knows was compared
 pub all_told : (v u : Declared) → IsWhole v → IsWhole u → (nodes different : List PlainNode) → nodes ≡ all_nodes v ++ all_nodes u
     → ((x : PlainNode) → IsListed nodes x → IsListed different x ⊎ IsSame (version_view v) (version_view u) x) → (x : PlainNode) → IsListed different x ⊎ IsSame (version_view v) (version_view u) x
 all_told v u whole other nodes different is told x =

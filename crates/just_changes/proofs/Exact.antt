@@ -1,4 +1,4 @@
--- The answer is exact, by what its parts told.
+-- The answer is exact, given what its parts answer.
 use Rattle.std.proofs.Common.{◌≡◌, ◌↔◌, ◌⊎◌, inl, inr, ⊎_elim, ℕ, Bool, true, false, List, map, IsTrue, refl, ap, sym, ◌∙◌, subst}
 use Rattle.std.specs.HashMap.{HashMap}
 use Rattle.std.specs.Global.{Global}
@@ -35,7 +35,7 @@ exact m w outer v u readers starts touched first second reading differ all reach
     (λ x listed same. differ x listed (same_alike (version_of m) (version_of w) v u (alike_back v (version_of m) first) (alike_back u (version_of w) second) x same))
     (λ x. ⊎_elim (λ listed. inl listed) (λ same. inr (same_alike v u (version_of m) (version_of w) first second x same)) (all x)) reached
 
--- the law, where cones are the same
+-- the law for equal cones
 pub alike : BlocksAgree → (m w : Module) (outer : Frames) (n : ℕ) → HaveSameCone m w outer n → AreAlikeAt m w outer n
 alike law m w outer n same bs cs o p fixed limit one other r q talk b c at at' number again here there =
     law.blocks m w outer bs cs o p fixed limit one other r q talk b c at at' (number ∙ sym again) (subst (HaveSameCone m w outer) (sym number) same) here there

@@ -1,4 +1,4 @@
--- Maps of lists of nodes, once a list is taken out or put in.
+-- Maps of lists of nodes, after a list is removed or inserted.
 use Rattle.std.proofs.Common.{◌≡◌, ◌↔◌, ◌⊎◌, inl, inr, ⊎_elim, ℕ, ◌+◌, Bool, true, false, cond, List, [], ◌∷◌, ◌++◌, length, Option, Some, None, Vec, Bor, refl, ap, sym, ◌∙◌, subst, arith}
 use Rattle.std.specs.Bool.{Decides}
 use Rattle.std.specs.Global.{Global}
@@ -26,7 +26,7 @@ name_decides x y =
     let both = bytes_eq-Decides x y in
     ((λ h. both.0 (sym (is_eq-slice_cmp x y) ∙ h)), (λ e. is_eq-slice_cmp x y ∙ both.1 e))
 
--- what is not meant stays
+-- other keys keep their lists
 pub apart : {X P : Type 0} (b : Bool) (w o : Option X) → Decides b P → (P → ⊥) → cond b w o ≡ o
 apart true w o d none = absurd (none (d.0 refl))
 apart false w o d none = refl
@@ -83,7 +83,7 @@ size_taken test old new o items removed is seen =
     let more : length (nodes_view items) ≡ length (found (lookup test old)) = ap length seen ∙ ap (λ (p : Option Lists). length (found p)) is in
     omega (arith, all, left, size, more)
 
--- one kind of node by its name or number, the other as it was
+-- one kind of node by its name or number, the other unchanged
 renamed : {P Q R A B : Type 0} → (P → Q) → (Q → P) → B ↔ ((P × R) ⊎ A) → B ↔ ((Q × R) ⊎ A)
 renamed on back h = ((λ b. ⊎_elim (λ p. inl (on p.0, p.1)) (λ a. inr a) (h.0 b)), (λ s. h.1 (⊎_elim (λ q. inl (back q.0, q.1)) (λ a. inr a) s)))
 

@@ -6,7 +6,7 @@ use Rattle.just_resolution.specs.Seen.{is_name_in, is_number_in}
 use Rattle.just_changes.specs.Nodes.{PlainNode, OfFunction, OfVariable}
 use Rattle.just_changes.specs.View.{is_touched}
 
--- the other kind of node stays as it was
+-- the other kind of node is unchanged
 apart : {P A : Type 0} → (P → ⊥) → A ↔ (P ⊎ A)
 apart none = ((λ a. inr a), (λ h. ⊎_elim (λ p. absurd (none p)) (λ a. a) h))
 

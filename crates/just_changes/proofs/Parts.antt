@@ -1,4 +1,4 @@
--- What tests of the parts of two expressions decide.
+-- What the tests of parts decide about two expressions.
 use Rattle.std.proofs.Common.{◌≡◌, ◌↔◌, Bool, true, false, refl, ap, sym, ◌∙◌}
 use Rattle.just_syntax.specs.Plain.{Token, Literal, Exprs, Pieces, Call, FormatString, ListOf}
 
@@ -27,7 +27,7 @@ module _ (t u : Literal) (es fs : Pieces) (a b : Bool) (first : (a ≡ true) ↔
   pub then_format_string : a ≡ true → (b ≡ true) ↔ (es ≡ fs) → (b ≡ true) ↔ (FormatString t es ≡ FormatString u fs)
   then_format_string on second = then_other a b on first second (λ e. cc) (λ x y. cc)
 
--- ---- pairs, and what is compared in other words
+-- ---- pairs, and equivalent comparisons
 
 pub then_pair : {P Q : Type 0} (a b : Bool) → a ≡ true → (a ≡ true) ↔ P → (b ≡ true) ↔ Q → (b ≡ true) ↔ (P × Q)
 then_pair a b on first second = ((λ h. (first.0 on, second.0 h)), (λ p. second.1 p.1))

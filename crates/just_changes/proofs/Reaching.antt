@@ -1,4 +1,4 @@
--- What differences reach are the variables whose cones differ.
+-- Differences reach exactly the variables whose cones differ.
 use Rattle.std.proofs.Common.{◌≡◌, ◌↔◌, ◌⊎◌, inl, inr, ⊎_elim, ℕ, Bool, true, false, List, [], Option, Some, None, IsTrue, refl, ap, sym, ◌∙◌, subst}
 use Rattle.std.proofs.lemmas.Bool.{not-false, not-true}
 use Rattle.just_syntax.specs.Plain.{Text, Token, Assignment, Expr, Call, Nil, Function}
@@ -9,7 +9,7 @@ use Rattle.just_agreement.specs.Cone.{Cone, Itself, ReadBy, HaveSameCone, IsEval
 use Rattle.just_changes.specs.Nodes.{PlainNode, OfFunction, OfVariable, Version, AssignmentReads, IsFree, IsListed, IsReached, IsSame, Mentions, ReadsItself, Starts}
 use Rattle.just_changes.specs.Nodes as nodes
 
--- what stands at each number and each name of a module
+-- the assignments, overrides and functions of a module
 abbrev pub version_of : Module → Version
 version_of m = record { assignment = numbered m.assignments.all; function = function_at m.program.functions; override = m.overrides }
 
@@ -62,7 +62,7 @@ module _ (m w : Module) (outer : Frames) where
   called {e} {name} {further} k stands (Here j here) = ⊎_elim (λ same. Here k (subst (λ t. Stands e (CallOf t k)) (called_name name further 0 j same) stands)) (λ bad. absurd bad) here
   called {e} {name} {further} k stands (Later mid j here f found rest) = ⊎_elim (λ same. Later mid k (subst (λ t. Stands e (CallOf t k)) (called_name name mid 0 j same) stands) f found rest) (λ bad. absurd bad) here
 
-  -- a call alone is as fine as what it stands in
+  -- a call alone is as fine as the expression in which it occurs
   narrow : {e : Expr} {name : Text} (k : ℕ) → Stands e (CallOf name k) → IsFineFrom e → IsFineFrom (call_of name)
   narrow k stands h = (
     (λ further reached. h.0 further (called k stands reached)),
@@ -101,7 +101,7 @@ module _ (m w : Module) (outer : Frames) where
     never {x} (Starts listed) h = differ x listed (fine_same x h)
     never {x} (nodes.ReadBy z there listed) h = never there (passes x z ((reading z x).0 listed) h)
 
-    -- what is not touched reads nothing that is
+    -- an untouched node reads no touched one
     down : (y x : PlainNode) → ReadsItself before outer y x → touched y ≡ false → touched x ≡ false
     down y x reads off = not_true (touched x) (λ on. both_ways (touched y) off ((reached y).1 (nodes.ReadBy x ((reached x).0 on) ((reading x y).1 reads))))
 

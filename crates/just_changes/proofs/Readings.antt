@@ -1,4 +1,4 @@
--- What is read, one reading after another.
+-- Collecting what is read, one reading after another.
 use Rattle.std.proofs.Common.{◌≡◌, ◌↔◌, ◌⊎◌, inl, inr, ⊎_elim, ℕ, Bool, true, false, List, [], ◌∷◌, Option, Some, None, ap, sym, ◌∙◌, subst}
 use Rattle.just_syntax.specs.Plain.{Text, Expr}
 use Rattle.just_meaning.specs.Reaches.{Mention, VariableOf, CallOf}
@@ -6,36 +6,36 @@ use Rattle.just_resolution.specs.Sites.{Site, sites_in}
 use Rattle.just_resolution.proofs.Standing.{Mentioned, mentioned}
 use Rattle.just_changes.specs.Nodes.{PlainNode, OfFunction, OfVariable, AmongSites, IsOneMention, IsOneVariable, Mentions}
 
--- ---- what is there and what is left
+-- ---- what was collected and what remains
 
--- one more was added, and fewer are left
+-- one more was collected, and fewer remain
 pub one_more : {A B P L M D : Type 0} → B ↔ (P ⊎ A) → (M → P ⊎ L) → (P ⊎ L → M) → (A ⊎ M) ↔ D → (B ⊎ L) ↔ D
 one_more added out back all = (
   (λ h. all.0 (⊎_elim (λ b. ⊎_elim (λ p. inr (back (inl p))) (λ a. inl a) (added.0 b)) (λ l. inr (back (inr l))) h)),
   (λ d. ⊎_elim (λ a. inl (added.1 (inr a))) (λ m. ⊎_elim (λ p. inl (added.1 (inl p))) (λ l. inr l) (out m)) (all.1 d)),
 )
 
--- the same where one reader reads them
+-- the same with one reader
 pub left_more : {A B R P L M D : Type 0} → B ↔ ((R × P) ⊎ A) → (M → P ⊎ L) → (P ⊎ L → M) → (A ⊎ (R × M)) ↔ D → (B ⊎ (R × L)) ↔ D
 left_more added out back all =
     one_more added (λ h. ⊎_elim (λ p. inl (h.0, p)) (λ l. inr (h.0, l)) (out h.1)) (λ h. ⊎_elim (λ p. (p.0, back (inl p.1))) (λ l. (l.0, back (inr l.1))) h) all
 
--- none is left
+-- none remains
 pub at_last : {A L D : Type 0} → (L → ⊥) → (A ⊎ L) ↔ D → A ↔ D
 at_last none all = ((λ a. all.0 (inl a)), (λ d. ⊎_elim (λ a. a) (λ l. absurd (none l)) (all.1 d)))
 
--- the same, and more beside it
+-- the same with an alternative
 pub beside : {A B C : Type 0} → A ↔ B → (A ⊎ C) ↔ (B ⊎ C)
 beside h = ((λ s. ⊎_elim (λ a. inl (h.0 a)) (λ c. inr c) s), (λ s. ⊎_elim (λ b. inl (h.1 b)) (λ c. inr c) s))
 
 pub swapped : {A B : Type 0} → (A ⊎ B) ↔ (B ⊎ A)
 swapped = ((λ h. ⊎_elim (λ a. inr a) (λ b. inl b) h), (λ h. ⊎_elim (λ b. inr b) (λ a. inl a) h))
 
--- nothing was added
+-- nothing was collected
 pub nothing_more : {A P : Type 0} → (P → ⊥) → A ↔ (P ⊎ A)
 nothing_more none = ((λ a. inr a), (λ h. ⊎_elim (λ p. absurd (none p)) (λ a. a) h))
 
--- what was added, in other words
+-- what was collected, in an equivalent form
 pub same_more : {A B P Q : Type 0} → (P → Q) → (Q → P) → B ↔ (P ⊎ A) → B ↔ (Q ⊎ A)
 same_more on back added = (
   (λ b. ⊎_elim (λ p. inl (on p)) (λ a. inr a) (added.0 b)),
@@ -62,7 +62,7 @@ variable_one own number k (OfVariable n) is h = let e : Some k ≡ Some n = sym 
 
 -- ---- what is mentioned
 
--- one site more, where those behind it are known: a function that is called there
+-- one more site, given the sites after it: a function that is called there
 function_by : (own : ℕ → Type 0) (ss : List Site) (t : Text) (m : Mention) → AmongSites own ss (OfFunction t) ↔ ((k : ℕ) × Mentioned ss (CallOf t k)) →
     (IsOneMention own m (OfFunction t) ⊎ AmongSites own ss (OfFunction t)) ↔ ((k : ℕ) × ((m ≡ CallOf t k) ⊎ Mentioned ss (CallOf t k)))
 function_by own ss t (CallOf name j) rest = (
@@ -79,7 +79,7 @@ function_among : (own : ℕ → Type 0) (ss : List Site) (t : Text) → AmongSit
 function_among own [] t = ((λ h. absurd h), (λ h. absurd h.1))
 function_among own (s ∷ ss) t = function_by own ss t s.mention (function_among own ss t)
 
--- one site more: a variable there, which is not an own one
+-- one more site: a variable there that is not an own one
 variable_by : (own : ℕ → Type 0) (ss : List Site) (n : ℕ) (m : Mention) → AmongSites own ss (OfVariable n) ↔ (Mentioned ss (VariableOf (Some n)) × (own n → ⊥)) →
     (IsOneMention own m (OfVariable n) ⊎ AmongSites own ss (OfVariable n)) ↔ (((m ≡ VariableOf (Some n)) ⊎ Mentioned ss (VariableOf (Some n))) × (own n → ⊥))
 variable_by own ss n (CallOf name j) rest = (
@@ -91,12 +91,12 @@ variable_by own ss n (VariableOf number) rest = (
   (λ h. ⊎_elim (λ e. inl (let same : number ≡ Some n = cc in same, h.1)) (λ k. inr (rest.1 (k, h.1))) h.0),
 )
 
--- a variable at one of these sites, which is not an own one
+-- a variable at one of these sites that is not an own one
 variable_among : (own : ℕ → Type 0) (ss : List Site) (n : ℕ) → AmongSites own ss (OfVariable n) ↔ (Mentioned ss (VariableOf (Some n)) × (own n → ⊥))
 variable_among own [] n = ((λ h. absurd h), (λ h. h.0))
 variable_among own (s ∷ ss) n = variable_by own ss n s.mention (variable_among own ss n)
 
--- what stands at the sites of an expression is what is mentioned
+-- what an expression mentions is what occurs at its sites
 pub sites_are : (own : ℕ → Type 0) (e : Expr) (x : PlainNode) → Mentions own e x ↔ AmongSites own (sites_in e) x
 sites_are own e (OfFunction t) =
     let all = function_among own (sites_in e) t in (
@@ -109,7 +109,7 @@ sites_are own e (OfVariable n) =
       (λ h. let k = all.0 h in ((mentioned e (VariableOf (Some n))).0 k.0, k.1)),
     )
 
--- the same own numbers
+-- with the same own numbers, the same is mentioned
 pub mentions_alike : (own other : ℕ → Type 0) (e : Expr) → ((n : ℕ) → other n → own n) → (x : PlainNode) → Mentions own e x → Mentions other e x
 mentions_alike own other e same (OfFunction t) h = h
 mentions_alike own other e same (OfVariable n) h = (h.0, λ k. h.1 (same n k))
@@ -117,6 +117,6 @@ mentions_alike own other e same (OfVariable n) h = (h.0, λ k. h.1 (same n k))
 pub both_ways : (b : Bool) → b ≡ false → b ≡ true → ⊥
 both_ways b off on = let e : false ≡ true = sym off ∙ on in cc
 
--- nothing was there, and all is left
+-- nothing was collected yet, and everything remains
 pub from_none : {A M : Type 0} → (A → ⊥) → (A ⊎ M) ↔ M
 from_none none = ((λ h. ⊎_elim (λ a. absurd (none a)) (λ m. m) h), (λ m. inr m))

@@ -15,7 +15,7 @@ listed_append (y ∷ xs) ys x =
       (λ h. ⊎_elim (λ k. ⊎_elim (λ j. inl j) (λ j. inr (rest.1 (inl j))) k) (λ k. inr (rest.1 (inr k))) h),
     )
 
--- what is taken out of lists and what is left are all
+-- what is removed from the lists and what remains are all
 pub total_taken : {K A : Type 0} (test : K → Bool) (es : List (K × Vec declared.Node A)) → total (remove_entry test es) + length (found (lookup test es)) ≡ total es
 total_taken test [] = refl
 total_taken test (e ∷ es) = by (test e.0) refl (total_taken test es)
@@ -24,15 +24,15 @@ total_taken test (e ∷ es) = by (test e.0) refl (total_taken test es)
     by true is rest = let size : length (nodes_view e.1.items) ≡ length e.1.items = length-map _ _ in omega (arith, size)
     by false is rest = omega (arith, rest)
 
--- Where a walk stands: what starts it is touched or pending, and so is what reads the touched; all of that is reached. The
--- readers of what is not touched are still there.
+-- The invariant of the walk. The starting nodes, and the readers of touched nodes, are touched or pending; all of these
+-- are reached. The readers of other nodes are still in the lists.
 pub record IsWalked (readers : PlainNode → List PlainNode) (starts : List PlainNode) (left : PlainNode → List PlainNode) (touched : PlainNode → Bool) (pending : List PlainNode) : Type 0 where
   pub begun : (x : PlainNode) → IsListed starts x → IsTrue (touched x) ⊎ IsListed pending x
   pub closed : (x y : PlainNode) → IsTrue (touched x) → IsListed (readers x) y → IsTrue (touched y) ⊎ IsListed pending y
   pub reached : (x : PlainNode) → IsTrue (touched x) ⊎ IsListed pending x → IsReached readers starts x
   pub left_alone : (x : PlainNode) → touched x ≡ false → left x ≡ readers x
 
--- one node more
+-- one more node
 abbrev pub Adds : (PlainNode → Bool) → (PlainNode → Bool) → PlainNode → Type 0
 Adds old new node = (x : PlainNode) → IsTrue (new x) ↔ ((node ≡ x) ⊎ IsTrue (old x))
 
@@ -60,7 +60,7 @@ module _ (readers : PlainNode → List PlainNode) (starts : List PlainNode) wher
         by true on = absurd (let h : new x ≡ true = (adds x).1 (inr on) in let e : false ≡ true = sym off ∙ h in cc)
         by false is = is
 
-    -- the last of what is pending was touched before
+    -- the last pending node was already touched
     pub passes : IsTrue (old node) → IsWalked readers starts left new front
     passes there = record {
       begun = λ x h. settled front (λ y k. k) x (w.begun x h);
@@ -69,7 +69,7 @@ module _ (readers : PlainNode → List PlainNode) (starts : List PlainNode) wher
       left_alone = λ x off. w.left_alone x (new_off x off);
     }
 
-    -- the last of what is pending is touched now, and its readers are pending
+    -- the last pending node is touched now, and its readers are pending
     pub touches : (later : PlainNode → List PlainNode) (taken : List PlainNode) → old node ≡ false → taken ≡ left node → ((x : PlainNode) → (node ≡ x → ⊥) → later x ≡ left x) → IsWalked readers starts later new (front ++ taken)
     touches later taken out is others =
         let mine : taken ≡ readers node = is ∙ w.left_alone node out in

@@ -1,4 +1,4 @@
--- What is found in versions, and versions that are alike.
+-- Look-ups in versions, and equal versions.
 use Rattle.std.proofs.Common.{◌≡◌, ◌↔◌, ℕ, Bool, true, false, cond, List, [], ◌∷◌, map, nat_eq, if◌then◌else◌, Option, Some, None, is_some, not, Bor, refl, ap, sym, ◌∙◌, subst, arith}
 use Rattle.std.specs.BTreeMap.{BTreeMap, get, is_at}
 use Rattle.std.specs.Map.{lookup}
@@ -18,12 +18,12 @@ use Rattle.just_changes.specs.View.{assignment_in}
 use Rattle.just_changes.proofs.Lists.{apart, number_decides}
 use Rattle.just_changes.specs.Nodes.{PlainNode, OfFunction, OfVariable, Version, IsFree, IsSame, Mentions, ReadsItself}
 
--- what was seen through a reference
+-- a view through a reference
 pub seen_behind : {X Y : Type 0} (f : X → Y) (o : Option (Bor X)) → option_map f (option_map (λ v. v.now) o) ≡ option_map (λ v. f v.now) o
 seen_behind f None = refl
 seen_behind f (Some v) = refl
 
--- one assignment more, behind those that were there
+-- one more assignment, after those already there
 pub or_more : (o rest : Option Assignment) (b : Bool) (a : Assignment) → option_or (option_or o (if b then Some a else None)) rest ≡ option_or o (if b then Some a else rest)
 or_more None rest true a = refl
 or_more None rest false a = refl
@@ -33,12 +33,12 @@ pub or_none : (o : Option Assignment) → option_or o None ≡ o
 or_none None = refl
 or_none (Some x) = refl
 
--- there is one already, or there was none
+-- there already is one, or there was none
 pub kept : (o other : Option Assignment) → is_some o ≡ true → option_or o other ≡ o
 kept None other there = let e : false ≡ true = there in absurd (cc)
 kept (Some x) other there = refl
 
--- the first of a number is kept
+-- the first assignment of a number is kept
 pub added_before : (all : BTreeMap ℕ (Bor declared.Assignment)) (k : ℕ) (a : Assignment) → is_some (lookup (is_at (nat_cmp k)) all.entries) ≡ true → (n : ℕ) → assignment_in all n ≡ option_or (assignment_in all n) (if nat_eq k n then Some a else None)
 added_before all k a there n = by (nat_eq k n) refl
   where
@@ -75,7 +75,7 @@ added_new old new k a out updates n = by (nat_eq k n) refl
         let other : k ≡ n → ⊥ = (λ e. grind (arith, nat_tests)) in
         ap (option_map (λ (b : Bor declared.Assignment). assignment_view b.now)) (updates n ∙ apart (is_at (nat_cmp k) n) (Some a) (get nat_cmp old n) (number_decides k n) other) ∙ sym (or_none (assignment_in old n))
 
--- what a look-up found, as plain data
+-- the result of a look-up, as plain data
 pub function_found : (name : Text) (fs : List FunctionDefinition) (r : Option (Bor FunctionDefinition)) → option_map (λ v. v.now) r ≡ value_at (λ f. f.name.token.lexeme.now) name fs → function_at (map function_view fs) name ≡ option_map (λ v. function_view v.now) r
 function_found name fs r is = seen_at function_view (λ f. f.name.lexeme) name fs ∙ ap (option_map function_view) (sym is) ∙ seen_behind function_view r
 
@@ -84,7 +84,7 @@ pub none_found : {X Y : Type 0} (f : X → Y) (o : Option (Bor X)) (p : Option Y
 none_found f None p answer is seen = ((λ h. seen), (λ h. not-false answer (sym is)))
 none_found f (Some x) p answer is seen = ((λ h. absurd (let e : true ≡ false = is ∙ ap not h in cc)), (λ h. absurd (let e : None ≡ Some (f x.now) = sym h ∙ seen in cc)))
 
--- ---- versions that are alike
+-- ---- equal versions
 
 pub record AreAlike (v u : Version) : Type 0 where
   pub assignments : (n : ℕ) → v.assignment n ≡ u.assignment n

@@ -22,7 +22,7 @@ abbrev pub AnyAssignment : Version → Frames → List Assignment → PlainNode 
 AnyAssignment v outer [] y x = ⊥
 AnyAssignment v outer (a ∷ more) y x = ((OfVariable a.number ≡ y) × AssignmentReads v outer a x) ⊎ AnyAssignment v outer more y x
 
--- one of these functions is
+-- one of these functions is a node that reads another
 abbrev pub AnyFunction : List Function → PlainNode → PlainNode → Type 0
 AnyFunction [] y x = ⊥
 AnyFunction (f ∷ more) y x = ((OfFunction f.name.lexeme ≡ y) × FunctionReads f x) ⊎ AnyFunction more y x
@@ -43,7 +43,7 @@ any_assignment_reads : (v : Version) (outer : Frames) (all : List Assignment) (y
 any_assignment_reads v outer [] y x h = absurd h
 any_assignment_reads v outer (a ∷ more) y x h = ⊎_elim (λ k. assignment_reads v outer a y x k.0 k.1) (λ k. any_assignment_reads v outer more y x k) h
 
--- the one that is found is one of them
+-- the assignment that a look-up finds is one of them
 numbered_any : (v : Version) (outer : Frames) (all : List Assignment) (k : ℕ) (a : Assignment) (y x : PlainNode) → numbered all k ≡ Some a → OfVariable a.number ≡ y → AssignmentReads v outer a x → AnyAssignment v outer all y x
 numbered_any v outer [] k a y x found is h = absurd (cc)
 numbered_any v outer (b ∷ more) k a y x found is h = by (λ later. numbered_any v outer more k a y x later is h) (nat_eq b.number k) found
@@ -65,7 +65,7 @@ not_below_itself t less =
     let f : is_eq (slice_cmp nat_cmp t t) ≡ false = ap is_eq less in
     let g : false ≡ true = sym f ∙ e in cc
 
--- the function of a name that reads is the one that is found
+-- the function with a name that reads is the one that a look-up finds
 function_reads : (fs : List FunctionDefinition) (t : Text) (x : PlainNode) → IsStrictlySortedBy (slice_cmp nat_cmp) (map (λ f. f.name.token.lexeme.now) fs) → AnyFunction (map function_view fs) (OfFunction t) x →
     (f : Function) × (function_at (map function_view fs) t ≡ Some f) × FunctionReads f x
 unfolding IsStrictlySortedBy
@@ -83,7 +83,7 @@ function_reads (g ∷ gs) t x sorted h =
     later true is less found = absurd (not_below_itself t (subst (λ s. slice_cmp nat_cmp s t ≡ Less) (sym ((bytes_eq-Decides t g.name.token.lexeme.now).0 is)) less))
     later false is less found = found
 
--- the one that is found is one of them
+-- the function that a look-up finds is one of them
 found_any : (fs : List Function) (t : Text) (f : Function) (x : PlainNode) → function_at fs t ≡ Some f → FunctionReads f x → AnyFunction fs (OfFunction t) x
 found_any [] t f x found h = absurd (cc)
 found_any (g ∷ gs) t f x found h = by (λ later. found_any gs t f x later h) (bytes_eq t g.name.lexeme) refl found

@@ -1,4 +1,4 @@
--- What an edit leaves as it was.
+-- What an edit leaves unchanged.
 use Rattle.std.specs.Prelude.{◌≡◌, ◌≢◌, ℕ, Bool, false, Contains, List, [], ◌∷◌, map}
 use Rattle.std.specs.HashMap.{HashMap}
 use Rattle.std.specs.declared.string.String.{String}
@@ -11,15 +11,15 @@ use Rattle.just_meaning.specs.Resolved.{IsResolved}
 use Rattle.just_meaning.specs.View.{functions_view}
 use Rattle.just_laws.specs.Laws.{AreAnsweredAlike, AreSame}
 
--- A run over this file with these overrides is given such a module: its order, its settings and all else are free.
+-- A module that a run over this file with these overrides may have. Its order, its settings and all else are free.
 pub record IsOver {A S : Type 0} (justfile : Justfile) (given : HashMap ℕ (String A) S) (m : Module) : Type 0 where
   pub assignments : m.assignments.all ≡ map assignment_view justfile.assignments
   pub functions : m.program.functions ≡ functions_view justfile
   pub overrides : (n : ℕ) → m.overrides n ≡ text_numbered given n
 
--- Two runs of two modules in one outer scope, with one fixed context and one limit, both resolved, give a variable that
--- both reach, neither stopped in it, one value or refusal, by the same questions, if whatever both ask, frames aside, is
--- answered alike.
+-- Two runs agree on a variable that both reach and that neither is stopped in: they give it the same value or refusal,
+-- by the same questions. The runs are of two resolved modules in one outer scope, with the same fixed context and
+-- limit. Whatever both ask, frames aside, must be answered alike.
 abbrev pub AreAlikeAt : Module → Module → Frames → ℕ → Type 0
 AreAlikeAt m w outer n = (bs cs : List Block) (o p : Outcome Frames)
     → m.program.fixed ≡ w.program.fixed → m.limit ≡ w.limit → IsResolved m.program.functions m.assignments outer → IsResolved w.program.functions w.assignments outer

@@ -1,4 +1,4 @@
--- What the value of a variable rests on, and what two versions of a module have in common.
+-- What the value of a variable depends on, and what two versions of a module have in common.
 use Rattle.std.specs.Prelude.{◌≡◌, ◌↔◌, ◌⊎◌, ℕ, Bool, IsTrue, List, [], ◌∷◌, Option, Some, None}
 use Rattle.just_syntax.specs.Plain.{Text, Assignment, Expr, Function}
 use Rattle.just_value.specs.Frames.{Frames, value_in}
@@ -10,7 +10,7 @@ pub data PlainNode : Type 0 where
   OfFunction : Text → PlainNode
   OfVariable : ℕ → PlainNode
 
--- a module and its overrides: what stands at each number and each name
+-- a module and its overrides: the assignment and the override of each number, and the function of each name
 pub record Version : Type 0 where
   pub assignment : ℕ → Option Assignment
   pub function : Text → Option Function
@@ -57,17 +57,17 @@ abbrev pub ReadsItself : Version → Frames → PlainNode → PlainNode → Type
 ReadsItself v outer (OfFunction name) x = NameReads v name x
 ReadsItself v outer (OfVariable n) x = NumberReads v outer n x
 
--- a node is this variable, which is not an own one
+-- the node is this variable, and not an own one
 abbrev pub IsOneVariable : (ℕ → Type 0) → Option ℕ → PlainNode → Type 0
 IsOneVariable own number (OfFunction name) = ⊥
 IsOneVariable own number (OfVariable n) = (number ≡ Some n) × (own n → ⊥)
 
--- it is that variable, or the function that is called
+-- the node is this variable, or the called function
 abbrev pub IsOneMention : (ℕ → Type 0) → Mention → PlainNode → Type 0
 IsOneMention own (VariableOf number) x = IsOneVariable own number x
 IsOneMention own (CallOf name k) x = OfFunction name ≡ x
 
--- it stands at one of these sites
+-- the node occurs at one of these sites
 abbrev pub AmongSites : (ℕ → Type 0) → List Site → PlainNode → Type 0
 AmongSites own [] x = ⊥
 AmongSites own (s ∷ ss) x = IsOneMention own s.mention x ⊎ AmongSites own ss x
@@ -76,12 +76,12 @@ abbrev pub IsListed : List PlainNode → PlainNode → Type 0
 IsListed [] x = ⊥
 IsListed (y ∷ ys) x = (y ≡ x) ⊎ IsListed ys x
 
--- some nodes, what reads them, and what reads that
+-- some nodes, their readers, the readers of those, and so on
 pub data IsReached (readers : PlainNode → List PlainNode) (starts : List PlainNode) : PlainNode → Type 0 where
   Starts : {x : PlainNode} → IsListed starts x → IsReached readers starts x
   ReadBy : {y : PlainNode} → (x : PlainNode) → IsReached readers starts x → IsListed (readers x) y → IsReached readers starts y
 
--- What is touched between two versions: the nodes that differ, and in the first version what reads a touched node.
+-- What is touched between two versions: the nodes that differ, and the readers, in the first version, of touched nodes.
 pub record IsTouchedBetween (v u : Version) (outer : Frames) (touched : PlainNode → Bool) : Type 0 where
   pub readers : PlainNode → List PlainNode
   pub read : (x y : PlainNode) → IsListed (readers x) y ↔ ReadsItself v outer y x

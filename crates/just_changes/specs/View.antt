@@ -1,4 +1,4 @@
--- What nodes, readers and versions are as plain data.
+-- Nodes, readers and versions as plain data.
 use Rattle.std.specs.Prelude.{Vec, ◌≡◌, ℕ, ◌+◌, ◌++◌, Bool, List, [], ◌∷◌, Option, Some, None, map, length}
 use Rattle.std.specs.Option.{option_map}
 use Rattle.std.specs.Borrow.{Bor}
@@ -27,7 +27,7 @@ node_view (nodes.Variable n) = OfVariable n
 abbrev pub nodes_view : List declared_node.Node → List PlainNode
 nodes_view ns = map node_view ns
 
--- the nodes in a list that was found
+-- the nodes of a list that a look-up found
 abbrev pub found : {A : Type 0} → Option (Vec declared_node.Node A) → List PlainNode
 found None = []
 found (Some ns) = nodes_view ns.items
@@ -40,7 +40,7 @@ abbrev pub is_touched : Touched → PlainNode → Bool
 is_touched t (OfFunction name) = is_name_in t.functions name
 is_touched t (OfVariable n) = is_number_in t.variables n
 
--- how many nodes lists have
+-- how many nodes the lists have
 abbrev pub total : {K A : Type 0} → List (K × Vec declared_node.Node A) → ℕ
 total [] = 0
 total (e ∷ es) = length e.1.items + total es

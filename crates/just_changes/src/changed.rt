@@ -21,27 +21,28 @@ use just_value::scope::Scope;
 use std::alloc::Global;
 use std::collections::{BTreeSet, HashMap};
 
-/// The numbers of the variables that an edit changes: exactly those whose cone differs. An editor or a build tool that kept
-/// the values of the others need not evaluate them again.
+/// The numbers of the variables that an edit changes: exactly those whose cones differ. An editor or a build tool that
+/// kept the values of the others need not evaluate them again.
 ///
-/// The cone of a variable is the variable itself, and of each member that is evaluated what its expression reads, by
-/// itself or in the bodies of the functions that it reaches. A member is evaluated if it is neither overridden nor bound
-/// in `parent`. Cones differ where a member has another assignment or another override, or one that is evaluated reaches
-/// another function. A number that is missing in one module, or overridden without an assignment, is told as well.
+/// The cone of a variable holds the variable itself and, for each evaluated member, what its expression reads, by
+/// itself or in the bodies of the functions that it reaches. A member is evaluated if it is neither overridden nor
+/// bound in `parent`. Cones differ if a member has another assignment or another override, or if an evaluated member
+/// reaches another function. A number that is missing in one module, or overridden without an assignment, is reported
+/// too.
 ///
-/// Variables are the same by their numbers, and functions by their names: an edit keeps the numbers of what it keeps.
-/// Assignments and functions are compared whole, flags and tokens with their places and paths included, since a refusal
-/// names its place: an edit that moves the lines behind it changes what stands there. The order of evaluation, the
+/// Variables are identified by number, and functions by name: an edit keeps the numbers of what it keeps. Assignments
+/// and functions are compared whole, including flags and tokens with their positions and paths, since a refusal names
+/// its position: an edit that shifts the following lines changes the definitions there. The evaluation order, the
 /// settings and the other fields do not count.
 ///
-/// Neither module need be resolved. Where both are, two runs in one context below `parent` give each other number one
-/// value or refusal, by the same questions, if whatever both ask is answered alike.
+/// Neither module needs to be resolved. If both are, two runs in one context below `parent` give every other number the
+/// same value or refusal, by the same questions, provided that whatever both ask is answered alike.
 ///
-/// Each assignment, override and function is looked at a bounded number of times.
+/// Each assignment, override and function is visited a bounded number of times.
 ///
 /// # Errors
 ///
-/// `OutOfMemory` where memory was asked for and refused.
+/// `OutOfMemory` if an allocation fails.
 pub fn changed<'src>(
     alloc: Global,
     before: &Justfile<'src>,
@@ -60,7 +61,7 @@ pub fn changed<'src>(
     Ok(touched.variables)
 }
 
-// The nodes that differ between two versions, and what reads them in the first.
+// The nodes that differ between two versions, and those that read them in the first, directly or not.
 fn touched_between<'src>(
     alloc: Global,
     before: &Version<'src, '_>,

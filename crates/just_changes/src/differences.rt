@@ -16,7 +16,7 @@ use just_syntax::table::Table;
 use std::alloc::Global;
 use std::collections::HashMap;
 
-// The nodes that differ. One may be there more than once.
+// The nodes that differ. A node may occur more than once.
 pub(crate) fn differences<'src>(
     alloc: Global,
     before: &Version<'src, '_>,
@@ -33,7 +33,7 @@ pub(crate) fn differences<'src>(
     different(alloc, before, after, &all)
 }
 
-// Those of some nodes that differ.
+// Those of these nodes that differ.
 fn different<'src>(
     alloc: Global,
     before: &Version<'src, '_>,
@@ -93,7 +93,7 @@ fn add_functions<'src>(
     Ok(())
 }
 
-// Adds the variables that are overridden.
+// Adds the overridden variables.
 fn add_overrides<'src>(
     nodes: &mut Vec<Node<'src>>,
     overrides: &HashMap<Number, String>,

@@ -1,5 +1,5 @@
-// What an edit of a module changes. It leans on the meaning of evaluation, on the law of equal blocks and on the walk over
-// expressions that the test of resolution has, and never on the evaluator.
+// What an edit of a module changes. It builds on the meaning of evaluation, on the law of equal blocks and on the walk
+// over expressions of the test of resolution, and never on the evaluator.
 #![tactic(auto)]
 
 pub mod changed;

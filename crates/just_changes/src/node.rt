@@ -1,4 +1,4 @@
-// What the value of a variable may rest on.
+// What the value of a variable may depend on.
 
 ghost use Rattle.std.specs.Prelude.{◌≡◌, ◌++◌, [], ◌∷◌, OnOk};
 ghost use Rattle.just_changes.specs.View.{node_view, nodes_view};
@@ -14,7 +14,7 @@ pub(crate) enum Node<'src> {
 }
 
 impl<'src> Node<'src> {
-    // The same node once more.
+    // A copy of the node.
     pub(crate) fn duplicate(&self) -> Node<'src>
         ensures { node_view result ≡ node_view self.now }
     {

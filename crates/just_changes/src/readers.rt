@@ -1,4 +1,4 @@
-// Who reads what.
+// Which nodes read which.
 
 ghost use Rattle.std.specs.Prelude.{◌≡◌, ◌↔◌, ◌⊎◌, ◌+◌, ◌++◌, [], ◌∷◌, IfOk, OnOk, length};
 ghost use Rattle.just_changes.specs.Nodes.{IsListed, PlainNode};
@@ -19,7 +19,7 @@ pub(crate) struct Readers<'src> {
 }
 
 impl<'src> Readers<'src> {
-    // Nothing is read. It takes no memory.
+    // With no readers. It does not allocate.
     pub(crate) fn new(alloc: Global) -> Readers<'src>
         ensures { (x : PlainNode) → readers_of result x ≡ [] }
     {
@@ -47,7 +47,7 @@ impl<'src> Readers<'src> {
         Ok(())
     }
 
-    // Takes the readers of a node out.
+    // Removes and returns the readers of a node.
     pub(crate) fn take(&mut self, read: &Node<'src>) -> Vec<Node<'src>>
         ensures taken { nodes_view result.items ≡ readers_of self.old (node_view read.now) }
         ensures left { (x : PlainNode) → (node_view read.now ≡ x → ⊥) → readers_of self.new x ≡ readers_of self.old x }
@@ -61,7 +61,7 @@ impl<'src> Readers<'src> {
     }
 }
 
-// The readers that were found; none, where there are none.
+// The readers found, or none.
 fn list<'src>(alloc: Global, readers: Option<Vec<Node<'src>>>) -> Vec<Node<'src>>
     ensures { nodes_view result.items ≡ found readers.entry }
 {
@@ -71,7 +71,7 @@ fn list<'src>(alloc: Global, readers: Option<Vec<Node<'src>>>) -> Vec<Node<'src>
     }
 }
 
-// The readers that were found, and one more.
+// The readers found, and one more.
 fn with_reader<'src>(
     alloc: Global,
     readers: Option<Vec<Node<'src>>>,

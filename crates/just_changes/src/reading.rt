@@ -95,7 +95,7 @@ fn add_mentions<'src>(
     Ok(())
 }
 
-// Adds a reader of what stands at these sites, own numbers aside.
+// Adds a reader of what occurs at these sites, own numbers aside.
 fn add_sites<'src>(
     readers: &mut Readers<'src>,
     reader: &Node<'src>,
@@ -110,7 +110,7 @@ fn add_sites<'src>(
     Ok(())
 }
 
-// Adds a reader of what stands at a site, own numbers aside.
+// Adds a reader of what occurs at a site, own numbers aside.
 fn add_site<'src>(
     readers: &mut Readers<'src>,
     reader: &Node<'src>,

@@ -13,8 +13,8 @@ use just_syntax::number::Number;
 use just_syntax::string_literal::StringLiteral;
 use just_syntax::token::Token;
 
-/// Whether two expressions are the same: of one form, with the same texts, the same numbers, and the same tokens, places
-/// and paths included, since a refusal names its place.
+/// Whether two expressions are the same: of one form, with the same texts, numbers and tokens, including positions and
+/// paths, since a refusal names its position.
 #[cycle(is_same)]
 pub fn is_same(one: &Expression, other: &Expression) -> bool
     ensures { IsTrue result ↔ (view one.now ≡ view other.now) }

@@ -11,7 +11,7 @@ use just_syntax::function_definition::FunctionDefinition;
 use just_syntax::name::Name;
 use just_syntax::number::Number;
 
-// Whether both are missing, or both are there and the same.
+// Whether both are missing, or both are present and the same.
 pub(crate) fn is_same_assignment(one: Option<&Assignment>, other: Option<&Assignment>) -> bool
     ensures { IsTrue result ↔ (option_map (λ a. assignment_view a.now) one.entry ≡ option_map (λ a. assignment_view a.now) other.entry) }
 {
@@ -35,7 +35,7 @@ fn are_assignments_same(one: &Assignment, other: &Assignment) -> bool
         && is_same(&one.value, &other.value)
 }
 
-// Whether both are missing, or both are there and the same.
+// Whether both are missing, or both are present and the same.
 pub(crate) fn is_same_function(
     one: Option<&FunctionDefinition>,
     other: Option<&FunctionDefinition>,
@@ -74,7 +74,7 @@ fn are_parameters_same(some: &[(Name, Number)], others: &[(Name, Number)]) -> bo
     left.next().is_none()
 }
 
-// Whether both overrides are missing, or both are there and the same.
+// Whether both overrides are missing, or both are present and the same.
 pub(crate) fn is_same_override(one: Option<&String>, other: Option<&String>) -> bool
     ensures { IsTrue result ↔ (option_map (λ s. string_bytes s.now) one.entry ≡ option_map (λ s. string_bytes s.now) other.entry) }
 {

@@ -19,7 +19,7 @@ pub(crate) struct Touched<'src> {
 }
 
 impl<'src> Touched<'src> {
-    // Nothing is touched. It takes no memory.
+    // With nothing touched. It does not allocate.
     fn new(alloc: Global) -> Touched<'src>
         ensures { (x : PlainNode) → is_touched result x ≡ false }
     {
@@ -29,7 +29,7 @@ impl<'src> Touched<'src> {
         }
     }
 
-    // Adds a node, and answers whether it was not touched before.
+    // Adds a node, and returns whether it was new.
     fn insert(&mut self, node: &Node<'src>) -> Result<bool, OutOfMemory>
         ensures fresh { IfOk result (λ fresh. fresh ≡ not (is_touched self.old (node_view node.now))) }
         ensures touched { OnOk result ((x : PlainNode) → IsTrue (is_touched self.new x) ↔ ((node_view node.now ≡ x) ⊎ IsTrue (is_touched self.old x))) }
@@ -42,10 +42,10 @@ impl<'src> Touched<'src> {
     }
 }
 
-// What these nodes reach through readers, themselves among it.
+// What these nodes reach through readers, including themselves.
 //
-// The readers of a node are taken out once, when it is touched first: so each is looked at once, and readings that go round
-// in a circle come to an end.
+// The readers of a node are removed once, when it is first touched. So each is visited once, and cyclic readings
+// terminate.
 pub(crate) fn spread<'src>(
     alloc: Global,
     mut readers: Readers<'src>,

@@ -20,7 +20,7 @@ use just_value::scope::Scope;
 use std::alloc::Global;
 use std::collections::{BTreeMap, HashMap};
 
-// A module's assignments and functions, and its overrides. Of the assignments of one number the first counts.
+// A module's assignments and functions, and its overrides. If assignments share a number, the first counts.
 #[derive(Drop)]
 pub(crate) struct Version<'src, 'a> {
     pub(crate) assignments: &'a Table<Assignment<'src>>,
@@ -100,7 +100,7 @@ impl<'a, 'src> Version<'src, 'a> {
     }
 }
 
-// The assignments by their numbers, of one number the first.
+// The assignments by number; if several share one, the first.
 fn by_number<'a, 'src>(
     alloc: Global,
     assignments: &'a Table<Assignment<'src>>,

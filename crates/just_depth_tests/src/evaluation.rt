@@ -16,7 +16,7 @@ use just_value::error::Error;
 use just_value::scope::Scope;
 use std::alloc::Global;
 
-// The file that a case counts as, and the directory that it lies in.
+// The file name that a case is given, and its directory.
 const JUSTFILE: &str = "/work/justfile";
 
 const DIRECTORY: &str = "/work";
@@ -43,7 +43,7 @@ fn module_of<'src>(
     })
 }
 
-// Whether a case's assignments end for want of memory with this host.
+// Whether a case's assignments fail with `OutOfMemory`, with this host.
 pub(crate) fn wants_memory<H: Host>(
     alloc: Global,
     host: &mut H,

@@ -1,4 +1,4 @@
-// Calls that are pending, a form around each: the room is that of all bodies together, whatever the limit.
+// Pending calls, with a form around each: one stack budget covers all bodies together, whatever the limit.
 
 use crate::evaluation::wants_memory;
 use crate::silent::Silent;
@@ -10,7 +10,7 @@ use just_syntax::out_of_memory::OutOfMemory;
 use std::alloc::Global;
 use std::test::Fail;
 
-// A form around the call of a function that calls itself, in its body. A million calls may be pending.
+// A function whose body calls itself, inside a form. A million calls may be pending.
 #[test]
 fn a_million_may_be_pending(rt: HostRuntime) -> Result<(), Fail> {
     let alloc = rt.alloc();
@@ -31,7 +31,7 @@ fn calls_itself(alloc: Global, form: (&str, &str), levels: usize) -> Result<Stri
     Ok(case)
 }
 
-// Whether a case ends for want of memory where a million calls may be pending.
+// Whether a case fails with `OutOfMemory` if a million calls may be pending.
 fn is_stopped(alloc: Global, case: &str) -> Result<bool, Fail> {
     let lines = parse_lines(alloc, case.as_bytes())?;
     let mut case = build(alloc, &lines)?;

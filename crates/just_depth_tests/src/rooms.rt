@@ -1,4 +1,4 @@
-// The room that a host says, alone and inside other hosts.
+// A host's stack budget, for the host alone and inside other hosts.
 
 use crate::evaluation::wants_memory;
 use crate::silent::Silent;
@@ -12,7 +12,7 @@ use just_syntax::out_of_memory::OutOfMemory;
 use std::alloc::Global;
 use std::test::Fail;
 
-// A hundred levels fit within a MiB and not within a thousand bytes, also where the host is inside another.
+// A hundred levels fit into a MiB and not into a thousand bytes, also if the host is inside another.
 #[test]
 fn room_of_the_host(rt: HostRuntime) -> Result<(), Fail> {
     let alloc = rt.alloc();
@@ -40,7 +40,7 @@ fn room_of_the_host(rt: HostRuntime) -> Result<(), Fail> {
     Ok(())
 }
 
-// A room, and whether it is too small.
+// A stack budget, and whether it is too small.
 const ROOMS: &[(usize, bool)] = &[(0, true), (1_000, true), (1_048_576, false)];
 
 fn hundred_levels(alloc: Global) -> Result<String, OutOfMemory> {
@@ -49,7 +49,7 @@ fn hundred_levels(alloc: Global) -> Result<String, OutOfMemory> {
     Ok(case)
 }
 
-// Whether a case ends for want of memory with this host.
+// Whether a case fails with `OutOfMemory` with this host.
 fn is_stopped<H: Host>(alloc: Global, host: &mut H, case: &str) -> Result<bool, Fail> {
     let lines = parse_lines(alloc, case.as_bytes())?;
     Ok(wants_memory(alloc, host, build(alloc, &lines)?)?)

@@ -1,4 +1,4 @@
-// A host that has no memory for any answer.
+// A host that runs out of memory for every answer.
 
 use just_host::command_question::CommandQuestion;
 use just_host::host::Host;
@@ -9,7 +9,7 @@ use just_syntax::out_of_memory::OutOfMemory;
 use just_value::error::CommandFault;
 use std::alloc::Global;
 
-/// Says how many bytes of stack evaluation may take, and answers nothing.
+/// Sets the stack budget of evaluation, in bytes, and answers nothing.
 #[derive(Drop)]
 pub(crate) struct Silent {
     pub(crate) room: usize,

@@ -1,4 +1,4 @@
-// Forms around forms: however deep, a case ends by an answer, a refusal or a status.
+// Forms around forms: at any depth, a case ends with an answer, a refusal or a status.
 
 use just_bench::program::run;
 use just_bench::stream::LIMIT;
@@ -7,7 +7,7 @@ use std::alloc::Global;
 use std::process::Abort;
 use std::test::Fail;
 
-// What stands before and behind the expression that a form is put around.
+// What comes before and after the expression that a form is put around.
 pub(crate) const FORMS: &[(&str, &str)] = &[
     ("", "group\n"),
     ("", "not\n"),
@@ -36,13 +36,13 @@ pub(crate) const FORMS: &[(&str, &str)] = &[
     ("", "call trim 1\n"),
 ];
 
-// More levels than evaluation has room for, whatever the form, and one fewer than an expression of a case may have: in some
-// towers an empty list, which is a level itself, stands beside the innermost form.
+// More levels than the stack budget allows, whatever the form, and one fewer than an expression of a case may have: in
+// some towers an empty list, which is itself a level, is next to the innermost form.
 const MOST_LEVELS: usize = 18_999;
 
 pub(crate) const WANT: &str = "refused 12 OutOfMemory\n";
 
-// Adds a text so often.
+// Adds a text this many times.
 fn repeat(text: &mut String, piece: &str, count: usize) -> Result<(), OutOfMemory> {
     for _ in 0..count {
         text.push_str(piece)?;
@@ -50,7 +50,7 @@ fn repeat(text: &mut String, piece: &str, count: usize) -> Result<(), OutOfMemor
     Ok(())
 }
 
-// The lines of a form around itself, so many levels of it, with this at its innermost place. `g` is a function.
+// The lines of a form around itself, this many levels deep, with this at the innermost place. `g` is a function.
 pub(crate) fn tower(
     alloc: Global,
     form: (&str, &str),
@@ -96,7 +96,7 @@ fn as_deep_as_held(alloc: Global, form: (&str, &str)) -> Result<String, OutOfMem
     Ok(case)
 }
 
-// At the most levels that it may have an expression is refused where it is evaluated, and let go where it is not.
+// An expression with the most levels allowed is refused if it is evaluated, and dropped if it is not.
 #[test]
 fn as_deep_as_an_expression_may_be(rt: HostRuntime) -> Result<(), Fail> {
     let alloc = rt.alloc();
@@ -116,7 +116,8 @@ const ENDS: &[(&str, &str, u8)] = &[
     ("assign a\noverride a 5\nrun\n", "a = \"5\"\n", 0),
 ];
 
-// What an assertion prints of its condition was not evaluated, and nests deeper than is left of the room.
+// An assertion prints a condition with a part that was not evaluated, and that nests deeper than the rest of the stack
+// budget allows.
 #[test]
 fn printed_deeper_than_evaluated(rt: HostRuntime) -> Result<(), Fail> {
     let alloc = rt.alloc();
@@ -127,7 +128,7 @@ fn printed_deeper_than_evaluated(rt: HostRuntime) -> Result<(), Fail> {
     Ok(())
 }
 
-// The condition is a tower behind an empty list, and is within 8,900 groups.
+// The condition is a tower after an empty list, inside 8,900 groups.
 fn printed_deeper(alloc: Global, form: (&str, &str)) -> Result<String, OutOfMemory> {
     let (before, behind) = form;
     let mut case = String::from_str(alloc, "var p\nfun g p\nlist 0\n")?;
@@ -140,7 +141,7 @@ fn printed_deeper(alloc: Global, form: (&str, &str)) -> Result<String, OutOfMemo
     Ok(case)
 }
 
-// Before any run too.
+// The same before any run.
 #[test]
 fn before_any_run(rt: HostRuntime) -> Result<(), Fail> {
     let alloc = rt.alloc();

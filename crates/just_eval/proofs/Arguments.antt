@@ -24,13 +24,13 @@ use Rattle.just_forms.specs.Check.{Gives, IsJudged}
 use Rattle.just_eval.specs.View.{IsSameBut, below_of, situation_of}
 use Rattle.just_eval.specs.declared.evaluator.Evaluator.{Evaluator}
 
--- ---- where it stands
+-- ---- situations
 
--- where it stands, but for the environment, the frames that are seen and those below a called body's
+-- the situation of an evaluator, with another environment, other frames to read and others below a called body's
 abbrev placed : Evaluator → List (Text × Text) → Frames → Frames → Situation
 placed e environment shown below = record (situation_of e) { names = value_in shown; environment = environment; shown = shown; below = below }
 
--- what is the same but for the scope and the environment
+-- the situation of an evaluator that differs only in its scope and environment
 situation_but : (e f : Evaluator) → IsSameBut e f → situation_of f ≡ placed e (pairs_view f.env) (frames_view f.scope) (below_of e.base (frames_view f.scope))
 situation_but e f same = λ i. record {
   names = value_in (frames_view f.scope);
@@ -42,11 +42,11 @@ situation_but e f same = λ i. record {
   below = below_of (same.base i) (frames_view f.scope);
 }
 
--- one more variable
+-- with one more variable
 pub situation_set : (e f : Evaluator) → IsSameBut e f → f.scope ≡ e.scope → situation_of f ≡ record (situation_of e) { environment = pairs_view f.env }
 situation_set e f same scope = situation_but e f same ∙ ap (λ (s : Scope). placed e (pairs_view f.env) (frames_view s) (below_of e.base (frames_view s))) scope
 
--- one more parameter
+-- with one more parameter
 pub situation_bound : (e f : Evaluator) (frames : Frames) → IsSameBut e f → f.env ≡ e.env → is_some e.base ≡ true → frames_view f.scope ≡ frames → situation_of f ≡ seeing frames (situation_of e)
 situation_bound e f frames same env based is = situation_but e f same ∙ by e.base refl based
   where
@@ -56,7 +56,7 @@ situation_bound e f frames same env based is = situation_but e f same ∙ by e.b
 
 -- ---- one parameter
 
--- its value, and what the check says of it
+-- its value, and the verdict of the check
 pub checked_value : {S F : Type 0} {rules : Rules} {step : S → Question → Answer → S → Type 0} {old mid : S} {calls : Shared F (Bor Recipe × (Bor Parameter × (Bor Value × Unit {0}))) (Result Unit CheckFault)} {f : F} {r : Recipe}
     (means : Expr → Tree Value) (is_dependency : Bool) (recipe : Text) (p : plain.Parameter) (argument v : Value) (o : Outcome Value) → Runs rules step old (valued means is_dependency recipe p argument) (Gave v) mid → IsJudged calls f r p v o
     → RunsChecked rules step (Gives calls f r) old (checked means is_dependency recipe p argument) o mid

@@ -66,7 +66,7 @@ module _ {S : Type 0} {step : S → Question → Answer → S → Type 0} (m : C
   told : {old new : S} (o : Outcome Value) → Runs (constantly s.is_open) step old (own m s a) o new → IsTold s.is_open (own m s a) o old new
   told o r = const_told s.is_open _ o (const_override IsConstEval s.is_open (m.overrides a.number) _ (eval_alike s.is_open _ _ _ a.value)) r
 
-  -- what it is refused with is a refusal of constant evaluation
+  -- such a refusal is one of constant evaluation
   pub few_assigned : {old new : S} (e : Option Refusal) → InStage step m s a old new (without_value e) → OfSome IsConstEval e
   few_assigned (Some r) (IsRefused _ u runs) = (told (Refused r) runs).few
   few_assigned None h = tt
@@ -92,7 +92,7 @@ module _ {S : Type 0} {step : S → Question → Answer → S → Type 0} (m : C
     staged_refused {old = old} {new = new} e o h (Opens c is up) = opened c o (subst (λ e. InStage step m s a old new (without_value e)) is h) up
     staged_refused e o h (Ends final is) = subst (Staged m s (t ∷ [])) (sym is) (staged_other e final h)
 
--- ---- where an evaluator stands
+-- ---- standings of evaluators
 
 pub standing_start : (e : Evaluator) (lists : Bool) (outer : Frames) → e.lists ≡ lists → frames_view e.scope ≡ [] ∷ outer → ((n : ℕ) → (standing_of e).is_open n ≡ false) → standing_of e ≡ at_start lists outer
 standing_start e lists outer same frames none = λ i. record { lists = same i; frames = frames i; is_open = fun_ext none i }
@@ -102,7 +102,7 @@ standing_same e f same =
     ap (λ l. record { lists = l; frames = frames_view f.scope; is_open = (standing_of f).is_open }) same.lists
     ∙ ap (λ set. record { lists = e.lists; frames = frames_view f.scope; is_open = λ n. list_any (nat_eq n) set.keys }) same.open_numbers
 
--- the exit of a `?` that asked for memory
+-- the exit of a `?` after a failed allocation
 pub opened_exit : {X : Type 0} (f : X → Standing) (r : Result X CompileError) (e d : CompileError) → r ≡ Err d → d ≡ e → (w : Outcome Standing) → UnlessStopped (without_value (compile_refusal e)) w → UnlessStopped (const_ended f r) w
 opened_exit f r e d p q w is = rw (p, q) is
 
@@ -115,7 +115,7 @@ standing_opened e f n lists frames put =
     ∙ ap (λ fs. record { lists = e.lists; frames = fs; is_open = (standing_of f).is_open }) frames
     ∙ ap (λ is_open. record { lists = e.lists; frames = frames_view e.scope; is_open = is_open }) (fun_ext (λ k. put k ∙ number_with n k (list_any (nat_eq k) e.non_const_assignments.keys)))
 
--- an error that is no `Const` ends a stage
+-- an error other than `Const` ends a stage
 pub final_of : (e : Error) → ((c : _) → e ≡ errors.Const c → ⊥) → OfSome IsFinal (refusal e)
 final_of (errors.Assert message name) other = tt
 final_of (errors.Backtick t f) other = tt
@@ -131,7 +131,7 @@ final_of (errors.ListOperation l o r t) other = tt
 final_of (errors.RecursionLimit last) other = tt
 final_of errors.OutOfMemory other = tt
 
--- so is what is said of a module that is not resolved
+-- so does the refusal of an unresolved module
 pub few_said : (e : Option Refusal) (message : _) (t : Token) → Says e (Internal message t) → OfSome IsConstEval e
 few_said (Some r) message t is = subst IsConstEval (sym is) tt
 few_said None message t is = tt

@@ -1,4 +1,4 @@
--- What is left of a recipe's attributes.
+-- Evaluating the rest of a recipe's attributes.
 use Rattle.std.proofs.Common.{◌≡◌, List, [], ◌∷◌, length, map, refl, ap, sym, subst, ◌∙◌, Option}
 use Rattle.just_syntax.specs.Plain.{Text, Token, Attribute, Env, Expr, Other}
 use Rattle.just_syntax.specs.StringContext.{EnvKey}
@@ -38,17 +38,17 @@ pub left_none : (items : List (Declared × Name)) → length items ≡ 0 → map
 left_none [] none = refl
 left_none (x ∷ xs) none = absurd (cc)
 
--- ---- what is left
+-- ---- the rest
 
 module _ {S : Type 0} (step : S → Question → Answer → S → Type 0) (start : S) (e : Evaluator) (all : List (Attribute × Token)) where
   abbrev means : Meanings
   means = dynamic_meanings e.context
 
-  -- what the attributes come to
+  -- what the attributes evaluate to
   abbrev Whole : Outcome (List (Text × Text)) → S → Type 0
   Whole o new = Runs (rules_of e) step start (environment means (situation_of e) all) o new
 
-  -- Whatever those that are left come to from here is what all come to.
+  -- The result of the rest from here is the result of all.
   abbrev pub AttributesLeft : Evaluator → List (Attribute × Token) → S → Type 0
   AttributesLeft f left here = (o : Outcome (List (Text × Text))) (new : S) → Runs (rules_of e) step here (environment means (situation_of f) left) o new → Whole o new
 
@@ -56,12 +56,12 @@ module _ {S : Type 0} (step : S → Question → Answer → S → Type 0) (start
     pub attributes_all : left ≡ [] → Whole (Gave (pairs_view f.env)) here
     attributes_all is = rest _ here (subst (λ l. Runs (rules_of e) step here (environment means (situation_of f) l) (Gave (pairs_view f.env)) here) (sym is) (runs_gives (pairs_view f.env)))
 
-    -- another attribute sets nothing
+    -- any other attribute sets nothing
     pub other_next : (name : Token) (more : List (Attribute × Token)) → left ≡ (Other, name) ∷ more → AttributesLeft f more here
     other_next name more is o new r = rest o new (subst (λ l. Runs (rules_of e) step here (environment means (situation_of f) l) o new) (sym is) r)
 
     module _ (key value : Expr) (name : Token) (more : List (Attribute × Token)) (is : left ≡ (Env key value, name) ∷ more) where
-      -- the value, and then the others
+      -- the value, and then the rest
       abbrev behind_key : Text → Tree (List (Text × Text))
       behind_key k = bind (means (situation_of f) value) (λ v. environment means (record (situation_of f) { environment = with_variable (pairs_view f.env) k v }) more)
 

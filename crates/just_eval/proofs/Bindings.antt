@@ -1,4 +1,4 @@
--- What is left of a recipe's parameters.
+-- Binding the rest of a recipe's parameters.
 use Rattle.std.proofs.Common.{◌≡◌, inl, inr, ◌⊎◌, true, List, [], ◌∷◌, ◌++◌, length, map, refl, sym, subst, Option, Result, Bor}
 use Rattle.std.specs.Fn.{Shared}
 use Rattle.std.specs.Option.{is_some}
@@ -37,11 +37,11 @@ module _ {S F : Type 0} (step : S → Question → Answer → S → Type 0) (cal
   abbrev says : Parameter → Value → Verdict → Type 0
   says = Gives calls check recipe
 
-  -- what the parameters come to
+  -- what the parameters evaluate to
   abbrev Whole : Outcome Arguments → S → Type 0
   Whole o new = RunsChecked (rules_of e) step says start (bindings means name (situation_of e) [] all given) o new
 
-  -- Whatever those that are left come to from here, behind these words, is what all come to.
+  -- The result of the rest from here, after these words, is the result of all.
   abbrev pub ParametersLeft : Evaluator → List Text → List Parameter → List Value → S → Type 0
   ParametersLeft f words left arguments here = (o : Outcome Arguments) (new : S) → RunsChecked (rules_of e) step says here (bindings means name (situation_of f) words left arguments) o new → Whole o new
 
@@ -68,7 +68,7 @@ module _ {S F : Type 0} (step : S → Question → Answer → S → Type 0) (cal
       abbrev first : Tree Value
       first = checked (means (situation_of f)) f.is_dependency name p argument
 
-      -- the parameter is bound, and then the others
+      -- the parameter is bound, and then the rest
       abbrev behind : Value → Tree Arguments
       behind v = bindings means name (seeing (bound_in_front (frames_view f.scope) (parameter_bound f.lists p v)) (situation_of f)) (words ++ words_of p v) more further
 
@@ -90,7 +90,7 @@ module _ {S F : Type 0} (step : S → Question → Answer → S → Type 0) (cal
           pub parameter_stops : Whole Stopped mid
           parameter_stops = fronted (checked_on first behind (judged_here (Gave w) j) (checked_stopped (behind w)))
 
-          -- it is bound
+          -- the parameter is bound
           pub parameter_next : (g : Evaluator) → IsSameBut f g → g.env ≡ f.env → is_some f.base ≡ true → frames_view g.scope ≡ bound_in_front (frames_view f.scope) (parameter_bound f.lists p w) → ParametersLeft g (words ++ words_of p w) more further mid
           parameter_next g but env based bound o last r =
               fronted (checked_on first behind (judged_here (Gave w) j)

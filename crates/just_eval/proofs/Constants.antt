@@ -1,4 +1,4 @@
--- How outcomes before any run are put together.
+-- How outcomes before any run are composed.
 use Rattle.std.proofs.Common.{◌≡◌, ℕ, ◌+◌, ◌<◌, List, [], ◌∷◌, ◌++◌, append_assoc, map, drop, get_or, length, Option, Some, None, Result, Ok, Err, refl, sym, ap, subst}
 use Rattle.std.specs.Prelude.{IfErr}
 use Rattle.std.specs.Option.{ForSome}
@@ -29,7 +29,7 @@ ends_then go w None is = tt
 pub then_exit : {A B X : Type 0} (f : X → B) (go : A → Outcome B) (w : Outcome A) (r : Result X CompileError) (e d : CompileError) → r ≡ Err d → d ≡ e → UnlessStopped (without_value {A = A} (compile_refusal e)) w → UnlessStopped (const_ended f r) (and_then w go)
 then_exit f go w r e d p q is = rw (p, q) (ends_then go w (compile_refusal e) is)
 
--- on from a value
+-- continues with a value
 pub then_gave : {A B : Type 0} (go : A → Outcome B) (w : Outcome A) (a : A) (o : Outcome B) → Gave a ≡ w → UnlessStopped o (go a) → UnlessStopped o (and_then w go)
 then_gave go w a o is h = subst (λ w. UnlessStopped o (and_then w go)) is h
 
@@ -45,20 +45,20 @@ pub few_ended : (r : Result Value Error) → IfRefused IsConstEval (ended (λ v.
 few_ended (Ok v) h = tt
 few_ended (Err e) h = for_some IsConstEval (refusal e) (few_error (refusal e) h)
 
--- where one text is wanted, a list is refused
+-- a list is refused if a single text is required
 pub few_texts : (context : StringContext) (v : Value) (e : Option Refusal) → without_value e ≡ text_in context v → OfSome IsConstEval e
 few_texts context [] (Some r) is = subst (IfRefused {A = Text} IsConstEval) (sym is) tt
 few_texts context (text ∷ []) (Some r) is = absurd (cc)
 few_texts context (text ∷ next ∷ texts) (Some r) is = subst (IfRefused {A = Text} IsConstEval) (sym is) tt
 few_texts context v None is = tt
 
--- elements behind elements behind others
+-- concatenation of elements is associative
 pub elements_behind : {B : Type 0} (v all : Value) (w : Outcome Value) (go : Value → Outcome B) → and_then (and_then (and_then w (λ x. Gave (v ++ x))) (λ x. Gave (all ++ x))) go ≡ and_then (and_then w (λ x. Gave ((all ++ v) ++ x))) go
 elements_behind v all (Gave x) go = ap go (sym (append_assoc all v x))
 elements_behind v all (Refused r) go = refl
 elements_behind v all Stopped go = refl
 
--- on from one more value
+-- continues with one more value
 pub elements_next : {B X : Type 0} (evaluates : Evaluates) (seen : X → Expr) (items : List X) (i : ℕ) (d : X) (fits : i < length items) (all v : Value) (go : Value → Outcome B) (o : Outcome B) → Gave v ≡ evaluates (seen (get_or items i d))
     → UnlessStopped o (and_then (and_then (elements evaluates (map seen (drop (i + 1) items))) (λ w. Gave ((all ++ v) ++ w))) go) → UnlessStopped o (and_then (and_then (elements evaluates (map seen (drop i items))) (λ w. Gave (all ++ w))) go)
 elements_next evaluates seen items i d fits all v go o is h =

@@ -8,7 +8,7 @@ use Rattle.just_syntax.specs.Plain.{Text}
 use Rattle.just_value.specs.Value.{Value, joined}
 use Rattle.just_meaning.specs.Parameters.{with_variable}
 
--- a value that has an element sets a variable
+-- a value with an element sets a variable
 pub set_by : (environment : List (Text × Text)) (key text : Text) (v : Value) → (length v == 0) ≡ false → text ≡ joined v → insert_entry (slice_cmp nat_cmp) environment key text ≡ with_variable environment key v
 set_by environment key text [] some is = absurd (cc)
 set_by environment key text (x ∷ xs) some is = ap (insert_entry (slice_cmp nat_cmp) environment key) is

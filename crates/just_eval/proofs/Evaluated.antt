@@ -1,4 +1,4 @@
--- How a recipe's attributes and parameters are put together.
+-- How evaluating a recipe's attributes and its parameters is composed.
 use Rattle.std.proofs.Common.{◌≡◌, Bool, true, false, List, [], length, nat_eq, if◌then◌else◌, ap, sym, subst, ◌∙◌, Option, Some, None, map, arith}
 use Rattle.std.proofs.lemmas.Bool.Decides.{nat_tests}
 use Rattle.std.proofs.lemmas.List.{length-map}
@@ -21,12 +21,12 @@ use Rattle.just_eval.specs.View.{IsSameBut, dynamic_meanings, rules_of, situatio
 use Rattle.just_eval.specs.declared.evaluator.Evaluator.{Evaluator}
 use Rattle.just_eval.proofs.Arguments.{situation_set}
 
--- what is said of a refusal
+-- the outcome is this refusal, unless memory ran out
 said : (r : Option Refusal) (x : Refusal) → Says r x → UnlessStopped {A = Arguments} (without_value r) (Refused x)
 said (Some s) x h = ap Refused h
 said None x h = tt
 
--- as many arguments as parameters, or another number of them
+-- whether there are as many arguments as parameters
 pub same_count : {X Y Z : Type 0} (f : X → Y) (vs : List Z) (xs : List X) → length vs ≡ length xs → nat_eq (length vs) (length (map f xs)) ≡ true
 same_count f vs xs same = let mapped : length (map f xs) ≡ length xs = length-map xs f in grind (arith, nat_tests)
 
@@ -37,7 +37,7 @@ module _ (c : ExecutionContext) (s : Situation) (recipe : Recipe) (ps : List Par
   abbrev means : Meanings
   means = dynamic_meanings (Some c)
 
-  -- in an environment, if there are as many arguments as parameters
+  -- the bindings, if there are as many arguments as parameters
   abbrev counted : List (Text × Text) → Bool → Tree Arguments
   counted variables b = if b then bindings means recipe.name.lexeme (record s { environment = variables }) [] ps arguments else refuses (Internal mismatched_text recipe.name)
 

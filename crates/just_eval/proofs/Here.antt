@@ -1,4 +1,4 @@
--- What is evaluated here: in a run by the lexical rules, and before any run by the const rules.
+-- What an evaluator evaluates: in a run under lexical scope, and before any run by the const rules.
 use Rattle.std.proofs.Common.{◌≡◌, ℕ, Bool, true, false, List, [], ◌∷◌, map, string_bytes, Option, Some, None, refl, sym, subst}
 use Rattle.std.specs.Option.{is_some, option_map}
 use Rattle.just_syntax.specs.Plain.{Text, Assignment, Expr, Fragment}
@@ -36,8 +36,8 @@ use Rattle.just_laws.proofs.Lexical.{dynamic_is_lexical}
 use Rattle.just_eval.specs.View.{Assigned, IsAtStart, IsConst, IsInRun, IsResolvedIn, Resolves, below_of, calls_left_in, dynamic_meanings, exports_all, exports_all_in, lexical_meaning, meaning, rules_of, situation_of, standing_of}
 use Rattle.just_eval.specs.declared.evaluator.Evaluator.{Evaluator}
 
--- What is made of the meanings of these expressions is made of no more: it is the same of equal meanings, and has no
--- further refusals than they have, but for those of lists.
+-- `make` depends only on the meanings of these expressions: equal meanings give equal trees, and the tree's refusals
+-- are theirs and those of lists.
 pub record IsMadeOf {A : Type 0} (make : (Expr → Tree Value) → Tree A) (es : List Expr) : Type 1 where
   pub same : (means other : Expr → Tree Value) → AllSuch (Same means other) es → make means ≡ make other
   pub never : (means : Expr → Tree Value) → AllSuch (λ e. IsNeverInternal (means e)) es → IsNeverInternal (make means)
@@ -74,12 +74,12 @@ in_run : (context : Option ExecutionContext) (s : Situation) (es : List Expr) �
 in_run (Some c) s es h = refl
 in_run None s es h = absurd h
 
--- what expressions mean by the lexical rules
+-- what expressions mean under lexical scope
 abbrev lexical_in : Option ExecutionContext → Evaluator → Expr → Tree Value
 lexical_in context e x = let s = situation_of e in let p = program_of context in eval p (lexical p (value_in s.below) (calls_left_in context)) s x
 
 module _ (c : ExecutionContext) (e : Evaluator) (all : List Expr) (resolved : IsResolvedIn (Some c) (situation_of e) all) where
-  -- what these expressions mean by dynamic scoping and by the lexical rules
+  -- what these expressions mean under dynamic and under lexical scope
   abbrev dynamically : Expr → Tree Value
   dynamically = dynamic_meanings (Some c) (situation_of e)
 
@@ -141,7 +141,7 @@ situation_start e start =
       below = below_of (start.base i) frames;
     }
 
--- what evaluating an assignment means, by the context and the situation
+-- what evaluating an assignment means in a context and a situation
 abbrev AssignedIn : {S : Type 0} → (S → Question → Answer → S → Type 0) → S → (ℕ → Bool) → Option Text → Expr → Assignment → Frames → Outcome Frames → S → Option ExecutionContext → Situation → Type 0
 AssignedIn step old is_open override x a frames o new context s = Assigned (rules_in context is_open) step old (or_override override (dynamic_meanings context s x)) (exports_all_in context) a frames o new
 

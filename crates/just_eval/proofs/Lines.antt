@@ -1,4 +1,4 @@
--- What is left of a line.
+-- Evaluating the rest of a line.
 use Rattle.std.proofs.Common.{◌≡◌, ℕ, ◌+◌, ◌<◌, ◌≤◌, Bool, false, List, ◌∷◌, ◌++◌, length, get_or, drop, map, ap, sym, subst, ◌∙◌, Option}
 use Rattle.std.proofs.lemmas.List.{drop_all}
 use Rattle.just_syntax.specs.Plain.{Text}

@@ -1,4 +1,4 @@
--- How module runs are put together.
+-- How module runs are composed.
 use Rattle.std.proofs.Common.{◌≡◌, ℕ, ◌+◌, ◌<◌, true, false, List, [], ◌∷◌, ◌++◌, Option, Some, None, Result, Err, map, drop, get_or, length, append_assoc, add-one, drop-cons, refl, sym, ap, ◌∙◌, subst}
 use Rattle.std.proofs.lemmas.List.{append-nil}
 use Rattle.just_syntax.specs.Plain.{Token, Assignment}
@@ -19,14 +19,14 @@ use Rattle.just_laws.proofs.Lexical.{pending_calls_do_not_matter}
 use Rattle.just_host.proofs.Paths.{chain_append, path_cut}
 
 module _ {closing : Closing} {m : Module} where
-  -- on from the frames of a run
+  -- continues a run from its frames
   run_then : {frames mid : Frames} {left more : List Token} {bs cs : List Block} {o : Outcome Frames} → Run closing m frames left bs (Gave mid) → Run closing m mid more cs o → Run closing m frames (left ++ more) (bs ++ cs) o
   run_then Finished q = q
   run_then (Passes a f h r) q = Passes a f h (run_then r q)
   run_then (Skips a b f h i r) q = Skips a b f h i (run_then r q)
   run_then (Binds a es v t p r) q = Binds a es v t p (run_then r q)
 
-  -- a run that ended is one of more assignments
+  -- a run that ended is also a run of more assignments
   run_refused : {frames : Frames} {left : List Token} {bs : List Block} {r : Refusal} (more : List Token) → Run closing m frames left bs (Refused r) → Run closing m frames (left ++ more) bs (Refused r)
   run_refused more (Unknown f) = Unknown f
   run_refused more (Passes a f h r) = Passes a f h (run_refused more r)
@@ -49,7 +49,7 @@ events_append : (bs cs : List Block) → events_of (bs ++ cs) ≡ events_of bs +
 events_append [] cs = refl
 events_append (b ∷ bs) cs = ap (λ es. b.events ++ es) (events_append bs cs) ∙ sym (append_assoc b.events (events_of bs) (events_of cs))
 
--- what is left begins with the item
+-- the rest begins with the item
 pub front : {X Y : Type 0} (seen : X → Y) (items : List X) (i : ℕ) (d : X) → i < length items → map seen (drop i items) ≡ seen (get_or items i d) ∷ map seen (drop (i + 1) items)
 front seen items i d fits = ap (map seen) (drop-cons items i d fits) ∙ ap (λ j. seen (get_or items i d) ∷ map seen (drop j items)) (sym (add-one i))
 
@@ -74,7 +74,7 @@ module _ {S : Type 0} {step : S → Question → Answer → S → Type 0} {closi
   pub ran_exit : {old new : S} {X : Type 0} {frames : Frames} {left : List Token} (f : X → Frames) (r : Result X Error) (e d : Error) → r ≡ Err d → d ≡ e → Ran step old closing m frames left (without_value (refusal e)) new → Ran step old closing m frames left (ended f r) new
   ran_exit f r e d p q h = rw (p, q) h
 
-  -- answered questions alone lead the host on
+  -- only answered questions change the host's state
   pub ran_answers : {old new : S} {frames : Frames} {left : List Token} {o : Outcome Frames} → Ran step old closing m frames left o new → GoesByAnswers step old new
   ran_answers r = record { events = events_of r.blocks; chain = r.chain }
 
@@ -131,7 +131,7 @@ module _ {S : Type 0} {step : S → Question → Answer → S → Type 0} {closi
     pub ran_last : {old new : S} {frames : Frames} (e : Option Refusal) → Ran step old closing m frames (seen (get_or items i d) ∷ []) (without_value e) new → Ran step old closing m frames (map seen (drop i items)) (without_value e) new
     ran_last {old = old} {new = new} {frames = frames} e r = subst (λ left. Ran step old closing m frames left (without_value e) new) (sym (front seen items i d fits)) (ran_ends (map seen (drop (i + 1) items)) e r)
 
--- a run of a resolved module by dynamic scoping is one by the lexical rules
+-- a run of a resolved module under dynamic scope is one under lexical scope
 pub ran_lexical : {S : Type 0} {step : S → Question → Answer → S → Type 0} {old new : S} (m : Module) (outer : Frames) (o : Outcome Frames) → IsResolved m.program.functions m.assignments outer
     → Ran step old dynamically m ([] ∷ outer) m.assignments.order o new → Ran step old lexically m ([] ∷ outer) m.assignments.order o new
 ran_lexical m outer o resolved r = record { blocks = r.blocks; run = pending_calls_do_not_matter m outer r.blocks o resolved r.run; chain = r.chain }

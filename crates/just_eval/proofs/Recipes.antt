@@ -1,4 +1,4 @@
--- What a recipe's attributes and parameters give: by the lexical rules where all is resolved, and with few refusals.
+-- The results of a recipe's attributes and parameters: those of lexical scope, if all is resolved, and few refusals.
 use Rattle.std.proofs.Common.{◌≡◌, ℕ, Bool, false, List, [], ◌∷◌, ◌++◌, length, Option, Some, Result, Ok, Err, refl, sym, subst}
 use Rattle.std.specs.Prelude.{IfOk, ◌↔◌}
 use Rattle.just_syntax.specs.Plain.{Text, Expr, Function, Parameter, Recipe}
@@ -39,10 +39,10 @@ readable_front : (functions : List Function) (base : Names) (readable : ℕ → 
 readable_front functions base readable [] fs h = tt
 readable_front functions base readable (e ∷ es) fs h = (h.0, readable_front functions base readable es fs h.1)
 
--- ---- by the lexical rules
+-- ---- under lexical scope
 
 module _ (c : ExecutionContext) (is_dependency : Bool) (name : Option Text) (outer : Frames) (recipe : Recipe) (ps : List Parameter) where
-  -- where it stands
+  -- the situation at the start
   abbrev start : Here
   start = recipe_in c [] is_dependency name ([] ∷ outer)
 
@@ -84,7 +84,7 @@ module _ (c : ExecutionContext) (is_dependency : Bool) (name : Option Text) (out
     read : AllReadable functions (value_in below) (HasValue (value_in ([] ∷ outer))) (attribute_expressions recipe.attributes)
     read = readable_front functions (value_in below) (HasValue (value_in ([] ∷ outer))) (attribute_expressions recipe.attributes) [] resolved.readable
 
-    -- attributes and parameters are known
+    -- every variable and call in the attributes and parameters is known
     both_known : AllKnown functions (attribute_expressions recipe.attributes ++ parameter_expressions ps)
     both_known = known_front functions (attribute_expressions recipe.attributes ++ parameter_expressions ps) [] resolved.known
 
@@ -115,7 +115,7 @@ module _ (c : ExecutionContext) (is_dependency : Bool) (name : Option Text) (out
     pub one_element : c.module.now.settings.lists ≡ false → IfGave (λ a. HaveOneElement (own_frame a.frames)) o
     one_element off = ends_path (IfGave (λ a. HaveOneElement (own_frame a.frames))) tt (parameters dynamically start.situation recipe ps arguments) (one_parameters dynamically start.situation outer refl off recipe ps arguments) r.path
 
--- where it stands, resolved or not
+-- in the same situation, the two notions of being resolved agree
 pub resolves_with : (c : ExecutionContext) (environment : List (Text × Text)) (is_dependency : Bool) (name : Option Text) (outer : Frames) (e : Evaluator) (es : List Expr)
     → e.context ≡ Some c → situation_of e ≡ (recipe_in c environment is_dependency name ([] ∷ outer)).situation → Resolves e es ↔ IsResolvedWith c ([] ∷ outer) [] [] es
 resolves_with c environment is_dependency name outer e es context situation = (
@@ -123,12 +123,12 @@ resolves_with c environment is_dependency name outer e es context situation = (
   (λ h. subst (λ x. IsResolvedIn x (situation_of e) es) (sym context) (subst (λ s. IsResolvedIn (Some c) s es) (sym situation) h)),
 )
 
--- what follows of a value from two facts
+-- a third fact about a value follows from two
 pub if_both : {X : Type 0} (P Q R : X → Type 0) (r : Result X OutOfMemory) → ((x : X) → P x → Q x → R x) → IfOk r P → IfOk r Q → IfOk r R
 if_both P Q R (Ok x) h p q = h x p q
 if_both P Q R (Err e) h p q = tt
 
--- what is said of an outcome is said of the result
+-- a fact about an outcome holds of the result
 pub if_given : {X A : Type 0} (P : A → Type 0) (f : X → A) (r : Result X Error) → IfGave P (ended f r) → IfOk r (λ x. P (f x))
 if_given P f (Ok x) h = h
 if_given P f (Err e) h = tt

@@ -1,4 +1,4 @@
--- Evaluators that are the same but for their scope and environment.
+-- Evaluators that differ only in their scope and environment.
 use Rattle.std.proofs.Common.{◌∙◌, subst, sym, nat_eq}
 use Rattle.std.specs.List.{list_any}
 use Rattle.just_syntax.specs.Plain.{Expr}
@@ -24,7 +24,7 @@ module _ (e f : Evaluator) (same : IsSameBut e f) where
   pub same_room : HasRoom e → HasRoom f
   same_room room = subst HasRoomIn (sym same.context) room
 
-  -- what is made of the meanings here runs by the same rules
+  -- such an evaluator runs trees by the same rules
   pub runs_same : {S A : Type 0} {step : S → Question → Answer → S → Type 0} {old new : S} {o : Outcome A} (make : (Expr → Tree Value) → Tree A)
       → Runs (rules_of f) step old (make (meaning f)) o new → Runs (rules_of e) step old (make (dynamic_meanings e.context (situation_of f))) o new
   runs_same {step = step} {old = old} {new = new} {o = o} make r =

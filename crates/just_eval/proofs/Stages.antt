@@ -1,4 +1,4 @@
--- How const stages are put together.
+-- How const stages are composed.
 use Rattle.std.proofs.Common.{◌≡◌, ℕ, ◌+◌, ◌<◌, true, false, List, [], ◌∷◌, ◌++◌, Option, Some, None, Result, Err, map, drop, get_or, length, sym, subst}
 use Rattle.just_syntax.specs.Plain.{Token, Assignment}
 use Rattle.just_value.specs.declared.compile_error.CompileError.{CompileError}
@@ -17,7 +17,7 @@ use Rattle.just_forms.specs.Call.{Says}
 use Rattle.just_eval.proofs.Module.{front}
 
 module _ {m : Constants} where
-  -- on from where a stage stands
+  -- continues a stage from its standing
   stage_then : {s mid : Standing} {left more : List Token} {fs gs : List Found} {o : Outcome Standing} → Stage m s left fs (Gave mid) → Stage m mid more gs o → Stage m s (left ++ more) (fs ++ gs) o
   stage_then Finished q = q
   stage_then (Passes a f h r) q = Passes a f h (stage_then r q)
@@ -26,7 +26,7 @@ module _ {m : Constants} where
   stage_then (Settles a v k e r) q = Settles a v k e (stage_then r q)
   stage_then (Opens a c k e r) q = Opens a c k e (stage_then r q)
 
-  -- a stage that ended is one of more assignments
+  -- a stage that ended is also a stage of more assignments
   stage_refused : {s : Standing} {left : List Token} {fs : List Found} {r : Refusal} (more : List Token) → Stage m s left fs (Refused r) → Stage m s (left ++ more) fs (Refused r)
   stage_refused more (Unknown f) = Unknown f
   stage_refused more (Passes a f h r) = Passes a f h (stage_refused more r)

@@ -1,4 +1,4 @@
--- What is there, and what is not.
+-- Options that hold something, and options that do not.
 use Rattle.std.proofs.Common.{◌≡◌, true, false, Option, Some, None, refl, ap}
 use Rattle.std.specs.Option.{is_some, option_map}
 

@@ -1,4 +1,4 @@
--- What stands for an argument, by its cases.
+-- The value of a parameter for an argument, by cases.
 use Rattle.std.proofs.Common.{◌≡◌, Bool, true, false, [], ◌∷◌, length, Option, Some, None, ap, ◌∙◌, if◌then◌else◌, arith}
 use Rattle.std.proofs.lemmas.Bool.Decides.{nat_tests}
 use Rattle.std.specs.Bool.{◌==◌}
@@ -8,7 +8,7 @@ use Rattle.just_host.specs.Interaction.{Tree, bind, gives}
 use Rattle.just_meaning.specs.Parameters.{argument_or_value, default_or_none, repeated, valued}
 
 module _ (means : Expr → Tree Value) (is_dependency : Bool) (recipe : Text) (p : Parameter) (argument : Value) where
-  -- the default, or no element
+  -- for an empty argument: the default, or no element
   pub valued_none : (o : Option Expr) → (length argument == 0) ≡ true → p.default ≡ o → valued means is_dependency recipe p argument ≡ default_or_none means recipe p o
   valued_none o empty is = by argument empty
     where
@@ -23,11 +23,11 @@ module _ (means : Expr → Tree Value) (is_dependency : Bool) (recipe : Text) (p
       by [] e = absurd (cc)
       by (x ∷ xs) e = ap (argument_or_value means is_dependency (x ∷ xs)) is
 
-  -- what the parameter says stands in place of the argument
+  -- the parameter's value in place of the argument
   pub valued_value : (e : Expr) → (length argument == 0) ≡ false → p.value ≡ Some e → is_dependency ≡ false → valued means is_dependency recipe p argument ≡ bind (means e) (λ v. gives (repeated (length argument) v))
   valued_value e some is own = given (Some e) some is ∙ ap (λ b. if b then gives argument else bind (means e) (λ v. gives (repeated (length argument) v))) own
 
-  -- the argument itself
+  -- for a dependency: the argument itself
   pub valued_dependency : (o : Option Expr) → (length argument == 0) ≡ false → p.value ≡ o → is_dependency ≡ true → valued means is_dependency recipe p argument ≡ gives argument
   valued_dependency None some is own = given None some is
   valued_dependency (Some e) some is own = given (Some e) some is ∙ ap (λ b. if b then gives argument else bind (means e) (λ v. gives (repeated (length argument) v))) own

@@ -1,4 +1,4 @@
--- Where an evaluator stands, and what it makes of expressions and assignments.
+-- Evaluators as plain data, and what expressions and assignments mean in them.
 use Rattle.std.specs.Prelude.{◌≡◌, ℕ, Bool, true, false, ◌-◌, ◌<◌, List, [], Option, Some, None, Vec, map, nat_eq, string_bytes}
 use Rattle.std.specs.BTreeMap.{BTreeMap, IsEmpty}
 use Rattle.std.specs.Borrow.{Bor}
@@ -29,7 +29,7 @@ use Rattle.just_meaning.specs.View.{functions_view}
 use Rattle.just_expression.specs.View.{program_of, rules_in}
 use Rattle.just_eval.specs.declared.evaluator.Evaluator.{Evaluator}
 
--- with a context there is room for a first call
+-- With a context at least one call may be pending.
 abbrev pub HasRoomIn : Option ExecutionContext → Type 0
 HasRoomIn (Some c) = 0 < c.recursion_limit
 HasRoomIn None = Unit {0}
@@ -37,7 +37,8 @@ HasRoomIn None = Unit {0}
 abbrev pub HasRoom : Evaluator → Type 0
 HasRoom e = HasRoomIn e.context
 
--- It evaluates assignments: for no recipe, in no environment, and a called body's frame is put on its own frames.
+-- The evaluator is one of assignments: for no recipe, with an empty environment. A called body's frame is put on its
+-- own frames.
 pub record IsAtStart (e : Evaluator) : Type 0 where
   pub base : e.base ≡ None
   pub environment : IsEmpty e.env
@@ -54,13 +55,13 @@ pub record IsConst (e : Evaluator) : Type 0 where
 abbrev pub IsInRun : Evaluator → Type 0
 IsInRun e = is_some e.context ≡ true
 
--- the same but for its scope
+-- the same except for the scope
 pub record IsSame (e f : Evaluator) : Type 0 where
   pub context : f.context ≡ e.context
   pub lists : f.lists ≡ e.lists
   pub open_numbers : f.non_const_assignments ≡ e.non_const_assignments
 
--- the same but for its scope and its environment
+-- the same except for the scope and the environment
 pub record IsSameBut (e f : Evaluator) : Type 0 where
   pub base : f.base ≡ e.base
   pub context : f.context ≡ e.context
@@ -69,7 +70,7 @@ pub record IsSameBut (e f : Evaluator) : Type 0 where
   pub open_numbers : f.non_const_assignments ≡ e.non_const_assignments
   pub recipe : f.recipe ≡ e.recipe
 
--- what parameters give: the scope, the positional words, and the environment
+-- the results of evaluating parameters: the scope, the positional words and the environment
 abbrev pub arguments_view : {A B C D : Type 0} → Scope × Vec (String A) B × BTreeMap (String C) (String D) → Arguments
 arguments_view given = record { frames = frames_view given.0; words = map string_bytes given.1.items; environment = pairs_view given.2 }
 
@@ -81,19 +82,19 @@ calls_left_in None = 0
 abbrev pub calls_left_of : Evaluator → ℕ
 calls_left_of e = calls_left_in e.context
 
--- what is bound and what is open
+-- which variables are bound, and which are open
 abbrev pub standing_of : Evaluator → Standing
 standing_of e = record { lists = e.lists; frames = frames_view e.scope; is_open = λ n. list_any (nat_eq n) e.non_const_assignments.keys }
 
 abbrev pub rules_of : Evaluator → Rules
 rules_of e = rules_in e.context (standing_of e).is_open
 
--- the frames that a called body's frame is put on: its own, where there are no others
+-- the frames that a called body's frame is put on: the evaluator's own, if it has no base
 abbrev pub below_of : Option (Bor Scope) → Frames → Frames
 below_of (Some base) frames = frames_view base.now
 below_of None frames = frames
 
--- what is evaluated in
+-- the situation in which it evaluates
 abbrev pub situation_of : Evaluator → Situation
 situation_of e = record {
   names = value_in (frames_view e.scope);
@@ -105,23 +106,23 @@ situation_of e = record {
   below = below_of e.base (frames_view e.scope);
 }
 
--- where its expressions stand
+-- the program, the pending calls and the situation of its expressions
 abbrev pub here : Evaluator → Here
 here e = record { program = program_of e.context; calls = calls_left_of e; situation = situation_of e }
 
--- what expressions mean by dynamic scoping
+-- what expressions mean under dynamic scope
 abbrev pub dynamic_meanings : Option ExecutionContext → Meanings
 dynamic_meanings context s x = let p = program_of context in eval p (dynamic p (calls_left_in context)) s x
 
--- what an expression means here by dynamic scoping
+-- what an expression means here under dynamic scope
 abbrev pub meaning : Evaluator → Expr → Tree Value
 meaning e = dynamic_meanings e.context (situation_of e)
 
--- what an expression means here by the lexical rules
+-- what an expression means here under lexical scope
 abbrev pub lexical_meaning : Evaluator → Expr → Tree Value
 lexical_meaning e = let h = here e in meanings h h.situation
 
--- in a run, what these expressions reach is resolved here
+-- It evaluates in a run, and what these expressions reach is resolved here.
 abbrev pub IsResolvedIn : Option ExecutionContext → Situation → List Expr → Type 0
 IsResolvedIn (Some c) s es = IsResolvedHere (functions_view c.module.now) (map assignment_view c.module.now.assignments) s.below s.shown [] [] es
 IsResolvedIn None s es = ⊥
@@ -129,7 +130,7 @@ IsResolvedIn None s es = ⊥
 abbrev pub Resolves : Evaluator → List Expr → Type 0
 Resolves e es = IsResolvedIn e.context (situation_of e) es
 
--- whether a module exports all
+-- whether a setting exports every variable
 abbrev pub exports_all_in : Option ExecutionContext → Bool
 exports_all_in (Some c) = c.module.now.settings.export
 exports_all_in None = false
@@ -137,16 +138,16 @@ exports_all_in None = false
 abbrev pub exports_all : Evaluator → Bool
 exports_all e = exports_all_in e.context
 
--- An assignment whose value is this tree is evaluated: nothing is done where its number is bound. Else its value is
--- bound, or there is none.
+-- The evaluation of an assignment whose value is this tree. If its number is bound, nothing happens; otherwise its
+-- value is bound, or evaluation ends without one.
 pub data Assigned {S : Type 0} (rules : Rules) (step : S → Question → Answer → S → Type 0) (old : S) (tree : Tree Value) (export : Bool) (a : Assignment) (frames : Frames) : Outcome Frames → S → Type 0 where
   WasBound : (b : Bound) → innermost a.number frames ≡ Some b → Assigned rules step old tree export a frames (Gave frames) old
   IsBound : {new : S} → (v : Value) → innermost a.number frames ≡ None → Runs rules step old tree (Gave v) new → Assigned rules step old tree export a frames (Gave (bound_in_front frames (bound_of export a v))) new
   IsRefused : {new : S} → (r : Refusal) → innermost a.number frames ≡ None → Runs rules step old tree (Refused r) new → Assigned rules step old tree export a frames (Refused r) new
   IsStopped : {new : S} → innermost a.number frames ≡ None → Runs rules step old tree Stopped new → Assigned rules step old tree export a frames Stopped new
 
--- What a stage makes of a refused assignment: the number is open where the refusal is one that a run alone can lift, and
--- the stage ends where it is another.
+-- How a stage goes on after a refused assignment. If only a run can lift the refusal, the number is open; any other
+-- refusal ends the stage.
 pub data OpensOrEnds (e : Option Refusal) (s : Standing) (number : ℕ) (o : Outcome Standing) : Type 0 where
   Opens : (c : ConstRefusal) → e ≡ Some (Const c) → UnlessStopped o (Gave (with_open s number)) → OpensOrEnds e s number o
   Ends : ForSome e IsFinal → o ≡ without_value e → OpensOrEnds e s number o

@@ -46,14 +46,14 @@ use std::fmt;
 
 /// Evaluates the assignments of a module, one after another, in a scope of its own.
 ///
-/// Each evaluation may take as many bytes of stack as its host says by `stack_room`; without a word of the host, and in the
-/// calls that have none, `STACK_ROOM` bytes, which suits a stack of 8 MiB. Where forms and calls nest deeper than that
-/// suffices for, it ends as `OutOfMemory`, with a context and without.
+/// The stack budget of an evaluation, in bytes, is what the host's `stack_room` returns. By default, and in calls
+/// without a host, it is `STACK_ROOM`, which suits a stack of 8 MiB. If forms and calls nest too deeply for the budget,
+/// evaluation fails with `OutOfMemory`, with a context and without.
 #[derive(Drop)]
 pub struct Evaluator<'src, 'run> {
-    // What a called body's scope is put on, where that is not the own scope.
+    // The scope below a called body's; `None` if that is `scope`.
     base: Option<&'run Scope<'src, 'run>>,
-    // What stays the same in a run. Before any run there is none, and the const rules hold.
+    // What is fixed in a run. Before any run there is none, and the const rules apply.
     context: Option<ExecutionContext<'src, 'run>>,
     env: BTreeMap<String, String>,
     is_dependency: bool,
@@ -64,23 +64,24 @@ pub struct Evaluator<'src, 'run> {
 }
 
 impl<'src, 'run> Evaluator<'src, 'run> {
-    /// Evaluates the assignments of a module in its evaluation order, those that are referenced where a set of references is
-    /// given, and gives a child of `parent` with their bindings. Upstream's `Evaluator::evaluate_assignments`.
+    /// Evaluates the assignments of a module in its evaluation order, and returns a child of `parent` with their
+    /// bindings. If `variable_references` is given, only those assignments are evaluated. Upstream's
+    /// `Evaluator::evaluate_assignments`.
     ///
-    /// A number that `parent` binds, or that is bound already, is neither evaluated nor overridden. Else an override is one
-    /// element, and without one the expression is evaluated; the host is asked what it reaches. `recursion_limit` is how many
-    /// calls may be pending, and one more, so it is at least 1.
+    /// A number that `parent` binds, or that is already bound, is neither evaluated nor overridden. Otherwise an
+    /// override is one element; without one, the expression is evaluated, and the host is asked what it reaches.
+    /// `recursion_limit` is one more than the number of calls that may be pending, so it is at least 1.
     ///
     /// # Errors
     ///
-    /// The first refusal ends the run: a failed assertion (`Assert`), a command's fault (`Backtick`), lists that do not go
-    /// together (`ListOperation`), a regular expression operator (`LeftOutRegex`), too many pending calls (`RecursionLimit`);
-    /// of built-in functions their own message (`FunctionCall`), a list where one wants a text (`ListInStringContext`), and one
-    /// that is left out (`LeftOut`). On a module that is not resolved also `Internal`. `OutOfMemory` comes where memory was
-    /// asked for and refused, where the host says so, or where forms and calls nest deeper than the stack has room for
-    /// (`Evaluator`).
+    /// The first refusal ends the run: a failed assertion (`Assert`), a command's fault (`Backtick`), lists that cannot
+    /// be combined (`ListOperation`), a regular expression operator (`LeftOutRegex`), too many pending calls
+    /// (`RecursionLimit`). A built-in function is refused with its own message (`FunctionCall`), for a list where it
+    /// takes one text (`ListInStringContext`), or because it is left out (`LeftOut`). On an unresolved module the
+    /// refusal may also be `Internal`. `OutOfMemory` if an allocation fails, if the host reports it, or if forms and
+    /// calls nest too deeply for the stack budget (see `Evaluator`).
     ///
-    /// A refusal gives no scope: what was bound is dropped, and what the host was asked before it stays asked.
+    /// A refusal returns no scope: the bindings are dropped. Questions already asked are not undone.
     pub fn evaluate_assignments<H: Host>(
         alloc: Global,
         host: &mut H,
@@ -95,19 +96,19 @@ impl<'src, 'run> Evaluator<'src, 'run> {
     ) -> Result<Scope<'src, 'run>, Error<'src>>
         requires room { 0 < recursion_limit }
 
-        // On a resolved module the lexical rules give the scope or the refusal, by the questions that they ask.
+        // On a resolved module the scope or the refusal, and the questions asked, are those of lexical scope.
         ensures headline { let m = run_of config.entry dotenv.entry «module».entry overrides.entry parent.entry search.entry recursion_limit variable_references.entry in
             let outer = frames_view parent.entry.now in
             IsResolved m.program.functions m.assignments outer → Ran H.step host.old lexically m ([] ∷ outer) m.assignments.order (ended frames_view result) host.new }
         ensures never_internal { let m = run_of config.entry dotenv.entry «module».entry overrides.entry parent.entry search.entry recursion_limit variable_references.entry in
             IsResolved m.program.functions m.assignments (frames_view parent.entry.now) → IsNotInternal (ended frames_view result) }
 
-        // On any module dynamic scoping gives the scope or the refusal, by the questions that it asks: a body that reads what
-        // is neither its own nor the module's sees its caller's.
+        // On any module they are those of dynamic scope: a body reads from its caller what is neither its own nor the
+        // module's.
         ensures dynamic { let m = run_of config.entry dotenv.entry «module».entry overrides.entry parent.entry search.entry recursion_limit variable_references.entry in
             Ran H.step host.old dynamically m ([] ∷ frames_view parent.entry.now) m.assignments.order (ended frames_view result) host.new }
 
-        // On any module it is not refused as constant evaluation is, and nothing but answered questions leads the host on.
+        // On any module the refusal is never `Const`, and only answered questions change the host's state.
         ensures never_const { IfRefused IsFinal (ended frames_view result) }
         ensures answered { GoesByAnswers H.step host.old host.new }
     {
@@ -129,7 +130,7 @@ impl<'src, 'run> Evaluator<'src, 'run> {
         )
     }
 
-    // Evaluates the assignments with these names, a body reading what its caller reads below its own parameters.
+    // Evaluates the assignments with these names. Below its own parameters a body reads what its caller reads.
     fn run<H: Host>(
         alloc: Global,
         host: &mut H,
@@ -151,7 +152,7 @@ impl<'src, 'run> Evaluator<'src, 'run> {
         Ok(scope)
     }
 
-    // Evaluates assignments in a scope, for no recipe and before any run. Nothing is open.
+    // An evaluator of assignments in a scope, for no recipe and before any run. No number is open.
     fn of_assignments(alloc: Global, lists: bool, scope: Scope<'src, 'run>) -> Evaluator<'src, 'run>
         ensures before_runs { IsConst result }
         ensures lists { result.lists ≡ lists }
@@ -194,16 +195,16 @@ impl<'src, 'run> Evaluator<'src, 'run> {
         self.evaluate_assignment(alloc, host, context.overrides, assignment)
     }
 
-    /// The value of an expression, with what is bound. Upstream's `Evaluator::evaluate_value`.
+    /// The value of an expression under the current bindings. Upstream's `Evaluator::evaluate_value`.
     ///
     /// # Errors
     ///
-    /// The first refusal of a part, in the order of the parts, of the kinds that `evaluate_assignments` has; `OutOfMemory`
-    /// where memory was asked for and refused, where the host says so, or where forms and calls nest deeper than the stack has
-    /// room for. On an evaluator from `evaluate_const_assignments` the const rules hold, and the host is not asked: `Const`
-    /// comes at the first call, command or open variable.
+    /// The first refusal of a part, in the order of the parts, of the kinds listed at `evaluate_assignments`.
+    /// `OutOfMemory` if an allocation fails, if the host reports it, or if forms and calls nest too deeply for the
+    /// stack budget. On an evaluator from `evaluate_const_assignments` the const rules apply, and the host is not
+    /// asked: the first call, command or open variable is refused with `Const`.
     ///
-    /// A refusal leaves the evaluator as it was, and what the host was asked before it stays asked.
+    /// A refusal leaves the evaluator unchanged. Questions already asked are not undone.
     pub fn evaluate_value<H: Host>(
         &self,
         alloc: Global,
@@ -212,20 +213,20 @@ impl<'src, 'run> Evaluator<'src, 'run> {
     ) -> Result<Value, Error<'src>>
         requires room { HasRoom self.now }
 
-        // In a run, where all that is reached is resolved, the lexical rules give the value or the refusal, by the
-        // questions that they ask.
+        // In a run, if everything reached is resolved, the value or the refusal, and the questions asked, are those of
+        // lexical scope.
         ensures headline { Resolves self.now (view expression.now ∷ []) → Runs freely H.step host.old (lexical_meaning self.now (view expression.now)) (ended (λ v. v) result) host.new }
         ensures never_internal { Resolves self.now (view expression.now ∷ []) → IsNotInternal (ended (λ v. v) result) }
 
-        // Resolved or not, dynamic scoping gives the value or the refusal, by the questions that it asks.
+        // Resolved or not, they are those of dynamic scope.
         ensures dynamic { Runs (rules_of self.now) H.step host.old (meaning self.now (view expression.now)) (ended (λ v. v) result) host.new }
 
-        // Resolved or not, a run is not refused as constant evaluation is, and only answered questions change the host.
+        // Resolved or not, the refusal in a run is never `Const`, and only answered questions change the host's state.
         ensures never_const { IsInRun self.now → IfRefused IsFinal (ended (λ v. v) result) }
         ensures answered { GoesByAnswers H.step host.old host.new }
 
-        // Before any run the const rules give it, and nothing is asked. Where each variable is bound or open, it is not
-        // refused as `Internal`.
+        // Before any run the result is that of the const rules, and nothing is asked. If each variable is bound or
+        // open, the refusal is not `Internal`.
         ensures constants { IsConst self.now → UnlessStopped (ended (λ v. v) result) (const_value (standing_of self.now) (view expression.now)) }
         ensures few { IsConst self.now → IfErr result (λ e. ForSome (refusal e) IsConstEval) }
         ensures still { IsConst self.now → host.new ≡ host.old }
@@ -234,8 +235,7 @@ impl<'src, 'run> Evaluator<'src, 'run> {
         self.evaluated(alloc, host, expression)
     }
 
-    // Binds the value of an assignment, if its number is not bound. It is out of line, so that a run and a const stage take
-    // the same steps here.
+    // Binds the value of an assignment, if its number is not bound. Out of line, and shared by runs and const stages.
     #[inline(never)]
     fn evaluate_assignment<H: Host>(
         &mut self,
@@ -283,7 +283,7 @@ impl<'src, 'run> Evaluator<'src, 'run> {
         }
     }
 
-    // The value of an expression, with all that is bound so far.
+    // The value of an expression under the bindings so far.
     fn evaluated<H: Host>(
         &self,
         alloc: Global,
@@ -298,7 +298,7 @@ impl<'src, 'run> Evaluator<'src, 'run> {
             .evaluate_value(alloc, host, expression, room)
     }
 
-    // Evaluates expressions with all that is bound so far.
+    // An evaluator of expressions under the bindings so far.
     fn expressions(&self) -> ExpressionEvaluator<'src, 'run, '_>
         requires room { HasRoom self.now }
         ensures rules { rules result ≡ rules_of self.now }
@@ -322,7 +322,7 @@ impl<'src, 'run> Evaluator<'src, 'run> {
         }
     }
 
-    // How many calls may be pending. Before any run none is entered.
+    // How many calls may be pending. Before any run no call is entered.
     fn calls_left(&self) -> usize
         requires room { HasRoom self.now }
         ensures { result ≡ calls_left_of self.now }
@@ -333,7 +333,7 @@ impl<'src, 'run> Evaluator<'src, 'run> {
         }
     }
 
-    // What is bound for an assignment. Before any run no setting exports all.
+    // The binding of an assignment. Before any run no setting exports every variable.
     fn bound(&self, alloc: Global, assignment: &Assignment<'src>, value: Value) -> Binding<'src>
         ensures { bound_view result ≡ bound_of (exports_all self.now) (assignment_view assignment.now) value }
     {
@@ -350,7 +350,7 @@ impl<'src, 'run> Evaluator<'src, 'run> {
         }
     }
 
-    // Whether a setting exports all.
+    // Whether a setting exports every variable.
     fn exports_all(&self) -> bool
         ensures { result ≡ exports_all self.now }
     {
@@ -361,7 +361,7 @@ impl<'src, 'run> Evaluator<'src, 'run> {
     }
 }
 
-// Each field by its name, the scopes and the context after the others. A reader is promised no bytes.
+// Each field by its name, then the scopes and the context. The format is unspecified.
 impl fmt::Debug for Evaluator<'_, '_> {
     fn fmt<W: fmt::Write>(&self, f: &mut fmt::Formatter<W>) -> fmt::Result {
         f.debug_struct("Evaluator")

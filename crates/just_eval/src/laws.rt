@@ -1,4 +1,4 @@
-//! The laws of evaluation, in one place. Each is a function that does nothing: its contract is the law, so that a caller who
+//! The laws of evaluation, in one place. Each is a function that does nothing; its contract is the law. A caller that
 //! calls it may rely on the law from there on.
 
 pub use just_agreement::laws::{

@@ -1,6 +1,6 @@
-// Evaluation of a module's assignments: the calls that upstream's `Evaluator` has, with their public clauses. It leans on
-// the recursion over expressions, takes its clauses to the lexical rules by the laws, and passes on the laws, the tests of
-// resolution and, in `prelude`, what a caller needs.
+// Evaluation of a module's assignments: the calls of upstream's `Evaluator`, with their public clauses. It builds on
+// the recursion over expressions and derives its clauses about lexical scope from the laws. It re-exports the laws, the
+// tests of resolution and, in `prelude`, what a caller needs.
 #![tactic(auto)]
 
 pub mod evaluator;

@@ -1,6 +1,6 @@
-// What a caller of the evaluator needs, in one place: `use just_eval::prelude::*`.
+// What a caller of the evaluator needs: `use just_eval::prelude::*`.
 
-// Syntax, as a parser and a resolver would give it, and tables of it.
+// Syntax, as a parser and a resolver give it, and tables of it.
 pub use just_syntax::assignment::Assignment;
 pub use just_syntax::attribute::Attribute;
 pub use just_syntax::attribute_set::AttributeSet;
@@ -28,7 +28,7 @@ pub use just_syntax::token::Token;
 pub use just_syntax::variable_error::VariableError;
 pub use just_syntax::variables::{number_of, overrides_of, references_of};
 
-// Values, where they are bound, and what evaluation is refused with.
+// Values, scopes, and the errors of evaluation.
 pub use just_syntax::out_of_memory::OutOfMemory;
 pub use just_value::binding::Binding;
 pub use just_value::check_fault::CheckFault;
@@ -40,14 +40,14 @@ pub use just_value::expression_context::ExpressionContext;
 pub use just_value::scope::Scope;
 pub use just_value::value::Value;
 
-// What evaluation stands in.
+// What evaluation is given.
 pub use just_host::config::Config;
 pub use just_host::execution_context::{ExecutionContext, RECURSION_LIMIT};
 pub use just_host::justfile::Justfile;
 pub use just_host::search::Search;
 pub use just_host::settings::Settings;
 
-// Whom it asks, and what.
+// The host, and what it is asked.
 pub use just_host::command_question::CommandQuestion;
 pub use just_host::directory_kind::DirectoryKind;
 pub use just_host::exports::{EnvironmentChange, exports};
@@ -62,7 +62,7 @@ pub use just_host::text_question::TextQuestion;
 // The built-in functions.
 pub use just_builtins::function::{Function, functions, is_left_out};
 
-// Evaluation, and whether what it goes over is resolved, and why a module is not.
+// Evaluation; whether its input is resolved, and if not, why.
 pub use crate::evaluator::Evaluator;
 pub use just_resolution::fault::Fault;
 pub use just_resolution::first_fault::first_fault;

@@ -1,4 +1,4 @@
--- Constants are kept in a run, by public laws alone.
+-- Constants keep their values in a run, from public laws alone.
 use Rattle.std.proofs.Common.{◌≡◌, ◌⊎◌, inl, inr, ℕ, false, Bool, List, [], ◌∷◌, Contains, Option, Some, None, refl, sym, subst, ◌∙◌}
 use Rattle.just_value.specs.Frames.{Bound, Frames, bound_at, own_frame}
 use Rattle.just_value.specs.Outcome.{Gave, Stopped}
@@ -17,7 +17,7 @@ module _ (agrees : ConstAgrees) (results : ResultsHaveBlocks) (m : Constants) (l
   ends : EndsAsItsBlocks bs (Gave frames)
   ends = results n others bs (Gave frames) resolved run
 
-  -- what the stage found of a number, and the block of a run that gave it a value, have one value
+  -- the value that the stage found for a number and the one that a run's block gave it are equal
   one_value : (k : ℕ) (settled bound : Bound) → bound_at k (own_frame s.frames) ≡ Some settled → bound_at k (own_frame frames) ≡ Some bound → bound.value ≡ settled.value
   one_value k settled bound h e =
       let found = (agrees.standings m lists outer fs s stage).binds k settled h in
@@ -35,7 +35,7 @@ module _ (agrees : ConstAgrees) (results : ResultsHaveBlocks) (m : Constants) (l
       by None e = inl e
       by (Some bound) e = inr (bound, e, one_value k settled bound h e)
 
--- the same of what the contracts of a stage and a run give
+-- the same from the contracts of a stage and a run
 pub keeps_staged : (agrees : ConstAgrees) (results : ResultsHaveBlocks) (m : Constants) (lists : Bool) (outer : Frames) (n : Module)
     → AreOfOneModule m lists outer n outer → IsResolvedConst m.assignments outer → IsResolved n.program.functions n.assignments outer
     → {S : Type 0} {step : S → Question → Answer → S → Type 0} {old new : S} (s : Standing) (frames : Frames)

@@ -1,4 +1,4 @@
-// A constant keeps its value in a run: what a caller concludes from public clauses alone.
+// A constant keeps its value in a run: what a caller can conclude from public clauses alone.
 
 ghost use Rattle.std.specs.Prelude.{IfSome, Some, ◌<◌};
 ghost use Rattle.just_value.specs.View.{frames_view};
@@ -18,7 +18,8 @@ use just_value::scope::Scope;
 use std::alloc::Global;
 use std::collections::{BTreeMap, HashMap, HashSet};
 
-/// A const stage of a module and a run of it, where neither is refused. What is constant before the run is so in it.
+/// A const stage of a module and a run of it; `None` if either is refused. What is constant before the run keeps its
+/// value in it.
 pub fn stage_and_run<'src, 'run, H: Host>(
     alloc: Global,
     host: &mut H,

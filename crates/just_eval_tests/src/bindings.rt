@@ -1,4 +1,4 @@
-// Bindings with their flags, and assignments whose names say theirs.
+// Bindings with their flags, and assignments whose names give theirs.
 
 use just_syntax::assignment::Assignment;
 use just_syntax::out_of_memory::OutOfMemory;
@@ -8,7 +8,7 @@ use just_value::frame::Frame;
 use std::alloc::Global;
 use std::process::Abort;
 
-/// Adds what a frame binds, in parentheses: of each binding the flags that are on, its name and its value.
+/// Adds the bindings of a frame, in parentheses: for each one the flags that are on, its name and its value.
 pub(crate) fn tell_frame(frame: &Frame, told: &mut String) -> Result<(), OutOfMemory> {
     told.push_str(" (")?;
     for binding in frame.bindings() {
@@ -38,7 +38,7 @@ fn tell_binding(binding: &Binding, told: &mut String) -> Result<(), OutOfMemory>
     Ok(())
 }
 
-/// Assignments, of which one is eager if its name begins with `eager-`, and private if it begins with `private-`.
+/// Assignments, each of which is eager if its name begins with `eager-`, and private if it begins with `private-`.
 pub(crate) fn with_flags<'src>(
     rt: &impl Abort,
     alloc: Global,

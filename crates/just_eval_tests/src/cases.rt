@@ -1,4 +1,4 @@
-// The assignments of cases, evaluated before any run, and what is told of them.
+// The assignments of cases, evaluated before any run, and reports on them.
 
 ghost use Rattle.std.specs.Prelude.{IfOk};
 ghost use Rattle.just_eval.specs.View.{IsConst};
@@ -18,22 +18,22 @@ use just_value::scope::Scope;
 use std::alloc::Global;
 use std::process::Abort;
 
-/// What is told of a case.
+/// What a report on a case is about.
 #[derive(Clone, Copy)]
 pub(crate) enum Subject {
-    /// The expression that the assignment `e` gives.
+    /// The expression of the assignment `e`.
     Expression,
-    /// The interpreter that the assignment `e` gives.
+    /// The interpreter of the assignment `e`.
     Interpreter,
-    /// The settings that the assignments give.
+    /// The settings of the assignments.
     Settings,
     /// The settings that turn on each flag but one.
     FlagsBut(&'static str),
-    /// Settings of which some are set twice.
+    /// Settings, some of which are set twice.
     SetTwice,
 }
 
-/// What is told of a case where the outer scope binds the numbers from 0 on, to names and values.
+/// The report on a case whose outer scope binds the numbers from 0 on to names and values.
 pub(crate) fn told(
     rt: &impl Abort,
     alloc: Global,
@@ -45,7 +45,7 @@ pub(crate) fn told(
     told_of(rt, alloc, &lines, outside, subject)
 }
 
-// What is told of a case of these lines.
+// The report on a case of these lines.
 fn told_of<'src>(
     rt: &impl Abort,
     alloc: Global,
@@ -61,7 +61,7 @@ fn told_of<'src>(
     told
 }
 
-// A case whose assignments have the flags that their names say.
+// A case whose assignments have the flags that their names give.
 fn flagged<'src>(rt: &impl Abort, alloc: Global, case: Case<'src>) -> Case<'src> {
     let assignments = with_flags(rt, alloc, case.assignments);
     Case {
@@ -70,7 +70,7 @@ fn flagged<'src>(rt: &impl Abort, alloc: Global, case: Case<'src>) -> Case<'src>
     }
 }
 
-// What is told of a case, which is of these lines, in a scope.
+// The report on a case of these lines, in a scope.
 fn told_in<'src>(
     case: &Case<'src>,
     rt: &impl Abort,
@@ -88,7 +88,7 @@ fn told_in<'src>(
     told
 }
 
-// Evaluates the assignments of a case that it says are referenced.
+// Evaluates the referenced assignments of a case.
 fn evaluated<'src, 'run>(
     case: &'run Case<'src>,
     rt: &impl Abort,
@@ -130,7 +130,7 @@ fn told_by<'src>(
     }
 }
 
-// What is told of an expression, which is that of the assignment `e` of these lines, and of a line of it.
+// The report on an expression, that of the assignment `e` of these lines, and on a line of it.
 fn told_of_both<'src>(
     evaluator: &Evaluator<'src, '_>,
     rt: &impl Abort,
@@ -161,7 +161,7 @@ fn sets_of<'src>(
     }
 }
 
-// The assignments of a case of these lines, which is built once more for them, since they are taken apart.
+// The assignments of a case of these lines. The case is built again, since its parts are moved out.
 fn assignments_of<'src>(
     rt: &impl Abort,
     alloc: Global,
@@ -170,14 +170,14 @@ fn assignments_of<'src>(
     build(alloc, lines).expect(rt, "no case").assignments
 }
 
-/// What a refusal says.
+/// The message of a refusal.
 pub(crate) fn said(rt: &impl Abort, alloc: Global, error: &CompileError) -> String {
     let mut text = String::new(alloc);
     add_said(rt, &mut text, error);
     text
 }
 
-/// Adds what a refusal says.
+/// Adds the message of a refusal.
 pub(crate) fn add_said(rt: &impl Abort, text: &mut String, error: &CompileError) {
     match error {
         CompileError::ConstEval { error, token: _ } => {

@@ -1,18 +1,18 @@
-// How what is given is compared with what is wanted.
+// Comparisons of results with what is expected.
 
 use std::process::Abort;
 
-/// What was told of something is what is wanted.
+/// The report on something is as expected.
 pub(crate) fn tells(rt: &impl Abort, of: &str, told: String, wanted: &str) {
     same(rt, of, &told, wanted);
 }
 
-/// A text is the one that is wanted.
+/// A text is as expected.
 pub(crate) fn same(rt: &impl Abort, of: &str, given: &str, wanted: &str) {
     assert_eq!(rt; given, wanted, "{of}");
 }
 
-/// Something is true, or false, of a case.
+/// A property of a case is as expected.
 pub(crate) fn equal(rt: &impl Abort, of: &str, given: bool, wanted: bool) {
     assert_eq!(rt; given, wanted, "{of}");
 }

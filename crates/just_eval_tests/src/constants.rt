@@ -1,4 +1,4 @@
-// Expressions before any run. The assignment `e` of a case, which is not referenced, gives the expression.
+// Expressions before any run: that of the assignment `e` of a case, which is not referenced.
 
 ghost use Rattle.just_eval.specs.View.{IsConst};
 
@@ -20,7 +20,8 @@ use just_value::value::Value;
 use std::alloc::Global;
 use std::process::Abort;
 
-// An expression, and what it evaluates to: as a value, as a text in the setting `set`, and in a line between `<` and `>`.
+// An expression, and what it evaluates to: as a value, as a text in the setting `set`, and in a line between `<` and
+// `>`.
 const EXPRESSIONS: &[(&str, &str, &str, &str)] = &[
     ("str x\nstr y\nadd", "\"xy\"", "xy", "<xy>"),
     (
@@ -39,7 +40,7 @@ const EXPRESSIONS: &[(&str, &str, &str, &str)] = &[
         BACKTICK,
     ),
     ("str x\ncall trim 1", CALL, CALL, CALL),
-    // Neither the name that is called nor the arguments are looked at.
+    // Neither the called name nor the arguments are evaluated.
     ("cmd c\ncall f 1", CALL, CALL, CALL),
     ("var o", OPEN, OPEN, OPEN),
     ("var s", "\"sh\"", "sh", "<sh>"),
@@ -54,10 +55,10 @@ const OPEN: &str = "cannot access non-const variable `o` in const context";
 
 const UNEVALUATED: &str = "internal error: attempted to evaluate unevaluated variable `p`";
 
-// The lines in front of an expression: `s` is settled, and `o` is open.
+// The lines before an expression: `s` is settled, and `o` is open.
 const STAGE: &str = "str sh\nassign s\ncmd c\nassign o\n";
 
-// What is own there.
+// The own bindings there.
 const OWN: &str = "own (s = \"sh\")";
 
 const LAST_LINES: &str = "\nassign e\nonly s o\nconst";
@@ -69,7 +70,7 @@ fn const_expressions(rt: HostRuntime) {
     }
 }
 
-/// An expression evaluates to this value, to this text, and in a line to this one, also where a host is given.
+/// An expression evaluates to this value, to this text and, in a line, to this one, also when a host is given.
 pub(crate) fn evaluates_to(
     rt: &impl Abort,
     alloc: Global,
@@ -84,7 +85,7 @@ pub(crate) fn evaluates_to(
     tells(rt, expression, staged(rt, alloc, expression), &wanted);
 }
 
-// What is told of an expression, where `s` is settled and `o` is open.
+// The report on an expression, with `s` settled and `o` open.
 fn staged(rt: &impl Abort, alloc: Global, expression: &str) -> String {
     let case = format!(in alloc; "{STAGE}{expression}{LAST_LINES}").expect(rt, "no memory");
     told(rt, alloc, &case, NOTHING, Subject::Expression)
@@ -97,13 +98,13 @@ const NUMBERED: &str =
 // What `e` evaluates to there.
 const Y: &str = "\"y\"; y; \"y\"; y; <y>; 0; ";
 
-// What the outer scope binds: to the numbers from 0 on, each of which has a name of its own there.
+// The bindings of the outer scope: the numbers from 0 on, each with a name of its own there.
 const NOTHING: &[(&str, &str)] = &[];
 
 const TWO_NUMBERS: &[(&str, &str)] = &[("k", "v"), ("l", "w")];
 
-// What is settled is bound within the outer scope, what is open is not, and what is not referenced is neither. A binding has the
-// flags of its assignment.
+// Settled numbers are bound within the outer scope; open ones and those that are not referenced are not. A binding has
+// the flags of its assignment.
 #[test]
 fn settled_and_open(rt: HostRuntime) {
     let numbers = "\"x\" open open - - own (a = \"x\")";
@@ -116,7 +117,7 @@ fn settled_and_open(rt: HostRuntime) {
 const FLAGGED: &str =
     "str x\nexport a\nstr y\nassign eager-b\ncmd c\nassign d\nstr y\nexport private-e\noverride private-e v\nstr y\nassign e\nonly a eager-b d private-e\nconst";
 
-// Where the outer scope binds this, the first five numbers of a case and its own bindings are these, and `e` is the text `y`.
+// With these outer bindings, the first five numbers of a case and its own bindings are these, and `e` is the text `y`.
 fn settles(
     rt: &impl Abort,
     alloc: Global,
@@ -133,7 +134,7 @@ fn settles(
     );
 }
 
-// A number that the outer scope binds is passed over: it keeps its outer value, also where a command stands.
+// A number that the outer scope binds is skipped: it keeps its outer value, even if its expression is a command.
 #[test]
 fn bound_outside(rt: HostRuntime) {
     let numbers = "\"v\" \"w\" \"w\" - - own (d = \"w\")";
@@ -159,8 +160,8 @@ fn push<'src>(rt: &impl Abort, line: &mut Line<'src>, fragment: Fragment<'src>) 
     line.fragments.push(fragment).expect(rt, "no memory");
 }
 
-/// What an expression evaluates to: as a value, as a text, as both where a host is given, in a line there, how often that host
-/// was asked, what the first five numbers are, and the own bindings.
+/// What an expression evaluates to: as a value, as a text, as both with a host, and in a line with that host; then how
+/// many questions the host was asked, the values of the first five numbers, and the own bindings.
 pub(crate) fn told_by<'src>(
     evaluator: &Evaluator<'src, '_>,
     rt: &impl Abort,
@@ -180,7 +181,7 @@ pub(crate) fn told_by<'src>(
     text
 }
 
-// Adds a value, or what is said of its refusal.
+// Adds a value, or the message of its refusal.
 fn add_value(rt: &impl Abort, text: &mut String, outcome: &Result<Value, CompileError>) {
     match outcome {
         Ok(value) => write!(text, "{value}").expect(rt, "no memory"),
@@ -207,8 +208,8 @@ fn add_text<'src>(
     text.push_str("; ").expect(rt, "no memory");
 }
 
-// Adds what an expression evaluates to as a value and as a text where a host is given, then a line, and how often that host was
-// asked.
+// Adds what an expression evaluates to with a host, as a value and as a text, then a line, and how many questions the
+// host was asked.
 fn add_asked<'src>(
     evaluator: &Evaluator<'src, '_>,
     rt: &impl Abort,
@@ -239,7 +240,7 @@ fn add_asked<'src>(
     write!(text, "{asked}; ").expect(rt, "no memory");
 }
 
-// Adds a text, or what its refusal says.
+// Adds a text, or the message of its refusal.
 fn add_string(rt: &impl Abort, text: &mut String, outcome: Result<String, Error>) {
     match outcome {
         Ok(string) => text.push_str(&string).expect(rt, "no memory"),
@@ -248,7 +249,7 @@ fn add_string(rt: &impl Abort, text: &mut String, outcome: Result<String, Error>
     text.push_str("; ").expect(rt, "no memory");
 }
 
-// What an expression evaluates to as a value where this host is given.
+// What an expression evaluates to as a value, with this host.
 fn value_with<'src>(
     evaluator: &Evaluator<'src, '_>,
     alloc: Global,
@@ -263,7 +264,7 @@ fn value_with<'src>(
     }
 }
 
-// Adds what the first five numbers are, and the own bindings.
+// Adds the values of the first five numbers, and the own bindings.
 fn add_numbers(evaluator: &Evaluator, rt: &impl Abort, text: &mut String) {
     for number in 0..5u64 {
         add_number(evaluator, rt, text, Number::new(number));

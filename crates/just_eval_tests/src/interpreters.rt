@@ -1,5 +1,5 @@
-// Interpreters before any run, each evaluated by itself. The assignment `e` of a case, which is not referenced, is a list:
-// a command and its arguments.
+// Interpreters before any run, each evaluated by itself. The assignment `e` of a case, which is not referenced, is a
+// list: a command and its arguments.
 
 ghost use Rattle.just_eval.specs.View.{IsConst};
 
@@ -38,11 +38,11 @@ fn elements_of<'src>(rt: &impl Abort, list: Expression<'src>) -> Vec<Expression<
     }
 }
 
-// What the lines of a list push, and what it comes to as an interpreter.
+// The lines that push a list, and what it evaluates to as an interpreter.
 const INTERPRETERS: &[(&str, &str)] = &[
     ("str sh\nlist 1", "\"sh\""),
     ("str sh\nstr -c\nlist 2", "\"sh\" \"-c\""),
-    // One word with a space in it is no command with an argument, and no two arguments.
+    // One word with a space in it is neither a command with an argument nor two arguments.
     ("str sh -c\nlist 1", "\"sh -c\""),
     ("str sh\nstr -c -u\nlist 2", "\"sh\" \"-c -u\""),
     ("str sh\nstr -c\nstr -u\nlist 3", "\"sh\" \"-c\" \"-u\""),
@@ -71,14 +71,14 @@ fn const_interpreters(rt: HostRuntime) {
     }
 }
 
-/// What is told of a list, where `s` is settled.
+/// The report on a list, with `s` settled.
 pub(crate) fn staged(rt: &impl Abort, alloc: Global, list: &str) -> String {
     let case = format!(in alloc; "str zsh\nassign s\n{list}\nassign e\nonly s\nconst");
     let case = case.expect(rt, "no memory");
     told(rt, alloc, &case, &[], Subject::Interpreter)
 }
 
-/// What the interpreter of a case comes to, or what is said of its refusal.
+/// What the interpreter of a case evaluates to, or the message of its refusal.
 pub(crate) fn told_by<'src>(
     evaluator: &Evaluator<'src, '_>,
     rt: &impl Abort,
@@ -93,7 +93,7 @@ pub(crate) fn told_by<'src>(
     told
 }
 
-// The same of an interpreter.
+// The same for an interpreter.
 fn told_of<'src>(
     evaluator: &Evaluator<'src, '_>,
     rt: &impl Abort,
@@ -120,7 +120,7 @@ fn first_of<'src>(rt: &impl Abort, assignments: Table<Assignment<'src>>) -> Expr
     expression_of(rt, first.expect(rt, "no assignment"))
 }
 
-// The expression of an assignment, which is `e`.
+// The expression of an assignment, which must be `e`.
 fn expression_of<'src>(rt: &impl Abort, assignment: Assignment<'src>) -> Expression<'src> {
     same(rt, "name", assignment.name.lexeme(), "e");
     assignment.value

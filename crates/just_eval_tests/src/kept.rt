@@ -1,4 +1,4 @@
-// Settings that no expression gives: the flags, the indentation and the least version.
+// Settings without expressions: the flags, the indentation and the minimum version.
 
 use crate::cases::{Subject, told};
 use crate::compared::tells;
@@ -36,7 +36,7 @@ pub(crate) const FLAGS: &[&str] = &[
     "windows-powershell",
 ];
 
-// A flag that is on, by its name.
+// The setting of a flag that is on, by its name.
 fn flag<'src>(rt: &impl Abort, name: &'src str) -> Setting<'src> {
     match name {
         "allow-duplicate-recipes" => Setting::AllowDuplicateRecipes(true),
@@ -87,10 +87,10 @@ pub(crate) fn flags_of(settings: &Settings) -> [bool; 19] {
     ]
 }
 
-// Where nothing is assigned.
+// With no assignments.
 const NOTHING: &str = "only\nconst";
 
-// Each flag turns its own field on, and no other: with all but one of them on, that one is off.
+// Each flag turns on its own field and no other: if all but one are on, that one is off.
 #[test]
 fn all_flags_but_one(rt: HostRuntime) {
     for left_out in FLAGS {
@@ -109,7 +109,7 @@ fn is_off_alone(rt: &impl Abort, alloc: Global, left_out: &'static str) {
     tells(rt, left_out, told, &wanted);
 }
 
-/// The settings that turn on all of these flags but one.
+/// The settings that turn on all but one of these flags.
 pub(crate) fn flags_but<'src>(
     rt: &impl Abort,
     alloc: Global,
@@ -125,14 +125,14 @@ pub(crate) fn flags_but<'src>(
     sets
 }
 
-// A setting that is set twice has its last value; the least version changes nothing.
+// A setting that is set twice has its last value. The minimum version changes nothing.
 #[test]
 fn kept_settings(rt: HostRuntime) {
     let told = told(&rt, rt.alloc(), NOTHING, &[], Subject::SetTwice);
     tells(&rt, "kept settings", told, "indentation Spaces(2);");
 }
 
-/// The least version, and two indentations and whether it is quiet, each set twice.
+/// The minimum version, and indentation and quiet, each set twice.
 pub(crate) fn set_twice<'src>(rt: &impl Abort, alloc: Global) -> Table<Set<'src>> {
     let mut sets = Table::new(alloc);
     add_twice(&mut sets, rt, alloc);
@@ -148,14 +148,14 @@ fn add_twice<'src>(sets: &mut Table<Set<'src>>, rt: &impl Abort, alloc: Global) 
     add(sets, rt, name("quiet"), Setting::Quiet(false));
 }
 
-// Adds the least version.
+// Adds the minimum version.
 fn add_version<'src>(sets: &mut Table<Set<'src>>, rt: &impl Abort, alloc: Global) {
     let version = StringLiteral::new(alloc, "1.58.0", "'1.58.0'").expect(rt, "no memory");
     let version = Setting::MinimumVersion(version);
     add(sets, rt, name("minimum-version"), version);
 }
 
-// Adds the indentation, as it is written.
+// Adds the indentation, as written.
 fn add_indentation<'src>(
     sets: &mut Table<Set<'src>>,
     rt: &impl Abort,
@@ -166,7 +166,7 @@ fn add_indentation<'src>(
     add(sets, rt, name("indentation"), value);
 }
 
-// Of each setting that is set twice one set is left.
+// One set is left for each setting that is set twice.
 fn sets_left(rt: &impl Abort, count: usize) {
     assert!(rt; count == 3, "{count} sets are left");
 }

@@ -1,5 +1,5 @@
-// Tests of the evaluator's const calls, and of what it does for recipes. They stand in a crate of their own since a crate with
-// tests is proved twice, and lean on `just_eval`, scripted hosts and, for modules to evaluate, on the reader of cases.
+// Tests of the evaluator's const calls, and of evaluation for recipes. They are a separate crate because a crate with
+// tests is proved twice. They build on `just_eval`, scripted hosts and, for modules to evaluate, the reader of cases.
 #![tactic(auto)]
 
 pub mod agreement;

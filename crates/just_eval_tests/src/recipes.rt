@@ -1,4 +1,4 @@
-// Lines, parameters and attributes of recipes. The assignments of a case give their expressions, by their names.
+// Lines, parameters and attributes of recipes. The assignments of a case give their expressions, by name.
 
 pub(crate) mod around;
 mod assignments;

@@ -1,4 +1,4 @@
-// Settings of expressions before any run. A case's assignments that are not referenced give their expressions.
+// Settings with expressions before any run: those of a case's assignments that are not referenced.
 
 ghost use Rattle.just_eval.specs.View.{IsConst};
 
@@ -45,7 +45,7 @@ const KINDS: &[(&str, Kind)] = &[
     ("working-directory", Kind::WorkingDirectory),
 ];
 
-// The setting of a name, if it is one of these.
+// The setting with a name, if it is one of these.
 fn kind_of(name: &str) -> Option<Kind> {
     for (known, kind) in KINDS {
         if *known == name {
@@ -69,7 +69,7 @@ fn setting<'src>(rt: &impl Abort, kind: Kind, value: Expression<'src>) -> Settin
     }
 }
 
-/// The settings that a case's assignments are, by their names; those with other names are none.
+/// The settings that a case's assignments stand for, by their names; other names stand for none.
 pub(crate) fn sets_of<'src>(
     rt: &impl Abort,
     alloc: Global,
@@ -82,7 +82,7 @@ pub(crate) fn sets_of<'src>(
     sets
 }
 
-// Adds the setting that an assignment is, if its name is that of one.
+// Adds the setting that an assignment stands for, if its name is that of one.
 fn add_named<'src>(sets: &mut Table<Set<'src>>, rt: &impl Abort, assignment: Assignment<'src>) {
     match kind_of(assignment.name.lexeme()) {
         Some(kind) => add_set(sets, rt, kind, assignment),
@@ -90,7 +90,7 @@ fn add_named<'src>(sets: &mut Table<Set<'src>>, rt: &impl Abort, assignment: Ass
     }
 }
 
-// Adds the setting that an assignment is.
+// Adds the setting that an assignment stands for.
 fn add_set<'src>(
     sets: &mut Table<Set<'src>>,
     rt: &impl Abort,
@@ -111,7 +111,7 @@ pub(crate) fn add<'src>(
     sets.insert(Set { name, value }).expect(rt, "no memory");
 }
 
-/// What settings come to: what is set to something, each behind its name, or what they are refused with.
+/// What settings evaluate to: each one that is set, after its name; or the refusal.
 pub(crate) fn told_by<'src>(
     evaluator: &Evaluator<'src, '_>,
     rt: &impl Abort,
@@ -130,7 +130,7 @@ pub(crate) fn told_by<'src>(
     }
 }
 
-// What a refusal says, behind the place where it stands.
+// The message of a refusal, after its place.
 fn refusal_told(rt: &impl Abort, alloc: Global, error: &CompileError) -> String {
     match error {
         CompileError::ConstEval { token, error } => {
@@ -147,7 +147,7 @@ fn printed(rt: &impl Abort, alloc: Global, settings: &Settings) -> String {
     text
 }
 
-// What is set to something, each behind its name.
+// Each setting that is set, after its name.
 fn print(text: &mut String, settings: &Settings) -> Result<(), OutOfMemory> {
     print_value(text, "dotenv_command", &settings.dotenv_command)?;
     print_value(text, "dotenv_filename", &settings.dotenv_filename)?;
@@ -209,7 +209,7 @@ const SETTINGS: &[(&str, &str)] = &[
         "only\nstr a\nstr b\nlist 2\nassign dotenv-command\nstr c\nassign dotenv-filename\nlist 0\nassign dotenv-path\nconst",
         "dotenv_command [\"a\", \"b\"];dotenv_filename \"c\";",
     ),
-    // Commands and their arguments: the elements of all, in their order.
+    // Commands and their arguments: the elements of all, in order.
     (
         "only\nstr a\nlist 1\nassign script-interpreter\nstr b\nstr -c\nlist 2\nassign shell\nlist 0\nstr d\nstr e\nlist 2\nlist 0\nlist 3\nassign windows-shell\nconst",
         "script_interpreter \"a\";shell \"b\" \"-c\";windows_shell \"d\" \"e\";",
@@ -240,7 +240,7 @@ const SETTINGS: &[(&str, &str)] = &[
         "call f 0\nassign t\nvar t\nstr x\nadd\nassign s\nvar s\nlist 1\nassign shell\nonly t s\nconst",
         "s: cannot access non-const variable `s` in const context",
     ),
-    // An untaken branch that reads it.
+    // A branch that is not taken and reads it.
     (
         "cmd c\nassign t\nstr a\nstr a\neq\nstr y\nvar t\nif\nassign tempdir\nonly t\nconst",
         "tempdir y;",
@@ -267,7 +267,7 @@ const SETTINGS: &[(&str, &str)] = &[
         "only\nlist 0\nassign working-directory\nconst",
         "working-directory: list value [] in setting `working-directory`",
     ),
-    // The first refusal by the bytes of the names, behind a setting that is settled.
+    // The first refusal in the byte order of the names, after a settled setting.
     (
         "only\nlist 0\nassign working-directory\nlist 0\nlist 1\nassign shell\nstr a\nassign dotenv-path\nconst",
         "shell: `shell` setting requires at least one element but evaluated to empty list",

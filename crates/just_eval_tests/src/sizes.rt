@@ -1,5 +1,5 @@
-// Constants of a thousand elements, and of texts of a thousand pieces. Where memory is there each call must succeed: no clause
-// forbids one that gives up.
+// Constants of a thousand elements, and texts of a thousand pieces. If there is memory each call must succeed; no
+// clause forbids a call to give up.
 
 use crate::cases::{Subject, told};
 use crate::compared::tells;
@@ -8,7 +8,7 @@ use crate::interpreters::staged;
 use std::alloc::Global;
 use std::process::Abort;
 
-// A piece a thousand times, between two texts.
+// A piece, repeated a thousand times, between two texts.
 fn thousand(rt: &impl Abort, alloc: Global, front: &str, piece: &str, back: &str) -> String {
     let pieces = piece.repeat(alloc, 1000).expect(rt, "no memory");
     format!(in alloc; "{front}{pieces}{back}").expect(rt, "no memory")
@@ -22,7 +22,7 @@ fn constants_of_a_thousand(rt: HostRuntime) {
     are_settings(&rt, rt.alloc());
 }
 
-// A list of a thousand elements and one, as a value, in the refusal where a text is wanted, and in a line.
+// A list of 1001 elements: as a value, in the refusal if a single text is required, and in a line.
 fn is_a_list(rt: &impl Abort, alloc: Global) {
     let list = thousand(rt, alloc, "", "str a\n", "list 1000\nstr b\ncat");
     let value = thousand(rt, alloc, "[", "\"a\", ", "\"b\"]");

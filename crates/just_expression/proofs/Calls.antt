@@ -1,4 +1,4 @@
--- What runs of calls come to.
+-- The runs of calls.
 use Rattle.std.proofs.Common.{◌≡◌, ℕ, List, [], ◌∷◌, length, Bor, Option, Some, None, sym, ap, ◌∙◌, refl, subst}
 use Rattle.std.specs.Option.{option_copied}
 use Rattle.just_syntax.specs.declared.expression.Expression.{Expression}
@@ -41,7 +41,7 @@ module _ {S : Type 0} (step : S → Question → Answer → S → Type 0) (e : E
   entering : {old new : S} (o : Outcome Value) → Runs (rules e) step old call o new → Runs (rules e) step old (note (Entered t) call) o new
   entering o r = runs_note (passes (context_of e) (is_non_const e) c.now (Entered t) given) r
 
-  -- it ends before its arguments
+  -- it ends before its arguments are evaluated
   pub call_refused : {h : S} (r : Option Refusal) → EndsBefore (program_view c.now) t (callee (program_view c.now).functions t.lexeme) e.calls_left (length xs) r → Runs (rules e) step h (note (Entered t) call) (without_value r) h
   call_refused None ends = entering _ (runs_stopped call)
   call_refused {h = h} (Some r) ends =
@@ -56,11 +56,11 @@ module _ {S : Type 0} (step : S → Question → Answer → S → Type 0) (e : E
     pub call_ends : {old new : S} (o : Option Refusal) → Runs (rules e) step old (row e xs (look r t)) (without_value o) new → Runs (rules e) step old (note (Entered t) call) (without_value o) new
     call_ends {old = old} {new = new} o q = entering _ (subst (λ x. Runs (rules e) step old x (without_value o) new) (sym call_enters) (runs_ends _ _ o q))
 
-    -- what it reaches comes after the arguments
+    -- the callee runs after the arguments
     pub call_runs : {old mid new : S} (vs : List Value) (o : Outcome Value) → Runs (rules e) step old (row e xs (look r t)) (Gave vs) mid → Runs (rules e) step mid (entered (program e) (situation e) t r vs) o new → Runs (rules e) step old (note (Entered t) call) o new
     call_runs {old = old} {new = new} vs o q b = entering _ (subst (λ x. Runs (rules e) step old x o new) (sym call_enters) (runs_on _ _ q b))
 
--- an argument's value, and what is made of it without a question
+-- an argument's value, and what is derived from it without a question
 pub looked_at : {rules : Rules} {S : Type 0} {step : S → Question → Answer → S → Type 0} {old new : S} (t : Tree Value) (look : ℕ → Value → Tree Value) (i k : ℕ) (v : Value) (w : Outcome Value) → i ≡ k → Runs rules step old t (Gave v) new → look i v ≡ done w → Runs rules step old (bind t (look k)) w new
 looked_at {rules = rules} {step = step} {old = old} {new = new} t look i k v w same r is =
     runs_on t (look k) r (subst (λ x. Runs rules step new x w new) (sym is ∙ ap (λ j. look j v) same) (runs_done w w (itself w w refl)))

@@ -1,4 +1,4 @@
--- What runs of variables come to, with a context and without.
+-- The runs of variables, with a context and without.
 use Rattle.std.proofs.Common.{◌≡◌, ℕ, Bool, true, false, Option, Some, None, refl, ap}
 use Rattle.just_syntax.specs.Plain.{Token}
 use Rattle.just_value.specs.ConstRefusal.{Variable}
@@ -18,17 +18,17 @@ pub reads : (context : Option ExecutionContext) (is_open : ℕ → Bool) (t : To
 reads (Some c) is_open t n shut = refl
 reads None is_open t n shut = rw shut refl
 
--- one that is open may not
+-- an open variable may not
 pub shuts : (context : Option ExecutionContext) (is_open : ℕ → Bool) (t : Token) (n : ℕ) → open_in context is_open n ≡ true → rules_in context is_open (Read t n) ≡ Some (Const (Variable t))
 shuts (Some c) is_open t n h = absurd (cc)
 shuts None is_open t n h = rw h refl
 
--- a refusal, or want of memory, is how it ends
+-- a refusal, or running out of memory, is the outcome
 pub said : (A : Type 0) (r : Option Refusal) (s : Refusal) → Says r s → UnlessStopped {A = A} (without_value r) (Refused s)
 said A None s h = tt
 said A (Some r) s h = ap Refused h
 
--- an option is not both
+-- an option is not both `Some` and `None`
 pub not_both : {A B : Type 0} (a : A) (o : Option A) → o ≡ Some a → o ≡ None → B
 not_both a None e f = absurd (cc)
 not_both a (Some b) e f = absurd (cc)

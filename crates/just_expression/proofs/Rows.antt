@@ -1,4 +1,4 @@
--- Expressions whose parts are no boxes, and the rows of an evaluator.
+-- Expressions with unboxed parts, and the rows of an evaluator.
 use Rattle.std.proofs.Common.{◌≡◌, ℕ, ◌+◌, ◌<◌, ◌≤◌, List, [], ◌∷◌, ◌++◌, length, get_or, drop, add-one, ap, sym, ◌∙◌, subst, Option}
 use Rattle.std.proofs.lemmas.List.{append-nil, append_assoc, drop_all}
 use Rattle.just_syntax.specs.declared.expression.Expression.{Expression}
@@ -38,7 +38,7 @@ flatten_more (w ∷ vs) v = ap (λ x. w ++ x) (flatten_more vs v) ∙ sym (appen
 -- ---- the rows of an evaluator
 
 module _ {S : Type 0} (step : S → Question → Answer → S → Type 0) (e : ExpressionEvaluator) (start : S) where
-  -- the values of expressions, of which each is looked at, from an index on
+  -- the values of expressions from an index on, each passed to `look`
   module _ (look : ℕ → Value → Tree Value) (xs : List Expression) where
     abbrev from : ℕ → List Expression → Tree (List Value)
     from i ys = eval_row (program e) (deeper e) (situation e) i (views ys) look

@@ -1,4 +1,4 @@
--- What an evaluator of expressions stands in, as plain data, and what an expression means there.
+-- The situation of an expression evaluator as plain data, and what an expression means in it.
 use Rattle.std.specs.Prelude.{ℕ, Bool, false, List, Option, Some, None, Result, nat_eq}
 use Rattle.std.specs.List.{list_any}
 use Rattle.std.specs.Option.{option_copied, option_map}
@@ -28,12 +28,12 @@ abbrev pub open_in : Option ExecutionContext → (ℕ → Bool) → ℕ → Bool
 open_in (Some c) is_open n = false
 open_in None is_open n = is_open n
 
--- With a context nothing is refused; without one the const rules hold.
+-- With a context nothing is refused; without one the const rules apply.
 abbrev pub rules_in : Option ExecutionContext → (ℕ → Bool) → Rules
 rules_in (Some c) is_open = freely
 rules_in None is_open = constantly is_open
 
--- what an evaluator evaluates in
+-- the situation of an evaluator
 abbrev pub situation : ExpressionEvaluator → Situation
 situation e = record {
   names = value_in (frames_view e.scope.now);
@@ -45,7 +45,7 @@ situation e = record {
   below = frames_view e.below.now;
 }
 
--- what stays the same, if there is a run
+-- the context of the run, if there is one
 abbrev pub context_of : ExpressionEvaluator → Option ExecutionContext
 context_of e = option_copied e.context
 
@@ -70,6 +70,6 @@ meaning e x = eval (program e) (deeper e) (situation e) x
 abbrev pub row : ExpressionEvaluator → List Expression → Row
 row e xs = eval_row (program e) (deeper e) (situation e) 0 (views xs)
 
--- the tree's questions, answered, and its end are what is answered here
+-- The result is the outcome of a run of the tree, whose questions take the host's state from `old` to `new`.
 abbrev pub Answers : {S : Type 0} → ExpressionEvaluator → (S → Question → Answer → S → Type 0) → S → Tree Value → Result Value Error → S → Type 0
 Answers e step old tree result new = Runs (rules e) step old tree (ended (λ v. v) result) new

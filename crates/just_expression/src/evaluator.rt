@@ -34,7 +34,7 @@ use std::fmt;
 /// Evaluates expressions in a situation.
 #[derive(Clone, Copy)]
 pub struct ExpressionEvaluator<'src, 'run, 'here> {
-    /// What stays the same in a run. Without it nothing may be called and no command be run: the const rules hold.
+    /// What is fixed in a run. Without it the const rules apply: no call may be entered, and no command run.
     pub context: Option<&'here ExecutionContext<'src, 'run>>,
     /// How many further calls may be pending.
     pub calls_left: usize,
@@ -44,29 +44,29 @@ pub struct ExpressionEvaluator<'src, 'run, 'here> {
     pub is_dependency: bool,
     /// Whether values may be lists.
     pub lists: bool,
-    /// The variables that have no constant value, where the const rules hold.
+    /// The variables with no constant value, under the const rules.
     pub non_const_assignments: &'here HashSet<Number>,
     /// The recipe that is run, if any.
     pub recipe: Option<&'here Name<'src>>,
     /// What can be read, and what commands are shown.
     pub scope: &'here Scope<'src, 'here>,
-    /// What the scope of a called body is put on.
+    /// The scope below a called body's.
     pub below: &'here Scope<'src, 'here>,
 }
 
 impl<'src, 'run, 'here> ExpressionEvaluator<'src, 'run, 'here> {
-    /// The value of an expression, by what it asks of the host, within so many bytes of stack. Each part is handed what its
-    /// form leaves, so that the recursion ends by its room alone; whether the room suffices is looked at once a level, for
-    /// the form that takes most.
+    /// The value of an expression, with the questions that it asks the host, within a stack budget of `room` bytes.
+    /// Each form passes its parts the budget less its own frames, so that the recursion ends by the budget alone. Each
+    /// level checks the budget once, against the largest form.
     ///
-    /// Each form is a function of its own, so that the frame of this one stays small: expressions may nest as deep as
-    /// the stack has room.
+    /// Each form has a function of its own, to keep this one's frame small. Expressions may nest as deeply as the stack
+    /// budget allows.
     ///
     /// # Errors
     ///
-    /// The first refusal of a part, in the order of the parts; `OutOfMemory` where memory was asked for and refused,
-    /// where the host says so, or where the expression, with the bodies that it calls, nests deeper than `room` suffices
-    /// for. Without a context `Const` at the first call, command or variable with no constant value.
+    /// The first refusal of a part, in the order of the parts. `OutOfMemory` if an allocation fails, if the host
+    /// reports it, or if the expression, with the bodies that it calls, nests too deeply for `room`. Without a context,
+    /// `Const` at the first call, command or variable with no constant value.
     #[cycle(evaluate)]
     pub fn evaluate_value<H: Host>(
         &self,
@@ -320,7 +320,7 @@ impl<'src, 'run, 'here> ExpressionEvaluator<'src, 'run, 'here> {
         Ok(form::extended(left, right)?)
     }
 
-    // The value of an assertion. One that fails says its message joined, or its condition in backticks.
+    // The value of an assertion. If it fails, the refusal carries its message, joined, or its condition in backticks.
     #[cycle(evaluate)]
     #[inline(never)]
     fn evaluate_assert<H: Host>(
@@ -352,7 +352,7 @@ impl<'src, 'run, 'here> ExpressionEvaluator<'src, 'run, 'here> {
     }
 }
 
-// Each field by its name, the scopes and the context after the others. A reader is promised no bytes.
+// Each field by its name, then the scopes and the context. The format is unspecified.
 impl fmt::Debug for ExpressionEvaluator<'_, '_, '_> {
     fn fmt<W: fmt::Write>(&self, f: &mut fmt::Formatter<W>) -> fmt::Result {
         f.debug_struct("ExpressionEvaluator")

@@ -1,10 +1,10 @@
-// How much stack evaluation takes, in bytes.
+// How much stack evaluation uses, in bytes.
 //
-// What a level of nesting takes is measured by `bench/run frames` in both builds of the program, as LLVM makes it and as
-// Rattle's own compiler does: the frames of the recursion's one entry and of the form's own function. The greater one counts,
-// as a multiple of 16 bytes, which frames come in.
+// The stack of a level of nesting is measured by `bench/run frames`, in the program built by LLVM and in the one built
+// by Rattle's own compiler. A level has two frames: that of the recursion's single entry, and that of the form's own
+// function. The larger measurement counts. Frames are multiples of 16 bytes.
 
-// What the form that takes most takes around its parts. What has no parts takes no more than parentheses do.
+// What the largest form uses around its parts. A form without parts uses no more than parentheses do.
 pub(crate) const FORM: usize = CALL;
 
 pub(crate) const AND: usize = 656;
@@ -35,5 +35,5 @@ pub(crate) const OR: usize = 752;
 
 pub(crate) const ROOT: usize = 864;
 
-// What the body of a called function takes before its expression.
+// What the body of a called function uses before its expression.
 pub(crate) const BODY: usize = 1168;

@@ -1,4 +1,4 @@
--- What runs of commands come to.
+-- The runs of commands.
 use Rattle.std.proofs.Common.{◌≡◌, true, false, List, [], ◌∷◌, ◌++◌, refl, inl, inr, None, subst}
 use Rattle.just_syntax.specs.Plain.{Text, Token}
 use Rattle.just_value.specs.Value.{Value}
@@ -16,7 +16,7 @@ module _ {S : Type 0} {step : S → Question → Answer → S → Type 0} (f : F
   pub written_dry : {h : S} (o : Outcome Value) → f.config.dry_run ≡ true → UnlessStopped o (Gave (((96 ∷ text) ++ 96 ∷ []) ∷ [])) → Runs freely step h (written f environment shown text t) o h
   written_dry o dry is = runs_then _ _ _ dry (runs_done _ o is)
 
-  -- a question that is asked once, or not for want of memory
+  -- a question that is asked once, or not at all if memory runs out before
   pub written_asked : {old new : S} (a : Answer) (o : Outcome Value) → f.config.dry_run ≡ false → AsksOnce step old (command_question f environment shown text None) a new → UnlessStopped o (answered t a) → (a ≡ Failed NoMemory → o ≡ Stopped)
       → Runs freely step old (written f environment shown text t) o new
   written_asked a o dry (inl taken) is wanting = runs_else _ _ _ dry (runs_ask _ _ a taken (runs_done _ o is))
@@ -27,7 +27,7 @@ without_memory t (Code n) e = absurd (cc)
 without_memory t (Message text) e = absurd (cc)
 without_memory t NoMemory e = refl
 
--- an end is what it is
+-- equal outcomes agree, unless stopped
 pub itself : {A : Type 0} (o w : Outcome A) → o ≡ w → UnlessStopped o w
 itself o w e = subst (UnlessStopped o) e (own o)
   where

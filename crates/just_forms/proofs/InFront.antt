@@ -1,4 +1,4 @@
--- Parameters put into an own frame.
+-- Parameters bound in the first frame.
 use Rattle.std.proofs.Common.{◌≡◌, ℕ, List, [], ◌∷◌, refl}
 use Rattle.just_syntax.specs.Plain.{Token}
 use Rattle.just_value.specs.Value.{Value}

@@ -1,10 +1,10 @@
--- A value's elements so many times.
+-- A value's elements, repeated.
 use Rattle.std.proofs.Common.{◌≡◌, ◌∙◌, ◌+◌, ℕ, zero, suc, ◌++◌, ap, sym, add-one}
 use Rattle.std.proofs.lemmas.List.{append-nil, append_assoc}
 use Rattle.just_value.specs.Value.{Value}
 use Rattle.just_meaning.specs.Parameters.{repeated}
 
--- once more behind the others is once more in front of them
+-- appending one repetition is prepending one
 one_behind : (v : Value) (n : ℕ) → repeated n v ++ v ≡ repeated (suc n) v
 one_behind v zero = sym (append-nil v)
 one_behind v (suc n) = append_assoc v (repeated n v) v ∙ ap (λ w. v ++ w) (one_behind v n)

@@ -1,4 +1,4 @@
--- What a value check that is handed in may say, on plain data.
+-- What a caller's value check may say, on plain data.
 use Rattle.std.specs.Prelude.{◌≡◌, Result, Ok, Err, string_bytes}
 use Rattle.std.specs.Borrow.{Bor}
 use Rattle.std.specs.Fn.{Shared}
@@ -13,13 +13,13 @@ use Rattle.just_value.specs.Outcome.{Outcome}
 use Rattle.just_host.specs.Interaction.{Denied, Passed, Untold, Verdict}
 use Rattle.just_meaning.specs.Parameters.{judged}
 
--- what a check's answer says
+-- the verdict in a check's answer
 abbrev pub verdict_view : Result Unit CheckFault → Verdict
 verdict_view (Ok _) = Passed
 verdict_view (Err (faults.Refused message)) = Denied (string_bytes message)
 verdict_view (Err faults.OutOfMemory) = Untold
 
--- At this recipe, at some parameter that reads as p and at the value v, the check may say a.
+-- For this recipe, some parameter that reads as `p`, and the value `v`, the check may give the verdict `a`.
 pub record Gives {F : Type 0} (calls : Shared F (Bor Recipe × (Bor Parameter × (Bor Value × Unit {0}))) (Result Unit CheckFault)) (check : F) (recipe : Recipe) (p : plain.Parameter) (v : Value) (a : Verdict) : Type 0 where
   pub recipe_ref : Bor Recipe
   pub parameter_ref : Bor Parameter
@@ -31,7 +31,7 @@ pub record Gives {F : Type 0} (calls : Shared F (Bor Recipe × (Bor Parameter ×
   pub at_value : value_ref.now ≡ v
   pub is : verdict_view answer ≡ a
 
--- A value is checked, and the outcome is what one of the verdicts that may be given comes to.
+-- A value is checked, and the outcome is that of one of the verdicts that the check may give.
 pub record IsJudged {F : Type 0} (calls : Shared F (Bor Recipe × (Bor Parameter × (Bor Value × Unit {0}))) (Result Unit CheckFault)) (check : F) (recipe : Recipe) (p : plain.Parameter) (v : Value) (o : Outcome Value) : Type 0 where
   pub verdict : Verdict
   pub given : Gives calls check recipe p v verdict

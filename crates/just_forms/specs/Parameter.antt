@@ -1,4 +1,4 @@
--- Parameters put into the first frame, one after another.
+-- Parameters bound in the first frame, one after another.
 use Rattle.std.specs.Prelude.{ℕ, List, [], ◌∷◌}
 use Rattle.just_syntax.specs.Plain.{Token}
 use Rattle.just_value.specs.Value.{Value}

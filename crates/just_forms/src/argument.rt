@@ -1,4 +1,4 @@
-// Arguments of recipes: what stands for them, what is bound, and the positional words.
+// Arguments of recipes: their values, bindings and positional words.
 
 ghost use Rattle.std.specs.Prelude.{IfOk, OnOk, map, string_bytes, ◌++◌, ◌≡◌};
 ghost use Rattle.just_syntax.specs.View.{recipe_parameter_view, recipe_view};
@@ -18,11 +18,11 @@ use just_value::error::Error;
 use just_value::value::Value;
 use std::alloc::Global;
 
-/// What stands for an empty argument of a parameter with no default: no element.
+/// The value for an empty argument of a parameter with no default: no element.
 ///
 /// # Errors
 ///
-/// `EmptyListArgument` where the parameter is to have an element.
+/// `EmptyListArgument` if the parameter must have an element.
 pub fn no_element<'src>(
     alloc: Global,
     parameter: &Parameter<'src>,
@@ -39,7 +39,7 @@ pub fn no_element<'src>(
     })
 }
 
-/// The elements of a value, so many times.
+/// The elements of a value, repeated `times` times.
 pub fn repeated(alloc: Global, value: &Value, times: usize) -> Result<Value, OutOfMemory>
     ensures { IfOk result (λ v. v ≡ repeated times value.now) }
 {
@@ -54,7 +54,7 @@ pub fn repeated(alloc: Global, value: &Value, times: usize) -> Result<Value, Out
 ///
 /// # Errors
 ///
-/// `Check` where it refuses the value, and `OutOfMemory` where it says so.
+/// `Check` if the check refuses the value, and `OutOfMemory` if it reports that.
 pub fn checked<'src, C>(
     check: &C,
     recipe: &Recipe<'src>,
@@ -76,7 +76,7 @@ where
     }
 }
 
-/// Puts the positional words of a parameter's value behind others: its elements where there may be many, else its join.
+/// Appends the positional words of a parameter's value to others: its elements if there may be many, else its join.
 pub fn add_words(
     alloc: Global,
     words: &mut Vec<String>,
@@ -94,7 +94,7 @@ pub fn add_words(
     Ok(())
 }
 
-/// What is bound for a parameter: its value with lists, and else one text.
+/// The binding of a parameter: its value with lists, else one text.
 pub fn binding<'src>(
     alloc: Global,
     lists: bool,

@@ -26,7 +26,7 @@ use just_value::error::Error;
 use just_value::value::Value;
 use std::alloc::Global;
 
-/// Refuses an argument that is no text where one is wanted.
+/// Refuses an argument that is not one text where one is required.
 pub fn refuse_list<'src>(name: &Name<'src>, value: Value) -> Result<Value, Error<'src>>
     ensures { ended (λ v. v) result ≡ Refused (ListInStringContext (contexts.Function (name_view name.now)) value) }
 {
@@ -36,7 +36,7 @@ pub fn refuse_list<'src>(name: &Name<'src>, value: Value) -> Result<Value, Error
     })
 }
 
-/// What a built-in function answers. Its own message is a refusal.
+/// What a built-in function returns. Its own message is a refusal.
 pub fn call<'call, 'src, H: Host>(
     alloc: Global,
     host: &'call mut H,
@@ -57,7 +57,7 @@ pub fn call<'call, 'src, H: Host>(
             message,
         }),
         Err(CallFault::OutOfMemory) => Err(Error::OutOfMemory),
-        // A function that a name stands for is never answered so.
+        // No function that a name stands for returns this.
         Err(CallFault::Internal) => Err(internal::shapeless(alloc, &context.name)),
     }
 }

@@ -37,7 +37,7 @@ pub enum Callee<'src, 'run> {
 
 impl Callee<'_, '_> {
     /// Whether it takes a value as its argument with an index: any value, or one element where a built-in function
-    /// wants a text.
+    /// takes a text.
     pub fn takes(&self, index: usize, value: &Value) -> bool
         ensures given { result ≡ true → (t : Token) → look (reached_view self.now) t index value.now ≡ gives value.now }
         ensures text { result ≡ true → wants_text (reached_view self.now) index ≡ true → length value.now ≡ 1 }
@@ -50,13 +50,14 @@ impl Callee<'_, '_> {
     }
 }
 
-/// What a call with so many arguments reaches, where so many further calls may be pending. A function of the file hides a
-/// built-in function of its name. It is out of line, so that arguments nest without the room of what it does.
+/// What a call with this many arguments reaches, while `calls_left` further calls may be pending. A function of the
+/// file hides a built-in function of its name. Out of line, so that arguments nest without its frame.
 ///
 /// # Errors
 ///
-/// Of a function of the file `RecursionLimit` where no further call may be pending, and then `Internal` for another number
-/// of arguments. Of another name `LeftOut`, and `Internal` where nothing has it, or for the number of arguments.
+/// For a function of the file, `RecursionLimit` if no further call may be pending, then `Internal` if the number of
+/// arguments differs. For any other name, `LeftOut` if it is left out, and `Internal` if it is unknown or the number of
+/// arguments does not fit.
 #[inline(never)]
 pub fn reached<'src, 'run>(
     alloc: Global,
@@ -88,8 +89,8 @@ fn function_at<'src, 'run>(
     context.module.functions.get(name.lexeme())
 }
 
-// How many further calls may be pending in the body of a function that is called with so many arguments, where so many
-// may be pending at its call.
+// How many further calls may be pending in the body of a function that is called with this many arguments, while
+// `calls_left` may be pending at its call.
 fn calls_left_inside<'src>(
     alloc: Global,
     name: &Name<'src>,
@@ -112,7 +113,7 @@ fn calls_left_inside<'src>(
     Ok(calls_left - 1)
 }
 
-// The built-in function that a call with so many arguments reaches.
+// The built-in function that a call with this many arguments reaches.
 fn built_in<'src>(
     alloc: Global,
     name: &Name<'src>,
@@ -133,8 +134,8 @@ fn built_in<'src>(
     Ok(function)
 }
 
-// The refusal of a call of a name that no function has here: it is left out, or nothing has it. It is out of line, and a name
-// that a function has is looked up once.
+// The refusal of a call of a name with no function here: it is left out or unknown. Out of line; for a name with a
+// function, one look-up suffices.
 #[inline(never)]
 fn no_function<'src>(alloc: Global, name: &Name<'src>) -> Error<'src>
     ensures { function_named (name_view name.now).lexeme ≡ None → (p : Program) (calls arguments : ℕ) → EndsBefore p (name_view name.now) (undefined (name_view name.now).lexeme) calls arguments (refusal result) }

@@ -1,4 +1,4 @@
-// What command expressions give.
+// The values of command expressions.
 
 ghost use Rattle.std.specs.Prelude.{◌≡◌};
 ghost use Rattle.just_syntax.specs.View.{pairs_view, token_view};
@@ -18,7 +18,7 @@ use just_value::value::Value;
 use std::alloc::Global;
 use std::collections::BTreeMap;
 
-/// What a command expression gives: the text that the host answers, or in a dry run its own in backticks.
+/// The value of a command expression: the text that the host answers or, in a dry run, its own text in backticks.
 pub fn written<'call, 'src, 'run, H: Host>(
     alloc: Global,
     host: &'call mut H,
@@ -40,7 +40,7 @@ pub fn written<'call, 'src, 'run, H: Host>(
     }
 }
 
-// What a command expression's fault ends with.
+// The error of a command expression's fault.
 fn backtick_error(token: Token, output_error: CommandFault) -> Error
     ensures { without_value (refusal result) ≡ faulted (token_view token.entry) (fault_view output_error) }
 {

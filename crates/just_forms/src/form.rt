@@ -1,4 +1,4 @@
-// What forms make of the values of their parts.
+// How forms combine the values of their parts.
 
 ghost use Rattle.std.specs.Prelude.{IfOk, [], string_bytes, ◌++◌, ◌∷◌, ◌≡◌};
 ghost use Rattle.just_syntax.specs.View.{literal_view};
@@ -15,7 +15,7 @@ use just_value::error::Error;
 use just_value::value::Value;
 use std::alloc::Global;
 
-/// The elements of both. Those of the second are moved behind those of the first.
+/// The elements of both. Those of the second are moved to the end of the first.
 pub fn extended(first: Value, second: Value) -> Result<Value, OutOfMemory>
     ensures { IfOk result (λ v. v ≡ first ++ second) }
 {
@@ -35,7 +35,7 @@ pub fn is_regex(operator: ConditionalOperator) -> bool
     }
 }
 
-/// Whether two values are the same, or differ, as the operator asks.
+/// Whether two values are equal, or differ, as the operator asks.
 pub fn compares(operator: ConditionalOperator, left: &Value, right: &Value) -> bool
     ensures { from_condition result ≡ compared operator left.now right.now }
 {
@@ -45,14 +45,14 @@ pub fn compares(operator: ConditionalOperator, left: &Value, right: &Value) -> b
     }
 }
 
-/// What an assertion that holds gives: the condition's value with lists, one empty text without.
+/// The value of an assertion that holds: the condition's value with lists, one empty text without.
 pub fn asserted(alloc: Global, lists: bool, value: Value) -> Result<Value, OutOfMemory>
     ensures { IfOk result (λ v. v ≡ asserted lists value) }
 {
     if lists { Ok(value) } else { empty_text(alloc) }
 }
 
-/// One empty text. It is made out of line, so that its frame is no part of a form's.
+/// One empty text. Out of line, to keep its frame out of a form's.
 #[inline(never)]
 pub fn empty_text(alloc: Global) -> Result<Value, OutOfMemory>
     ensures { IfOk result (λ v. v ≡ [] ∷ []) }
@@ -60,7 +60,7 @@ pub fn empty_text(alloc: Global) -> Result<Value, OutOfMemory>
     Value::from_text(alloc, "")
 }
 
-/// A format string's text, unindented if its start is.
+/// A format string's text, unindented if its start is indented.
 pub fn formatted(alloc: Global, indented: bool, text: String) -> Result<String, OutOfMemory>
     ensures { IfOk result (λ t. string_bytes t ≡ unindented_if indented (string_bytes text)) }
 {
@@ -71,7 +71,7 @@ pub fn formatted(alloc: Global, indented: bool, text: String) -> Result<String, 
     }
 }
 
-/// The value of a string literal. It is made out of line, so that its frame is no part of every form's.
+/// The value of a string literal. Out of line, to keep its frame out of every form's.
 #[inline(never)]
 pub fn string_literal<'src>(
     alloc: Global,

@@ -1,4 +1,4 @@
-// What is said of a module that is not resolved.
+// The refusals of an unresolved module.
 
 ghost use Rattle.std.specs.Prelude.{IfErr, IfOk, Some, None, string_bytes, ◌≡◌};
 ghost use Rattle.just_syntax.specs.View.{name_view};
@@ -12,7 +12,7 @@ use just_syntax::out_of_memory::OutOfMemory;
 use just_value::error::Error;
 use std::alloc::Global;
 
-/// The refusal of a variable with no number, or `OutOfMemory` where there was none for its message.
+/// The refusal of a variable with no number, or `OutOfMemory` if its message cannot be allocated.
 #[inline(never)]
 pub fn unresolved<'src>(alloc: Global, name: &Name<'src>) -> Error<'src>
     ensures { Says (refusal result) (Internal (unresolved_text (name_view name.now).lexeme) (name_view name.now)) }
@@ -28,7 +28,7 @@ pub fn unevaluated<'src>(alloc: Global, name: &Name<'src>) -> Error<'src>
     internal(name, unevaluated_text(alloc, name.lexeme()))
 }
 
-/// The refusal of a call of what is no function, or `OutOfMemory`.
+/// The refusal of a call of a name that is no function, or `OutOfMemory`.
 #[inline(never)]
 pub fn unknown_function<'src>(alloc: Global, name: &Name<'src>) -> Error<'src>
     ensures { Says (refusal result) (Internal (unknown_function_text (name_view name.now).lexeme) (name_view name.now)) }
@@ -36,7 +36,7 @@ pub fn unknown_function<'src>(alloc: Global, name: &Name<'src>) -> Error<'src>
     internal(name, unknown_function_text(alloc, name.lexeme()))
 }
 
-/// The refusal of a call with another number of arguments than the function takes, or `OutOfMemory`.
+/// The refusal of a call with a number of arguments that the function does not take, or `OutOfMemory`.
 #[inline(never)]
 pub fn miscounted<'src>(alloc: Global, name: &Name<'src>) -> Error<'src>
     ensures { Says (refusal result) (Internal (miscounted_text (name_view name.now).lexeme) (name_view name.now)) }
@@ -44,7 +44,7 @@ pub fn miscounted<'src>(alloc: Global, name: &Name<'src>) -> Error<'src>
     internal(name, miscounted_text(alloc, name.lexeme()))
 }
 
-/// The refusal of a built-in function that has another shape than its tag, or `OutOfMemory`.
+/// The refusal of a built-in function whose shape is not that of its tag, or `OutOfMemory`.
 #[inline(never)]
 pub fn shapeless<'src>(alloc: Global, name: &Name<'src>) -> Error<'src>
     ensures { Says (refusal result) (Internal (shapeless_text (name_view name.now).lexeme) (name_view name.now)) }
@@ -60,7 +60,7 @@ pub fn unknown_assignment<'src>(alloc: Global, name: &Name<'src>) -> Error<'src>
     internal(name, unknown_assignment_text(alloc, name.lexeme()))
 }
 
-/// The refusal of another number of arguments than a recipe has parameters, or `OutOfMemory`.
+/// The refusal of arguments whose number is not that of a recipe's parameters, or `OutOfMemory`.
 #[inline(never)]
 pub fn mismatched<'src>(alloc: Global, recipe: &Name<'src>) -> Error<'src>
     ensures { Says (refusal result) (Internal mismatched_text (name_view recipe.now)) }
@@ -68,7 +68,7 @@ pub fn mismatched<'src>(alloc: Global, recipe: &Name<'src>) -> Error<'src>
     internal(recipe, mismatched_text(alloc))
 }
 
-// A refusal at a name, if there was memory for what it says.
+// A refusal at a name, or `OutOfMemory` if there is no message.
 fn internal<'src>(name: &Name<'src>, message: Result<String, OutOfMemory>) -> Error<'src>
     ensures said { IfOk message (λ text. refusal result ≡ Some (Internal (string_bytes text) (name_view name.now))) }
     ensures wanting { IfErr message (λ _. refusal result ≡ None) }

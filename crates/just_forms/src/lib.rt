@@ -1,6 +1,6 @@
-// The parts of the evaluator that evaluate no expression: what forms make of the values of their parts, what a called
-// function's parameters are bound to, what a call reaches, what a built-in function answers, what a command gives, and what
-// is said of a module that is not resolved. It leans on the definitions of evaluation, and on no law of them.
+// The parts of the evaluator that evaluate no expression: how forms combine the values of their parts, what a called
+// function's parameters are bound to, what a call reaches, what a built-in function returns, the value of a command,
+// and the refusals of an unresolved module. It builds on the definitions of evaluation, and on no law about them.
 #![tactic(auto)]
 
 pub mod argument;

@@ -7,7 +7,7 @@ use just_syntax::out_of_memory::OutOfMemory;
 use just_text::replace::replace;
 use std::alloc::Global;
 
-/// Text of a line, in which `{{{{` stands for `{{`. Where it goes on the line before, its leading white space is left out.
+/// Text of a line, with `{{{{` for `{{`. If it continues the line before, its leading white space is dropped.
 pub fn written(alloc: Global, lexeme: &str, continues: bool) -> Result<String, OutOfMemory>
     ensures { IfOk result (λ text. string_bytes text ≡ written continues lexeme.now) }
 {

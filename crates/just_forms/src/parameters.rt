@@ -16,7 +16,7 @@ use just_value::scope::Scope;
 use just_value::value::Value;
 use std::alloc::Global;
 
-// A child of a scope, in which parameters are bound to as many values, in their order.
+// A child of a scope, in which parameters are bound to as many values, in order.
 pub fn called_scope<'src, 'inner>(
     alloc: Global,
     parameters: &[(Name<'src>, Number)],
@@ -31,7 +31,7 @@ pub fn called_scope<'src, 'inner>(
     Ok(scope)
 }
 
-// Binds parameters to as many values, in their order.
+// Binds parameters to as many values, in order.
 fn bind_parameters<'src>(
     alloc: Global,
     scope: &mut Scope<'src, '_>,

@@ -1,4 +1,4 @@
-// Values where one text is wanted.
+// Values where a single text is required.
 
 ghost use Rattle.std.specs.Prelude.{string_bytes, ◌≡◌};
 ghost use Rattle.just_syntax.specs.View.{string_context_view};
@@ -9,11 +9,11 @@ use just_syntax::string_context::StringContext;
 use just_value::error::Error;
 use just_value::value::Value;
 
-/// The element of a value where one text is wanted. It takes no memory.
+/// The element of a value where a single text is required. It does not allocate.
 ///
 /// # Errors
 ///
-/// `ListInStringContext` for a value that has not exactly one element.
+/// `ListInStringContext` if the value does not have exactly one element.
 pub fn one_text<'src>(value: Value, context: StringContext<'src>) -> Result<String, Error<'src>>
     ensures { ended string_bytes result ≡ text_in (string_context_view context.entry) value }
 {

@@ -1,4 +1,4 @@
-// What variables hold.
+// The values of variables.
 
 ghost use Rattle.std.specs.Prelude.{◌≡◌};
 ghost use Rattle.std.specs.Bool.{nat_eq};
@@ -33,7 +33,7 @@ pub fn value_of<'src>(
     }
 }
 
-/// Whether a number is among the open ones. They are looked through only where there is one: a stage mostly has none.
+/// Whether a number is among the open ones. They are searched only if there are any: a stage usually has none.
 pub fn is_open(non_const_assignments: &HashSet<Number>, number: Number) -> bool
     ensures { result ≡ list_any (nat_eq number) non_const_assignments.now.keys }
 {

@@ -1,4 +1,4 @@
--- What the exported bindings of a scope come to.
+-- The effect of a scope's exported bindings on an environment.
 use Rattle.std.proofs.Common.{◌≡◌, Bool, true, false, cond, ◌||◌, List, [], ◌∷◌, ◌++◌, Option, Some, None, refl, sym, ap, ◌∙◌, bytes_eq, map}
 use Rattle.std.specs.List.{list_any}
 use Rattle.std.proofs.lemmas.List.{append-nil, append_assoc}
@@ -6,7 +6,7 @@ use Rattle.just_syntax.specs.Plain.{Text}
 use Rattle.just_value.specs.Frames.{Frame, Frames}
 use Rattle.just_host.specs.Exports.{Change, Sets, Removes, Environment, after, changed, frame_exports, frames_exports, exports, framewise, ComeToTheSame}
 
--- what the outermost of some frames exports comes first
+-- the outermost frame's exports come first
 pub frames_exports-last : (frames : Frames) (outermost : Frame) → frames_exports (frames ++ outermost ∷ []) ≡ frame_exports outermost ++ frames_exports frames
 frames_exports-last [] outermost = sym (append-nil (frame_exports outermost))
 frames_exports-last (frame ∷ outer) outermost = ap (λ cs. cs ++ frame_exports frame) (frames_exports-last outer outermost) ∙ append_assoc (frame_exports outermost) (frames_exports outer) (frame_exports frame)
@@ -19,7 +19,7 @@ changed_at : (e f : Environment) (c : Change) (name : Text) → e name ≡ f nam
 changed_at e f (Sets key text) name same = ap (λ o. cond (bytes_eq key name) (Some text) o) same
 changed_at e f (Removes key) name same = ap (λ o. cond (bytes_eq key name) None o) same
 
--- what a variable holds after some changes depends on what it held before them, and on no other
+-- the value of a variable after some changes depends only on its value before them
 after_at : (e f : Environment) (cs : List Change) (name : Text) → e name ≡ f name → after e cs name ≡ after f cs name
 after_at e f [] name same = same
 after_at e f (c ∷ cs) name same = after_at (changed e c) (changed f c) cs name (changed_at e f c name same)
@@ -33,13 +33,13 @@ either true false o = refl
 either false true o = refl
 either false false o = refl
 
--- once names are taken away, theirs are not set, and each other variable is as it was
+-- after names are removed, they are unset, and each other variable is unchanged
 removed : (e : Environment) (keys : List Text) (name : Text) → after e (map Removes keys) name ≡ cond (among keys name) None (e name)
 removed e [] name = refl
 removed e (key ∷ keys) name = removed (changed e (Removes key)) keys name ∙ either (bytes_eq key name) (among keys name) (e name)
 
 module _ (unexports : List Text) (e : Environment) (name : Text) where
-  -- a name that is exported holds the same where the others are never taken away
+  -- a name that is exported has the same value as if no names had been removed
   kept : (frames : Frames) → among unexports name ≡ false → after e (frames_exports frames) name ≡ after e (framewise unexports frames) name
   kept [] other = refl
   kept (frame ∷ outer) other =
@@ -51,7 +51,7 @@ module _ (unexports : List Text) (e : Environment) (name : Text) where
       ∙ after_at plain cleared (frame_exports frame) name step
       ∙ ap (λ f. f name) (sym (after-append e (framewise unexports outer) (map Removes unexports ++ frame_exports frame) ∙ after-append by_frames (map Removes unexports) (frame_exports frame)))
 
-  -- once the names are taken away, it does not matter how often they were before
+  -- after the names are removed, earlier removals make no difference
   cleared_alike : (frames : Frames) → after (after e (frames_exports frames)) (map Removes unexports) name ≡ after (after e (framewise unexports frames)) (map Removes unexports) name
   cleared_alike frames =
       let plain = after e (frames_exports frames) in
@@ -73,6 +73,6 @@ module _ (unexports : List Text) (e : Environment) (name : Text) where
       ∙ sym (parted by_frames)
       ∙ ap (λ f. f name) (sym (after-append e (framewise unexports outer) rest))
 
--- The names taken away once come to what they come to frame by frame.
+-- Removing the names once has the same effect as removing them at each frame.
 pub exports_framewise : (unexports : List Text) (frames : Frames) → ComeToTheSame (exports unexports frames) (framewise unexports frames)
 exports_framewise unexports frames e name = alike unexports e name frames

@@ -1,4 +1,4 @@
--- How runs beside a value check are put together.
+-- Composition of runs with a value check.
 use Rattle.std.proofs.Common.{◌≡◌, List, [], ◌∷◌, ◌++◌, refl, sym, subst, Option, Result, Err}
 use Rattle.just_syntax.specs.Plain.{Parameter}
 use Rattle.just_value.specs.Value.{Value}
@@ -23,7 +23,7 @@ module _ {S : Type 0} (step : S → Question → Answer → S → Type 0) (says 
   checked_append a b (Noted x ∷ es) fs c p q = checked_append a b es fs c p q
   checked_append a b (Checked x v y ∷ es) fs c (h, p) q = (h, checked_append a b es fs c p q)
 
-  -- the host is led by answered questions alone
+  -- only answered questions change the host's state
   checked_answers : (a b : S) (es : List Event) → CheckedChain step says a es b → GoesByAnswers step a b
   checked_answers a b [] p = record { events = []; chain = p }
   checked_answers a b (Asked q x ∷ es) (m, s, p) = let rest = checked_answers m b es p in record { events = Asked q x ∷ rest.events; chain = (m, s, rest.chain) }
@@ -31,7 +31,7 @@ module _ {S : Type 0} (step : S → Question → Answer → S → Type 0) (says 
   checked_answers a b (Checked x v y ∷ es) (h, p) = checked_answers a b es p
 
 module _ {rules : Rules} {S : Type 0} {step : S → Question → Answer → S → Type 0} {says : Parameter → Value → Verdict → Type 0} where
-  -- what checks nothing
+  -- a run that checks nothing
   pub unchecked : {A : Type 0} {old new : S} {t : Tree A} {o : Outcome A} → Runs rules step old t o new → RunsChecked rules step says old t o new
   unchecked {old = old} {new = new} r = record { events = r.events; path = r.path; chain = chain_checked step says old new r.events r.chain }
 
@@ -41,7 +41,7 @@ module _ {rules : Rules} {S : Type 0} {step : S → Question → Answer → S �
   pub checked_gives : {A : Type 0} {h : S} (a : A) → RunsChecked rules step says h (gives a) (Gave a) h
   checked_gives a = record { events = []; path = Ends; chain = refl }
 
-  -- on from a value
+  -- sequencing after a value
   pub checked_on : {A B : Type 0} {old mid new : S} (t : Tree A) (go : A → Tree B) {a : A} {o : Outcome B} → RunsChecked rules step says old t (Gave a) mid → RunsChecked rules step says mid (go a) o new → RunsChecked rules step says old (bind t go) o new
   checked_on t go r q = record { events = r.events ++ q.events; path = path_on go r.path q.path; chain = checked_append step says _ _ r.events q.events _ r.chain q.chain }
 
@@ -49,11 +49,11 @@ module _ {rules : Rules} {S : Type 0} {step : S → Question → Answer → S �
   pub checked_ends : {A B : Type 0} {old new : S} (t : Tree A) (go : A → Tree B) (e : Option Refusal) → RunsChecked rules step says old t (without_value e) new → RunsChecked rules step says old (bind t go) (without_value e) new
   checked_ends t go e r = record { events = r.events; path = path_ends go e r.path; chain = r.chain }
 
-  -- the exit of a `?`
+  -- the early return of a `?`
   pub checked_exit : {X A B : Type 0} {old new : S} (f : X → B) (t : Tree A) (go : A → Tree B) (r : Result X Error) (e d : Error) → r ≡ Err d → d ≡ e → RunsChecked rules step says old t (without_value (refusal e)) new → RunsChecked rules step says old (bind t go) (ended f r) new
   checked_exit f t go r e d p q h = rw (p, q) (checked_ends t go (refusal e) h)
 
-  -- one check, and what its verdict comes to
+  -- one check, and the outcome for its verdict
   pub checked_check : {A : Type 0} {h : S} (p : Parameter) (v : Value) (a : Verdict) (next : Verdict → Outcome A) → says p v a → RunsChecked rules step says h (check p v (λ b. done (next b))) (next a) h
   checked_check p v a next given = record { events = Checked p v a ∷ []; path = Checks Ends; chain = (given, refl) }
 

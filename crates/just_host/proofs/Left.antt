@@ -1,4 +1,4 @@
--- What is left of a row: elements that are made one after another, each from the value of a tree.
+-- Partial runs over a list: elements are produced in order, each from the value of an interaction tree.
 use Rattle.std.proofs.Common.{List, [], ◌++◌, refl, ap, sym, subst, Option, Some, None, ◌≡◌}
 use Rattle.std.proofs.lemmas.List.{append-nil, append_assoc}
 use Rattle.just_value.specs.Refusal.{Refusal}
@@ -7,7 +7,7 @@ use Rattle.just_host.specs.Question.{Question, Answer}
 use Rattle.just_host.specs.Interaction.{Rules, Runs, Tree, bind, gives}
 use Rattle.just_host.proofs.Paths.{runs_on, runs_ends, runs_gives, runs_stopped}
 
--- what is done so far is f, and the rest is put behind it
+-- the outcome, f applied to its value: f prepends what is already done
 abbrev pub behind : {A B : Type 0} → (A → B) → Outcome A → Outcome B
 behind f (Gave a) = Gave (f a)
 behind f (Refused r) = Refused r
@@ -28,12 +28,13 @@ behind_nothing (Gave xs) = refl
 behind_nothing (Refused r) = refl
 behind_nothing Stopped = refl
 
--- What is made so far, and what is left: whatever all that is left comes to from here is what the whole comes to.
+-- The list `made` so far and the remaining tree `left`: if a run of `left` from here ends with an outcome, a run of the
+-- whole ends with it, `made` prepended.
 abbrev pub Left : {S X : Type 0} → Rules → (S → Question → Answer → S → Type 0) → Tree (List X) → S → Tree (List X) → S → List X → Type 0
 Left {S} {X} by step whole start left here made = (o : Outcome (List X)) (new : S) → Runs by step here left o new → Runs by step start whole (behind (λ xs. made ++ xs) o) new
 
 module _ {rules : Rules} {S : Type 0} {step : S → Question → Answer → S → Type 0} where
-  -- a value, and then the rest, of which f makes one
+  -- a value, and then the rest, to which f adds the value
   runs_more : {V A B : Type 0} {old mid new : S} (first : Tree V) (rest : Tree A) (v : V) (f : V → A → B) (o : Outcome A) → Runs rules step old first (Gave v) mid → Runs rules step mid rest o new
       → Runs rules step old (bind first (λ v. bind rest (λ a. gives (f v a)))) (behind (f v) o) new
   runs_more first rest v f (Gave a) r q = runs_on first _ r (runs_on rest (λ a. gives (f v a)) q (runs_gives (f v a)))
@@ -50,15 +51,15 @@ module _ {rules : Rules} {S : Type 0} {step : S → Question → Answer → S �
     pub left_stops : {start here : S} (left : Tree (List X)) (made : List X) → Left rules step whole start left here made → Runs rules step start whole Stopped here
     left_stops left made rest = rest Stopped _ (runs_stopped left)
 
-    -- a first one, of which some elements are made, and more
+    -- a first tree, whose value gives some elements, and more
     module _ {V : Type 0} {start here : S} (first : Tree V) (more : Tree (List X)) (f : V → List X) (made : List X) (rest : Left rules step whole start (bind first (λ v. bind more (λ xs. gives (f v ++ xs)))) here made) where
       pub left_next : {mid : S} (v : V) → Runs rules step here first (Gave v) mid → Left rules step whole start more mid (made ++ f v)
       left_next v r o new q = subst (λ x. Runs rules step start whole x new) (behind_next made (f v) o) (rest (behind (λ xs. f v ++ xs) o) new (runs_more first more v (λ v xs. f v ++ xs) o r q))
 
-      -- it ends without a value
+      -- the first tree ends without a value
       pub left_ends : {new : S} (e : Option Refusal) → Runs rules step here first (without_value e) new → Runs rules step start whole (without_value e) new
       left_ends {new = new} e r = subst (λ x. Runs rules step start whole x new) (behind_ended (λ xs. made ++ xs) e) (rest (without_value e) new (runs_ends first _ e r))
 
-      -- memory runs out after its value
+      -- memory runs out after the first tree's value
       pub left_cut : {new : S} (v : V) → Runs rules step here first (Gave v) new → Runs rules step start whole Stopped new
       left_cut {new = new} v r = rest Stopped new (runs_on first _ r (runs_stopped _))

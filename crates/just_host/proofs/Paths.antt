@@ -1,4 +1,4 @@
--- How paths and runs down a tree are put together.
+-- Composition of paths and runs of interaction trees. A path is a trace of events with an outcome.
 use Rattle.std.proofs.Common.{◌≡◌, Bool, true, false, List, [], ◌∷◌, ◌++◌, refl, sym, subst, Option, Some, None, Result, Err, if◌then◌else◌}
 use Rattle.just_value.specs.declared.error.Error.{Error}
 use Rattle.just_value.specs.Refusal.{Refusal}
@@ -8,14 +8,14 @@ use Rattle.just_host.specs.Question.{Question, Answer}
 use Rattle.just_host.specs.Interaction.{Note, Event, Asked, Noted, Checked, Tree, done, ask, note, bind, gives, Rules, Path, Ends, Stops, Asks, Notes, Checks, Shuts, Chain, Runs}
 
 module _ {rules : Rules} where
-  -- a path to a value, and on from the value
+  -- a path to a value, continued after the value
   pub path_on : {A B : Type 0} {t : Tree A} (go : A → Tree B) {es fs : List Event} {a : A} {o : Outcome B} → Path rules t es (Gave a) → Path rules (go a) fs o → Path rules (bind t go) (es ++ fs) o
   path_on go Ends q = q
   path_on go (Asks p) q = Asks (path_on go p q)
   path_on go (Notes e p) q = Notes e (path_on go p q)
   path_on go (Checks p) q = Checks (path_on go p q)
 
-  -- a path to an end without a value is one of all that would go on from there
+  -- a path without a value stays one, whatever would have followed the value
   path_refused : {A B : Type 0} {t : Tree A} (go : A → Tree B) {es : List Event} {r : Refusal} → Path rules t es (Refused r) → Path rules (bind t go) es (Refused r)
   path_refused go Ends = Ends
   path_refused go (Asks p) = Asks (path_refused go p)
@@ -34,7 +34,7 @@ module _ {rules : Rules} where
   path_ends go (Some r) p = path_refused go p
   path_ends go None p = path_stopped go p
 
-  -- a path to a value may be stopped where it ends
+  -- a path to a value may also be stopped at its end
   pub path_cut : {A : Type 0} {t : Tree A} {es : List Event} {a : A} → Path rules t es (Gave a) → Path rules t es Stopped
   path_cut Ends = Stops
   path_cut (Asks p) = Asks (path_cut p)
@@ -49,7 +49,7 @@ module _ {S : Type 0} (step : S → Question → Answer → S → Type 0) where
   chain_append a b (Checked x v y ∷ es) fs c p q = absurd p
 
 module _ {rules : Rules} {S : Type 0} {step : S → Question → Answer → S → Type 0} where
-  -- what needs no question
+  -- a run without questions
   pub runs_done : {A : Type 0} {h : S} (w o : Outcome A) → UnlessStopped o w → Runs rules step h (done w) o h
   runs_done {h = h} w (Gave a) u = subst (λ x. Runs rules step h (done x) (Gave a) h) u (record { events = []; path = Ends; chain = refl })
   runs_done {h = h} w (Refused r) u = subst (λ x. Runs rules step h (done x) (Refused r) h) u (record { events = []; path = Ends; chain = refl })
@@ -61,7 +61,7 @@ module _ {rules : Rules} {S : Type 0} {step : S → Question → Answer → S �
   pub runs_stopped : {A : Type 0} {h : S} (t : Tree A) → Runs rules step h t Stopped h
   runs_stopped t = record { events = []; path = Stops; chain = refl }
 
-  -- on from a value
+  -- sequencing after a value
   pub runs_on : {A B : Type 0} {old mid new : S} (t : Tree A) (go : A → Tree B) {a : A} {o : Outcome B} → Runs rules step old t (Gave a) mid → Runs rules step mid (go a) o new → Runs rules step old (bind t go) o new
   runs_on t go r q = record { events = r.events ++ q.events; path = path_on go r.path q.path; chain = chain_append step _ _ r.events q.events _ r.chain q.chain }
 
@@ -69,21 +69,21 @@ module _ {rules : Rules} {S : Type 0} {step : S → Question → Answer → S �
   pub runs_ends : {A B : Type 0} {old new : S} (t : Tree A) (go : A → Tree B) (e : Option Refusal) → Runs rules step old t (without_value e) new → Runs rules step old (bind t go) (without_value e) new
   runs_ends t go e r = record { events = r.events; path = path_ends go e r.path; chain = r.chain }
 
-  -- the exit of a `?`
+  -- the early return of a `?`
   pub runs_exit : {X A B : Type 0} {old new : S} (f : X → B) (t : Tree A) (go : A → Tree B) (r : Result X Error) (e d : Error) → r ≡ Err d → d ≡ e → Runs rules step old t (without_value (refusal e)) new → Runs rules step old (bind t go) (ended f r) new
   runs_exit f t go r e d p q h = rw (p, q) (runs_ends t go (refusal e) h)
 
   pub runs_ask : {A : Type 0} {old mid new : S} (q : Question) (next : Answer → Tree A) (a : Answer) {o : Outcome A} → step old q a mid → Runs rules step mid (next a) o new → Runs rules step old (ask q next) o new
   runs_ask q next a s r = record { events = Asked q a ∷ r.events; path = Asks r.path; chain = (_, s, r.chain) }
 
-  -- a note that the rules pass, and one that they refuse
+  -- a note that the rules allow, and one that they refuse
   pub runs_note : {A : Type 0} {old new : S} {x : Note} {t : Tree A} {o : Outcome A} → rules x ≡ None → Runs rules step old t o new → Runs rules step old (note x t) o new
   runs_note {x = x} e r = record { events = Noted x ∷ r.events; path = Notes e r.path; chain = r.chain }
 
   pub runs_shut : {A : Type 0} {h : S} {x : Note} {t : Tree A} {r : Refusal} → rules x ≡ Some r → Runs rules step h (note x t) (Refused r) h
   runs_shut e = record { events = []; path = Shuts e; chain = refl }
 
-  -- the one branch, or the other
+  -- the first branch, or the second
   pub runs_then : {A : Type 0} {old new : S} {o : Outcome A} (b : Bool) (x y : Tree A) → b ≡ true → Runs rules step old x o new → Runs rules step old (if b then x else y) o new
   runs_then {old = old} {new = new} {o = o} b x y e r = subst (λ t. Runs rules step old (if t then x else y) o new) (sym e) r
 

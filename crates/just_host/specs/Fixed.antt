@@ -1,10 +1,11 @@
--- What stays the same while a module is evaluated.
+-- The fixed context of a module's evaluation.
 use Rattle.std.specs.Prelude.{Bool, List, Option, Some, None, if◌then◌else◌}
 use Rattle.just_syntax.specs.Plain.{Text}
 use Rattle.just_text.specs.Path.{joined}
 use Rattle.just_host.specs.Settings.{Config, Settings}
 
--- The search's justfile and directory, and the module's settings, unexports, source, path, directory and mark.
+-- The search's justfile and directory; the module's settings, unexports, source, path and directory, and whether it is
+-- a submodule.
 pub record Fixed : Type 0 where
   pub config : Config
   pub dotenv : List (Text × Text)
@@ -21,6 +22,7 @@ abbrev pub or_joined : Text → Option Text → Text
 or_joined base (Some directory) = joined base directory
 or_joined base None = base
 
--- the directory that commands are run in: the module's for a submodule, else the search's, joined with the one that is set
+-- the directory that commands run in: the module's for a submodule, otherwise the search's, joined with the one that is
+-- set
 abbrev pub working_directory : Fixed → Text
 working_directory f = or_joined (if f.is_submodule then f.module_directory else f.search_directory) f.settings.working_directory

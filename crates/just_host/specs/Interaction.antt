@@ -1,4 +1,4 @@
--- What is asked of a host, as a tree: a question has a branch for each answer.
+-- Interaction trees over the questions to a host, their traces, and executions of a host's transition relation.
 use Rattle.std.specs.Prelude.{◌≡◌, ℕ, List, [], ◌∷◌, ◌⊎◌, Option, Some, None}
 use Rattle.just_syntax.specs.Plain.{Text, Token, Parameter}
 use Rattle.just_value.specs.Value.{Value}
@@ -6,34 +6,35 @@ use Rattle.just_value.specs.Refusal.{Refusal, NoMemory}
 use Rattle.just_value.specs.Outcome.{Outcome, Gave, Refused, Stopped}
 use Rattle.just_host.specs.Question.{Question, Answer, Failed}
 
--- What evaluation reaches, each with the token where it stands: a variable is read, a call is entered, a command stands
--- there, also in a dry run.
+-- What evaluation reaches, each with its token: a variable is read, a call is entered, or a command occurs. A command
+-- is noted in a dry run too.
 pub data Note : Type 0 where
   Read : Token → ℕ → Note
   Entered : Token → Note
   Command : Token → Note
 
--- what a value check says: the value passes; it does not, with a message; or there was no memory to tell
+-- the verdict of a value check: the value passes; it does not, with a message; or memory ran out
 pub data Verdict : Type 0 where
   Passed : Verdict
   Denied : Text → Verdict
   Untold : Verdict
 
--- what happens, in order
+-- what happens along a trace
 pub data Event : Type 0 where
   Asked : Question → Answer → Event
   Noted : Note → Event
   Checked : Parameter → Value → Verdict → Event
 
--- What is still to be done: nothing, with an outcome; a question of the host, with a branch for each answer; a note, and
--- the rest; the check of a parameter's value, with a branch for each verdict.
+-- An interaction tree: what is still to be done. It ends with an outcome (`Ret`), asks the host a question and has a
+-- branch for each answer (`Vis`), makes a note and goes on (a labelled `Tau`), or checks a parameter's value and has a
+-- branch for each verdict.
 pub data Tree (A : Type 0) : Type 0 where
   done : Outcome A → Tree A
   ask : Question → (Answer → Tree A) → Tree A
   note : Note → Tree A → Tree A
   check : Parameter → Value → (Verdict → Tree A) → Tree A
 
--- goes on with the value of a tree; a refusal ends it
+-- continues with the value of a tree; a refusal ends it
 abbrev pub bind : {A B : Type 0} → Tree A → (A → Tree B) → Tree B
 bind (done (Gave a)) go = go a
 bind (done (Refused r)) go = done (Refused r)
@@ -48,16 +49,16 @@ gives a = done (Gave a)
 abbrev pub refuses : {A : Type 0} → Refusal → Tree A
 refuses r = done (Refused r)
 
--- what is refused of that which evaluation reaches
+-- which of the notes are refused
 abbrev pub Rules : Type 0
 Rules = Note → Option Refusal
 
--- nothing is
+-- none is
 abbrev pub freely : Rules
 freely x = None
 
--- A path down a tree by rules: these events, and then this outcome. It is refused at the first note that the rules refuse.
--- For want of memory it may be stopped at any point.
+-- A finite trace of a tree under rules: these events, and then this outcome. The first note that the rules refuse ends
+-- it. If memory runs out, it may stop at any point, so that traces are prefix-closed.
 pub data Path {A : Type 0} (rules : Rules) : Tree A → List Event → Outcome A → Type 0 where
   Ends : {o : Outcome A} → Path rules (done o) [] o
   Stops : {t : Tree A} → Path rules t [] Stopped
@@ -66,38 +67,40 @@ pub data Path {A : Type 0} (rules : Rules) : Tree A → List Event → Outcome A
   Checks : {p : Parameter} {v : Value} {next : Verdict → Tree A} {a : Verdict} {es : List Event} {o : Outcome A} → Path rules (next a) es o → Path rules (check p v next) (Checked p v a ∷ es) o
   Shuts : {x : Note} {rest : Tree A} {r : Refusal} → rules x ≡ Some r → Path rules (note x rest) [] (Refused r)
 
--- The questions among the events lead a host from one state to another, step by step: nothing else is asked, and no value
--- is checked.
+-- An execution of the transition relation `step`, labelled with questions and answers: those among the events take a
+-- host's state from `old` to `new`, one after another. Nothing else is asked, and no value is checked.
 abbrev pub Chain : {S : Type 0} → (S → Question → Answer → S → Type 0) → S → List Event → S → Type 0
 Chain step old [] new = old ≡ new
 Chain {S} step old (Asked q a ∷ events) new = (mid : S) × step old q a mid × Chain step mid events new
 Chain step old (Noted x ∷ events) new = Chain step old events new
 Chain step old (Checked p v a ∷ events) new = ⊥
 
--- The same beside a value check: each verdict is one that it may give, and the host is not asked for it.
+-- The same with a value check: each verdict is one that the check may give, and the host is not asked for it.
 abbrev pub CheckedChain : {S : Type 0} → (S → Question → Answer → S → Type 0) → (Parameter → Value → Verdict → Type 0) → S → List Event → S → Type 0
 CheckedChain step gives old [] new = old ≡ new
 CheckedChain {S} step gives old (Asked q a ∷ events) new = (mid : S) × step old q a mid × CheckedChain step gives mid events new
 CheckedChain step gives old (Noted x ∷ events) new = CheckedChain step gives old events new
 CheckedChain step gives old (Checked p v a ∷ events) new = gives p v a × CheckedChain step gives old events new
 
--- Some events are a path down the tree to the outcome, and their questions lead the host from old to new.
+-- The tree may behave like this: some events are a trace of it to the outcome, and their questions take the host's
+-- state from `old` to `new`.
 pub record Runs {S A : Type 0} (rules : Rules) (step : S → Question → Answer → S → Type 0) (old : S) (tree : Tree A) (outcome : Outcome A) (new : S) : Type 0 where
   pub events : List Event
   pub path : Path rules tree events outcome
   pub chain : Chain step old events new
 
--- The same beside a value check.
+-- The same with a value check.
 pub record RunsChecked {S A : Type 0} (rules : Rules) (step : S → Question → Answer → S → Type 0) (gives : Parameter → Value → Verdict → Type 0) (old : S) (tree : Tree A) (outcome : Outcome A) (new : S) : Type 0 where
   pub events : List Event
   pub path : Path rules tree events outcome
   pub chain : CheckedChain step gives old events new
 
--- Answered questions, and nothing else, lead the host from old to new.
+-- Only answered questions take the host's state from `old` to `new`.
 pub record GoesByAnswers {S : Type 0} (step : S → Question → Answer → S → Type 0) (old new : S) : Type 0 where
   pub events : List Event
   pub chain : Chain step old events new
 
--- The question and its answer lead the host from old to new; or memory was refused before it was asked, and the answer says so.
+-- The question and its answer take the host's state from `old` to `new`. Or memory runs out before it is asked, and the
+-- answer says so.
 abbrev pub AsksOnce : {S : Type 0} → (S → Question → Answer → S → Type 0) → S → Question → Answer → S → Type 0
 AsksOnce step old q a new = step old q a new ⊎ ((a ≡ Failed NoMemory) × (old ≡ new))

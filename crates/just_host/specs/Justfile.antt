@@ -1,9 +1,9 @@
--- Modules, and where the root module was found.
+-- Modules, and the location of the root module.
 use Rattle.std.specs.Prelude.{Bool, false, List, []}
 use Rattle.just_syntax.specs.Plain.{Text, Token, Assignment, Function}
 use Rattle.just_host.specs.Settings.{Settings, unset}
 
--- the root justfile that was found, and the directory that it works in
+-- the root justfile that was found, and its working directory
 pub record Search : Type 0 where
   pub justfile : Text
   pub working_directory : Text
@@ -20,6 +20,6 @@ pub record Justfile : Type 0 where
   pub unexports : List Text
   pub working_directory : Text
 
--- a root module with nothing in it, read from a file and working in a directory
+-- an empty root module, read from a file and working in a directory
 abbrev pub empty_root : Text → Text → Justfile
 empty_root source directory = record { assignments = []; evaluation_order = []; functions = []; module_path = []; settings = unset; source = source; submodule = false; unexports = []; working_directory = directory }

@@ -1,4 +1,4 @@
--- How a host answers that looks its answers up in maps of texts.
+-- The answers of a host that looks them up in maps of texts.
 use Rattle.std.specs.Prelude.{Option, Some, None, string_bytes, is_some, codes}
 use Rattle.std.specs.Option.{option_map}
 use Rattle.std.specs.BTreeMap.{BTreeMap, get_by_text}

@@ -23,16 +23,16 @@ directory_word directories.Executable = codes "executable"
 directory_word directories.Home = codes "home"
 directory_word directories.Runtime = codes "runtime"
 
--- texts in quotes, each behind a space
+-- texts in quotes, each after a space
 abbrev pub spaced : List Text → Text
 spaced texts = flat_map (λ text. codes " " ++ quoted text) texts
 
--- the same of texts that may be given
+-- the same for an optional list of texts
 abbrev pub spaced_given : Option (List Text) → Text
 spaced_given (Some texts) = spaced texts
 spaced_given None = codes ""
 
--- a question for a text, by its kind and what it is about
+-- a question for a text, by its kind and its subject
 abbrev pub text_printed : TextKind → Text → Text
 text_printed kinds.Variable about = codes "variable " ++ quoted about
 text_printed (kinds.Directory kind) about = codes "directory " ++ directory_word kind
@@ -52,13 +52,13 @@ number_printed Cpus = codes "number cpus"
 abbrev pub command_printed : Text → Option (List Text) → Text
 command_printed command arguments = codes "command " ++ (quoted command ++ spaced_given arguments)
 
--- what is kept of a question: its kind, and what is asked for, the texts in quotes
+-- a recorded question: its kind, and what it asks for, texts in quotes
 abbrev pub kept_printed : Kept → Text
 kept_printed (KeptCommand command arguments environment) = command_printed command arguments
 kept_printed (KeptText kind about) = text_printed kind about
 kept_printed (KeptExistence path) = codes "exists " ++ quoted path
 kept_printed (KeptNumber q) = number_printed q
 
--- a question is printed as what is kept of it
+-- a question is printed as its record
 abbrev pub printed : Blind → Text
 printed q = kept_printed (recorded q)

@@ -1,4 +1,4 @@
--- What a host is asked, and what it may answer.
+-- The questions to a host, and its possible answers.
 use Rattle.std.specs.Prelude.{◌≡◌, ℕ, Bool, List, [], Option, ◌⊎◌}
 use Rattle.just_syntax.specs.Plain.{Text}
 use Rattle.just_value.specs.Frames.{Frames}
@@ -8,7 +8,7 @@ use Rattle.just_host.specs.declared.number_question.NumberQuestion.{NumberQuesti
 use Rattle.just_host.specs.Settings.{Config, Settings}
 use Rattle.just_host.specs.Fixed.{Fixed, working_directory}
 
--- a command, and what it is run with, but for the frames that it sees
+-- a command, and what it runs with, without the frames that it can read
 pub record BlindCommand : Type 0 where
   pub command : Text
   pub arguments : Option (List Text)
@@ -31,7 +31,7 @@ pub data TextQuestion : Type 0 where
   Os : TextQuestion
   OsFamily : TextQuestion
 
--- a question, but for the frames that it shows
+-- a question, without the frames that it shows
 pub data Blind : Type 0 where
   CommandOf : BlindCommand → Blind
   TextOf : TextQuestion → Blind
@@ -43,8 +43,8 @@ pub record Question : Type 0 where
   pub blind : Blind
   pub shown : Frames
 
--- An answer: a text; why there is none, want of memory too; that there is nothing; what is no text, in a readable form;
--- whether something is there; a number.
+-- An answer: a text; why there is none, including `NoMemory`; that there is nothing; a readable form of something that
+-- is not text; whether something exists; a number.
 pub data Answer : Type 0 where
   Replied : Text → Answer
   Failed : Fault → Answer
@@ -53,11 +53,11 @@ pub data Answer : Type 0 where
   Found : Bool → Answer
   Numbered : ℕ → Answer
 
--- the answer is the one that is wanted, or want of memory
+-- the answer is the expected one, or `NoMemory`
 abbrev pub UnlessNoMemory : Answer → Answer → Type 0
 UnlessNoMemory a wanted = (a ≡ wanted) ⊎ (a ≡ Failed NoMemory)
 
--- a command in a context, with this environment and these arguments, and these frames shown
+-- the question for a command in a context, with this environment, these arguments and these frames
 abbrev pub command_question : Fixed → List (Text × Text) → Frames → Text → Option (List Text) → Question
 command_question f environment shown command arguments = record {
   blind = CommandOf (record {
@@ -73,6 +73,6 @@ command_question f environment shown command arguments = record {
   shown = shown;
 }
 
--- any other question shows no frames
+-- any other question, which shows no frames
 abbrev pub frameless : Blind → Question
 frameless q = record { blind = q; shown = [] }

@@ -1,4 +1,4 @@
--- What is kept of questions.
+-- Records of questions.
 use Rattle.std.specs.Prelude.{◌≡◌, ◌⊎◌, List, [], ◌∷◌, ◌++◌, Option}
 use Rattle.just_syntax.specs.Plain.{Text}
 use Rattle.just_value.specs.Refusal.{NoMemory}
@@ -8,15 +8,15 @@ use Rattle.just_host.specs.Question as asked
 use Rattle.just_host.specs.declared.recorded.TextKind.{TextKind}
 use Rattle.just_host.specs.declared.recorded.TextKind.TheVariants as kinds
 
--- A command, its arguments where it takes some, and its environment; a question for a text, and what it is about; whether
--- something stands at a path; a number.
+-- A command, its arguments if it takes any, and its environment; a question for a text, and its subject; whether
+-- something exists at a path; a number.
 pub data Kept : Type 0 where
   KeptCommand : Text → Option (List Text) → List (Text × Text) → Kept
   KeptText : TextKind → Text → Kept
   KeptExistence : Text → Kept
   KeptNumber : NumberQuestion → Kept
 
--- a question for a text, without what it holds
+-- the kind of a question for a text, without its data
 abbrev pub kind_of : TextQuestion → TextKind
 kind_of (asked.Variable key) = kinds.Variable
 kind_of (asked.Directory kind) = kinds.Directory kind
@@ -28,7 +28,7 @@ kind_of asked.Arch = kinds.Arch
 kind_of asked.Os = kinds.Os
 kind_of asked.OsFamily = kinds.OsFamily
 
--- the variable, path or name that a question for a text is about, if any
+-- the variable, path or name that a question for a text is about; empty if there is none
 abbrev pub text_of : TextQuestion → Text
 text_of (asked.Variable key) = key
 text_of (asked.Canonicalize path) = path
@@ -36,14 +36,15 @@ text_of (asked.Read path) = path
 text_of (asked.Which name directory) = name
 text_of _ = []
 
--- what is kept of a question
+-- the record of a question
 abbrev pub recorded : Blind → Kept
 recorded (CommandOf c) = KeptCommand c.command c.arguments c.environment
 recorded (TextOf q) = KeptText (kind_of q) (text_of q)
 recorded (ExistsAt path) = KeptExistence path
 recorded (NumberOf q) = KeptNumber q
 
--- A question is kept behind the others, and another host's answer to it is the answer; or for want of memory it is neither kept nor asked.
+-- The question is recorded after the others, and the inner host's answer to it is the answer. If memory runs out, it
+-- may be neither recorded nor asked.
 abbrev pub RecordsAndAsks : {S : Type 0} → (S → Question → Answer → S → Type 0) → S → List Kept → Question → Answer → S → List Kept → Type 0
 RecordsAndAsks step old kept question answer new kept' =
     (step old question answer new × (kept' ≡ kept ++ recorded question.blind ∷ [])) ⊎ ((answer ≡ Failed NoMemory) × (new ≡ old) × (kept' ≡ kept))

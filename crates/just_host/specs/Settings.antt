@@ -1,4 +1,4 @@
--- How the program was called, and what a module sets.
+-- How the program was called, and the settings of a module.
 use Rattle.std.specs.Prelude.{ℕ, Bool, false, List, [], ◌∷◌, Option, Some, None, unwrap_or, codes}
 use Rattle.just_syntax.specs.Plain.{Text, Interpreter}
 use Rattle.just_syntax.specs.declared.indentation.Indentation.{Indentation}
@@ -13,7 +13,7 @@ pub record Config : Type 0 where
   pub shell_args : Option (List Text)
   pub shell_command : Bool
 
--- the program called in a directory, with nothing said of how
+-- the program called in a directory, without options
 abbrev pub called_in : Text → Config
 called_in directory = record { dry_run = false; invocation_directory = directory; jobs = None; quiet = false; shell = None; shell_args = None; shell_command = false }
 
@@ -47,7 +47,7 @@ pub record Settings : Type 0 where
   pub windows_shell : Option (Interpreter Text)
   pub working_directory : Option Text
 
--- what a module sets that sets nothing
+-- the settings of a module that sets nothing
 abbrev pub unset : Settings
 unset = record {
   allow_duplicate_recipes = false;
@@ -86,8 +86,8 @@ default_shell = codes "sh"
 abbrev pub default_shell_arguments : List Text
 default_shell_arguments = codes "-cu" ∷ []
 
--- The command and the arguments that the program was called with, the one that is missing being the default; where it
--- was called with neither, the shell that the module sets; else the default one.
+-- The command and the arguments that the program was called with, a missing one replaced by the default. If it was
+-- called with neither, the shell that the module sets, or else the default.
 abbrev pub chosen : Option Text → Option (List Text) → Option (Interpreter Text) → Interpreter Text
 chosen None None (Some shell) = shell
 chosen command arguments _ = record { command = unwrap_or command default_shell; arguments = unwrap_or arguments default_shell_arguments }

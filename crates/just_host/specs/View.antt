@@ -1,4 +1,4 @@
--- What contexts, questions and answers are as plain data.
+-- Contexts, questions and answers as plain data.
 use Rattle.std.specs.Prelude.{ℕ, Bool, List, map, string_bytes, Result, Ok, Err, Vec}
 use Rattle.std.specs.Borrow.{Bor}
 use Rattle.std.specs.Option.{option_map}
@@ -39,7 +39,7 @@ use Rattle.just_host.specs.Question.{BlindCommand, Question, CommandOf, TextOf, 
 abbrev pub config_view : Config → plain.Config
 config_view c = record { dry_run = c.dry_run; invocation_directory = string_bytes c.invocation_directory; jobs = c.jobs; quiet = c.quiet; shell = option_map string_bytes c.shell; shell_args = option_map (λ words. map string_bytes words.items) c.shell_args; shell_command = c.shell_command }
 
--- a shell and its arguments, lent
+-- a shell and its arguments, borrowed
 abbrev pub shell_view : {A : Type 0} → Bor Text × Vec (Bor Text) A → Interpreter Text
 shell_view shell = record { command = shell.0.now; arguments = map (λ word. word.now) shell.1.items }
 
@@ -105,7 +105,7 @@ fixed_view c = record {
   is_submodule = c.module.now.submodule;
 }
 
--- what a built-in function is called in, but for the frames that can be seen
+-- the context of a call of a built-in function, without the visible frames
 abbrev pub function_context_view : declared_function.Context → functions.Context
 function_context_view c = record {
   environment = pairs_view c.env.now;
@@ -115,7 +115,7 @@ function_context_view c = record {
   recipe = option_map (λ name. name.token.lexeme.now) c.recipe;
 }
 
--- a command, but for the frames that it sees
+-- a command, without the frames that it can read
 abbrev pub command_view : CommandQuestion → BlindCommand
 command_view q = record {
   command = q.command.now;
@@ -162,11 +162,11 @@ text_replied (answers.NotText text) = NotText (string_bytes text)
 text_replied (answers.Fault text) = Failed (Message (string_bytes text))
 text_replied answers.OutOfMemory = Failed NoMemory
 
--- whether something stands at a path
+-- whether something exists at a path
 abbrev pub existence_question : Text → Question
 existence_question path = frameless (ExistsAt path)
 
--- whether it is there, or want of memory, as an answer
+-- whether it exists, or `OutOfMemory`, as an answer
 abbrev pub found : Result Bool OutOfMemory → Answer
 found (Ok there) = Found there
 found (Err e) = Failed NoMemory
@@ -174,7 +174,7 @@ found (Err e) = Failed NoMemory
 abbrev pub number_question : NumberQuestion → Question
 number_question q = frameless (NumberOf q)
 
--- a number, or want of memory, as an answer
+-- a number, or `OutOfMemory`, as an answer
 abbrev pub numbered : Result ℕ OutOfMemory → Answer
 numbered (Ok n) = Numbered n
 numbered (Err e) = Failed NoMemory
@@ -187,10 +187,10 @@ recorded_view (recorded.Text kind text) = KeptText kind (string_bytes text)
 recorded_view (recorded.Exists path) = KeptExistence (string_bytes path)
 recorded_view (recorded.Number question) = KeptNumber question
 
--- the questions so far
+-- the records of the questions so far
 abbrev pub records_view : {H : Type 0} → Recorder H → List Kept
 records_view recorder = map recorded_view recorder.questions.items
 
--- the host that is asked
+-- the inner host
 abbrev pub inner_host : {H : Type 0} → Recorder H → H
 inner_host recorder = recorder.host

@@ -1,4 +1,4 @@
-// Commands asked for in a context.
+// Running commands in a context.
 
 ghost use Rattle.std.specs.Prelude.{◌≡◌, map, string_bytes, false};
 ghost use Rattle.std.specs.Option.{option_map};
@@ -16,14 +16,14 @@ use just_value::scope::Scope;
 use std::alloc::Global;
 use std::collections::BTreeMap;
 
-/// Asks a host to run a command in a context, with a recipe's environment, the variables that can be seen, and the arguments
-/// behind the command, where it takes some. It is not for a dry run. The text is what the host answered, as it stands.
+/// Asks a host to run a command in a context, with a recipe's environment, the visible variables, and the arguments of
+/// the command, if it takes any. It must not be called in a dry run. The text is the host's answer, unchanged.
 /// Upstream's `Evaluator::run_command`, which starts the process.
 ///
 /// # Errors
 ///
-/// The host's fault, or `OutOfMemory` where the host says so, or where memory was asked for and refused before the host is
-/// asked: then it is not asked, and stays as it was.
+/// The host's fault. `OutOfMemory`, if the host reports it, or if an allocation fails before the host is asked: then
+/// the host's state is unchanged.
 pub fn ask_command<'call, 'src, 'run, H: Host>(
     alloc: Global,
     host: &'call mut H,

@@ -1,4 +1,4 @@
-// Commands to be run.
+// Commands to run.
 
 ghost use Rattle.std.specs.Prelude.{◌≡◌, ◌++◌, IfOk, OnOk, map, string_bytes};
 ghost use Rattle.just_host.specs.CommandLine.{command_line};
@@ -13,34 +13,34 @@ use std::alloc::Global;
 use std::collections::BTreeMap;
 use std::fmt;
 
-/// A command to be run, and all that it is run with.
+/// A command to run, and everything that it runs with.
 #[derive(Clone, Copy)]
 pub struct CommandQuestion<'src, 'run, 'question> {
-    /// The text that the shell is given.
+    /// The text that the shell gets.
     pub command: &'question str,
-    /// What the shell is given behind it, where the command takes arguments.
+    /// The words that the shell gets after the command, if the command takes arguments.
     pub arguments: Option<&'question [String]>,
     /// The recipe's environment.
     pub env: &'question BTreeMap<String, String>,
-    /// The variables that can be seen where the command stands; those with `export` are exported.
+    /// The variables that are visible to the command; those with `export` are exported.
     pub scope: &'question Scope<'src, 'run>,
     pub config: &'run Config,
     pub dotenv: &'run BTreeMap<String, String>,
     pub settings: &'run Settings,
     pub unexports: &'run [String],
-    /// The directory that the command is run in.
+    /// The directory that the command runs in.
     pub working_directory: &'question str,
 }
 
 impl CommandQuestion<'_, '_, '_> {
-    /// The words that the command is run with, the program first: the shell, its arguments, the command, and behind it the
-    /// arguments where it takes some. `takes_shell_name` says whether the shell takes a name for itself before these, as `sh`
-    /// does behind `-c`; then that is the command once more, also where the arguments are none. The words are lent. Upstream's
-    /// `Evaluator::run_command` makes them.
+    /// The words of the command line, the program first: the shell, its arguments, the command, and then the arguments,
+    /// if it takes any. `takes_shell_name` says whether the shell takes its own name before these, as `sh` does after
+    /// `-c`; then a copy of the command precedes them, even if the list of arguments is empty. The words are borrowed.
+    /// Upstream's `Evaluator::run_command` builds them.
     ///
     /// # Errors
     ///
-    /// `OutOfMemory`, where memory was asked for and refused: nothing is made.
+    /// `OutOfMemory`, if an allocation fails: nothing is created.
     pub fn command_line(
         &self,
         alloc: Global,
@@ -63,7 +63,7 @@ impl CommandQuestion<'_, '_, '_> {
     }
 }
 
-// Adds texts, lent.
+// Adds texts, borrowed.
 fn add_texts<'text>(words: &mut Vec<&'text str>, texts: &'text [String]) -> Result<(), OutOfMemory>
     ensures { OnOk result (map (λ word. word.now) words.new.items ≡ map (λ word. word.now) words.old.items ++ map string_bytes texts.now) }
 {
@@ -73,7 +73,7 @@ fn add_texts<'text>(words: &mut Vec<&'text str>, texts: &'text [String]) -> Resu
     Ok(())
 }
 
-// The command and its arguments, where it takes some, as `command "a" "b"`.
+// The command and its arguments, if it takes any, as `command "a" "b"`.
 impl fmt::Display for CommandQuestion<'_, '_, '_> {
     ghost use Rattle.std.specs.Prelude.{Some};
     ghost use Rattle.just_host.specs.Printed.{printed};
@@ -88,7 +88,7 @@ impl fmt::Display for CommandQuestion<'_, '_, '_> {
     }
 }
 
-// Each field by its name, the scope after the others. A reader is promised no bytes.
+// Each field by its name, the scope last. The format is unspecified.
 impl fmt::Debug for CommandQuestion<'_, '_, '_> {
     fn fmt<W: fmt::Write>(&self, f: &mut fmt::Formatter<W>) -> fmt::Result {
         f.debug_struct("CommandQuestion")

@@ -10,29 +10,29 @@ use std::alloc::Global;
 /// How the program was called.
 #[derive(Debug, Drop)]
 pub struct Config {
-    /// Commands are shown, and none is run.
+    /// Commands are shown instead of run.
     pub dry_run: bool,
     /// The directory that the program was called in.
     pub invocation_directory: String,
-    /// How many recipes may run at once, where that is limited.
+    /// How many recipes may run at once, if that is limited.
     pub jobs: Option<u64>,
     /// What commands write to standard error is not shown.
     pub quiet: bool,
-    /// The shell, in place of the one that is set.
+    /// The shell, instead of the one that is set.
     pub shell: Option<String>,
-    /// The shell's arguments, in place of those that are set.
+    /// The shell's arguments, instead of those that are set.
     pub shell_args: Option<Vec<String>>,
-    /// It is kept, and nothing here reads it.
+    /// It is kept, but nothing here reads it.
     pub shell_command: bool,
 }
 
 impl Config {
-    /// The program called in a directory, with nothing said of how: commands are run, as many recipes at once as may be, what
-    /// commands write to standard error is shown, and the shell is the one that is set.
+    /// The program called in a directory, without options: commands are run, the number of recipes that may run at once
+    /// is not limited, what commands write to standard error is shown, and the shell is the one that is set.
     ///
     /// # Errors
     ///
-    /// `OutOfMemory`, where the path cannot be copied: nothing is made.
+    /// `OutOfMemory`, if the path cannot be copied: nothing is created.
     pub fn new(alloc: Global, invocation_directory: &str) -> Result<Config, OutOfMemory>
         ensures { IfOk result (λ config. config_view config ≡ called_in invocation_directory.now) }
     {

@@ -1,4 +1,4 @@
-// The directories that a host is asked for.
+// Kinds of directories that a host is asked for.
 
 ghost use Rattle.std.specs.Prelude.{◌≡◌};
 ghost use Rattle.just_host.specs.Printed.{directory_word};
@@ -18,13 +18,13 @@ pub enum DirectoryKind {
     /// The user's own executables.
     Executable,
     Home,
-    /// Files that last as long as the user is there.
+    /// Files that last as long as the user is logged in.
     Runtime,
 }
 
 impl DirectoryKind {
-    /// The word for it: `cache`, `config`, `local config`, `data`, `local data`, `executable`, `home` or `runtime`. It takes no
-    /// memory.
+    /// The word for it: `cache`, `config`, `local config`, `data`, `local data`, `executable`, `home` or `runtime`. It
+    /// allocates nothing.
     pub fn word(self) -> &'static str
         ensures { result.now ≡ directory_word self }
     {

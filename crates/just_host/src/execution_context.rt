@@ -1,4 +1,4 @@
-// What stays the same while a module is evaluated.
+// The fixed context of a module's evaluation.
 
 ghost use Rattle.std.specs.Prelude.{◌≡◌, IfOk, string_bytes};
 ghost use Rattle.just_host.specs.Fixed.{working_directory};
@@ -15,26 +15,26 @@ use std::alloc::Global;
 use std::collections::{BTreeMap, HashMap};
 use std::fmt;
 
-/// How many calls may be pending, and one more, where nothing else is said.
+/// The default recursion limit: one more than the number of calls that may be pending.
 pub const RECURSION_LIMIT: usize = 100;
 
-/// What stays the same while a module is evaluated.
+/// The fixed context of a module's evaluation.
 #[derive(Clone, Copy)]
 pub struct ExecutionContext<'src, 'run> {
     pub config: &'run Config,
     /// The variables of the loaded dotenv files.
     pub dotenv: &'run BTreeMap<String, String>,
     pub module: &'run Justfile<'src>,
-    /// The values that variables were given from outside, by their numbers.
+    /// The values given to variables from outside, by their numbers.
     pub overrides: &'run HashMap<Number, String>,
-    /// How many calls may be pending, and one more.
+    /// One more than the number of calls that may be pending.
     pub recursion_limit: usize,
     pub scope: &'run Scope<'src, 'run>,
     pub search: &'run Search,
 }
 
 impl<'src, 'run> ExecutionContext<'src, 'run> {
-    /// What these come to, under a recursion limit of [`RECURSION_LIMIT`]. It takes no memory.
+    /// A context of these parts, with the recursion limit [`RECURSION_LIMIT`]. It allocates nothing.
     pub fn new(
         config: &'run Config,
         dotenv: &'run BTreeMap<String, String>,
@@ -56,12 +56,12 @@ impl<'src, 'run> ExecutionContext<'src, 'run> {
         }
     }
 
-    /// The directory that commands are run in: the module's own for a submodule, else that of the search, joined with the one
-    /// that is set. Upstream's `ExecutionContext::working_directory`.
+    /// The directory that commands run in: the module's own for a submodule, otherwise that of the search, joined with
+    /// the one that is set. Upstream's `ExecutionContext::working_directory`.
     ///
     /// # Errors
     ///
-    /// `OutOfMemory`, where memory was asked for and refused: nothing is made.
+    /// `OutOfMemory`, if an allocation fails: nothing is created.
     pub fn working_directory(&self, alloc: Global) -> Result<String, OutOfMemory>
         ensures { IfOk result (λ text. string_bytes text ≡ working_directory (fixed_view self.now)) }
     {
@@ -77,7 +77,7 @@ impl<'src, 'run> ExecutionContext<'src, 'run> {
     }
 }
 
-// Each field by its name, the scope after the others. A reader is promised no bytes.
+// Each field by its name, the scope last. The format is unspecified.
 impl fmt::Debug for ExecutionContext<'_, '_> {
     fn fmt<W: fmt::Write>(&self, f: &mut fmt::Formatter<W>) -> fmt::Result {
         f.debug_struct("ExecutionContext")

@@ -1,4 +1,4 @@
-// What the exported variables of a scope do to an environment.
+// The effect of a scope's exported variables on an environment.
 
 ghost use Rattle.std.specs.Prelude.{◌≡◌, ◌++◌, IfOk, OnOk, map, string_bytes};
 ghost use Rattle.std.specs.Map.{values_of};
@@ -11,27 +11,28 @@ use just_value::frame::Frame;
 use just_value::scope::Scope;
 use std::alloc::Global;
 
-/// A change of the environment that a command is run in.
+/// A change of the environment that a command runs in.
 #[derive(Debug, Drop, PartialEq, Eq)]
 pub enum EnvironmentChange<'name> {
-    /// The variable is set to a text, whatever it held.
+    /// The variable is set to a text, whatever its value was.
     Set { name: &'name str, text: String },
-    /// The variable is taken away, if it is set.
+    /// The variable is removed, if it is set.
     Remove(&'name str),
 }
 
-/// What a scope and the names that are not exported do to the environment that a command is run in, to be done in this order,
-/// so that a later change counts before an earlier one. Each exported binding sets the variable of its name to its value
-/// joined: the outermost frame's first, and in a frame by rising number. Behind those of the outer frames the names are taken
-/// away, whether they are set or not, so that of these only the own frame's bindings are exported. The changes are as many as
-/// the names and the exported bindings together. The names are lent, and the texts are copies.
+/// The changes that a scope and the unexported names make to the environment of a command, to be applied in this order:
+/// later changes override earlier ones. Each exported binding sets the variable of its name to its joined value: the
+/// outermost frame's first, and within a frame in ascending order of number. After those of the outer frames, the
+/// unexported names are removed, whether they are set or not; so of these names only the own frame's bindings are
+/// exported. There are as many changes as unexported names and exported bindings together. The names are borrowed, and
+/// the texts are copies.
 ///
-/// It comes to the same as if, frame by frame from the outermost inward, the names were taken away and the frame's bindings
-/// exported (upstream's `Environment`; docs/HOST.md says what of it is known).
+/// The effect is the same as if, for each frame from the outermost inward, the names were removed and the frame's
+/// bindings exported (upstream's `Environment`; docs/HOST.md says what is known of it).
 ///
 /// # Errors
 ///
-/// `OutOfMemory`, where memory was asked for and refused: nothing is made.
+/// `OutOfMemory`, if an allocation fails: nothing is created.
 pub fn exports<'name>(
     alloc: Global,
     scope: &'name Scope<'_, '_>,
@@ -51,7 +52,7 @@ pub fn exports<'name>(
     Ok(changes)
 }
 
-// Adds what frames export, which stand innermost first, the outermost frame's first.
+// Adds the exports of frames, given innermost first, from the outermost frame inward.
 fn add_frames<'name>(
     alloc: Global,
     frames: &'name [&'name Frame<'_>],
@@ -65,7 +66,7 @@ fn add_frames<'name>(
     Ok(())
 }
 
-// Adds what a frame exports, by rising number.
+// Adds the exports of a frame, in ascending order of number.
 fn add_frame<'name>(
     alloc: Global,
     frame: &'name Frame<'_>,

@@ -1,4 +1,4 @@
-// What a fault says.
+// Messages of faults.
 
 ghost use Rattle.std.specs.Prelude.{◌≡◌, IfOk, string_bytes};
 ghost use Rattle.just_host.specs.Fault.{fault_text};
@@ -8,11 +8,12 @@ use just_syntax::out_of_memory::OutOfMemory;
 use just_value::error::CommandFault;
 use std::alloc::Global;
 
-/// What a command's fault says: `process exited with status code n`, or its own text. Want of memory says nothing.
+/// The message of a command's fault: `process exited with status code n`, or its own text. For `OutOfMemory` it is
+/// empty.
 ///
 /// # Errors
 ///
-/// `OutOfMemory`, where memory was asked for and refused: nothing is made.
+/// `OutOfMemory`, if an allocation fails: nothing is created.
 pub fn fault_text(alloc: Global, fault: &CommandFault) -> Result<String, OutOfMemory>
     ensures { IfOk result (λ text. string_bytes text ≡ fault_text (fault_view fault.now)) }
 {

@@ -1,4 +1,4 @@
-// What functions are called in.
+// Contexts of function calls.
 
 use crate::execution_context::ExecutionContext;
 use just_syntax::name::Name;
@@ -6,7 +6,7 @@ use just_value::scope::Scope;
 use std::collections::BTreeMap;
 use std::fmt;
 
-/// What a built-in function is called in.
+/// The context of a call of a built-in function.
 #[derive(Clone, Copy)]
 pub struct Context<'src, 'run> {
     /// The recipe's environment.
@@ -16,13 +16,13 @@ pub struct Context<'src, 'run> {
     pub is_dependency: bool,
     /// The name that the function was called by.
     pub name: Name<'src>,
-    /// The recipe that the call belongs to, if any.
+    /// The recipe that contains the call, if any.
     pub recipe: Option<Name<'src>>,
-    /// The variables that can be seen where the call stands.
+    /// The variables that are visible to the call.
     pub scope: &'run Scope<'src, 'run>,
 }
 
-// Each field by its name, the scope and the execution context after the others. A reader is promised no bytes.
+// Each field by its name, the scope and the execution context last. The format is unspecified.
 impl fmt::Debug for Context<'_, '_> {
     fn fmt<W: fmt::Write>(&self, f: &mut fmt::Formatter<W>) -> fmt::Result {
         f.debug_struct("Context")

@@ -25,18 +25,18 @@ pub struct Justfile<'src> {
     /// The path of the file that the module was read from.
     pub source: String,
     pub submodule: bool,
-    /// The variables of the environment that commands do not see.
+    /// The environment variables that are not passed on to commands.
     pub unexports: Vec<String>,
     pub working_directory: String,
 }
 
 impl<'src> Justfile<'src> {
-    /// A root module with nothing in it, which sets nothing: read from the file at the path `source`, and working in a
-    /// directory. An assignment that is put into its table is evaluated once its name stands in the order too.
+    /// An empty root module, which sets nothing: read from the file at the path `source`, and working in a directory.
+    /// An assignment added to its table is evaluated only if its name is added to the evaluation order too.
     ///
     /// # Errors
     ///
-    /// `OutOfMemory`, where a path cannot be copied: nothing is made.
+    /// `OutOfMemory`, if a path cannot be copied: nothing is created.
     pub fn new(
         alloc: Global,
         source: &str,

@@ -1,5 +1,5 @@
-// What evaluation stands in, and whom it asks: configuration, settings, modules, contexts, questions and hosts; and trees of
-// questions, with the lemmas of the paths down them. It leans on syntax, values and texts.
+// The context of evaluation: configuration, settings, modules, contexts, questions and hosts; and interaction
+// trees, with lemmas on their paths. It depends on `just_syntax`, `just_value` and `just_text`.
 #![tactic(auto)]
 
 pub mod ask;

@@ -1,4 +1,4 @@
-// A host that answers nothing.
+// A host that provides nothing.
 
 ghost use Rattle.just_host.specs.NoHost.{not_run};
 ghost use Rattle.just_host.specs.Question.{Failed, UnlessNoMemory};
@@ -13,13 +13,14 @@ use just_syntax::out_of_memory::OutOfMemory;
 use just_value::error::CommandFault;
 use std::alloc::Global;
 
-/// What the fault says by which [`NoHost`] answers a command.
+/// The message of the fault with which [`NoHost`] answers a command.
 pub const NOT_RUN: &str = "commands are not run";
 
-/// A host that answers nothing: a command gets the fault [`NOT_RUN`], a text is `Absent`, nothing stands at any path, and each
-/// number is 0. It takes memory for the fault alone, and where there is none the command's answer is want of memory.
+/// A host that provides nothing: a command gets the fault [`NOT_RUN`], a text is `Absent`, nothing exists at any path,
+/// and each number is 0. It allocates only the fault's message; if that fails, the answer to the command is
+/// `OutOfMemory`.
 ///
-/// A host that answers one kind of question passes the others on to it.
+/// A host that answers only one kind of question can delegate the others to it.
 #[derive(Clone, Copy, Debug, PartialEq, Eq)]
 pub struct NoHost;
 
@@ -49,7 +50,7 @@ impl Host for NoHost {
     }
 }
 
-// That commands are not run, or want of memory to say so.
+// The fault that commands are not run, or `OutOfMemory` if its message cannot be allocated.
 fn not_run(alloc: Global) -> CommandFault
     ensures { UnlessNoMemory (Failed (fault_view result)) not_run }
 {

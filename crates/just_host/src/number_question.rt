@@ -5,9 +5,9 @@ use std::fmt;
 /// A question that a number answers.
 #[derive(Clone, Copy, Debug, PartialEq, Eq)]
 pub enum NumberQuestion {
-    /// The number that the running process has.
+    /// The id of the running process.
     ProcessId,
-    /// How many processors there are to run on.
+    /// The number of available processors.
     Cpus,
 }
 

@@ -1,4 +1,4 @@
-// What questions print.
+// Printing of questions.
 
 ghost use Rattle.std.specs.Prelude.{map, string_bytes};
 ghost use Rattle.std.specs.Fmt.{WritesStyledOnOk};
@@ -10,7 +10,7 @@ use just_syntax::unstyled::write_unstyled;
 use just_value::element::Element;
 use std::fmt;
 
-// A command and its arguments, where it takes some.
+// A command and its arguments, if it takes any.
 #[tactic(auto, using(just_syntax::proofs::Styled::styled_steps))]
 pub(crate) fn write_command<W: fmt::Write>(
     f: &mut fmt::Formatter<W>,
@@ -24,7 +24,7 @@ pub(crate) fn write_command<W: fmt::Write>(
     write_given(f, arguments)
 }
 
-// Texts in quotes that may be given, each behind a space.
+// An optional list of texts in quotes, each after a space.
 fn write_given<W: fmt::Write>(f: &mut fmt::Formatter<W>, texts: Option<&[String]>) -> fmt::Result
     ensures { WritesStyledOnOk W.write_str_gives f.old result (spaced_given (option_map (λ words. map string_bytes words.now) texts.entry)) f.new }
 {
@@ -34,7 +34,7 @@ fn write_given<W: fmt::Write>(f: &mut fmt::Formatter<W>, texts: Option<&[String]
     }
 }
 
-// Texts in quotes, each behind a space.
+// Texts in quotes, each after a space.
 fn write_spaced<W: fmt::Write>(f: &mut fmt::Formatter<W>, texts: &[String]) -> fmt::Result
     ensures { WritesStyledOnOk W.write_str_gives f.old result (spaced (map string_bytes texts.now)) f.new }
 {
@@ -45,7 +45,7 @@ fn write_spaced<W: fmt::Write>(f: &mut fmt::Formatter<W>, texts: &[String]) -> f
     Ok(())
 }
 
-// A question for a text, by its kind and what it is about.
+// A question for a text, by its kind and its subject.
 pub(crate) fn write_text_question<W: fmt::Write>(
     f: &mut fmt::Formatter<W>,
     kind: TextKind,

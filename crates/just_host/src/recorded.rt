@@ -1,4 +1,4 @@
-// What a recorder keeps of questions.
+// Records of questions.
 
 ghost use Rattle.std.specs.Prelude.{◌≡◌, IfOk, map, string_bytes};
 ghost use Rattle.just_host.specs.Question.{TextOf};
@@ -18,28 +18,28 @@ use std::alloc::Global;
 use std::collections::BTreeMap;
 use std::fmt;
 
-/// What a [`Recorder`](crate::recorder::Recorder) keeps of a question: what it asked for, and not the scope that it showed
-/// nor what stays the same in a run.
+/// The record that a [`Recorder`](crate::recorder::Recorder) keeps of a question: what it asked for, without the scope
+/// that it showed and without the fixed context of the run.
 #[derive(Debug, Drop)]
 pub enum Recorded {
-    /// A command, its arguments where it takes some, and the recipe's environment.
+    /// A command, its arguments if it takes any, and the recipe's environment.
     Command {
         command: String,
         arguments: Option<Vec<String>>,
         env: BTreeMap<String, String>,
     },
-    /// A question that a text answers, and its variable, path or name, which is empty for one that has none.
+    /// A question that a text answers, and its variable, path or name, which is empty if it has none.
     Text {
         kind: TextKind,
         text: String,
     },
-    /// Whether something stands at a path.
+    /// Whether something exists at a path.
     Exists(String),
     /// A question that a number answers.
     Number(NumberQuestion),
 }
 
-/// The questions that a text answers, without what they hold.
+/// The kinds of questions that a text answers, without their data.
 #[derive(Clone, Copy, Debug, PartialEq, Eq)]
 pub enum TextKind {
     Variable,
@@ -54,7 +54,7 @@ pub enum TextKind {
 }
 
 impl Recorded {
-    // What is kept of a command.
+    // The record of a command.
     pub(crate) fn of_command(
         alloc: Global,
         question: &CommandQuestion,
@@ -72,7 +72,7 @@ impl Recorded {
         })
     }
 
-    // What is kept of a question for a text.
+    // The record of a question for a text.
     pub(crate) fn of_text(alloc: Global, question: TextQuestion) -> Result<Recorded, OutOfMemory>
         ensures { IfOk result (λ r. recorded_view r ≡ recorded (TextOf (text_question_view question.entry))) }
     {
@@ -111,7 +111,7 @@ impl fmt::Display for Recorded {
     }
 }
 
-// A question without what it holds.
+// The kind of a question, without its data.
 pub(crate) fn kind_of(question: TextQuestion) -> TextKind
     ensures { result ≡ kind_of (text_question_view question.entry) }
 {
@@ -128,7 +128,7 @@ pub(crate) fn kind_of(question: TextQuestion) -> TextKind
     }
 }
 
-// The variable, path or name of a question, and the empty text where it has none.
+// The variable, path or name of a question, or the empty text if it has none.
 pub(crate) fn text_of(question: TextQuestion<'_>) -> &str
     ensures { result.now ≡ text_of (text_question_view question.entry) }
 {
@@ -141,14 +141,14 @@ pub(crate) fn text_of(question: TextQuestion<'_>) -> &str
     }
 }
 
-// The variables once more.
+// A copy of the variables.
 fn env_copy(env: &BTreeMap<String, String>) -> Result<BTreeMap<String, String>, OutOfMemory>
     ensures { IfOk result (λ copy. pairs_view copy ≡ pairs_view env.now) }
 {
     Ok(env.clone()?)
 }
 
-// The texts once more.
+// Copies of the texts.
 fn copies(alloc: Global, texts: &[String]) -> Result<Vec<String>, OutOfMemory>
     ensures { IfOk result (λ copies. map string_bytes copies.items ≡ map string_bytes texts.now) }
 {

@@ -1,4 +1,4 @@
-// A host that keeps what it is asked.
+// A host that records the questions it is asked.
 
 ghost use Rattle.std.specs.Prelude.{◌≡◌, OnErr, OnOk, [], ◌∷◌, ◌++◌, map};
 ghost use Rattle.just_host.specs.View.{inner_host, recorded_view, records_view};
@@ -13,8 +13,8 @@ use just_syntax::out_of_memory::OutOfMemory;
 use just_value::error::CommandFault;
 use std::alloc::Global;
 
-/// A host that keeps what it is asked, and then asks another host. Where there is no memory to keep a question, the other
-/// host is not asked, and the answer is want of memory.
+/// A host that records each question, and then asks another host. If there is no memory for the record, the other host
+/// is not asked, and the answer is `OutOfMemory`.
 #[derive(Debug, Drop)]
 pub struct Recorder<H> {
     host: H,
@@ -22,7 +22,7 @@ pub struct Recorder<H> {
 }
 
 impl<H> Recorder<H> {
-    /// A host that asks `host`, with no question kept. It takes no memory.
+    /// A recorder around `host`, without questions. It allocates nothing.
     pub fn new(alloc: Global, host: H) -> Recorder<H>
         ensures host { inner_host result ≡ host }
         ensures questions { records_view result ≡ [] }
@@ -33,21 +33,21 @@ impl<H> Recorder<H> {
         }
     }
 
-    /// The questions so far, in their order. It takes no memory.
+    /// The questions so far, in order. It allocates nothing.
     pub fn questions(&self) -> &[Recorded]
         ensures { map recorded_view result.now ≡ records_view self.now }
     {
         &self.questions
     }
 
-    /// The host that was asked. It takes no memory.
+    /// The inner host. It allocates nothing.
     pub fn into_inner(self) -> H
         ensures { result ≡ inner_host self }
     {
         self.host
     }
 
-    // Keeps a question behind the others. For want of memory it is not kept.
+    // Adds a question after the others. If memory runs out, it is not added.
     fn keep(&mut self, question: Recorded) -> Result<(), OutOfMemory>
         ensures host { inner_host self.new ≡ inner_host self.old }
         ensures ok { OnOk result (records_view self.new ≡ records_view self.old ++ recorded_view question ∷ []) }

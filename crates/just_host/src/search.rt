@@ -1,4 +1,4 @@
-// What was found before evaluation.
+// Results of the search before evaluation.
 
 ghost use Rattle.std.specs.Prelude.{◌≡◌, IfOk};
 ghost use Rattle.just_host.specs.View.{search_view};
@@ -6,7 +6,7 @@ ghost use Rattle.just_host.specs.View.{search_view};
 use just_syntax::out_of_memory::OutOfMemory;
 use std::alloc::Global;
 
-/// The root justfile that was found, and the directory that it works in.
+/// The root justfile that was found, and its working directory.
 #[derive(Debug, Drop)]
 pub struct Search {
     pub justfile: String,
@@ -14,11 +14,11 @@ pub struct Search {
 }
 
 impl Search {
-    /// The root justfile at a path, and the directory that it works in, mostly the one that it lies in.
+    /// The root justfile at a path, and its working directory, which usually contains it.
     ///
     /// # Errors
     ///
-    /// `OutOfMemory`, where a path cannot be copied: nothing is made.
+    /// `OutOfMemory`, if a path cannot be copied: nothing is created.
     pub fn new(
         alloc: Global,
         justfile: &str,

@@ -1,4 +1,4 @@
-// What a module sets.
+// Settings of a module.
 
 ghost use Rattle.std.specs.Prelude.{◌≡◌, IfOk, map, string_bytes};
 ghost use Rattle.just_host.specs.Settings.{default_shell_arguments, shell_of, unset};
@@ -11,13 +11,13 @@ use just_syntax::out_of_memory::OutOfMemory;
 use just_value::value::Value;
 use std::alloc::Global;
 
-/// The shell where none is named.
+/// The default shell.
 pub const DEFAULT_SHELL: &str = "sh";
 
-/// The shell's arguments where none are named.
+/// The default arguments of the shell.
 pub const DEFAULT_SHELL_ARGS: &[&str] = &["-cu"];
 
-/// What a module sets.
+/// The settings of a module.
 #[derive(Debug, Drop, PartialEq, Eq)]
 pub struct Settings {
     pub allow_duplicate_recipes: bool,
@@ -51,8 +51,8 @@ pub struct Settings {
 }
 
 impl Settings {
-    /// What a module sets that sets nothing: each flag is false, each value has no element, and all else is absent. It takes no
-    /// memory. Upstream's `Settings::default`.
+    /// The settings of a module that sets nothing: each flag is false, each value is the empty list, and all else is
+    /// absent. It allocates nothing. Upstream's `Settings::default`.
     pub fn new(alloc: Global) -> Settings
         ensures { settings_view result ≡ unset }
     {
@@ -88,13 +88,13 @@ impl Settings {
         }
     }
 
-    /// The shell and its arguments. Where the program was called with one of them or both, these, the one that is missing being
-    /// `sh` or `-cu`; else those that the module sets; else `sh -cu`. What is set for Windows is kept and not read. The texts
-    /// are lent. Upstream's `Settings::shell`, off Windows.
+    /// The shell and its arguments. If the program was called with one of them or both, these, a missing one replaced
+    /// by `sh` or `-cu`; otherwise those that the module sets; otherwise `sh -cu`. The setting for Windows is kept but
+    /// not read. The texts are borrowed. Upstream's `Settings::shell`, on systems other than Windows.
     ///
     /// # Errors
     ///
-    /// `OutOfMemory`, where memory was asked for and refused: nothing is made.
+    /// `OutOfMemory`, if an allocation fails: nothing is created.
     pub fn shell<'a>(
         &'a self,
         alloc: Global,
@@ -118,7 +118,7 @@ impl Settings {
     }
 }
 
-// The texts, lent.
+// The texts, borrowed.
 fn lent(alloc: Global, texts: &[String]) -> Result<Vec<&str>, OutOfMemory>
     ensures { IfOk result (λ v. map (λ word. word.now) v.items ≡ map string_bytes texts.now) }
 {
@@ -129,7 +129,7 @@ fn lent(alloc: Global, texts: &[String]) -> Result<Vec<&str>, OutOfMemory>
     Ok(words)
 }
 
-// The arguments where none are named.
+// The default arguments.
 fn default_arguments(alloc: Global) -> Result<Vec<&'static str>, OutOfMemory>
     ensures { IfOk result (λ v. map (λ word. word.now) v.items ≡ default_shell_arguments) }
 {

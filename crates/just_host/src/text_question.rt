@@ -8,15 +8,15 @@ use std::fmt;
 /// A question that a text answers.
 #[derive(Clone, Copy, Debug, PartialEq, Eq)]
 pub enum TextQuestion<'question> {
-    /// What a variable of the environment holds.
+    /// The value of an environment variable.
     Variable(&'question str),
-    /// The path of a directory of the user's.
+    /// The path of one of the user's directories.
     Directory(DirectoryKind),
-    /// The path, free of links, of what stands at a path.
+    /// The canonical path, free of links, of the file at a path.
     Canonicalize(&'question str),
-    /// What the file at a path holds.
+    /// The contents of the file at a path.
     Read(&'question str),
-    /// The path of the executable of a name, looked for from a directory.
+    /// The path of the executable with this name, searched for from a directory.
     Which {
         name: &'question str,
         working_directory: &'question str,
@@ -27,11 +27,12 @@ pub enum TextQuestion<'question> {
     Arch,
     /// The name of the operating system.
     Os,
-    /// The name of the family that the operating system is of.
+    /// The name of the operating system's family.
     OsFamily,
 }
 
-// Its kind, and the variable, the directory, the path or the name, as `variable "a"`. Of `Which` the directory is not told.
+// Its kind, and the variable, the directory, the path or the name, as `variable "a"`. For `Which` the directory is
+// omitted.
 impl fmt::Display for TextQuestion<'_> {
     ghost use Rattle.std.specs.Prelude.{Some};
     ghost use Rattle.just_host.specs.Printed.{printed};

@@ -1,4 +1,4 @@
-// What commands and calls are run in.
+// The contexts of commands and calls.
 
 use crate::texts::{is_either, owned};
 use just_host::config::Config;
@@ -12,10 +12,10 @@ use std::alloc::Global;
 use std::collections::{BTreeMap, HashMap};
 use std::process::Abort;
 
-/// The directory of a module, where nothing else is said.
+/// The directory of a module, if none is given.
 pub const MODULE: &str = "/module";
 
-/// What a context lends.
+/// What a context borrows.
 #[derive(Drop)]
 pub struct Around<'src> {
     pub config: Config,
@@ -27,8 +27,8 @@ pub struct Around<'src> {
 }
 
 impl<'src> Around<'src> {
-    /// Of this module, called so, with a justfile and the directory that it works in. There is no variable of a dotenv file, none
-    /// from outside, and one constant is bound.
+    /// For this module, with this configuration, a justfile, and the directory that it works in. There is no variable
+    /// of a dotenv file and no override, and one constant is bound.
     pub fn new(
         rt: &impl Abort,
         alloc: Global,
@@ -47,8 +47,8 @@ impl<'src> Around<'src> {
         }
     }
 
-    /// Of a module at a place with these settings and nothing else, called in `/called/here`, with the justfile
-    /// `/work/justfile`.
+    /// For a module at a path, with these settings and nothing else. The program is called in `/called/here`, and the
+    /// justfile is `/work/justfile`.
     pub fn plain(
         rt: &impl Abort,
         alloc: Global,
@@ -80,12 +80,12 @@ impl<'src> Around<'src> {
     }
 }
 
-/// Called in `/called/here`, with nothing else said of how.
+/// The configuration of a call in `/called/here`, without any options.
 pub fn called(rt: &impl Abort, alloc: Global) -> Config {
     Config::new(alloc, "/called/here").expect(rt, "no memory")
 }
 
-/// A module with nothing in it, of this source in this directory.
+/// An empty module with this source, in this directory.
 pub fn module_at<'src>(
     rt: &impl Abort,
     alloc: Global,
@@ -95,12 +95,12 @@ pub fn module_at<'src>(
     Justfile::new(alloc, source, directory).expect(rt, "no memory")
 }
 
-/// Settings are equal, or are not.
+/// Settings are equal, or not, as expected.
 pub fn compares(rt: &impl Abort, settings: &Settings, others: &Settings, equal: bool) {
     is_either(rt, "equal", *settings == *others, equal);
 }
 
-/// Texts behind their keys.
+/// Texts by key.
 pub fn map(rt: &impl Abort, alloc: Global, pairs: &[(&str, &str)]) -> BTreeMap<String, String> {
     let mut map = BTreeMap::new(alloc);
     for (key, text) in pairs {
@@ -109,7 +109,7 @@ pub fn map(rt: &impl Abort, alloc: Global, pairs: &[(&str, &str)]) -> BTreeMap<S
     map
 }
 
-/// Puts a text behind a key.
+/// Inserts a text at a key.
 pub fn insert(
     rt: &impl Abort,
     alloc: Global,

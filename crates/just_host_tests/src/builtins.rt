@@ -1,4 +1,4 @@
-// Names, shapes, and what the built-in functions answer.
+// Names, shapes, and the results of built-in functions.
 
 mod answers;
 mod around;
@@ -36,14 +36,14 @@ fn each_name(rt: HostRuntime) {
     assert_eq!(rt; functions().len(), 77);
 }
 
-// Each name behind a function stands for it, and is not left out.
+// Each name after a function stands for it, and is not left out.
 fn stand_for(rt: &impl Abort, alloc: Global, row: &str) {
     let (function, names) = row.split_once(' ').expect(rt, "no name");
     let wanted = format!(in alloc; "Some({function}) Some({function}) false");
     all_are(rt, alloc, names, &wanted.expect(rt, "no memory"));
 }
 
-// What is told of each of these names is this.
+// The report on each of these names is as expected.
 fn all_are(rt: &impl Abort, alloc: Global, names: &str, wanted: &str) {
     for name in names.split(' ') {
         let told = told_name(alloc, name).expect(rt, "no memory");
@@ -51,7 +51,7 @@ fn all_are(rt: &impl Abort, alloc: Global, names: &str, wanted: &str) {
     }
 }
 
-// What a name stands for by itself and in the list of all, and whether it is left out.
+// What a name stands for, by look-up and in the list of all, and whether it is left out.
 fn told_name(alloc: Global, name: &str) -> Result<String, AllocError> {
     format!(in alloc; "{:?} {:?} {}", get(name), listed(name), is_left_out(name))
 }
@@ -75,7 +75,7 @@ fn shapes(rt: HostRuntime) {
     }
 }
 
-// A function, how few and how many arguments it takes, and whether it wants texts at the places 0, 1 and 2.
+// A function, its smallest and largest number of arguments, and whether those at 0, 1 and 2 must be texts.
 fn told_shape(alloc: Global, function: Function) -> Result<String, AllocError> {
     let texts = [
         function.is_text(0),
@@ -140,7 +140,7 @@ const NO_FILE: Place = Place {
     ..AT_THE_ROOT
 };
 
-// What stands in a place: calls that ask, and calls that ask nothing.
+// A place, the calls there that ask questions, and those that ask none.
 type Table = (Place, &'static [Question], &'static [Row]);
 
 const TABLES: &[Table] = &[
@@ -162,7 +162,7 @@ fn calls(rt: HostRuntime) {
     }
 }
 
-// Compares what the calls of a table ask and answer with what is wanted.
+// Compares the questions and results of a table's calls with what is expected.
 fn compare<'src>(rt: &impl Abort, alloc: Global, table: &'src Table) {
     let around = around_at(rt, alloc, &table.0);
     compare_in(&around, rt, alloc, table);
@@ -189,7 +189,7 @@ fn compare_rows<'src>(
     }
 }
 
-// Where calls with a thousand elements or pieces are made, and what is asked and answered there.
+// The places of calls with a thousand elements or pieces, and their questions and results.
 const SIZES: &[(Place, &[Question])] = &[
     (WITH_LISTS, LONG),
     (WITHOUT_LISTS, LONG_WITHOUT_LISTS),
@@ -205,13 +205,13 @@ fn calls_of_a_thousand(rt: HostRuntime) {
     }
 }
 
-// The same of a row that is written as `long` takes it.
+// The same for a row in the notation of `long`.
 fn compare_long(rt: &impl Abort, alloc: Global, place: &Place, given: Given, row: &str) {
     let row = long(rt, alloc, row);
     compare_row(rt, alloc, place, given, &row);
 }
 
-// The call of a row in a place asks and answers as the row says.
+// In a place, the questions and the result of a row's call are as expected.
 fn compare_row<'src>(
     rt: &impl Abort,
     alloc: Global,
@@ -236,7 +236,7 @@ fn compare_row_in<'src>(
     tells_row(&context, rt, alloc, place, given, row);
 }
 
-// The call of a row asks and answers as the row says.
+// The questions and the result of a row's call are as expected.
 fn tells_row<'src>(
     context: &ExecutionContext<'src, '_>,
     rt: &impl Abort,
@@ -249,7 +249,7 @@ fn tells_row<'src>(
     tells(context, rt, alloc, place, given, call, "", told);
 }
 
-// A call asks this, where the host gives this, and then answers this.
+// With a host that gives this answer, a call asks this and returns this.
 fn tells<'src>(
     context: &ExecutionContext<'src, '_>,
     rt: &impl Abort,
@@ -268,7 +268,7 @@ fn tells<'src>(
     drop(host);
 }
 
-// What is told of a call is what it asks, and then its answer.
+// The report on a call is its questions, and then its result.
 fn is_told(rt: &impl Abort, call: &str, told: &str, asked: &str, wanted: &str) {
     assert_eq!(rt; told.strip_prefix(asked), Some(wanted), "{call}");
 }
@@ -305,7 +305,7 @@ fn compare_each<'src>(
     }
 }
 
-// Compares what a call makes of each kind of answer with what is wanted.
+// Compares the result of a call for each kind of answer with what is expected.
 fn compare_kinds<'src>(
     context: &ExecutionContext<'src, '_>,
     rt: &impl Abort,

@@ -1,4 +1,4 @@
-// What a context is made of where nothing else is said.
+// The defaults of a context.
 
 use crate::around::{Around, called, compares, insert, module_at};
 use crate::texts::{gives, is_either, owned, same};
@@ -11,7 +11,7 @@ use std::alloc::{AllocError, Global};
 use std::collections::{BTreeMap, HashMap};
 use std::process::Abort;
 
-// Nothing is said of how the program was called, but that it was in the directory `/called/here`.
+// The configuration has no options, only the directory `/called/here`.
 const CONFIG: &str =
     "Config { dry_run: false, invocation_directory: \"/called/here\", jobs: None, quiet: false, \
     shell: None, shell_args: None, shell_command: false }";
@@ -29,7 +29,7 @@ fn parts_are_told<'src>(rt: &impl Abort, alloc: Global, source: &'src str) {
     drop(around);
 }
 
-// With a variable of a dotenv file, another that is given from outside, and one that is bound.
+// With a variable of a dotenv file, an override, and a bound variable.
 fn around_of<'src>(rt: &impl Abort, alloc: Global, source: &'src str) -> Around<'src> {
     let module = module_at(rt, alloc, source, "/module");
     let config = called(rt, alloc);
@@ -39,7 +39,7 @@ fn around_of<'src>(rt: &impl Abort, alloc: Global, source: &'src str) -> Around<
     around
 }
 
-// A variable is given from outside.
+// Adds an override.
 fn give(rt: &impl Abort, alloc: Global, overrides: &mut HashMap<Number, String>) {
     let inserted: Result<_, _> = overrides.insert(Number::new(7), owned(rt, alloc, "o"));
     inserted.expect(rt, "no memory");
@@ -71,7 +71,7 @@ fn sets_nothing(rt: &impl Abort, alloc: Global, settings: &Settings) {
     drop(unset);
 }
 
-// A module is the root in the file `/work/a.just`, with nothing in it.
+// A module is the root in the file `/work/a.just`, and is empty.
 fn holds_nothing<'src>(module: &Justfile<'src>, rt: &impl Abort) {
     let has_items = !module.assignments.is_empty() || !module.functions.is_empty();
     let has_names = !module.evaluation_order.is_empty() || !module.unexports.is_empty();
@@ -82,7 +82,7 @@ fn holds_nothing<'src>(module: &Justfile<'src>, rt: &impl Abort) {
     is_either(rt, "submodule", module.is_submodule(), false);
 }
 
-// A context is what it is made of, under the usual limit.
+// A context has the parts it was built from, and the usual limit.
 fn is_made_of_them<'src>(context: &ExecutionContext<'src, '_>, rt: &impl Abort, alloc: Global) {
     gives(rt, context.working_directory(alloc), "/work");
     assert_eq!(rt; [context.recursion_limit, RECURSION_LIMIT], [100; 2]);
@@ -97,7 +97,7 @@ fn is_made_of_them<'src>(context: &ExecutionContext<'src, '_>, rt: &impl Abort, 
     is_either(rt, "a constant", constant.is_some(), true);
 }
 
-// A variable of a dotenv file, and one that is given from outside.
+// A variable of a dotenv file, and an override.
 fn told_variables(
     alloc: Global,
     dotenv: &BTreeMap<String, String>,

@@ -16,7 +16,7 @@ use std::process::Abort;
 // A name, its value, and whether it is exported.
 type Bound = (&'static str, &'static [&'static str], bool);
 
-// What three frames bind, the outermost first, and the changes that they make where `u` and `v` are not exported.
+// The bindings of three frames, the outermost first, and their changes if `u` and `v` are not exported.
 const EXPORTS: &[([&[Bound]; 3], &str)] = &[
     ([&[], &[], &[]], "[Remove(\"u\"), Remove(\"v\")]"),
     (
@@ -49,7 +49,8 @@ fn exported_variables(rt: HostRuntime) {
     }
 }
 
-// What a thousand exported bindings of one name change, where a thousand names are not exported, as `long` takes it.
+// The changes of a thousand exported bindings of one name, with a thousand names not exported, in the notation of
+// `long`.
 const A_THOUSAND: &str = "[~Remove(\"u\"), ~~Set { name: \"n\", text: \"x y\" }, ~";
 
 const BOUND: Bound = ("n", &["x", "y"], true);
@@ -78,7 +79,7 @@ fn export(rt: &impl Abort, alloc: Global, frames: &[&[Bound]; 3], printed: &str)
     drop(scope);
 }
 
-// The same, the outermost in a scope that binds nothing yet.
+// The same, with the outermost in a scope that binds nothing yet.
 fn export_all(
     root: &mut Scope,
     rt: &impl Abort,
@@ -92,7 +93,7 @@ fn export_all(
     drop(scope);
 }
 
-// The same of one frame in front of a scope.
+// The same for one frame inside a scope.
 fn export_own(scope: &Scope, rt: &impl Abort, alloc: Global, own: &[Bound], printed: &str) {
     let scope = child(scope, rt, alloc, own);
     let unexports = all_owned(rt, alloc, &["u", "v"]);
@@ -102,7 +103,7 @@ fn export_own(scope: &Scope, rt: &impl Abort, alloc: Global, own: &[Bound], prin
     gives(rt, given, printed);
 }
 
-// A frame with these bindings in front of a scope.
+// A frame with these bindings inside a scope.
 fn child<'out, 'src>(
     outer: &'out Scope<'src, '_>,
     rt: &impl Abort,
@@ -114,7 +115,7 @@ fn child<'out, 'src>(
     scope
 }
 
-// Binds these to 0, 1 and so on.
+// Binds these to the numbers 0, 1 and so on.
 fn bind_all(scope: &mut Scope, rt: &impl Abort, alloc: Global, bindings: &[Bound]) {
     for (number, bound) in bindings.iter().enumerate() {
         let binding = binding(rt, alloc, Number::new(number as u64), bound);
@@ -146,7 +147,7 @@ fn binding<'src>(rt: &impl Abort, alloc: Global, number: Number, bound: &Bound) 
     }
 }
 
-// The changes that a scope makes where these are not exported, as they are shown.
+// The changes that a scope makes with these names not exported, as displayed.
 fn exported(scope: &Scope, alloc: Global, unexports: &[String]) -> Result<String, OutOfMemory> {
     let changes = exports(alloc, scope, unexports)?;
     let told = format!(in alloc; "{changes:?}");

@@ -27,7 +27,7 @@ use std::collections::BTreeMap;
 use std::process::Abort;
 use watched::Watched;
 
-// Statuses, and the texts that they are told by.
+// Statuses, and the texts that report them.
 const STATUSES: &[(i32, &str)] = &[
     (3, "process exited with status code 3"),
     (-1, "process exited with status code -1"),
@@ -47,11 +47,11 @@ fn faults(rt: HostRuntime) {
     gives(&rt, fault_text(alloc, &CommandFault::OutOfMemory), "");
 }
 
-// What commands could not be run for.
+// Why commands could not be run.
 const FAULTS: &[&str] = &["not found", "", "~not found~"];
 
-// Whether a module is a submodule, the directory that the search and the module have, the one that the module sets, and the
-// one that its commands run in. Each text is written as `long` takes it.
+// Whether a module is a submodule; the directory of the search and the module; the one that the module sets; and the
+// one that its commands run in. Each text is in the notation of `long`.
 type Directory = (
     bool,
     &'static str,
@@ -73,7 +73,7 @@ const DIRECTORIES: &[Directory] = &[
     (true, "/~ab/~", "/~cd/~", Some("~e/~f"), "/~cd/~~e/~f"),
 ];
 
-// Short ones, and long ones, where each call must succeed too.
+// Short ones, and long ones, for which each call must succeed too.
 #[test]
 fn working_directories(rt: HostRuntime) {
     for row in DIRECTORIES {
@@ -81,7 +81,7 @@ fn working_directories(rt: HostRuntime) {
     }
 }
 
-// Commands run in the wanted directory, and a module says whether it is a submodule.
+// Commands run in the expected directory, and a module says whether it is a submodule.
 fn works_in<'src>(rt: &impl Abort, alloc: Global, source: &'src str, row: &Directory) {
     let (submodule, of_search, of_module, setting, wanted) = *row;
     let directory = long(rt, alloc, of_module);
@@ -104,7 +104,7 @@ fn directory_of<'src>(around: &Around<'src>, alloc: Global) -> Result<String, Ou
     around.context().working_directory(alloc)
 }
 
-// A module with nothing in it, of which at most a working directory is set.
+// An empty module that sets at most a working directory.
 fn module_below<'src>(
     rt: &impl Abort,
     alloc: Global,
@@ -141,7 +141,7 @@ fn stocked(rt: &impl Abort, alloc: Global) -> MapHost {
     }
 }
 
-// Commands, and what they write or the fault that they have with the stocked host.
+// Commands, and what they write, or their fault, with the stocked host.
 const COMMANDS: &[(&str, &str)] = &[
     ("date", "today"),
     ("true", ""),
@@ -184,7 +184,7 @@ fn writes<'call>(
     is_told(rt, alloc, &answer, wanted);
 }
 
-/// What is asked of a host, but for commands.
+/// A question to a host, other than a command.
 #[derive(Clone, Copy)]
 pub(crate) enum Asked {
     Text(TextQuestion<'static>),
@@ -192,7 +192,7 @@ pub(crate) enum Asked {
     Number(NumberQuestion),
 }
 
-// What is asked of the stocked host, and its answer.
+// Questions to the stocked host, and its answers.
 const STOCKED_ANSWERS: &[(Asked, &str)] = &[
     (
         Asked::Text(TextQuestion::Variable("HOME")),
@@ -222,7 +222,7 @@ fn other_answers_from_a_map(rt: HostRuntime) {
     is_either(&rt, "asked", host.was_asked, true);
 }
 
-// A host answers so.
+// A host gives these answers.
 fn answers<H: Host>(rt: &impl Abort, alloc: Global, host: &mut H, rows: &[(Asked, &str)]) {
     for (asked, wanted) in rows {
         let answer = answer_of(alloc, host, *asked).expect(rt, "no memory");
@@ -230,7 +230,7 @@ fn answers<H: Host>(rt: &impl Abort, alloc: Global, host: &mut H, rows: &[(Asked
     }
 }
 
-/// What a host answers to a question, as it is shown.
+/// A host's answer to a question, as displayed.
 pub(crate) fn answer_of<H: Host>(
     alloc: Global,
     host: &mut H,
@@ -243,7 +243,7 @@ pub(crate) fn answer_of<H: Host>(
     }
 }
 
-/// What a host answers to a command and its arguments in a context.
+/// A host's answer to a command and its arguments in a context.
 pub(crate) fn answer_in<'call, H: Host>(
     rt: &'call impl Abort,
     alloc: Global,
@@ -265,7 +265,7 @@ pub(crate) fn answer_in<'call, H: Host>(
     )
 }
 
-/// What a command wrote, or its fault's text behind `! `, is what is wanted.
+/// What a command wrote, or its fault's text after `! `, is as expected.
 pub(crate) fn is_told(
     rt: &impl Abort,
     alloc: Global,
@@ -285,7 +285,7 @@ fn told(rt: &impl Abort, alloc: Global, answer: &Result<String, CommandFault>) -
     }
 }
 
-// What is asked of a host that answers nothing, or commands alone, and its answer.
+// Questions to a host that answers nothing, or only commands, and its answers.
 const NO_ANSWERS: &[(Asked, &str)] = &[
     (Asked::Text(TextQuestion::Variable("HOME")), "Absent"),
     (Asked::Text(TextQuestion::Read("/work/notes")), "Absent"),
@@ -303,7 +303,7 @@ fn no_answer(rt: HostRuntime) {
     answers(&rt, alloc, &mut EchoHost, NO_ANSWERS);
 }
 
-// A host that answers nothing, and one that answers commands alone, answer a command so.
+// The answers to a command, of a host that answers nothing and of one that answers only commands.
 fn answer_commands<'src>(rt: &impl Abort, alloc: Global, place: &'src str) {
     let around = Around::plain(rt, alloc, place, Settings::new(alloc));
     answer_commands_in(&around, rt, alloc);

@@ -1,4 +1,4 @@
-// How questions print, and the words that a command is run with.
+// How questions are printed, and the words that a command is run with.
 
 use crate::around::{Around, MODULE, insert, map};
 use crate::host::{Asked, answer_in, answer_of, is_told};
@@ -22,7 +22,7 @@ use std::alloc::{AllocError, Global};
 use std::collections::BTreeMap;
 use std::process::Abort;
 
-// Questions, and what they print.
+// Questions, and how they are printed.
 const QUESTIONS: &[(Asked, &str)] = &[
     (
         Asked::Text(TextQuestion::Variable("K\t")),
@@ -60,9 +60,9 @@ const QUESTIONS: &[(Asked, &str)] = &[
     (Asked::Exists("/a b"), "exists \"/a b\""),
 ];
 
-// The shell of a module, the arguments of the command `c d`, each after `;`, whether the shell takes a name for itself,
-// what the command prints, and its words, with `|` between them. The words of a shell have `;` between them. Each text is
-// written as `long` takes it.
+// The shell of a module; the arguments of the command `c d`, each after `;`; whether the shell takes a name for itself;
+// how the command is printed; and its words, with `|` between them. The words of a shell have `;` between them. Each
+// text is in the notation of `long`.
 type Command = (
     Option<&'static str>,
     Option<&'static str>,
@@ -120,7 +120,7 @@ fn questions_print(rt: HostRuntime) {
     drop(host);
 }
 
-// A question prints so, both by itself and as it is kept. No host answers it.
+// A question is printed like this, both itself and as recorded. No host answers it.
 fn print(rt: &impl Abort, alloc: Global, host: &mut Recorder<NoHost>, asked: Asked, printed: &str) {
     match asked {
         Asked::Text(question) => prints(rt, question.to_string(alloc), printed),
@@ -132,12 +132,12 @@ fn print(rt: &impl Abort, alloc: Global, host: &mut Recorder<NoHost>, asked: Ask
     prints_last(rt, alloc, host.questions(), printed);
 }
 
-// What was printed is what is wanted.
+// The printed text is as expected.
 fn prints(rt: &impl Abort, printed: Result<String, AllocError>, wanted: &str) {
     same(rt, &printed.expect(rt, "no memory"), wanted);
 }
 
-// The last question that was kept prints this.
+// The last recorded question is printed like this.
 fn prints_last(rt: &impl Abort, alloc: Global, questions: &[Recorded], wanted: &str) {
     match questions.last() {
         Some(last) => prints(rt, last.to_string(alloc), wanted),
@@ -145,7 +145,7 @@ fn prints_last(rt: &impl Abort, alloc: Global, questions: &[Recorded], wanted: &
     }
 }
 
-// Answers a command with the words that it is run with, `|` between them.
+// Answers a command with the words that it is run with, and `|` between them.
 #[derive(Drop)]
 struct Shell {
     takes_shell_name: bool,
@@ -154,7 +154,7 @@ struct Shell {
 impl Host for Shell {
     ghost use Rattle.std.specs.Prelude.{⊤};
 
-    // Nothing is said of what it answers.
+    // Nothing is promised about its answers.
     ghost step = { λ _ _ _ _. ⊤ };
 
     fn command(
@@ -195,7 +195,7 @@ fn commands(rt: HostRuntime) {
     }
 }
 
-// The command `c d` prints so, and is run with these words.
+// The command `c d` is printed like this, and is run with these words.
 fn runs<'src>(rt: &impl Abort, alloc: Global, place: &'src str, command: &Command) {
     let (shell, arguments, takes_shell_name, printed, words) = *command;
     let mut host = Recorder::new(alloc, Shell { takes_shell_name });
@@ -218,7 +218,7 @@ fn answer_around<'src>(
     answer_with(rt, alloc, host, &context, arguments)
 }
 
-// Settings of which at most the shell is set.
+// Settings that set at most the shell.
 fn set_to(rt: &impl Abort, alloc: Global, shell: Option<&str>) -> Settings {
     let mut settings = Settings::new(alloc);
     if let Some(line) = shell {
@@ -232,7 +232,7 @@ fn set_to(rt: &impl Abort, alloc: Global, shell: Option<&str>) -> Settings {
     settings
 }
 
-// What stands behind each `;` of a line.
+// The parts of a line after each `;`.
 fn behind(rt: &impl Abort, alloc: Global, line: &str) -> Vec<String> {
     let mut all = Vec::new(alloc);
     let mut pieces = line.split(';');
@@ -243,7 +243,7 @@ fn behind(rt: &impl Abort, alloc: Global, line: &str) -> Vec<String> {
     all
 }
 
-// What a host answers to the command `c d`, with the arguments that stand behind each `;`.
+// A host's answer to the command `c d`, with the arguments after each `;`.
 fn answer_with<'call>(
     rt: &'call impl Abort,
     alloc: Global,
@@ -260,9 +260,9 @@ fn answer_with<'call>(
     }
 }
 
-// What a command is asked in: the variables of its environment and those of dotenv files, the names that are not exported, and
-// whether the module is a submodule of `/module`, with the working directory that it sets; and what the question holds. The
-// search has the directory `/work`.
+// The context of a command: the variables of its environment and those of dotenv files, the names that are not
+// exported, and whether the module is a submodule of `/module`, with the working directory that it sets. Then what the
+// question holds. The search has the directory `/work`.
 type Held = (
     &'static [(&'static str, &'static str)],
     &'static [(&'static str, &'static str)],
@@ -316,7 +316,7 @@ struct Holder {}
 impl Host for Holder {
     ghost use Rattle.std.specs.Prelude.{⊤};
 
-    // Nothing is said of what it answers.
+    // Nothing is promised about its answers.
     ghost step = { λ _ _ _ _. ⊤ };
 
     fn command(
@@ -340,8 +340,8 @@ impl Host for Holder {
     }
 }
 
-// The command, its environment, the dotenv variables, the names that are not exported, and the directory. The configuration and
-// the settings are those of the context.
+// The command, its environment, the dotenv variables, the names that are not exported, and the directory. The
+// configuration and the settings are those of the context.
 fn held(alloc: Global, question: &CommandQuestion) -> Result<String, OutOfMemory> {
     let mut text = String::from_str(alloc, question.command)?;
     for (key, value) in question.env {

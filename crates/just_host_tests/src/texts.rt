@@ -1,30 +1,30 @@
-// Texts, and how what is given is compared with what is wanted. A test ends where there is no memory for what it makes.
+// Texts, and comparisons of results with what is expected. A test ends if memory runs out.
 
 use just_syntax::out_of_memory::OutOfMemory;
 use std::alloc::Global;
 use std::process::Abort;
 
-/// A text is the one that is wanted.
+/// A text is as expected.
 pub fn same(rt: &impl Abort, given: &str, wanted: &str) {
     assert_eq!(rt; given, wanted);
 }
 
-/// What is given of a name is the text that is wanted.
+/// The result for a name is as expected.
 pub fn same_of(rt: &impl Abort, name: &str, given: &str, wanted: &str) {
     assert_eq!(rt; given, wanted, "{name}");
 }
 
-/// A text that was made is the one that is wanted.
+/// A text whose computation may fail is as expected.
 pub fn gives(rt: &impl Abort, made: Result<String, OutOfMemory>, wanted: &str) {
     same(rt, &text_of(rt, made), wanted);
 }
 
-/// Something is true, or false, of a name.
+/// A property of a name is as expected.
 pub fn is_either(rt: &impl Abort, name: &str, given: bool, wanted: bool) {
     assert_eq!(rt; given, wanted, "{name}");
 }
 
-/// A text that was made.
+/// A text whose computation may fail.
 pub fn text_of(rt: &impl Abort, made: Result<String, OutOfMemory>) -> String {
     match made {
         Ok(text) => text,
@@ -32,12 +32,12 @@ pub fn text_of(rt: &impl Abort, made: Result<String, OutOfMemory>) -> String {
     }
 }
 
-/// A text once more.
+/// A copy of a text.
 pub fn owned(rt: &impl Abort, alloc: Global, text: &str) -> String {
     String::from_str(alloc, text).expect(rt, "no memory")
 }
 
-/// Texts once more.
+/// Copies of texts.
 pub fn all_owned(rt: &impl Abort, alloc: Global, texts: &[&str]) -> Vec<String> {
     let mut all = Vec::new(alloc);
     for text in texts {

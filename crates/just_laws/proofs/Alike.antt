@@ -1,4 +1,4 @@
--- Trees that differ in the frames shown alone.
+-- Non-interference of frames: trees that differ only in the frames shown.
 use Rattle.std.proofs.Common.{◌≡◌, ◌≢◌, inl, inr, ℕ, zero, suc, Bool, true, false, List, [], ◌∷◌, length, Some, None, nat_eq, if◌then◌else◌, refl, sym, subst}
 use Rattle.just_syntax.specs.Plain.{Token, Parameter, Function, Expr, And, Assert, AssertOnly, Backtick, Call, Comparison, Concatenation, Conditional, ConditionalOnly, FormatString, Group, Join, JoinOnly, ListOf, ListConcatenation, Not, Or, StringLiteral, Variable, Exprs, Nil, Cons, count, Pieces, NoPiece, Piece}
 use Rattle.just_value.specs.Value.{Value, Names, is_truthy}
@@ -17,7 +17,7 @@ use Rattle.just_meaning.specs.Meaning.{Program, Situation, Deeper, AtLimit, Room
 use Rattle.just_meaning.specs.Closings.{lexical, inside, with_parameters}
 use Rattle.just_laws.specs.Laws.{AreAnsweredAlike, AreSame, FramesDoNotMatter, with_frames}
 
--- the same questions, frames aside, and the same ends
+-- the same questions, frames aside, and the same outcomes
 pub data Alike {A : Type 0} : Tree A → Tree A → Type 0 where
   Done : {o : Outcome A} → Alike (done o) (done o)
   Both : {q r : Question} {k l : Answer → Tree A} → q.blind ≡ r.blind → ((a : Answer) → Alike (k a) (l a)) → Alike (ask q k) (ask r l)
@@ -42,7 +42,7 @@ alike_if : {A : Type 0} (b : Bool) {t u t' u' : Tree A} → Alike t t' → Alike
 alike_if true h k = h
 alike_if false h k = k
 
--- two parts, and the same of their values
+-- two parts, and the same continuation of their values
 two : {A B D : Type 0} {t t' : Tree A} {u u' : Tree B} (k : A → B → Tree D) → Alike t t' → Alike u u' → Alike (bind t (λ v. bind u (λ w. k v w))) (bind t' (λ v. bind u' (λ w. k v w)))
 two k h h' = alike_bind h (λ v. alike_bind h' (λ w. alike_itself (k v w)))
 
@@ -105,9 +105,9 @@ lexical_blind c base (suc n) = λ f s shown below vs.
     let frame = with_parameters [] f.parameters vs in
     alike_eval c (lexical c base n) (lexical_blind c base n) (inside base s f vs) (frame ∷ below) (frame ∷ below) f.body
 
--- ---- paths
+-- ---- traces
 
--- two paths down trees that are alike, neither stopped and both answered alike
+-- two traces of trees that are alike, neither stopped, and both answered alike
 pub alike_paths : {A : Type 0} {t u : Tree A} {es fs : List Event} {o p : Outcome A} → Alike t u → Path freely t es o → Path freely u fs p → o ≢ Stopped → p ≢ Stopped → AreAnsweredAlike es fs → (o ≡ p) × AreSame es fs
 alike_paths Done Ends Ends here there h = (refl, tt)
 alike_paths (Both blind k) (interaction.Asks {a = a} {es = es} p) (interaction.Asks {next = l} {a = b} {es = fs} {o = w} q) here there h =

@@ -1,4 +1,4 @@
--- What a frame with one more binding gives.
+-- What a frame with one more binding binds.
 use Rattle.std.proofs.Common.{◌≡◌, ◌≢◌, ◌⊎◌, ⊎_elim, inl, inr, ℕ, Bool, true, false, cond, Some, refl, sym, ap, ◌∙◌, subst, arith}
 use Rattle.std.specs.Ordering.{nat_cmp}
 use Rattle.std.proofs.lemmas.Bool.Decides.{nat_tests}
@@ -12,7 +12,7 @@ use Rattle.just_meaning.specs.Resolved.{HasValue}
 at_differs : (n m : ℕ) → is_at (nat_cmp n) m ≡ false → n ≢ m
 at_differs n m h = λ same. let self : is_at (nat_cmp n) n ≡ false = subst (λ k. is_at (nat_cmp n) k ≡ false) (sym same) h in grind (arith, nat_tests, common_steps)
 
--- what a frame binds once a number is bound: the new binding at its number, and the old ones elsewhere
+-- after a number is bound, a frame has the new binding at that number and the old ones elsewhere
 pub bound_put : (frame : Frame) (b : Bound) (n : ℕ) → ((b.number ≡ n) × (bound_at n (with_bound frame b) ≡ Some b)) ⊎ ((b.number ≢ n) × (bound_at n (with_bound frame b) ≡ bound_at n frame))
 bound_put frame b n = by (is_at (nat_cmp n) b.number) refl
   where
@@ -23,12 +23,12 @@ bound_put frame b n = by (is_at (nat_cmp n) b.number) refl
     by true e = inl (sym (number_at n b.number e), found true e)
     by false e = inr ((λ same. at_differs n b.number e (sym same)), found false e)
 
--- the same of its values, before any names
+-- the same for its values, before any names
 pub over_put : (frame : Frame) (b : Bound) (n : ℕ) → ((b.number ≡ n) × ((names : Names) → over (with_bound frame b) names n ≡ Some b.value)) ⊎ ((b.number ≢ n) × ((names : Names) → over (with_bound frame b) names n ≡ over frame names n))
 over_put frame b n =
     ⊎_elim (λ put. inl (put.0, λ names. ap (λ o. or_else (value_of o) (names n)) put.1)) (λ kept. inr (kept.0, λ names. ap (λ o. or_else (value_of o) (names n)) kept.1)) (bound_put frame b n)
 
--- the number that is put in has a value, and each that had one still has one
+-- the number just bound has a value, and each number that had one still has one
 pub has_put : (frame : Frame) (names : Names) (b : Bound) (n : ℕ) → (b.number ≡ n) ⊎ HasValue (over frame names) n → HasValue (over (with_bound frame b) names) n
 has_put frame names b n h = by (over_put frame b n) h
   where

@@ -1,4 +1,4 @@
--- A resolved const stage meets no refusal that is Internal.
+-- Progress of const stages: a resolved stage meets no refusal that is Internal.
 use Rattle.std.proofs.Common.{◌≡◌, ⊎_elim, inl, inr, ◌⊎◌, ℕ, Bool, true, false, ◌||◌, List, [], ◌∷◌, map, nat_eq, if◌then◌else◌, Some, None, sym, ap, ◌∙◌, subst, arith}
 use Rattle.std.proofs.lemmas.Bool.Decides.{nat_tests}
 use Rattle.just_syntax.specs.Plain.{Token, Assignment, Expr}
@@ -38,7 +38,7 @@ shut_other is_open (Read t n) s e = by (is_open n) e
 shut_other is_open (Entered t) s e = subst (OfSome IsOther) e (λ none. none)
 shut_other is_open (Command t) s e = subst (OfSome IsOther) e (λ none. none)
 
--- an open variable is refused as such, and one that is settled has its value
+-- an open variable is refused as such, and a settled one has its value
 known_fine : (is_open : ℕ → Bool) (names : Names) (n : ℕ) → HasValue names n ⊎ (is_open n ≡ true) → Fine IsOther is_open names (VariableOf (Some n))
 known_fine is_open names n (inl has) t e = subst (λ o. AllConst IsOther is_open (done (named t o))) (sym has.1) tt
 known_fine is_open names n (inr opened) t e = absurd (cc)
@@ -53,7 +53,7 @@ resolved_const s e resolved = const_eval IsOther s.is_open allows_others nowhere
     fine (CallOf f n) h = tt
 
 module _ (m : Constants) (outer : Frames) (resolved : IsResolvedConst m.assignments outer) where
-  -- what was taken, and what is bound outside, has a value or is open
+  -- what was taken or is bound outside has a value or is open
   abbrev AllHave : Frame → (ℕ → Bool) → List ℕ → Type 0
   AllHave frame is_open taken = (n : ℕ) → IsOneOf taken n ⊎ HasValue (value_in outer) n → HasValue (value_in (frame ∷ outer)) n ⊎ (is_open n ≡ true)
 
@@ -70,7 +70,7 @@ module _ (m : Constants) (outer : Frames) (resolved : IsResolvedConst m.assignme
       → AreInOrder [] m.assignments outer (if b then a.number ∷ taken else taken) left
   passed taken t left a b found e h = rw (found, e) at h
 
-  -- one more number that has a value or is open
+  -- one more number has a value or is open
   more : (frame : Frame) (is_open : ℕ → Bool) (taken : List ℕ) (k : ℕ) → AllHave frame is_open taken → HasValue (value_in (frame ∷ outer)) k ⊎ (is_open k ≡ true) → AllHave frame is_open (k ∷ taken)
   more frame is_open taken k have new n (inl (inl same)) = subst (λ n. HasValue (value_in (frame ∷ outer)) n ⊎ (is_open n ≡ true)) same new
   more frame is_open taken k have new n (inl (inr among)) = have n (inl among)

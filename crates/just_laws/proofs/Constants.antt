@@ -1,4 +1,4 @@
--- By the const rules nothing is asked, and few refusals come.
+-- Under the const rules nothing is asked, and few refusals occur.
 use Rattle.std.proofs.Common.{◌≡◌, ℕ, Bool, true, false, List, if◌then◌else◌, Option, Some, None, refl, sym, subst}
 use Rattle.just_syntax.specs.Plain.{Text, Token, Expr}
 use Rattle.just_value.specs.ConstEval.{IsConstEval}
@@ -15,7 +15,7 @@ use Rattle.just_meaning.specs.Meaning.{Program, Situation, Deeper, eval, named, 
 use Rattle.just_meaning.specs.Module.{or_override}
 use Rattle.just_laws.proofs.Forms.{OfForms, holds_eval}
 
--- By the const rules the tree reaches no question and no check, and what it is refused with is such.
+-- Under the const rules the tree reaches no question and no check, and each of its refusals has this property.
 abbrev pub AllConst : {A : Type 0} → (Refusal → Type 0) → (ℕ → Bool) → Tree A → Type 0
 AllConst P is_open (done (Gave a)) = Unit {0}
 AllConst P is_open (done (Refused r)) = P r
@@ -24,7 +24,7 @@ AllConst P is_open (ask q next) = ⊥
 AllConst P is_open (check p v next) = ⊥
 AllConst P is_open (note x rest) = constantly is_open x ≡ None → AllConst P is_open rest
 
--- what a variable with no value may be refused with
+-- the refusals of a variable with no value have this property
 abbrev pub Fine : (Refusal → Type 0) → (ℕ → Bool) → Names → Mention → Type 0
 Fine P is_open names (VariableOf number) = (t : Token) → AllConst P is_open (variable t number names)
 Fine P is_open names (CallOf f n) = Unit {0}
@@ -40,7 +40,7 @@ module _ (P : Refusal → Type 0) (is_open : ℕ → Bool) where
 
   module _ (allows : OfForms P) where
     module _ (c : Program) (d : Deeper) (s : Situation) where
-      -- a call and a command are refused before anything of them is looked at
+      -- a call and a command are refused before any of their parts is evaluated
       pub const_eval : (e : Expr) → ((x : Mention) → Stands e x → Fine P is_open s.names x) → AllConst P is_open (eval c d s e)
       const_eval = holds_eval (λ A t. AllConst P is_open t) (λ A a. tt) (λ A B t go h k. const_bind t go h k) allows
           c d s (Fine P is_open s.names) (λ text t. λ e. absurd (cc)) (λ t es fine row. λ e. absurd (cc)) (λ number fine t. fine t)
@@ -49,7 +49,7 @@ module _ (P : Refusal → Type 0) (is_open : ℕ → Bool) where
   const_override (Some text) t h = tt
   const_override None t h = h
 
-  -- what such a tree comes to is such, or a refusal of the const rules
+  -- the outcome of such a tree has this property, or is a refusal of the const rules
   const_unless : {A : Type 0} (r : Option Refusal) (o : Outcome A) → ((s : Refusal) → r ≡ Some s → P s) → (r ≡ None → IfRefused P o) → IfRefused P (unless_refused r o)
   const_unless (Some r) o h k = h r refl
   const_unless None o h k = k refl
@@ -62,7 +62,7 @@ module _ (P : Refusal → Type 0) (is_open : ℕ → Bool) where
   const_refused (check p v next) shut h = absurd h
   const_refused (note x rest) shut h = const_unless (constantly is_open x) (constant is_open rest) (shut x) (λ e. const_refused rest shut (h e))
 
-  -- a path down such a tree leads to what the tree comes to, unless it is stopped, and asks nothing
+  -- unless it is stopped, a trace of such a tree ends with the tree's outcome and asks nothing
   pub const_path : {A : Type 0} (t : Tree A) {es : List Event} {o : Outcome A} → AllConst P is_open t → Path (constantly is_open) t es o → UnlessStopped o (constant is_open t)
   const_path (done (Gave a)) h Ends = refl
   const_path (done (Refused r)) h Ends = refl
@@ -83,7 +83,7 @@ module _ (P : Refusal → Type 0) (is_open : ℕ → Bool) where
 
 -- ---- constant evaluation has few refusals
 
--- the refusal, if there is one, is such
+-- the refusal, if there is one, has this property
 abbrev pub OfSome : (Refusal → Type 0) → Option Refusal → Type 0
 OfSome P (Some r) = P r
 OfSome P None = Unit {0}
@@ -112,13 +112,13 @@ fine_alike is_open names (CallOf f n) = tt
 pub eval_alike : (is_open : ℕ → Bool) (c : Program) (d : Deeper) (s : Situation) (e : Expr) → AllConst IsConstEval is_open (eval c d s e)
 eval_alike is_open c d s e = const_eval IsConstEval is_open allows_all c d s e (λ x h. fine_alike is_open s.names x)
 
--- what a tree comes to is told by each path down it, which asks nothing
+-- each run of a tree that asks nothing determines the tree's outcome
 pub record IsTold {S A : Type 0} (is_open : ℕ → Bool) (t : Tree A) (o : Outcome A) (old new : S) : Type 0 where
   pub told : UnlessStopped o (constant is_open t)
   pub still : old ≡ new
   pub few : IfRefused IsConstEval o
 
--- an outcome that is the one that is wanted has no further refusals
+-- an outcome that equals the expected one has no further refusals
 pub unless_such : {A : Type 0} (P : Refusal → Type 0) (o w : Outcome A) → UnlessStopped o w → IfRefused P w → IfRefused P o
 unless_such P (Gave a) w e h = tt
 unless_such P (Refused r) w e h = subst (IfRefused P) (sym e) h

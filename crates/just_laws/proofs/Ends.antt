@@ -1,4 +1,4 @@
--- What holds at each end of a tree.
+-- Properties of all outcomes of a tree.
 use Rattle.std.proofs.Common.{◌≡◌, ℕ, suc, List, ◌∷◌, length, refl, ap}
 use mathlib.Core.Path.{fun_ext}
 use Rattle.just_syntax.specs.Plain.{Exprs, Nil, Cons, count}
@@ -8,14 +8,14 @@ use Rattle.just_host.specs.Question.{Answer}
 use Rattle.just_host.specs.Interaction.{Event, Tree, done, ask, note, check, bind, gives, Verdict, Path, Ends, Stops, Asks, Notes, Checks, Shuts, freely}
 use Rattle.just_meaning.specs.Meaning.{Program, Situation, Deeper, eval, eval_row}
 
--- each outcome at which the tree may end is such
+-- each outcome at which the tree may end has this property
 abbrev pub AllEnd : {A : Type 0} → (Outcome A → Type 0) → Tree A → Type 0
 AllEnd P (done o) = P o
 AllEnd P (ask q next) = (a : Answer) → AllEnd P (next a)
 AllEnd P (note x rest) = AllEnd P rest
 AllEnd P (check p v next) = (a : Verdict) → AllEnd P (next a)
 
--- on from each end
+-- continues from each outcome
 pub ends_bind : {A B : Type 0} (P : Outcome A → Type 0) (Q : Outcome B → Type 0) (t : Tree A) (go : A → Tree B) → AllEnd P t → ((o : Outcome A) → P o → AllEnd Q (bind (done o) go)) → AllEnd Q (bind t go)
 ends_bind P Q (done o) go h k = k o h
 ends_bind P Q (ask q next) go h k = λ a. ends_bind P Q (next a) go (h a) k
@@ -28,7 +28,7 @@ ends_both P Q (ask q next) h k = λ a. ends_both P Q (next a) (h a) (k a)
 ends_both P Q (note x rest) h k = ends_both P Q rest h k
 ends_both P Q (check p v next) h k = λ a. ends_both P Q (next a) (h a) (k a)
 
--- a path that is not cut short leads to an end
+-- a trace that is not stopped ends at an outcome of the tree
 pub ends_path : {A : Type 0} (P : Outcome A → Type 0) → P Stopped → (t : Tree A) {es : List Event} {o : Outcome A} → AllEnd P t → Path freely t es o → P o
 ends_path P stopped t h Ends = h
 ends_path P stopped t h Stops = stopped
@@ -37,16 +37,16 @@ ends_path P stopped (note x rest) h (Notes e p) = ends_path P stopped rest h p
 ends_path P stopped (check p v next) h (Checks {a = a} q) = ends_path P stopped (next a) (h a) q
 ends_path P stopped t h (Shuts e) = absurd (cc)
 
--- nothing is asked of the ends
+-- outcomes with no condition
 pub ends_any : {A : Type 0} (t : Tree A) → AllEnd (λ o. Unit {0}) t
 ends_any (done o) = tt
 ends_any (ask q next) = λ a. ends_any (next a)
 ends_any (note x rest) = ends_any rest
 ends_any (check p v next) = λ a. ends_any (next a)
 
--- ---- how many values a row gives
+-- ---- how many values a row has
 
--- the values, if there are any, are so many
+-- there are this many values, if any
 abbrev pub HasCount : ℕ → Outcome (List Value) → Type 0
 HasCount n (Gave vs) = length vs ≡ n
 HasCount n (Refused r) = Unit {0}
@@ -66,7 +66,7 @@ row_counts c d s i (Cons e es) look = ends_bind (λ o. Unit {0}) (HasCount (suc 
     one rest (Refused r) h = tt
     one rest Stopped h = tt
 
--- two ways to go on that agree on the values that the tree may give
+-- two continuations that agree on the values that the tree may give
 pub ends_same : {A B : Type 0} (P : Outcome A → Type 0) (t : Tree A) (go other : A → Tree B) → AllEnd P t → ((a : A) → P (Gave a) → go a ≡ other a) → bind t go ≡ bind t other
 ends_same P (done (Gave a)) go other h same = same a h
 ends_same P (done (Refused r)) go other h same = refl

@@ -1,4 +1,4 @@
--- A run is never refused as only constant evaluation is.
+-- A run meets none of the refusals of constant evaluation.
 use Rattle.std.proofs.Common.{ℕ, zero, suc, ◌-◌, List, length, nat_eq, Option, Some, None}
 use Rattle.just_syntax.specs.Plain.{Text, Token, Function, Expr}
 use Rattle.just_value.specs.Value.{Value}
@@ -14,7 +14,7 @@ use Rattle.just_meaning.specs.Reaches.{Mention, VariableOf, CallOf}
 use Rattle.just_laws.proofs.Ends.{ends_path}
 use Rattle.just_laws.proofs.Refused.{AllRefused, Fits, IsRowRefused, Permits, refused_bind, refused_built_in, refused_eval, refused_if}
 
--- no end of the tree is refused by the const rules
+-- no outcome of the tree is a refusal of the const rules
 abbrev pub AllFinal : {A : Type 0} → Tree A → Type 0
 AllFinal t = AllRefused IsFinal t
 
@@ -28,12 +28,12 @@ final_named : (t : Token) (o : Option Value) → IfRefused IsFinal (named t o)
 final_named t (Some v) = tt
 final_named t None = tt
 
--- nor is what a call may still do
+-- nor is an outcome of a call
 abbrev pub IsFinalDeeper : Deeper → Type 0
 IsFinalDeeper AtLimit = Unit {0}
 IsFinalDeeper (Room run) = (f : Function) (s : Situation) (vs : List Value) → AllFinal (run f s vs)
 
--- any call, and any variable
+-- every call and every variable is allowed
 abbrev Any : Text → ℕ → Type 0
 Any f n = Unit {0}
 
@@ -61,7 +61,7 @@ pub final_override : (o : Option Text) (t : Tree Value) → AllFinal t → AllFi
 final_override (Some text) t h = tt
 final_override None t h = h
 
--- a run by dynamic scoping, of any module
+-- a run under dynamic scope, of any module
 pub run_is_final : (m : Module) {frames : Frames} {left : List Token} {bs : List Block} {o : Outcome Frames} → Run dynamically m frames left bs o → IfRefused IsFinal o
 run_is_final m Finished = tt
 run_is_final m Stops = tt

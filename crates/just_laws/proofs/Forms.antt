@@ -1,4 +1,4 @@
--- What holds of the tree of every expression, where it goes from the parts to the whole: one recursion over the forms.
+-- Properties of the trees of all expressions that follow from those of their parts: one recursion over the forms.
 use Rattle.std.proofs.Common.{inl, inr, ℕ, suc, Bool, true, false, List, [], ◌∷◌, ◌++◌, if◌then◌else◌, Option, Some, None, refl}
 use Rattle.just_syntax.specs.Plain.{Text, Token, Expr, And, Assert, AssertOnly, Backtick, Call, Comparison, Concatenation, Conditional, ConditionalOnly, FormatString, Group, Join, JoinOnly, ListOf, ListConcatenation, Not, Or, StringLiteral, Variable, Exprs, Nil, Cons, count, Pieces, NoPiece, Piece}
 use Rattle.just_syntax.specs.Printed.{printed}
@@ -13,7 +13,7 @@ use Rattle.just_host.specs.Interaction.{Tree, done, bind, gives, refuses}
 use Rattle.just_meaning.specs.Meaning.{Program, Situation, Deeper, Row, as_it_is, assertion, combination, eval, eval_row, eval_pieces, is_regex, variable}
 use Rattle.just_meaning.specs.Reaches.{Mention, VariableOf, CallOf, Stands, StandsIn, StandsInPieces}
 
--- what the forms are refused with themselves is such
+-- the refusals of the forms themselves have this property
 pub record OfForms (P : Refusal → Type 0) : Type 0 where
   pub assertion : (message : Text) (t : Token) → P (refusal.Assert message t)
   pub operation : (l : Value) (o : ListOperator) (r : Value) (t : Token) → P (refusal.ListOperation l o r t)
@@ -21,7 +21,7 @@ pub record OfForms (P : Refusal → Type 0) : Type 0 where
 
 module _ (H : (A : Type 0) → Tree A → Type 0) (gave : (A : Type 0) (a : A) → H A (gives a))
     (bound : (A B : Type 0) (t : Tree A) (go : A → Tree B) → H A t → ((a : A) → H B (go a)) → H B (bind t go)) where
-  -- it holds of a row whose values are looked at so that it holds of each look
+  -- the property holds of a row if it holds of the function that each value is passed to
   abbrev pub HoldsOfRow : Row → Type 0
   HoldsOfRow row = (look : ℕ → Value → Tree Value) → ((i : ℕ) (v : Value) → H Value (look i v)) → H (List Value) (row look)
 
@@ -43,7 +43,7 @@ module _ (H : (A : Type 0) → Tree A → Type 0) (gave : (A : Type 0) (a : A) �
     holds_assertion : (lists : Bool) (t : Token) (e : Tree Value) (m : Tree Text) → H Value e → H Text m → H Value (assertion lists t e m)
     holds_assertion lists t e m h k = bound _ _ e _ h (λ v. holds_if (is_truthy v) _ _ (gave _ _) (bound _ _ m _ k (λ text. refused.assertion text t)))
 
-    -- commands, calls and variables are left to who uses this: a call is told that it holds of the row of its arguments
+    -- Commands, calls and variables are parameters. A call may use that the property holds of the row of its arguments.
     module _ (c : Program) (d : Deeper) (s : Situation) (Fits : Mention → Type 0) (commands : (text : Text) (t : Token) → H Value (eval c d s (Backtick text t)))
         (calls : (t : Token) (es : Exprs) → Fits (CallOf t.lexeme (count es)) → HoldsOfRow (eval_row c d s 0 es) → H Value (eval c d s (Call t es)))
         (variables : (number : Option ℕ) → Fits (VariableOf number) → (t : Token) → H Value (variable t number s.names)) where

@@ -1,4 +1,4 @@
--- What is evaluated for a recipe means what the lexical rules say, and meets few refusals.
+-- What is evaluated for a recipe has the meaning of lexical scope, and meets few refusals.
 use Rattle.std.proofs.Common.{◌≡◌, inr, ℕ, Bool, false, List, [], ◌∷◌, ◌++◌, map, refl, ap}
 use Rattle.just_syntax.specs.Plain.{Token, Assignment, Attribute, Expr, Fragment, Interpolation, Parameter, TextFragment}
 use Rattle.just_syntax.specs.StringContext.{StringContext}
@@ -18,9 +18,9 @@ use Rattle.just_laws.proofs.Internal.{IsNeverInternal, bind_never}
 use Rattle.just_laws.proofs.Lexical.{IsApart}
 use Rattle.just_laws.proofs.Reached.{one_front}
 
--- ---- texts and lines, by what their expressions mean
+-- ---- texts and lines, by the meaning of their expressions
 
--- each of these expressions is such
+-- each of these expressions has this property
 abbrev pub AllSuch : (Expr → Type 0) → List Expr → Type 0
 AllSuch P [] = Unit {0}
 AllSuch P (e ∷ es) = P e × AllSuch P es
@@ -29,7 +29,7 @@ pub all_such : (P : Expr → Type 0) → ((e : Expr) → P e) → (es : List Exp
 all_such P h [] = tt
 all_such P h (e ∷ es) = (h e, all_such P h es)
 
--- it means the same
+-- the expression means the same
 abbrev pub Same : (Expr → Tree Value) → (Expr → Tree Value) → Expr → Type 0
 Same means other e = means e ≡ other e
 
@@ -41,7 +41,7 @@ same_line means other continued [] same = refl
 same_line means other continued (TextFragment t ∷ fs) same = λ i. bind (fragment means continued (TextFragment t)) (λ text. bind (same_line means other false fs same i) (λ rest. gives (text ++ rest)))
 same_line means other continued (Interpolation e ∷ fs) same = λ i. bind (bind (same.0 i) (λ v. gives (joined v))) (λ text. bind (same_line means other false fs same.1 i) (λ rest. gives (text ++ rest)))
 
--- where one text is wanted, a list is refused
+-- a list is refused if a single text is required
 pub text_not : (context : StringContext) (v : Value) → IsNotInternal (text_in context v)
 text_not context [] = λ none. none
 text_not context (text ∷ []) = tt
@@ -70,7 +70,7 @@ line_final means continued (TextFragment t ∷ fs) h = final_bind (line means fa
 line_final means continued (Interpolation e ∷ fs) h =
     final_bind (bind (means e) (λ v. gives (joined v))) _ (final_bind (means e) _ (h e) (λ v. tt)) (λ text. final_bind (line means false fs) _ (line_final means false fs h) (λ rest. tt))
 
--- ---- by the const rules
+-- ---- under the const rules
 
 module _ (P : Refusal → Type 0) (lists : (context : StringContext) (v : Value) → P (ListInStringContext context v)) (is_open : ℕ → Bool) where
   const_text : (context : StringContext) (v : Value) → AllConst P is_open (done (text_in context v))
@@ -89,11 +89,12 @@ module _ (P : Refusal → Type 0) (lists : (context : StringContext) (v : Value)
       const_bind P is_open (bind (means e) (λ v. gives (joined v))) _ (const_bind P is_open (means e) _ h.0 (λ v. tt))
       (λ text. const_bind P is_open (line means false fs) _ (line_const means false fs h.1) (λ rest. tt))
 
--- ---- where all is resolved
+-- ---- if all is resolved
 
 module _ (c : Program) (assignments : List Assignment) (k : ℕ) (s : Situation) (attributes : List (Attribute × Token)) (parameters : List Parameter) (expressions : List Expr) (base : Frames)
     (resolved : IsResolvedHere c.functions assignments base s.shown attributes parameters expressions) where
-  -- an expression that reads through functions what has a value in the base reads no other function's parameter there
+  -- an expression that reads, through functions, only what has a value in the base reads no other function's parameter
+  -- there
   pub readable_apart : (readable : ℕ → Type 0) (e : Expr) → IsReadable c.functions (value_in base) readable e → IsApart c.functions e
   readable_apart readable e h n beyond parameter = resolved.unbound n (one_front (parameter_numbers c.functions) (map (λ p. p.number) parameters) n parameter) (inr (h.beyond n beyond))
 

@@ -1,4 +1,4 @@
--- A resolved module meets no refusal that is Internal.
+-- Progress: a resolved module meets no refusal that is Internal.
 use Rattle.std.proofs.Common.{◌≡◌, ⊎_elim, inl, inr, ◌⊎◌, ℕ, zero, suc, ◌-◌, Bool, true, false, List, [], ◌∷◌, length, map, nat_eq, if◌then◌else◌, Option, Some, None, refl, sym, ap, ◌∙◌, subst, arith}
 use Rattle.std.proofs.lemmas.Bool.Decides.{nat_tests}
 use Rattle.just_syntax.specs.Plain.{Text, Token, Assignment, Function, Expr, count}
@@ -30,11 +30,11 @@ use Rattle.just_laws.proofs.Refused.{Fits, IsRowRefused, Permits, refused_bind, 
 
 -- ---- trees
 
--- it is no refusal that only an unresolved module meets
+-- the refusal is not one that only an unresolved module meets
 abbrev IsOther : Refusal → Type 0
 IsOther r = IsInternal r → ⊥
 
--- no end of the tree is such a refusal
+-- no outcome of the tree is such a refusal
 abbrev pub IsNeverInternal : {A : Type 0} → Tree A → Type 0
 IsNeverInternal t = AllEnd IsNotInternal t
 
@@ -46,19 +46,19 @@ bind_never t go h k = refused_bind IsOther t go h k
 
 -- ---- expressions
 
--- what a call may still do is never refused so, of these functions and so many values
+-- a call of one of these functions, with this many values, is never refused so
 abbrev IsSound : (Text → Type 0) → List Function → Situation → Deeper → Type 0
 IsSound C functions s AtLimit = Unit {0}
 IsSound C functions s (Room run) = (name : Text) (f : Function) (vs : List Value) → C name → function_at functions name ≡ Some f → length f.parameters ≡ length vs → IsNeverInternal (run f s vs)
 
--- what is read has a value, and what is called is among these and takes the arguments
+-- what is read has a value, and what is called is one of these functions and takes the arguments
 abbrev Holds : (Text → Type 0) → List Function → Names → Mention → Type 0
 Holds C functions names (VariableOf None) = ⊥
 Holds C functions names (VariableOf (Some n)) = HasValue names n
 Holds C functions names (CallOf f n) = C f × Accepts (callee functions f) n
 
 module _ (c : Program) (d : Deeper) (s : Situation) (C : Text → Type 0) (sound : IsSound C c.functions s d) where
-  -- a call of one of these that takes so many arguments
+  -- the name is one of these functions and takes this many arguments
   abbrev IsCallable : Text → ℕ → Type 0
   IsCallable f n = C f × Accepts (callee c.functions f) n
 
@@ -88,7 +88,7 @@ module _ (c : Program) (d : Deeper) (s : Situation) (C : Text → Type 0) (sound
   holds_fit (VariableOf (Some n)) h = λ t. subst (λ o. IsNotInternal (named t o)) (sym h.1) tt
   holds_fit (CallOf f n) h = h
 
-  -- where all that stands in it holds
+  -- if everything that occurs in it satisfies this
   eval_never : (e : Expr) → ((x : Mention) → Stands e x → Holds C c.functions s.names x) → IsNeverInternal (eval c d s e)
   eval_never e has =
       refused_eval IsOther permits_others c d s IsCallable
@@ -100,7 +100,7 @@ module _ (c : Program) (d : Deeper) (s : Situation) (C : Text → Type 0) (sound
 module _ (c : Program) (base : Names) (C : Text → Type 0) (known : AllKnown c.functions (map (λ f. f.body) c.functions))
     (closed : (name further : Text) (f : Function) (n : ℕ) → C name → function_at c.functions name ≡ Some f → Stands f.body (CallOf further n) → C further)
     (held : (name : Text) (f : Function) (n : ℕ) → C name → function_at c.functions name ≡ Some f → Stands f.body (VariableOf (Some n)) → (IsAmong f.parameters n → ⊥) → HasValue base n) where
-  -- what is called may be called by the lexical rules
+  -- under lexical scope every called function may be called
   lexical_sound : (k : ℕ) (s : Situation) → IsSound C c.functions s (lexical c base k)
   lexical_sound zero s = tt
   lexical_sound (suc k) s = λ name f vs reached found fits.
@@ -114,7 +114,7 @@ module _ (c : Program) (base : Names) (C : Text → Type 0) (known : AllKnown c.
       of_mention name f vs reached found fits (VariableOf (Some n)) h is = parameters_have f.parameters vs base n fits (λ beyond. held name f n reached found h beyond)
       of_mention name f vs reached found fits (CallOf further n) h is = (closed name further f n reached found h, is)
 
--- where an expression reads by itself what has a value, and through functions what has one in the base
+-- if an expression reads by itself only what has a value, and through functions only what has one in the base
 pub expression_never : (c : Program) (base : Names) (k : ℕ) (s : Situation) (e : Expr) → AllKnown c.functions (map (λ f. f.body) c.functions) → ((x : Mention) → Stands e x → IsKnown c.functions x) →
     ((n : ℕ) → Stands e (VariableOf (Some n)) → HasValue s.names n) → ((n : ℕ) → ReadsBeyond c.functions e n → HasValue base n) → IsNeverInternal (eval c (lexical c base k) s e)
 expression_never c base k s e bodies known own beyond = eval_never c (lexical c base k) s (Reaches c.functions e) sound e (λ x h. of_mention x h (known x h))
@@ -136,7 +136,7 @@ override_never (Some text) t h = tt
 override_never None t h = h
 
 module _ (m : Module) (outer : Frames) (resolved : IsResolved m.program.functions m.assignments outer) where
-  -- what was taken, and what is bound outside, has a value
+  -- what was taken or is bound outside has a value
   abbrev AllHave : Frame → List ℕ → Type 0
   AllHave frame taken = (n : ℕ) → IsOneOf taken n ⊎ HasValue (value_in outer) n → HasValue (value_in (frame ∷ outer)) n
 

@@ -1,4 +1,5 @@
--- Pending calls do not matter: on a resolved module dynamic scoping means what the lexical rules do.
+-- Soundness of lexical scoping: on a resolved module dynamic scope means what lexical scope does, so pending calls do
+-- not matter.
 use Rattle.std.proofs.Common.{◌≡◌, ⊎_elim, inl, inr, ℕ, zero, suc, Bool, true, false, List, [], ◌∷◌, ◌++◌, length, map, Option, Some, None, nat_eq, if◌then◌else◌, refl, sym, ap, ◌∙◌, subst, arith}
 use Rattle.std.proofs.lemmas.Bool.Decides.{nat_tests}
 use Rattle.just_syntax.specs.Plain.{Text, Token, Assignment, Function, Expr, And, Assert, AssertOnly, Backtick, Call, Comparison, Concatenation, Conditional, ConditionalOnly, FormatString, Group, Join, JoinOnly, ListOf, ListConcatenation, Not, Or, StringLiteral, Variable, Exprs, Nil, Cons, count, Pieces, NoPiece, Piece}
@@ -26,18 +27,18 @@ use Rattle.just_laws.proofs.Overlays.{parameters_other, parameters_same}
 use Rattle.just_meaning.proofs.Reached.{reaches_on}
 use Rattle.just_laws.proofs.Reached.{among_all, apart_numbers, taken_assigned}
 
--- ---- what an expression means depends on what it reads and calls alone
+-- ---- what an expression means depends only on what it reads and calls
 
 abbrev with_names : Names → Situation → Situation
 with_names names s = record { names = names; environment = s.environment; recipe = s.recipe; is_dependency = s.is_dependency; lists = s.lists; shown = s.shown; below = s.below }
 
--- what is to hold of each thing that stands in an expression
+-- the condition on everything that occurs in an expression
 abbrev Told : (Text → Type 0) → Names → Names → Mention → Type 0
 Told C names names' (VariableOf None) = Unit {0}
 Told C names names' (VariableOf (Some n)) = names n ≡ names' n
 Told C names names' (CallOf f n) = C f
 
--- the row of as many values, where nothing is looked at
+-- the row has this many values, if they are passed to no function
 abbrev IsRowOf : ℕ → Row → Type 0
 IsRowOf n row = AllEnd (HasCount n) (row as_it_is)
 
@@ -79,7 +80,7 @@ module _ (c : Program) (d d' : Deeper) (C : Text → Type 0) (s : Situation) (na
     same_pieces NoPiece told = refl
     same_pieces (Piece e literal pieces) told = λ i. bind (same_eval e (λ x h. told x (inl h)) i) (λ v. bind (same_pieces pieces (λ x h. told x (inr h)) i) (λ text. gives ((joined v ++ literal.cooked) ++ text)))
 
--- a name that the file does not define stands for what reads no names
+-- a name that the file does not define has a meaning that reads no names
 same_undefined : (c : Program) (d d' : Deeper) (s : Situation) (names : Names) (t : Token) (n : ℕ) (row : Row) (out : Bool) (found : Option built_in.Function) →
     let other = if out then LeftOut else built_in_or_unknown found in called c t other d s n row ≡ called c t other d' (with_names names s) n row
 same_undefined c d d' s names t n row true found = refl
@@ -95,7 +96,7 @@ IsApart functions e = (n : ℕ) → ReadsBeyond functions e n → IsOneOf (param
 module _ (c : Program) (C : Text → Type 0)
     (closed : (name further : Text) (f : Function) (n : ℕ) → C name → function_at c.functions name ≡ Some f → Stands f.body (CallOf further n) → C further)
     (apart : (name : Text) (f : Function) (n : ℕ) → C name → function_at c.functions name ≡ Some f → Stands f.body (VariableOf (Some n)) → (IsAmong f.parameters n → ⊥) → IsOneOf (parameter_numbers c.functions) n → ⊥) where
-  -- parameters aside the names are the base's
+  -- except for parameters, the names are those of the base
   abbrev IsOnBase : Names → Names → Type 0
   IsOnBase names base = (n : ℕ) → (IsOneOf (parameter_numbers c.functions) n → ⊥) → names n ≡ base n
 
@@ -136,7 +137,7 @@ module _ (c : Program) (C : Text → Type 0)
       same_eval c (dynamic c (suc k)) (lexical c base (suc k)) C s names
       (λ t n row reached counted. same_called k (λ s base names e. dynamic_lexical k s base names e) s base names on t n row reached counted (function_at c.functions t.lexeme) refl) e told
 
--- where bodies read no other function's parameters, dynamic scoping means what the lexical rules do
+-- if bodies read no other function's parameters, dynamic scope means what lexical scope does
 pub dynamic_is_lexical : (c : Program) (k : ℕ) (s : Situation) (e : Expr) → IsApart c.functions e → eval c (dynamic c k) s e ≡ eval c (lexical c (value_in s.below) k) s e
 dynamic_is_lexical c k s e apart =
     dynamic_lexical c (Reaches c.functions e)
@@ -151,7 +152,7 @@ dynamic_is_lexical c k s e apart =
 
 -- ---- a run
 
--- each assignment that is taken reads no parameter through a body of another function
+-- each taken assignment reads no parameter through a body of another function
 abbrev pub AreApart : List Function → Assignments → List Token → Type 0
 AreApart functions assignments [] = Unit {0}
 AreApart functions assignments (t ∷ left) = ((a : Assignment) → assignment_at assignments t.lexeme ≡ Some a → assignments.referenced a.number ≡ true → IsApart functions a.value) × AreApart functions assignments left

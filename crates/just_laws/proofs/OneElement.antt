@@ -12,13 +12,13 @@ use Rattle.just_meaning.specs.Messages.{mismatched_text}
 use Rattle.just_meaning.specs.Parameters.{Arguments, HaveOneElement, Meanings, bindings, checked, environment, parameter_bound, parameters, seeing, words_of}
 use Rattle.just_laws.proofs.Ends.{AllEnd, ends_any, ends_bind}
 
--- the arguments, if there are any, are such
+-- the arguments, if there are any, have this property
 abbrev pub IfGave : {A : Type 0} → (A → Type 0) → Outcome A → Type 0
 IfGave P (Gave a) = P a
 IfGave P (Refused r) = Unit {0}
 IfGave P Stopped = Unit {0}
 
--- whatever the first part gives
+-- whatever the first part evaluates to
 bind_gave : {A B : Type 0} (P : B → Type 0) (t : Tree A) (go : A → Tree B) → ((a : A) → AllEnd (IfGave P) (go a)) → AllEnd (IfGave P) (bind t go)
 bind_gave {A = A} P t go h = ends_bind (λ o. Unit {0}) (IfGave P) t go (ends_any t) (λ o any. on o)
   where

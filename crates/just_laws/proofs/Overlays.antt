@@ -8,7 +8,7 @@ use Rattle.just_meaning.specs.Resolved.{HasValue}
 use Rattle.just_meaning.specs.Closings.{with_parameters}
 use Rattle.just_laws.proofs.Bound.{over_put}
 
--- A parameter's number has a value, whatever names are below; and another number has what it had.
+-- A parameter's number has a value, whatever names are below. Any other number keeps its value.
 abbrev Overlaid : List (Token × ℕ) → List Value → Frame → ℕ → Type 0
 Overlaid ps vs frame n =
     (IsAmong ps n × ((v : Value) × ((names : Names) → over (with_parameters frame ps vs) names n ≡ Some v)))
@@ -27,7 +27,7 @@ overlaid (p ∷ ps) (v ∷ vs) frame n e =
     (overlaid ps vs (with_bound frame (plainly_bound p.0 p.1 v)) n (omega arith))
 
 module _ (ps : List (Token × ℕ)) (vs : List Value) (names : Names) (n : ℕ) (e : length ps ≡ length vs) where
-  -- a name that is no parameter
+  -- a name that is not a parameter
   pub parameters_other : (IsAmong ps n → ⊥) → over (with_parameters [] ps vs) names n ≡ names n
   parameters_other out = ⊎_elim (λ own. absurd (out own.0)) (λ other. other.1 names) (overlaid ps vs [] n e)
 
@@ -35,6 +35,6 @@ module _ (ps : List (Token × ℕ)) (vs : List Value) (names : Names) (n : ℕ) 
   pub parameters_same : (base : Names) → ((IsAmong ps n → ⊥) → names n ≡ base n) → over (with_parameters [] ps vs) names n ≡ over (with_parameters [] ps vs) base n
   parameters_same base h = ⊎_elim (λ own. own.1.1 names ∙ sym (own.1.1 base)) (λ other. other.1 names ∙ h other.0 ∙ sym (other.1 base)) (overlaid ps vs [] n e)
 
-  -- each parameter has a value, and so has each name that has one beyond them
+  -- each parameter has a value, and so does each name that has one beyond them
   pub parameters_have : ((IsAmong ps n → ⊥) → HasValue names n) → HasValue (over (with_parameters [] ps vs) names) n
   parameters_have h = ⊎_elim (λ own. (own.1.0, own.1.1 names)) (λ other. let v = h other.0 in (v.0, other.1 names ∙ v.1)) (overlaid ps vs [] n e)

@@ -1,4 +1,4 @@
--- What is found, and numbers that are apart.
+-- Look-ups, and numbers that do not clash.
 use Rattle.std.proofs.Common.{◌≡◌, inl, inr, ℕ, Bool, true, false, List, [], ◌∷◌, ◌++◌, map, Option, Some, None, if◌then◌else◌, refl, sym, subst}
 use Rattle.just_syntax.specs.Plain.{Text, Token, Assignment, Function, Expr}
 use Rattle.just_syntax.specs.Keyed.{value_at}
@@ -18,7 +18,7 @@ one_front [] ys n h = absurd h
 one_front (x ∷ xs) ys n (inl same) = inl same
 one_front (x ∷ xs) ys n (inr later) = inr (one_front xs ys n later)
 
--- of distinct numbers none stands in both parts
+-- if numbers are distinct, none occurs in both parts
 pub apart_numbers : (xs ys : List ℕ) (n : ℕ) → AreDistinct (xs ++ ys) → IsOneOf xs n → IsOneOf ys n → ⊥
 apart_numbers [] ys n h one other = one
 apart_numbers (x ∷ xs) ys n h (inl same) other = h.0 (subst (IsOneOf (xs ++ ys)) (sym same) (one_behind xs ys n other))
@@ -29,13 +29,13 @@ among_one [] ys n h = absurd h
 among_one (p ∷ ps) ys n (inl same) = inl same
 among_one (p ∷ ps) ys n (inr later) = inr (among_one ps ys n later)
 
--- a found function's parameter is among all parameters
+-- the parameters of a function that a look-up finds are among all parameters
 pub among_all : (functions : List Function) (name : Text) (f : Function) (n : ℕ) → function_at functions name ≡ Some f → IsAmong f.parameters n → IsOneOf (parameter_numbers functions) n
 among_all functions name f n found =
     found_is (λ f. f.name.lexeme) name (λ fs. IsOneOf (parameter_numbers fs) n → IsOneOf (parameter_numbers functions) n) (λ g. IsAmong g.parameters n → IsOneOf (parameter_numbers functions) n)
     (λ g gs h among. h (among_one g.parameters (parameter_numbers gs) n among)) (λ g gs h one. h (one_behind (map (λ p. p.1) g.parameters) (parameter_numbers gs) n one)) functions f (λ one. one) found
 
--- what is taken is assigned
+-- every taken number is an assignment's
 pub taken_assigned : (assignments : Assignments) (name : Text) (taken : List ℕ) (n : ℕ) → ((n : ℕ) → IsOneOf taken n → IsOneOf (map (λ a. a.number) assignments.all) n) → IsOneOf (with_taken assignments (assignment_at assignments name) taken) n → IsOneOf (map (λ a. a.number) assignments.all) n
 taken_assigned assignments name taken n assigned one = by (assignment_at assignments name) refl one
   where
@@ -54,6 +54,6 @@ taken_assigned assignments name taken n assigned one = by (assignment_at assignm
 
 -- ---- what is known
 
--- what stands in the expression of a value that is found is known
+-- what occurs in the expression of a value that a look-up finds is known
 pub known_found : {V : Type 0} (functions : List Function) (key : V → Text) (expression : V → Expr) (name : Text) (vs : List V) (v : V) → AllKnown functions (map expression vs) → value_at key name vs ≡ Some v → (x : Mention) → Stands (expression v) x → IsKnown functions x
 known_found functions key expression name = found_is key name (λ vs. AllKnown functions (map expression vs)) (λ v. (x : Mention) → Stands (expression v) x → IsKnown functions x) (λ v vs h. h.0) (λ v vs h. h.1)

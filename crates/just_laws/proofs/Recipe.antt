@@ -1,4 +1,4 @@
--- What a recipe's attributes and parameters mean: the same by dynamic scoping and by the lexical rules, with few refusals.
+-- What a recipe's attributes and parameters mean: the same under dynamic and under lexical scope, with few refusals.
 use Rattle.std.proofs.Common.{◌≡◌, ⊎_elim, inl, inr, ◌⊎◌, ℕ, Bool, true, false, List, [], ◌∷◌, ◌++◌, ◌||◌, length, nat_eq, if◌then◌else◌, Option, Some, None, refl, sym, ap, subst, arith}
 use Rattle.std.proofs.lemmas.Bool.Decides.{nat_tests}
 use Rattle.just_syntax.specs.Plain.{Text, Token, Attribute, Env, Expr, Function, Other, Parameter, Recipe}
@@ -32,10 +32,10 @@ pub such_behind : (P : Expr → Type 0) (es fs : List Expr) → AllSuch P (es ++
 such_behind P [] fs h = h
 such_behind P (e ∷ es) fs h = such_behind P es fs h.1
 
--- ---- what the expressions mean decides
+-- ---- the meaning of the expressions decides
 
 module _ (means other : Meanings) (below : Frames) where
-  -- an expression means the same wherever a called body's frame is put on these frames
+  -- an expression means the same in all situations with these frames below a called body's
   abbrev pub SameOn : Expr → Type 0
   SameOn e = (s : Situation) → s.below ≡ below → means s e ≡ other s e
 
@@ -74,13 +74,13 @@ module _ (means other : Meanings) (below : Frames) where
 
 -- ---- refusals
 
--- what may be refused whatever the expressions are
+-- refusals that are possible whatever the expressions are
 pub record AllowsParameters (P : Refusal → Type 0) : Type 0 where
   pub check : (parameter message : Text) → P (Check parameter message)
   pub empty : (parameter recipe : Text) → P (EmptyListArgument parameter recipe)
   pub list : (context : StringContext) (v : Value) → P (ListInStringContext context v)
 
--- no end of the tree is refused otherwise
+-- every outcome that is a refusal has this property
 abbrev pub Ends : (Refusal → Type 0) → {A : Type 0} → Tree A → Type 0
 Ends P t = AllEnd (IfRefused P) t
 
@@ -131,7 +131,7 @@ module _ (P : Refusal → Type 0) (allows : AllowsParameters P) where
     valued_end s recipe p [] h = default_end s recipe p p.default (such_front _ (some_expression p.default) (some_expression p.value) h)
     valued_end s recipe p (x ∷ xs) h = value_end s (x ∷ xs) p.value (such_behind _ (some_expression p.default) (some_expression p.value) h)
 
-    -- of each parameter, whatever the earlier ones are bound to
+    -- for each parameter, whatever the earlier ones are bound to
     abbrev pub EachEnds : Situation → List Parameter → Type 0
     EachEnds s [] = Unit {0}
     EachEnds s (p ∷ ps) = AllSuch (λ x. Ends P (means s x)) (expressions_of p) × ((v : Value) → EachEnds (seeing (bound_in_front s.shown (parameter_bound s.lists p v)) s) ps)
@@ -143,7 +143,7 @@ module _ (P : Refusal → Type 0) (allows : AllowsParameters P) where
         bind_end (checked (means s) s.is_dependency recipe p argument) _ (bind_end (valued (means s) s.is_dependency recipe p argument) _ (valued_end s recipe p argument h.0) (λ v a. judged_end p v a))
         (λ v. bindings_end recipe (seeing (bound_in_front s.shown (parameter_bound s.lists p v)) s) (words ++ words_of p v) ps arguments (h.1 v))
 
-    -- Where there are as many arguments as parameters, or another number of them may be refused too.
+    -- if the numbers of arguments and parameters are equal, or another number may be refused too
     pub parameters_end : (s : Situation) (recipe : Recipe) (ps : List Parameter) (arguments : List Value) → (length arguments ≡ length ps) ⊎ P (Internal mismatched_text recipe.name)
         → ((e : List (Text × Text)) → AllSuch (λ x. Ends P (means (record s { environment = e }) x)) (attribute_expressions recipe.attributes)) → ((e : List (Text × Text)) → EachEnds (record s { environment = e }) ps) → Ends P (parameters means s recipe ps arguments)
     parameters_end s recipe ps arguments count h k = bind_end (environment means s recipe.attributes) _ (environment_end s recipe.attributes h) (λ e. counted e count)
@@ -174,16 +174,16 @@ module _ (means : Meanings) (final : (s : Situation) (e : Expr) → AllFinal (me
   parameters_final s recipe ps arguments =
       parameters_end IsFinal final_allows means s recipe ps arguments (inr tt) (λ e. all_final (record s { environment = e }) (attribute_expressions recipe.attributes)) (λ e. each_final (record s { environment = e }) ps)
 
--- ---- no refusal that only an unresolved module meets, but of the number of arguments
+-- ---- no refusal that only an unresolved module meets, except for the number of arguments
 
--- it is none of these
+-- the refusal is none of these
 abbrev pub IsOutside : Refusal → Type 0
 IsOutside r = IsInternal r → ⊥
 
 outside_allows : AllowsParameters IsOutside
 outside_allows = record { check = λ parameter message none. none; empty = λ parameter recipe none. none; list = λ context v none. none }
 
--- An expression is evaluated without such a refusal where what it reads by itself has a value.
+-- An expression meets no such refusal if what it reads by itself has a value.
 abbrev pub IsSafe : Meanings → List Function → Names → Expr → Type 0
 IsSafe means functions base e = (s : Situation) → IsReadable functions base (HasValue s.names) e → IsNeverInternal (means s e)
 
@@ -192,11 +192,11 @@ module _ (means : Meanings) (functions : List Function) (base : Names) (outer : 
   safe_all s readable have [] safe h = tt
   safe_all s readable have (e ∷ es) safe h = (safe.0 s (record { own = λ n stands. have n (h.0.own n stands); beyond = h.0.beyond }), safe_all s readable have es safe.1 h.1)
 
-  -- what may be read has a value in these frames
+  -- everything that may be read has a value in these frames
   abbrev AllHave : Frames → List ℕ → Type 0
   AllHave frames earlier = (n : ℕ) → IsOneOf earlier n ⊎ HasValue (value_in outer) n → HasValue (value_in frames) n
 
-  -- also behind one more parameter
+  -- this still holds after one more parameter
   more : (lists : Bool) (shown : Frames) (frame : Frame) → shown ≡ frame ∷ outer → (earlier : List ℕ) (p : Parameter) (v : Value) → AllHave shown earlier → AllHave (bound_in_front shown (parameter_bound lists p v)) (p.number ∷ earlier)
   more lists shown frame is earlier p v have n known = subst (λ fs. HasValue (value_in (bound_in_front fs (parameter_bound lists p v))) n) (sym is) (has_put frame (value_in outer) (parameter_bound lists p v) n (either known))
     where

@@ -1,4 +1,4 @@
--- What an expression may be refused with, by what its variables and its calls may be.
+-- The refusals of an expression, given those of its variables and calls.
 use Rattle.std.proofs.Common.{ℕ, Bool, true, false, [], ◌∷◌, if◌then◌else◌}
 use Rattle.just_syntax.specs.Plain.{Text, Token, Expr, count}
 use Rattle.just_syntax.specs.StringContext.{StringContext}
@@ -23,20 +23,20 @@ use Rattle.just_meaning.specs.Reaches.{Mention, VariableOf, CallOf, Stands}
 use Rattle.just_laws.proofs.Ends.{AllEnd, HasCount, ends_bind, ends_both, row_counts}
 use Rattle.just_laws.proofs.Forms.{OfForms, holds_eval}
 
--- each refusal that the tree may end with is such
+-- each refusal at which the tree may end has this property
 abbrev pub AllRefused : {A : Type 0} → (Refusal → Type 0) → Tree A → Type 0
 AllRefused P t = AllEnd (IfRefused P) t
 
--- however its values are looked at, unless a look at a value is refused otherwise
+-- the same whatever function the values are passed to, if the function's own refusals have the property
 abbrev pub IsRowRefused : (Refusal → Type 0) → Row → Type 0
 IsRowRefused P row = (look : ℕ → Value → Tree Value) → ((i : ℕ) (v : Value) → AllRefused P (look i v)) → AllRefused P (row look)
 
--- what reads a variable is refused so, and a call is one of these, with so many arguments
+-- the refusals of reading a variable have this property, and a call is one of these, with this many arguments
 abbrev pub Fits : (Refusal → Type 0) → (Text → ℕ → Type 0) → Names → Mention → Type 0
 Fits P C names (VariableOf number) = (t : Token) → AllRefused P (variable t number names)
 Fits P C names (CallOf f n) = C f n
 
--- what forms, commands and built-in functions are refused with, whatever they are given
+-- the refusals of forms, commands and built-in functions, whatever their inputs
 pub record Permits (P : Refusal → Type 0) : Type 0 where
   pub forms : OfForms P
   pub command : (t : Token) (f : Fault) → P (refusal.Backtick t f)
@@ -44,7 +44,7 @@ pub record Permits (P : Refusal → Type 0) : Type 0 where
   pub list : (context : StringContext) (v : Value) → P (refusal.ListInStringContext context v)
 
 module _ (P : Refusal → Type 0) where
-  -- on from the values that satisfy more
+  -- continues with values that satisfy more
   pub refused_such : {A B : Type 0} (Q : Outcome A → Type 0) (t : Tree A) (go : A → Tree B) → AllEnd Q t → AllRefused P t → ((a : A) → Q (Gave a) → AllRefused P (go a)) → AllRefused P (bind t go)
   refused_such {A = A} Q t go q h k = ends_bind (λ o. Q o × IfRefused P o) (IfRefused P) t go (ends_both Q (IfRefused P) t q h) on
     where
@@ -84,7 +84,7 @@ module _ (P : Refusal → Type 0) where
     refused_argument true t (text ∷ []) = tt
     refused_argument true t (text ∷ next ∷ texts) = permits.list (contexts.Function t) (text ∷ next ∷ texts)
 
-    -- a built-in function's arguments, and then its answer
+    -- a built-in function's arguments, and then its result
     pub refused_built_in : (c : Program) (s : Situation) (t : Token) (f : built_in.Function) (row : Row) → IsRowRefused P row → AllRefused P (bind (row (texts_of f t)) (built_in_call c s t f))
     refused_built_in c s t f row h =
         refused_bind (row (texts_of f t)) _ (h (texts_of f t) (λ i v. refused_argument (is_text f i) t v))

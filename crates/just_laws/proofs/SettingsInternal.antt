@@ -13,7 +13,7 @@ use Rattle.just_laws.proofs.Constants.{const_refused}
 use Rattle.just_laws.proofs.ConstInternal.{IsOther, resolved_const, shut_other}
 use Rattle.just_laws.proofs.Here.{text_not}
 
--- on from a value
+-- continues with a value
 pub then_not : {A B : Type 0} (w : Outcome A) (go : A → Outcome B) → IsNotInternal w → ((a : A) → IsNotInternal (go a)) → IsNotInternal (and_then w go)
 then_not (Gave a) go h k = k a
 then_not (Refused r) go h k = h

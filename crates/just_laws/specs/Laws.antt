@@ -1,4 +1,4 @@
--- Laws of evaluation.
+-- Laws of evaluation: non-interference of frames, soundness of lexical scoping, and progress.
 use Rattle.std.specs.Prelude.{◌≡◌, ◌≢◌, ◌⊎◌, ℕ, List, [], ◌∷◌}
 use Rattle.just_syntax.specs.Plain.{Expr}
 use Rattle.just_value.specs.Value.{Value, Names}
@@ -11,9 +11,9 @@ use Rattle.just_meaning.specs.Closings.{lexical}
 use Rattle.just_meaning.specs.Internal.{IsNotInternal}
 use Rattle.just_meaning.specs.Module.{Module, Block, Run, dynamically, lexically}
 
--- ---- talk, frames aside
+-- ---- questions and answers, frames aside
 
--- questions that are equal, frames aside, have equal answers, and so have equal checks
+-- questions that are equal, frames aside, have equal answers; equal checks have equal verdicts
 abbrev pub AnswersAgree : Event → Event → Type 0
 AnswersAgree (Asked q a) (Asked r b) = q.blind ≡ r.blind → a ≡ b
 AnswersAgree (Checked p v a) (Checked q w b) = p ≡ q → v ≡ w → a ≡ b
@@ -39,20 +39,20 @@ AreSame _ _ = ⊥
 abbrev pub with_frames : Frames → Frames → Situation → Situation
 with_frames shown below s = record { names = s.names; environment = s.environment; recipe = s.recipe; is_dependency = s.is_dependency; lists = s.lists; shown = shown; below = below }
 
--- Two evaluations of an expression that differ in the frames alone, neither stopped and both answered alike, have
--- one outcome and, frames aside, the same events.
+-- Non-interference of frames. Two evaluations of an expression that differ only in the frames have one outcome and,
+-- frames aside, the same events, if neither is stopped and both are answered alike.
 abbrev pub FramesDoNotMatter : Type 0
 FramesDoNotMatter = (c : Program) (base : Names) (calls : ℕ) (s : Situation) (shown below : Frames) (e : Expr) (es fs : List Event) (o p : Outcome Value)
     → Path freely (eval c (lexical c base calls) s e) es o → Path freely (eval c (lexical c base calls) (with_frames shown below s) e) fs p → o ≢ Stopped → p ≢ Stopped → AreAnsweredAlike es fs → (o ≡ p) × AreSame es fs
 
 -- ---- runs of resolved modules
 
--- By dynamic scoping a run is what it is by the lexical rules.
+-- Soundness of lexical scoping: a run under dynamic scope is a run under lexical scope.
 abbrev pub PendingCallsDoNotMatter : Type 0
 PendingCallsDoNotMatter = (m : Module) (outer : Frames) (bs : List Block) (o : Outcome Frames)
     → IsResolved m.program.functions m.assignments outer → Run dynamically m ([] ∷ outer) m.assignments.order bs o → Run lexically m ([] ∷ outer) m.assignments.order bs o
 
--- A run is not refused as only that of an unresolved module is.
+-- Progress: a run meets none of the refusals that only an unresolved module meets.
 abbrev pub ResolvedIsNeverInternal : Type 0
 ResolvedIsNeverInternal = (m : Module) (outer : Frames) (bs : List Block) (o : Outcome Frames)
     → IsResolved m.program.functions m.assignments outer → Run lexically m ([] ∷ outer) m.assignments.order bs o → IsNotInternal o

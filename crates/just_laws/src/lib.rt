@@ -1,5 +1,5 @@
-// The laws of evaluation: what each states is in `specs/`, and their proofs are in `proofs/`, a file each. It leans on
-// the meaning of evaluation and what is below, and never on the test of resolution nor on the evaluator. There is
+// The laws of evaluation. Their statements are in `specs/`, and their proofs in `proofs/`, one file each. It builds on
+// the meaning of evaluation and on what is below it, and never on the test of resolution or on the evaluator. There is
 // nothing to run here.
 #![tactic(auto)]
 

@@ -1,4 +1,4 @@
-// What a linter says before any run of s := 'sh' and t := f(), and of settings that read them.
+// What a linter reports before any run, for s := 'sh' and t := f(), and for settings that read them.
 #![tactic(auto)]
 
 mod settings;

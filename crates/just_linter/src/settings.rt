@@ -1,4 +1,4 @@
-// Settings, each by itself.
+// Settings, evaluated one by one.
 
 ghost use Rattle.just_eval.specs.View.{IsConst};
 
@@ -6,7 +6,7 @@ use anyhow::Result;
 use just_eval::prelude::*;
 use std::alloc::Global;
 
-/// Prints what each setting is, or why it is refused.
+/// Prints the value of each setting, or why it is refused.
 pub(crate) fn print_settings(rt: &impl Print, alloc: Global, stage: &Evaluator) -> Result<()>
     requires before_runs { IsConst stage.now }
 {

@@ -1,4 +1,4 @@
--- What a name stands for: a built-in function is not left out; and it takes as many arguments as its test says.
+-- What a called name stands for: a built-in function is not left out, and the test of its number of arguments is right.
 use Rattle.std.proofs.Common.{nat_le, ◌≤◌, arith, ◌≡◌, ◌↔◌, ℕ, Bool, true, false, not, ◌&&◌, cond, List, [], ◌∷◌, Some, None, bytes_eq, find, length, option_map, refl, sym, ap, ◌∙◌}
 use Rattle.std.specs.List.{list_all}
 use Rattle.std.proofs.lemmas.Bool.{and_parts, and_from, eqb-true, eq-eqb}
@@ -31,7 +31,7 @@ was_false : (b : Bool) → not b ≡ true → b ≡ false
 was_false true h = absurd (cc)
 was_false false h = refl
 
--- where no name of a table is among others, one that is found in it is not
+-- if no name of a table is among others, no name found in it is
 found_apart : (others : List Text) (entries : List (Text × Function)) (name : Text) (f : Function) → list_all (λ e. not (is_among others e.0)) entries ≡ true → find_in entries name ≡ Some f → is_among others name ≡ false
 found_apart others [] name f all found = absurd (cc)
 found_apart others (e ∷ es) name f all found = by (bytes_eq e.0 name) refl found (λ later. found_apart others es name f both.1 later)
@@ -43,7 +43,7 @@ found_apart others (e ∷ es) name f all found = by (bytes_eq e.0 name) refl fou
     by true same found later = sym (ap (is_among others) ((bytes_eq-Decides e.0 name).0 same)) ∙ was_false (is_among others e.0) both.0
     by false differs found later = later found
 
--- a name that the file does not define stands for the built-in function that has it, if there is one
+-- a name that the file does not define stands for the built-in function of that name, if there is one
 pub built_in_is : (name : Text) (f : Function) → function_named name ≡ Some f → undefined name ≡ BuiltIn f
 unfolding function_named is_left_out
 built_in_is name f found = rw (found_apart left_out table (whole_name name) f refl found, found) refl

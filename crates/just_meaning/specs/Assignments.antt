@@ -3,7 +3,7 @@ use Rattle.std.specs.Prelude.{ℕ, Bool, List, Option}
 use Rattle.just_syntax.specs.Plain.{Text, Token, Assignment}
 use Rattle.just_syntax.specs.Keyed.{value_at}
 
--- the assignments, the order in which they are evaluated, and which are referenced: another one is passed over
+-- the assignments, their evaluation order, and which are referenced; the others are skipped
 pub record Assignments : Type 0 where
   pub all : List Assignment
   pub order : List Token

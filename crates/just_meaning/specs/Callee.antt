@@ -1,4 +1,4 @@
--- What a name that is called stands for.
+-- What a called name stands for.
 use Rattle.std.specs.Prelude.{◌≡◌, ℕ, ◌==◌, nat_le, ◌&&◌, Bool, true, false, List, length, Option, Some, None, if◌then◌else◌}
 use Rattle.just_syntax.specs.Plain.{Text, Function}
 use Rattle.just_builtins.specs.Argument.{IsExpected}
@@ -18,7 +18,7 @@ abbrev pub built_in_or_unknown : Option built_in.Function → Callee
 built_in_or_unknown (Some f) = BuiltIn f
 built_in_or_unknown None = Unknown
 
--- what a name stands for that the file does not define
+-- what a name stands for if the file does not define it
 abbrev pub undefined : Text → Callee
 undefined name = if is_left_out name then LeftOut else built_in_or_unknown (function_named name)
 
@@ -26,18 +26,18 @@ abbrev pub defined_or : Option Function → Callee → Callee
 defined_or (Some f) other = Defined f
 defined_or None other = other
 
--- a function of the file hides what else its name stands for
+-- a function of the file hides any other meaning of its name
 abbrev pub callee : List Function → Text → Callee
 callee functions name = defined_or (function_at functions name) (undefined name)
 
--- it may be called with so many arguments; one that is left out, with any number
+-- The callee takes this many arguments. One that is left out takes any number.
 abbrev pub Accepts : Callee → ℕ → Type 0
 Accepts (Defined f) n = n ≡ length f.parameters
 Accepts (BuiltIn f) n = IsExpected f n
 Accepts LeftOut n = Unit {0}
 Accepts Unknown n = ⊥
 
--- the same as a test
+-- the same as a boolean test
 abbrev pub accepts : Callee → ℕ → Bool
 accepts (Defined f) n = length f.parameters == n
 accepts (BuiltIn f) n = nat_le (fewest_arguments f) n && nat_le n (most_arguments f)

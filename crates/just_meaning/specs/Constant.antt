@@ -1,4 +1,4 @@
--- What is constant: the rules of evaluation where no command may be run and no function be called.
+-- Constant evaluation: the rules under which no command may be run and no function called.
 use Rattle.std.specs.Prelude.{ℕ, Bool, false, [], Option, Some, None, if◌then◌else◌}
 use Rattle.just_value.specs.ConstRefusal.{Backtick, FunctionCall, Variable}
 use Rattle.just_value.specs.Refusal.{Refusal, Const}
@@ -17,15 +17,15 @@ abbrev pub unless_refused : {A : Type 0} → Option Refusal → Outcome A → Ou
 unless_refused (Some r) o = Refused r
 unless_refused None o = o
 
--- What a tree comes to by these rules. They refuse whatever asks, so that no question is reached; and no value is checked
--- in an expression.
+-- The outcome of a tree by these rules. They refuse the note before each question, so that no question is reached. No
+-- value is checked in an expression.
 abbrev pub constant : {A : Type 0} → (ℕ → Bool) → Tree A → Outcome A
 constant is_open (done o) = o
 constant is_open (ask q next) = Stopped
 constant is_open (check p v next) = Stopped
 constant is_open (note x rest) = unless_refused (constantly is_open x) (constant is_open rest)
 
--- The program that constants are evaluated in. By these rules nothing looks at it.
+-- The program that constants are evaluated in. By these rules nothing reads it.
 abbrev pub nowhere : Program
 nowhere = record {
   fixed = record {

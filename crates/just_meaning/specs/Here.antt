@@ -1,4 +1,4 @@
--- Where the expressions of a recipe stand, and when what they reach is resolved.
+-- The situations of a recipe's expressions, and when what they reach is resolved.
 use Rattle.std.specs.Prelude.{◌⊎◌, ℕ, Bool, List, [], ◌∷◌, ◌++◌, map, Option, Some, None}
 use Rattle.just_syntax.specs.Plain.{Text, Token, Assignment, Attribute, Env, Expr, Function, Other, Parameter}
 use Rattle.just_value.specs.Value.{Names}
@@ -15,7 +15,8 @@ pub record Here : Type 0 where
   pub calls : ℕ
   pub situation : Situation
 
--- What is evaluated for a recipe reads these frames; a called body's frame is put on those of the module.
+-- What is evaluated for a recipe: expressions read these frames, and a called body's frame is put on those of the
+-- module.
 abbrev pub in_recipe : Program → ℕ → Frames → List (Text × Text) → Bool → Option Text → Frames → Here
 in_recipe program calls base environment is_dependency recipe frames = record {
   program = program;
@@ -23,7 +24,8 @@ in_recipe program calls base environment is_dependency recipe frames = record {
   situation = record { names = value_in frames; environment = environment; recipe = recipe; is_dependency = is_dependency; lists = program.fixed.settings.lists; shown = frames; below = base };
 }
 
--- what expressions mean by the lexical rules: a called body reads its own parameters and the frames that its own is put on
+-- what expressions mean under lexical scope: a called body reads its own parameters and the frames that its own is put
+-- on
 abbrev pub meanings : Here → Meanings
 meanings h s e = eval h.program (lexical h.program (value_in h.situation.below) h.calls) s e
 
@@ -46,7 +48,7 @@ abbrev pub parameter_expressions : List Parameter → List Expr
 parameter_expressions [] = []
 parameter_expressions (p ∷ ps) = expressions_of p ++ parameter_expressions ps
 
--- By itself an expression reads what is readable alone, and through functions what has a value in the base.
+-- By itself an expression reads only what is readable. Through functions it reads only what has a value in the base.
 pub record IsReadable (functions : List Function) (base : Names) (readable : ℕ → Type 0) (e : Expr) : Type 0 where
   pub own : (n : ℕ) → Stands e (VariableOf (Some n)) → readable n
   pub beyond : (n : ℕ) → ReadsBeyond functions e n → HasValue base n
@@ -61,9 +63,10 @@ AreReadableInTurn functions base names earlier [] = Unit {0}
 AreReadableInTurn functions base names earlier (p ∷ ps) =
     AllReadable functions base (λ n. IsOneOf earlier n ⊎ HasValue names n) (expressions_of p) × AreReadableInTurn functions base names (p.number ∷ earlier) ps
 
--- Numbers of assignments and of all parameters are distinct, no parameter is bound outside, every variable has a number,
--- every call has arguments that its name takes, and what is read is bound: by attributes and expressions in the frames that
--- stand, by a parameter's default and value there or among the earlier parameters, and by a body in the base.
+-- The numbers of assignments and of all parameters are distinct, no parameter is bound outside, every variable has a
+-- number, and every call has as many arguments as its name takes. What attributes and expressions read is bound in
+-- these frames, what a parameter's default and value read is bound there or among the earlier parameters, and what a
+-- body reads beyond its own parameters is bound in the base.
 pub record IsResolvedHere (functions : List Function) (assignments : List Assignment) (base frames : Frames) (attributes : List (Attribute × Token)) (parameters : List Parameter) (expressions : List Expr) : Type 0 where
   pub distinct : AreDistinct (map (λ a. a.number) assignments ++ parameter_numbers functions ++ map (λ p. p.number) parameters)
   pub unbound : (n : ℕ) → IsOneOf (parameter_numbers functions ++ map (λ p. p.number) parameters) n → HasValue (value_in frames) n ⊎ HasValue (value_in base) n → ⊥

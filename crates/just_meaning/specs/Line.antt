@@ -8,20 +8,20 @@ use Rattle.just_text.specs.Replace.{replaced}
 use Rattle.just_host.specs.Interaction.{Tree, done, bind, gives}
 use Rattle.just_meaning.specs.Settings.{text_in}
 
--- what an expression means where one text is wanted: the one element of its value
+-- what an expression means where a single text is required: the one element of its value
 abbrev pub string : (Expr → Tree Value) → StringContext → Expr → Tree Text
 string means context e = bind (means e) (λ v. done (text_in context v))
 
--- Text as it is written, in which `{{{{` stands for `{{`. Where it goes on a line, its leading white space is left out.
+-- Text as written, with `{{{{` for `{{`. If it continues a line, its leading white space is dropped.
 abbrev pub written : Bool → Text → Text
 written continues text = let t = replaced text (codes "{{{{") (codes "{{") in if continues then trim_start t else t
 
--- a fragment of text, or an interpolation joined
+-- the text of a fragment, or its interpolation, joined
 abbrev pub fragment : (Expr → Tree Value) → Bool → Fragment → Tree Text
 fragment means continues (TextFragment t) = gives (written continues t.lexeme)
 fragment means continues (Interpolation e) = bind (means e) (λ v. gives (joined v))
 
--- The text of a line: its fragments in their order, the first of which may go on the line before.
+-- The text of a line: its fragments in order. The first may continue the line before.
 abbrev pub line : (Expr → Tree Value) → Bool → List Fragment → Tree Text
 line means continued [] = gives []
 line means continued (f ∷ fs) = bind (fragment means continued f) (λ text. bind (line means false fs) (λ rest. gives (text ++ rest)))

@@ -1,4 +1,5 @@
--- What an expression means: what is asked for its value, in order, and the value. One line a form.
+-- An operational semantics of expressions, given as interaction trees: what an expression asks, in order, and its
+-- value. One line per form.
 use Rattle.std.specs.Prelude.{ℕ, suc, Bool, true, false, not, List, [], ◌∷◌, ◌++◌, length, Option, Some, None, nat_eq, if◌then◌else◌}
 use Rattle.std.specs.List.{flat_map}
 use Rattle.just_syntax.specs.Plain.{Text, Token, Literal, Expr, And, Assert, AssertOnly, Backtick, Call, Comparison, Concatenation, Conditional, ConditionalOnly, FormatString, Group, Join, JoinOnly, ListOf, ListConcatenation, Not, Or, StringLiteral, Variable, Exprs, Nil, Cons, count, Pieces, NoPiece, Piece, Function}
@@ -26,14 +27,14 @@ use Rattle.just_builtins.specs.declared.function.Function as built_in
 use Rattle.just_meaning.specs.Callee.{Callee, Defined, BuiltIn, LeftOut, Unknown, accepts, callee}
 use Rattle.just_meaning.specs.Messages.{unresolved_text, unevaluated_text, unknown_function_text, miscounted_text}
 
--- what stays the same in all of a run: the fixed context, and the functions that the file defines
+-- what is fixed in a run: the context, and the functions that the file defines
 pub record Program : Type 0 where
   pub fixed : Fixed
   pub functions : List Function
 
--- What one expression is evaluated in: the names that it can read, a recipe's environment, its name and whether
--- it runs as a dependency, whether lists are on, the frames that a command shows, and those on which the frame of
--- a called body is put.
+-- What an expression is evaluated in: the names that it can read, the recipe's environment and name, whether the recipe
+-- runs as a dependency, whether lists are on, the frames that a command is shown, and those that a called body's frame
+-- is put on.
 pub record Situation : Type 0 where
   pub names : Names
   pub environment : List (Text × Text)
@@ -43,12 +44,12 @@ pub record Situation : Type 0 where
   pub shown : Frames
   pub below : Frames
 
--- what a call may still do: nothing at the recursion limit, else a body may be evaluated
+-- The fuel of calls: at the recursion limit a call is refused; otherwise a body may be evaluated.
 pub data Deeper : Type 0 where
   AtLimit : Deeper
   Room : (Function → Situation → List Value → Tree Value) → Deeper
 
--- the value of a name, or a refusal where it has none
+-- the value of a name, or a refusal if it has none
 abbrev pub named : Token → Option Value → Outcome Value
 named t (Some v) = Gave v
 named t None = Refused (Internal (unevaluated_text t.lexeme) t)
@@ -57,7 +58,7 @@ abbrev pub variable : Token → Option ℕ → Names → Tree Value
 variable t None names = refuses (Internal (unresolved_text t.lexeme) t)
 variable t (Some n) names = note (Read t n) (done (named t (names n)))
 
--- what a command expression's fault ends with
+-- the outcome of a command expression's fault
 abbrev pub faulted : Token → Fault → Outcome Value
 faulted t (Code n) = Refused (refusal.Backtick t (Code n))
 faulted t (Message text) = Refused (refusal.Backtick t (Message text))
@@ -67,10 +68,10 @@ faulted t NoMemory = Stopped
 abbrev pub answered : Token → Answer → Outcome Value
 answered t (Replied text) = Gave (text ∷ [])
 answered t (Failed f) = faulted t f
--- no host answers a command in another way
+-- a host answers a command in no other way
 answered t _ = Stopped
 
--- what a command expression gives: its text in backticks in a dry run, else what the host answers
+-- what a command expression evaluates to: its text in backticks in a dry run, else the host's answer
 abbrev pub written : Fixed → List (Text × Text) → Frames → Text → Token → Tree Value
 written f environment shown text t = if f.config.dry_run then gives (((96 ∷ text) ++ 96 ∷ []) ∷ []) else ask (command_question f environment shown text None) (λ a. done (answered t a))
 
@@ -82,11 +83,11 @@ abbrev pub one_text : Token → Value → Tree Value
 one_text t (text ∷ []) = gives (text ∷ [])
 one_text t v = refuses (refusal.ListInStringContext (contexts.Function t) v)
 
--- a text where one is wanted, and else any value
+-- a text where one is required, else any value
 abbrev pub argument : Bool → Token → Value → Tree Value
 argument is_text t v = if is_text then one_text t v else gives v
 
--- what a built-in function is called in
+-- the context of a call of a built-in function
 abbrev pub built_in_context : Program → Situation → Token → function.Context
 built_in_context c s t = record { environment = s.environment; fixed = c.fixed; is_dependency = s.is_dependency; name = t; recipe = s.recipe }
 
@@ -95,24 +96,24 @@ abbrev pub returned : Token → Called → Tree Value
 returned t (Returned v) = gives v
 returned t (Said message) = refuses (refusal.FunctionCall t message)
 
--- what a built-in function answers, shown the frames that can be seen
+-- what a built-in function returns; it is shown the frames that can be read
 abbrev pub built_in_call : Program → Situation → Token → built_in.Function → List Value → Tree Value
 built_in_call c s t f vs = bind (tree s.shown (reply (builtin_of f) (built_in_context c s t) vs)) (returned t)
 
--- A row of values, of which each is looked at, with its index from 0, before the next is evaluated.
+-- A row of values. Each is passed to a function, with its index from 0, before the next is evaluated.
 abbrev pub Row : Type 0
 Row = (ℕ → Value → Tree Value) → Tree (List Value)
 
--- nothing is looked at
+-- the value itself
 abbrev pub as_it_is : ℕ → Value → Tree Value
 as_it_is i v = gives v
 
--- the arguments at a built-in function's text positions are to be texts
+-- the arguments at a built-in function's text positions must be texts
 abbrev pub texts_of : built_in.Function → Token → ℕ → Value → Tree Value
 texts_of f t i v = argument (is_text f i) t v
 
--- A call with so many arguments. It is refused for what its name stands for, at the recursion limit, then for the number
--- of its arguments, each before they are evaluated.
+-- A call with this many arguments. Before they are evaluated it is refused for what its name stands for, then at the
+-- recursion limit, then for their number.
 abbrev pub called : Program → Token → Callee → Deeper → Situation → ℕ → Row → Tree Value
 called c t (Defined f) AtLimit s n row = refuses (refusal.RecursionLimit f.name)
 called c t (Defined f) (Room run) s n row = if nat_eq n (length f.parameters) then bind (row as_it_is) (run f s) else refuses (Internal (miscounted_text t.lexeme) t)
@@ -128,11 +129,11 @@ conjunction l r = bind l (λ v. if is_truthy v then r else gives [])
 abbrev pub disjunction : Tree Value → Tree Value → Tree Value
 disjunction l r = bind l (λ v. if is_truthy v then gives v else r)
 
--- the one branch or the other, by the truth of the condition
+-- one branch or the other, by the truth of the condition
 abbrev pub choice : Tree Value → Tree Value → Tree Value → Tree Value
 choice condition consequence otherwise = bind condition (λ v. if is_truthy v then consequence else otherwise)
 
--- both values, put together
+-- two values, combined
 abbrev pub combination : ListOperator → Tree Value → Token → Tree Value → Tree Value
 combination o l t r = bind l (λ v. bind r (λ w. done (combined v o w t)))
 
@@ -140,7 +141,7 @@ combination o l t r = bind l (λ v. bind r (λ w. done (combined v o w t)))
 abbrev pub succession : Tree Value → Tree Value → Tree Value
 succession l r = bind l (λ v. bind r (λ w. gives (v ++ w)))
 
--- one text if there is no element, else none
+-- one text if the value has no element, else no element
 abbrev pub negation : Tree Value → Tree Value
 negation e = bind e (λ v. gives (from_condition (not (is_truthy v))))
 
@@ -153,23 +154,23 @@ abbrev pub compared : ConditionalOperator → Value → Value → Value
 compared Inequality v w = from_condition (not (is_same v w))
 compared _ v w = from_condition (is_same v w)
 
--- whether two values are the same or differ; a regular expression is refused before its operands
+-- whether two values are equal or differ; a regular expression operator is refused before its operands are evaluated
 abbrev pub comparison : ConditionalOperator → Token → Tree Value → Tree Value → Tree Value
 comparison o t l r = if is_regex o then refuses (refusal.LeftOutRegex t) else bind l (λ v. bind r (λ w. gives (compared o v w)))
 
--- what an assertion that holds gives: the condition's value with lists, one empty text without
+-- what an assertion that holds evaluates to: the condition's value with lists, one empty text without
 abbrev pub asserted : Bool → Value → Value
 asserted true v = v
 asserted false v = [] ∷ []
 
--- a condition that is to be truthy, else a refusal with the message
+-- a condition that must be truthy; otherwise a refusal with the message
 abbrev pub assertion : Bool → Token → Tree Value → Tree Text → Tree Value
 assertion lists t condition message = bind condition (λ v. if is_truthy v then gives (asserted lists v) else bind message (λ text. refuses (refusal.Assert text t)))
 
 abbrev pub unindented_if : Bool → Text → Text
 unindented_if indented text = if indented then unindented text else text
 
--- a format string's text: its start and what is behind it, unindented if the start is indented
+-- a format string's text: its start and what follows it, unindented if the start is indented
 abbrev pub formatted : Literal → Text → Text
 formatted start text = unindented_if start.indented (start.cooked ++ text)
 
@@ -204,12 +205,12 @@ abbrev mutual
   eval_row c d s i Nil look = gives []
   eval_row c d s i (Cons e es) look = bind (bind (eval c d s e) (look i)) (λ v. bind (eval_row c d s (suc i) es look) (λ vs. gives (v ∷ vs)))
 
-  -- each interpolation joined, and the text behind it
+  -- each interpolation joined, and the text after it
   pub eval_pieces : Program → Deeper → Situation → Pieces → Tree Text
   eval_pieces c d s NoPiece = gives []
   eval_pieces c d s (Piece e literal pieces) = bind (eval c d s e) (λ v. bind (eval_pieces c d s pieces) (λ text. gives ((joined v ++ literal.cooked) ++ text)))
 
--- ---- parts that may be left out
+-- ---- optional parts
 
 -- the branch, or no element
 abbrev pub branch : Program → Deeper → Situation → Option Expr → Tree Value

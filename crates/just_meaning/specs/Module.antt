@@ -12,18 +12,18 @@ use Rattle.just_meaning.specs.Messages.{unknown_assignment_text}
 use Rattle.just_meaning.specs.Meaning.{Program, Situation, Deeper, eval}
 use Rattle.just_meaning.specs.Closings.{lexical, dynamic}
 
--- what a run is given besides its frames
+-- the inputs of a run besides its frames
 pub record Module : Type 0 where
   pub program : Program
   pub assignments : Assignments
   pub limit : ℕ
   pub overrides : ℕ → Option Text
 
--- an assignment reads what is bound so far; a called body's frame is put on all of it
+-- an assignment reads the bindings so far; a called body's frame is put on all of them
 abbrev pub situation_at : Bool → Frames → Situation
 situation_at lists frames = record { names = value_in frames; environment = []; recipe = None; is_dependency = false; lists = lists; shown = frames; below = frames }
 
--- what is bound for an assignment
+-- the binding of an assignment
 abbrev pub bound_of : Bool → Assignment → Value → Bound
 bound_of export a v = record { attributes = []; eager = a.eager; export = a.export || export; file_depth = 0; name = a.name; number = a.number; prelude = false; private = a.private; value = v }
 
@@ -32,15 +32,15 @@ abbrev pub or_override : Option Text → Tree Value → Tree Value
 or_override (Some text) t = gives (text ∷ [])
 or_override None t = t
 
--- what a call may still do, by the frames at its assignment
+-- A scoping discipline: what a call may still do, by the frames at its assignment.
 abbrev pub Closing : Type 0
 Closing = Module → Frames → Deeper
 
--- a body reads its own parameters and the values bound so far
+-- lexical scope: a body reads its own parameters and the values bound so far
 abbrev pub lexically : Closing
 lexically m frames = lexical m.program (value_in frames) (m.limit - 1)
 
--- below its own parameters a body reads the frames that its own is put on
+-- dynamic scope: below its own parameters a body reads the frames that its own is put on
 abbrev pub dynamically : Closing
 dynamically m frames = dynamic m.program (m.limit - 1)
 
@@ -64,8 +64,8 @@ pub record IsTaken (m : Module) (frames : Frames) (t : Token) (a : Assignment) :
   pub referenced : m.assignments.referenced a.number ≡ true
   pub unbound : innermost a.number frames ≡ None
 
--- A run of the assignments with these names from these frames: a block for each that is evaluated, and the frames
--- at the end. For want of memory it may be stopped at any point.
+-- A run of the assignments with these names from these frames: a block for each one that is evaluated, and the frames
+-- at the end. If memory runs out, it may stop at any point.
 pub data Run (closing : Closing) (m : Module) : Frames → List Token → List Block → Outcome Frames → Type 0 where
   Finished : {frames : Frames} → Run closing m frames [] [] (Gave frames)
   Stops : {frames : Frames} {left : List Token} → Run closing m frames left [] Stopped
@@ -73,7 +73,7 @@ pub data Run (closing : Closing) (m : Module) : Frames → List Token → List B
   Unknown : {frames : Frames} {t : Token} {left : List Token} → assignment_at m.assignments t.lexeme ≡ None → Run closing m frames (t ∷ left) [] (Refused (Internal (unknown_assignment_text t.lexeme) t))
   -- it is not referenced
   Passes : {frames : Frames} {t : Token} {left : List Token} {bs : List Block} {o : Outcome Frames} → (a : Assignment) → assignment_at m.assignments t.lexeme ≡ Some a → m.assignments.referenced a.number ≡ false → Run closing m frames left bs o → Run closing m frames (t ∷ left) bs o
-  -- it is bound already
+  -- it is already bound
   Skips : {frames : Frames} {t : Token} {left : List Token} {bs : List Block} {o : Outcome Frames} → (a : Assignment) (b : Bound) → assignment_at m.assignments t.lexeme ≡ Some a → m.assignments.referenced a.number ≡ true → innermost a.number frames ≡ Some b → Run closing m frames left bs o → Run closing m frames (t ∷ left) bs o
   -- its value is bound
   Binds : {frames : Frames} {t : Token} {left : List Token} {bs : List Block} {o : Outcome Frames} → (a : Assignment) (es : List Event) (v : Value) → IsTaken m frames t a → Path freely (assigned closing m frames a) es (Gave v)
@@ -85,7 +85,7 @@ pub data Run (closing : Closing) (m : Module) : Frames → List Token → List B
   Halts : {frames : Frames} {t : Token} {left : List Token} → (a : Assignment) (es : List Event) → IsTaken m frames t a → Path freely (assigned closing m frames a) es Stopped
       → Run closing m frames (t ∷ left) (record { number = a.number; events = es; outcome = Stopped } ∷ []) Stopped
 
--- Some blocks are a run to the outcome, and their questions lead the host from old to new.
+-- Some blocks form a run to the outcome, and their questions take the host's state from `old` to `new`.
 pub record Ran {S : Type 0} (step : S → Question → Answer → S → Type 0) (old : S) (closing : Closing) (m : Module) (frames : Frames) (names : List Token) (outcome : Outcome Frames) (new : S) : Type 0 where
   pub blocks : List Block
   pub run : Run closing m frames names blocks outcome

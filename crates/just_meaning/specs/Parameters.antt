@@ -1,4 +1,4 @@
--- What a recipe's parameters mean: the environment that its attributes give, the positional words, and what is bound.
+-- What a recipe's parameters mean: the environment that its attributes give, the positional words, and the bindings.
 use Rattle.std.specs.Prelude.{◌≡◌, ◌||◌, ℕ, zero, suc, Bool, true, false, List, [], ◌∷◌, ◌++◌, length, Option, Some, None, nat_eq, if◌then◌else◌}
 use Rattle.std.specs.BTreeMap.{insert_entry}
 use Rattle.std.specs.Cmp.Lexicographic.{slice_cmp}
@@ -17,19 +17,19 @@ use Rattle.just_meaning.specs.Line.{string}
 use Rattle.just_meaning.specs.Meaning.{Situation}
 use Rattle.just_meaning.specs.Messages.{mismatched_text}
 
--- what expressions mean, by where they stand
+-- what expressions mean in a situation
 abbrev pub Meanings : Type 0
 Meanings = Situation → Expr → Tree Value
 
 -- ---- attributes
 
--- an environment with one more variable, in place of one of its name
+-- an environment with one more variable, which replaces one of the same name
 abbrev pub with_variable : List (Text × Text) → Text → Value → List (Text × Text)
 with_variable environment key [] = environment
 with_variable environment key (x ∷ xs) = insert_entry (slice_cmp nat_cmp) environment key (joined (x ∷ xs))
 
--- The environment that attributes give, one after another: the key first, then the value, joined. What is asked sees the
--- environment so far. A value of no element sets no variable.
+-- The environment that attributes give, one after another: first the key, then the joined value. Each of them can read
+-- the environment so far. A value of no element sets no variable.
 abbrev pub environment : Meanings → Situation → List (Attribute × Token) → Tree (List (Text × Text))
 environment means s [] = gives s.environment
 environment means s ((Env key value, name) ∷ left) = bind (string (means s) (EnvKey name) key) (λ k. bind (means s value) (λ v. environment means (record s { environment = with_variable s.environment k v }) left))
@@ -41,21 +41,22 @@ abbrev pub is_star : ParameterKind → Bool
 is_star Star = true
 is_star _ = false
 
--- no element, where the parameter may have none
+-- no element, if the parameter may have none
 abbrev pub none_or_refused : Text → Parameter → Outcome Value
 none_or_refused recipe p = if is_star p.kind || p.flag then Gave [] else Refused (EmptyListArgument p.name.lexeme recipe)
 
--- what stands for an empty argument: the default, or no element
+-- the value for an empty argument: the default, or no element
 abbrev pub default_or_none : (Expr → Tree Value) → Text → Parameter → Option Expr → Tree Value
 default_or_none means recipe p (Some e) = means e
 default_or_none means recipe p None = done (none_or_refused recipe p)
 
--- the elements of a value, so many times
+-- the elements of a value, repeated this many times
 abbrev pub repeated : ℕ → Value → Value
 repeated zero v = []
 repeated (suc n) v = v ++ repeated n v
 
--- what stands for an argument that is not empty: itself, or in its place what the parameter says, but not for a dependency
+-- the value for any other argument: the argument itself or, unless the recipe runs as a dependency, the parameter's own
+-- value, once for each of the argument's elements
 abbrev pub argument_or_value : (Expr → Tree Value) → Bool → Value → Option Expr → Tree Value
 argument_or_value means is_dependency argument None = gives argument
 argument_or_value means is_dependency argument (Some e) = if is_dependency then gives argument else bind (means e) (λ v. gives (repeated (length argument) v))
@@ -64,21 +65,21 @@ abbrev pub valued : (Expr → Tree Value) → Bool → Text → Parameter → Va
 valued means is_dependency recipe p [] = default_or_none means recipe p p.default
 valued means is_dependency recipe p (x ∷ xs) = argument_or_value means is_dependency (x ∷ xs) p.value
 
--- what a value comes to that is checked
+-- the outcome of a value check
 abbrev pub judged : Parameter → Value → Verdict → Outcome Value
 judged p v Passed = Gave v
 judged p v (Denied message) = Refused (Check p.name.lexeme message)
 judged p v Untold = Stopped
 
--- the value of a parameter, checked
+-- the value of a parameter, after the check
 abbrev pub checked : (Expr → Tree Value) → Bool → Text → Parameter → Value → Tree Value
 checked means is_dependency recipe p argument = bind (valued means is_dependency recipe p argument) (λ v. check p v (λ a. done (judged p v a)))
 
--- the positional words that a parameter's value gives: its elements where there may be many, else one word
+-- the positional words that a parameter's value gives: its elements if there may be many, else one word
 abbrev pub words_of : Parameter → Value → List Text
 words_of p v = if is_variadic p.kind || p.multiple then v else joined v ∷ []
 
--- what is bound for a parameter: its value with lists, and else one text
+-- the binding of a parameter: its value with lists, else one text
 abbrev pub parameter_bound : Bool → Parameter → Value → Bound
 parameter_bound lists p v = record { attributes = []; eager = false; export = p.export; file_depth = 0; name = p.name; number = p.number; prelude = false; private = false; value = if lists then v else joined v ∷ [] }
 
@@ -90,12 +91,12 @@ pub record Arguments : Type 0 where
   pub words : List Text
   pub environment : List (Text × Text)
 
--- a situation that sees other frames
+-- a situation that reads other frames
 abbrev pub seeing : Frames → Situation → Situation
 seeing frames s = record s { names = value_in frames; shown = frames }
 
--- The parameters, one after another, behind some words: each is given its value, which is checked, and bound. So a default
--- sees the earlier parameters.
+-- The parameters, one after another, with their words after those so far: each gets its value, which is checked and
+-- bound. A default can read the earlier parameters.
 abbrev pub bindings : Meanings → Text → Situation → List Text → List Parameter → List Value → Tree Arguments
 bindings means recipe s words (p ∷ ps) (argument ∷ arguments) =
     bind (checked (means s) s.is_dependency recipe p argument)

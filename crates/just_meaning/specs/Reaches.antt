@@ -1,4 +1,4 @@
--- What an expression reaches: what stands in it, and in the bodies of the functions that it calls.
+-- What an expression reaches: what occurs in it and in the bodies of the functions that it calls.
 use Rattle.std.specs.Prelude.{◌≡◌, ◌⊎◌, ℕ, List, [], ◌∷◌, Option, Some}
 use Rattle.just_syntax.specs.Plain.{Text, Token, Function, Expr, And, Assert, AssertOnly, Backtick, Call, Comparison, Concatenation, Conditional, ConditionalOnly, FormatString, Group, Join, JoinOnly, ListOf, ListConcatenation, Not, Or, StringLiteral, Variable, Exprs, Nil, Cons, count, Pieces, NoPiece, Piece}
 use Rattle.just_syntax.specs.Keyed.{value_at}
@@ -7,12 +7,12 @@ use Rattle.just_syntax.specs.Keyed.{value_at}
 abbrev pub function_at : List Function → Text → Option Function
 function_at functions name = value_at (λ f. f.name.lexeme) name functions
 
--- what may stand in an expression: a variable with its number, if it has one; a call of a name with so many arguments
+-- what may occur in an expression: a variable with its number, if it has one; a call of a name with this many arguments
 pub data Mention : Type 0 where
   VariableOf : Option ℕ → Mention
   CallOf : Text → ℕ → Mention
 
--- the variables and the calls that stand in an expression
+-- the variables and the calls that occur in an expression
 abbrev mutual
   pub Stands : Expr → Mention → Type 0
   Stands (And l r) x = Stands l x ⊎ Stands r x
@@ -43,7 +43,7 @@ abbrev mutual
   StandsInPieces NoPiece x = ⊥
   StandsInPieces (Piece e literal pieces) x = Stands e x ⊎ StandsInPieces pieces x
 
--- a number is one of these parameters'
+-- the number is that of one of these parameters
 abbrev pub IsAmong : List (Token × ℕ) → ℕ → Type 0
 IsAmong [] n = ⊥
 IsAmong (p ∷ ps) n = (p.1 ≡ n) ⊎ IsAmong ps n
@@ -53,7 +53,7 @@ pub data Reaches (functions : List Function) : Expr → Text → Type 0 where
   Here : {e : Expr} {name : Text} → (n : ℕ) → Stands e (CallOf name n) → Reaches functions e name
   Later : {e : Expr} {further : Text} → (name : Text) (n : ℕ) → Stands e (CallOf name n) → (f : Function) → function_at functions name ≡ Some f → Reaches functions f.body further → Reaches functions e further
 
--- a number is read in the body of a function that is reached, and is not its own parameter
+-- the number is read in the body of a reached function and is not its own parameter's
 pub record ReadsBeyond (functions : List Function) (e : Expr) (n : ℕ) : Type 0 where
   pub name : Text
   pub function : Function

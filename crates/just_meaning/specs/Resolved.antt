@@ -7,13 +7,13 @@ use Rattle.just_meaning.specs.Assignments.{Assignments, assignment_at}
 use Rattle.just_meaning.specs.Callee.{Accepts, callee}
 use Rattle.just_meaning.specs.Reaches.{Mention, VariableOf, CallOf, Stands, Reads}
 
--- the variable has a number, or the name that is called takes as many arguments
+-- the variable has a number, or the called name takes this many arguments
 abbrev pub IsKnown : List Function → Mention → Type 0
 IsKnown functions (VariableOf None) = ⊥
 IsKnown functions (VariableOf (Some n)) = Unit {0}
 IsKnown functions (CallOf name n) = Accepts (callee functions name) n
 
--- all that stands in each of these expressions is known
+-- everything that occurs in these expressions is known
 abbrev pub AllKnown : List Function → List Expr → Type 0
 AllKnown functions [] = Unit {0}
 AllKnown functions (e ∷ es) = ((x : Mention) → Stands e x → IsKnown functions x) × AllKnown functions es
@@ -22,7 +22,7 @@ abbrev pub IsOneOf : List ℕ → ℕ → Type 0
 IsOneOf [] n = ⊥
 IsOneOf (m ∷ ms) n = (m ≡ n) ⊎ IsOneOf ms n
 
--- no number stands there twice
+-- no number occurs twice
 abbrev pub AreDistinct : List ℕ → Type 0
 AreDistinct [] = Unit {0}
 AreDistinct (n ∷ ns) = (IsOneOf ns n → ⊥) × AreDistinct ns
@@ -36,7 +36,7 @@ parameter_numbers (f ∷ fs) = map (λ p. p.1) f.parameters ++ parameter_numbers
 abbrev pub HasValue : Names → ℕ → Type 0
 HasValue names n = (v : Value) × (names n ≡ Some v)
 
--- each of these names is an assignment's
+-- each of these names is that of an assignment
 abbrev pub AreAssignments : Assignments → List Token → Type 0
 AreAssignments assignments [] = Unit {0}
 AreAssignments assignments (t ∷ left) = ((a : Assignment) × (assignment_at assignments t.lexeme ≡ Some a)) × AreAssignments assignments left
@@ -45,16 +45,16 @@ abbrev pub with_taken : Assignments → Option Assignment → List ℕ → List 
 with_taken assignments None taken = taken
 with_taken assignments (Some a) taken = if assignments.referenced a.number then a.number ∷ taken else taken
 
--- What each assignment that is taken reads, overridden or not, by itself or through functions, is taken earlier or
--- bound outside.
+-- What each taken assignment reads, by itself or through functions, is taken earlier or bound outside. This holds of
+-- overridden assignments too.
 abbrev pub AreInOrder : List Function → Assignments → Frames → List ℕ → List Token → Type 0
 AreInOrder functions assignments outer taken [] = Unit {0}
 AreInOrder functions assignments outer taken (t ∷ left) =
     ((a : Assignment) → assignment_at assignments t.lexeme ≡ Some a → assignments.referenced a.number ≡ true → (n : ℕ) → Reads functions a.value n → IsOneOf taken n ⊎ HasValue (value_in outer) n)
     × AreInOrder functions assignments outer (with_taken assignments (assignment_at assignments t.lexeme) taken) left
 
--- Numbers are distinct, no parameter is bound outside, every variable has a number, every call has arguments that its
--- name takes, the order names assignments alone, and all is taken before it is read.
+-- Numbers are distinct, no parameter is bound outside, every variable has a number, every call has as many arguments as
+-- its name takes, the order names only assignments, and everything is taken before it is read.
 pub record IsResolved (functions : List Function) (assignments : Assignments) (outer : Frames) : Type 0 where
   pub distinct : AreDistinct (map (λ a. a.number) assignments.all ++ parameter_numbers functions)
   pub unbound : (n : ℕ) → IsOneOf (parameter_numbers functions) n → HasValue (value_in outer) n → ⊥
@@ -65,7 +65,7 @@ pub record IsResolved (functions : List Function) (assignments : Assignments) (o
 
 -- ---- const stages
 
--- each variable in an expression has a number; nothing is asked of the names that are called
+-- each variable in an expression has a number; there is no condition on the names that are called
 abbrev pub IsNumbered : Expr → Type 0
 IsNumbered e = Stands e (VariableOf None) → ⊥
 
@@ -74,7 +74,7 @@ AllNumbered [] = Unit {0}
 AllNumbered (e ∷ es) = IsNumbered e × AllNumbered es
 
 -- The same before any run, where no function is entered: the numbers of assignments are distinct, every variable has a
--- number, the order names assignments alone, and what stands in an assignment is taken before it.
+-- number, the order names only assignments, and every variable that occurs in an assignment is taken before it.
 pub record IsResolvedConst (assignments : Assignments) (outer : Frames) : Type 0 where
   pub distinct : AreDistinct (map (λ a. a.number) assignments.all)
   pub values : AllNumbered (map (λ a. a.value) assignments.all)

@@ -7,7 +7,8 @@ use Rattle.just_meaning.specs.Reaches.{Stands, VariableOf}
 use Rattle.just_meaning.specs.Resolved.{HasValue, IsNumbered}
 use Rattle.just_meaning.specs.Stage.{Standing}
 
--- Each variable in the expression has a number, which is bound or open. Nothing is asked of the names that are called.
+-- Each variable in the expression has a number that is bound or open. There is no condition on the names that are
+-- called.
 pub record IsResolvedOn (s : Standing) (e : Expr) : Type 0 where
   pub numbered : IsNumbered e
   pub known : (n : ℕ) → Stands e (VariableOf (Some n)) → HasValue (value_in s.frames) n ⊎ (s.is_open n ≡ true)

@@ -1,4 +1,4 @@
--- What settings, interpreters and texts are before any run.
+-- What settings, interpreters and texts evaluate to before any run.
 use Rattle.std.specs.Prelude.{List, [], ◌∷◌, ◌++◌, Some}
 use Rattle.just_syntax.specs.Plain as plain
 use Rattle.just_syntax.specs.Plain.{Text, Token, Expr, Interpreter, Set}
@@ -9,11 +9,11 @@ use Rattle.just_value.specs.Refusal.{EmptyInterpreter, ListInStringContext}
 use Rattle.just_value.specs.Outcome.{Outcome, Gave, Refused, and_then}
 use Rattle.just_host.specs.Settings.{Settings, unset}
 
--- what expressions come to
+-- what expressions evaluate to
 abbrev pub Evaluates : Type 0
 Evaluates = Expr → Outcome Value
 
--- a value where one text is wanted: its one element
+-- a value where a single text is required: its one element
 abbrev pub text_in : StringContext → Value → Outcome Text
 text_in context (text ∷ []) = Gave text
 text_in context v = Refused (ListInStringContext context v)
@@ -34,7 +34,7 @@ command_of setting (command ∷ arguments) = Gave (record { arguments = argument
 abbrev pub interpreter : Evaluates → Token → Interpreter Expr → Outcome (Interpreter Text)
 interpreter evaluates setting i = and_then (elements evaluates (i.command ∷ i.arguments)) (command_of setting)
 
--- settings with one more, which is kept as it stands
+-- settings with one more, which needs no evaluation
 abbrev pub kept : Settings → plain.Setting → Settings
 kept s (plain.AllowDuplicateRecipes b) = record s { allow_duplicate_recipes = b }
 kept s (plain.AllowDuplicateVariables b) = record s { allow_duplicate_variables = b }
@@ -56,7 +56,7 @@ kept s (plain.PositionalArguments b) = record s { positional_arguments = b }
 kept s (plain.Quiet b) = record s { quiet = b }
 kept s (plain.Unstable b) = record s { unstable = b }
 kept s (plain.WindowsPowerShell b) = record s { windows_powershell = b }
--- the least version is for the reader of the file; what else there is is evaluated
+-- the minimum version concerns the reader of the file; the other settings are evaluated
 kept s _ = s
 
 -- settings with one more
@@ -71,11 +71,11 @@ with_setting evaluates s name (plain.WindowsShell i) = and_then (interpreter eva
 with_setting evaluates s name (plain.WorkingDirectory e) = and_then (string evaluates (contexts.Setting name) e) (λ text. Gave (record s { working_directory = Some text }))
 with_setting evaluates s name x = Gave (kept s x)
 
--- settings with some more, one after another
+-- settings with several more, one after another
 abbrev pub with_settings : Evaluates → Settings → List Set → Outcome Settings
 with_settings evaluates s [] = Gave s
 with_settings evaluates s (x ∷ xs) = and_then (with_setting evaluates s x.name x.value) (λ s'. with_settings evaluates s' xs)
 
--- what a module sets
+-- the settings of a module
 abbrev pub settings : Evaluates → List Set → Outcome Settings
 settings evaluates sets = with_settings evaluates unset sets

@@ -14,12 +14,12 @@ use Rattle.just_meaning.specs.Messages.{unknown_assignment_text}
 use Rattle.just_meaning.specs.Meaning.{AtLimit, eval}
 use Rattle.just_meaning.specs.Module.{bound_of, or_override, situation_at}
 
--- what a const stage is given besides where it starts
+-- the inputs of a const stage besides its starting point
 pub record Constants : Type 0 where
   pub assignments : Assignments
   pub overrides : ℕ → Option Text
 
--- how far a const stage is: whether lists are on, the frames with what is settled so far, and the numbers that are open
+-- the state of a const stage: whether lists are on, the frames with the settled values so far, and the open numbers
 pub record Standing : Type 0 where
   pub lists : Bool
   pub frames : Frames
@@ -37,16 +37,16 @@ with_open s n = record { lists = s.lists; frames = s.frames; is_open = λ m. nat
 abbrev pub with_settled : Standing → Bound → Standing
 with_settled s b = record { lists = s.lists; frames = bound_in_front s.frames b; is_open = s.is_open }
 
--- What an expression means where there is no context: the tree that it always is, with nothing to call.
+-- What an expression means without a context: its usual tree, with nothing to call.
 abbrev pub const_meaning : Standing → Expr → Tree Value
 const_meaning s e = eval nowhere AtLimit (situation_at s.lists s.frames) e
 
--- What an expression comes to before any run: it is refused where it would enter a call, run a command or read an open
+-- The outcome of an expression before any run. It is refused where it would enter a call, run a command or read an open
 -- number.
 abbrev pub const_value : Standing → Expr → Outcome Value
 const_value s e = constant s.is_open (const_meaning s e)
 
--- what an assignment comes to: an override is one element; without one the expression is evaluated
+-- the outcome of an assignment: an override is one element; without one the expression is evaluated
 abbrev pub const_assigned : Constants → Standing → Assignment → Outcome Value
 const_assigned m s a = constant s.is_open (or_override (m.overrides a.number) (const_meaning s a.value))
 
@@ -57,13 +57,13 @@ pub record IsNew (m : Constants) (s : Standing) (t : Token) (a : Assignment) : T
   pub unbound : innermost a.number s.frames ≡ None
   pub unopened : s.is_open a.number ≡ false
 
--- one assignment that was evaluated: its number, and what it came to
+-- one assignment that was evaluated: its number and its outcome
 pub record Found : Type 0 where
   pub number : ℕ
   pub outcome : Outcome Value
 
--- A const stage over the assignments with these names: what each that is evaluated comes to, and where the stage stands
--- at the end. For want of memory it may be stopped at any point.
+-- A const stage over the assignments with these names: the outcome of each one that is evaluated, and the standing at
+-- the end. If memory runs out, it may stop at any point.
 pub data Stage (m : Constants) : Standing → List Token → List Found → Outcome Standing → Type 0 where
   Finished : {s : Standing} → Stage m s [] [] (Gave s)
   Stops : {s : Standing} {left : List Token} → Stage m s left [] Stopped
@@ -71,17 +71,17 @@ pub data Stage (m : Constants) : Standing → List Token → List Found → Outc
   Unknown : {s : Standing} {t : Token} {left : List Token} → assignment_at m.assignments t.lexeme ≡ None → Stage m s (t ∷ left) [] (Refused (Internal (unknown_assignment_text t.lexeme) t))
   -- it is not referenced
   Passes : {s : Standing} {t : Token} {left : List Token} {fs : List Found} {o : Outcome Standing} → (a : Assignment) → assignment_at m.assignments t.lexeme ≡ Some a → m.assignments.referenced a.number ≡ false → Stage m s left fs o → Stage m s (t ∷ left) fs o
-  -- it is bound already
+  -- it is already bound
   Skips : {s : Standing} {t : Token} {left : List Token} {fs : List Found} {o : Outcome Standing} → (a : Assignment) (b : Bound) → assignment_at m.assignments t.lexeme ≡ Some a → m.assignments.referenced a.number ≡ true → innermost a.number s.frames ≡ Some b → Stage m s left fs o → Stage m s (t ∷ left) fs o
-  -- it is open already
+  -- it is already open
   StaysOpen : {s : Standing} {t : Token} {left : List Token} {fs : List Found} {o : Outcome Standing} → (a : Assignment) → assignment_at m.assignments t.lexeme ≡ Some a → m.assignments.referenced a.number ≡ true → s.is_open a.number ≡ true → Stage m s left fs o → Stage m s (t ∷ left) fs o
   -- it is settled: its value is bound
   Settles : {s : Standing} {t : Token} {left : List Token} {fs : List Found} {o : Outcome Standing} → (a : Assignment) (v : Value) → IsNew m s t a → const_assigned m s a ≡ Gave v → Stage m (with_settled s (bound_of false a v)) left fs o → Stage m s (t ∷ left) (record { number = a.number; outcome = Gave v } ∷ fs) o
-  -- it is open, and the stage goes on
+  -- it is open, and the stage continues
   Opens : {s : Standing} {t : Token} {left : List Token} {fs : List Found} {o : Outcome Standing} → (a : Assignment) (c : ConstRefusal) → IsNew m s t a → const_assigned m s a ≡ Refused (Const c) → Stage m (with_open s a.number) left fs o → Stage m s (t ∷ left) (record { number = a.number; outcome = Refused (Const c) } ∷ fs) o
-  -- it is refused otherwise
+  -- any other refusal ends the stage
   Breaks : {s : Standing} {t : Token} {left : List Token} → (a : Assignment) (r : Refusal) → IsFinal r → IsNew m s t a → const_assigned m s a ≡ Refused r → Stage m s (t ∷ left) (record { number = a.number; outcome = Refused r } ∷ []) (Refused r)
 
--- a const stage over these names comes to the outcome
+-- a const stage over these names ends with this outcome
 abbrev pub Staged : Constants → Standing → List Token → Outcome Standing → Type 0
 Staged m s names o = (fs : List Found) × Stage m s names fs o

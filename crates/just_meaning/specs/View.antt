@@ -1,4 +1,4 @@
--- What modules and what they are evaluated in are as plain data.
+-- Modules, and what they are evaluated in, as plain data.
 use Rattle.std.specs.Prelude.{ℕ, ◌-◌, Bool, true, List, Option, Some, None, map, nat_eq, string_bytes}
 use Rattle.std.specs.Borrow.{Bor}
 use Rattle.std.specs.BTreeMap.{BTreeMap}
@@ -32,23 +32,23 @@ use Rattle.just_meaning.specs.Stage.{Constants}
 abbrev pub functions_view : Justfile → List Function
 functions_view justfile = map function_view justfile.functions
 
--- each number is referenced where no set is given
+-- without a set each number is referenced
 abbrev pub is_referenced_in : {S : Type 0} → Option (Bor (HashSet ℕ S)) → ℕ → Bool
 is_referenced_in None n = true
 is_referenced_in (Some set) n = list_any (nat_eq n) set.now.keys
 
--- assignments in an order, where these variables are referenced
+-- assignments in an order; the referenced numbers are those of the set, or all
 abbrev pub ordered_view : {S : Type 0} → List Assignment → List Name → Option (Bor (HashSet ℕ S)) → Assignments
 ordered_view assignments order references = record { all = map assignment_view assignments; order = map name_view order; referenced = is_referenced_in references }
 
--- the assignments of a module, where these variables are referenced
+-- the assignments of a module; the referenced numbers are those of the set, or all
 abbrev pub assignments_view : {S : Type 0} → Justfile → Option (Bor (HashSet ℕ S)) → Assignments
 assignments_view justfile references = ordered_view justfile.assignments justfile.evaluation_order.items references
 
 abbrev pub program_view : ExecutionContext → Program
 program_view c = record { fixed = fixed_view c; functions = functions_view c.module.now }
 
--- what a run in a context is given, where these variables are referenced
+-- the inputs of a run in a context; the referenced numbers are those of the set, or all
 abbrev pub module_view : {S : Type 0} → ExecutionContext → Option (Bor (HashSet ℕ S)) → Module
 module_view c references = record {
   program = program_view c;
@@ -57,22 +57,22 @@ module_view c references = record {
   overrides = text_numbered c.overrides.now;
 }
 
--- what a run is given, by the arguments of its call
+-- the inputs of a run, from the arguments of its call
 abbrev pub run_of : {S : Type 0} → Bor Config → Bor (BTreeMap (String Global) (String Global)) → Bor Justfile → Bor (HashMap ℕ (String Global) (BuildHasherDefault FoldHasher)) → Bor Scope → Bor Search → ℕ → Option (Bor (HashSet ℕ S)) → Module
 run_of config dotenv justfile overrides parent search limit references =
     module_view (record { config = config; dotenv = dotenv; «module» = justfile; overrides = overrides; recursion_limit = limit; scope = parent; search = search }) references
 
--- what a const stage is given, by the arguments of its call
+-- the inputs of a const stage, from the arguments of its call
 abbrev pub constants_of : {A S T : Type 0} → List Assignment → List Name → HashMap ℕ (String A) S → HashSet ℕ T → Constants
 constants_of assignments order overrides references = record {
   assignments = record { all = map assignment_view assignments; order = map name_view order; referenced = λ n. list_any (nat_eq n) references.keys };
   overrides = text_numbered overrides;
 }
 
--- what is evaluated for a recipe in a context is resolved, where these frames stand
+-- what is evaluated for a recipe in a context, in these frames, is resolved
 abbrev pub IsResolvedWith : ExecutionContext → Frames → List (Attribute × Token) → List Parameter → List Expr → Type 0
 IsResolvedWith c frames attributes parameters expressions = IsResolvedHere (functions_view c.module.now) (map assignment_view c.module.now.assignments) (frames_view c.scope.now) frames attributes parameters expressions
 
--- what is evaluated for a recipe in a context, in these frames
+-- the program, the pending calls and the situation of a recipe in a context, in these frames
 abbrev pub recipe_in : ExecutionContext → List (Text × Text) → Bool → Option Text → Frames → Here
 recipe_in c environment is_dependency recipe frames = in_recipe (program_view c) (c.recursion_limit - 1) (frames_view c.scope.now) environment is_dependency recipe frames

@@ -1,4 +1,4 @@
--- How many levels fit into a room.
+-- How many levels fit into a stack budget.
 use Rattle.std.proofs.Common.{◌≡◌, ℕ, ◌*◌, ◌-◌, ◌<◌, ◌≤◌, Bool, true, false, IsTrue, max, suc, refl, ap, arith}
 use Rattle.just_syntax.specs.declared.expression.Expression.TheViews as expressions
 use Rattle.just_syntax.specs.Plain.{Expr, And, Assert, AssertOnly, Backtick, Call, Comparison, Concatenation, Conditional, ConditionalOnly, FormatString, Group, Join, JoinOnly, ListOf, ListConcatenation, Not, Or, StringLiteral, Variable}
@@ -36,11 +36,11 @@ levels_list es t = ap levels (view_list es t)
 pub levels_format_string : (start : _) (es : _) → levels (view (expressions.FormatString start es)) ≡ suc (levels_of_pieces (piece_views es.items))
 levels_format_string start es = ap levels (view_format_string start es)
 
--- a test that holds exactly if so many levels fit into a room
+-- a test that holds exactly if n levels fit into the budget
 abbrev pub Tells : Bool → ℕ → ℕ → Type 0
 Tells b n room = (IsTrue b → 416 * n ≤ room) × (416 * n ≤ room → IsTrue b)
 
--- no room for one level is no room for an expression
+-- no expression fits if one level does not
 pub none_fits : (e : Expr) (room : ℕ) → room < 416 → Tells false (levels e) room
 none_fits e room small = let one = has_level e in ((λ none. absurd (cc none)), (λ fits. absurd (omega (arith, one))))
 
@@ -48,18 +48,18 @@ none_fits e room small = let one = has_level e in ((λ none. absurd (cc none)), 
 pub one_more : (b : Bool) (n room : ℕ) → 416 ≤ room → Tells b n (room - 416) → Tells b (suc n) room
 one_more b n room big h = ((λ is. let fits = h.0 is in omega arith), (λ fits. h.1 (omega arith)))
 
--- some levels fit exactly if some others do
+-- n levels fit exactly if m levels do
 abbrev pub FitAlike : ℕ → ℕ → ℕ → Type 0
 FitAlike n m room = (416 * n ≤ room → 416 * m ≤ room) × (416 * m ≤ room → 416 * n ≤ room)
 
--- an expression that fits, before others
+-- an expression that fits, followed by others
 pub next_alike : (x n m room : ℕ) → 416 * x ≤ room → FitAlike (max x n) m room → FitAlike n m room
 next_alike x n m room fits h = ((λ k. h.0 (omega arith)), (λ k. let both = h.1 k in omega arith))
 
--- an expression that does not fit, before others
+-- an expression that does not fit, followed by others
 pub none_alike : (x n m room : ℕ) → (416 * x ≤ room → IsTrue false) → FitAlike (max x n) m room → Tells false m room
 none_alike x n m room fails h = ((λ none. absurd (cc none)), (λ k. fails (let both = h.1 k in omega arith)))
 
--- nothing is left
+-- no expression is left
 pub all_alike : (n m room : ℕ) → n ≡ 0 → FitAlike n m room → Tells true m room
 all_alike n m room none h = ((λ is. h.0 (omega arith)), (λ k. refl))

@@ -1,8 +1,8 @@
--- How many levels an expression has.
+-- The number of levels of an expression.
 use Rattle.std.specs.Prelude.{suc, max, ℕ, Option, Some, None}
 use Rattle.just_syntax.specs.Plain.{Expr, And, Assert, AssertOnly, Backtick, Call, Comparison, Concatenation, Conditional, ConditionalOnly, FormatString, Group, Join, JoinOnly, ListOf, ListConcatenation, Not, Or, StringLiteral, Variable, Exprs, Nil, Cons, Pieces, NoPiece, Piece}
 
--- one more than its deepest part has
+-- one more than that of its deepest part
 abbrev mutual
   pub levels : Expr → ℕ
   levels (And l r) = suc (max (levels l) (levels r))
@@ -25,7 +25,7 @@ abbrev mutual
   levels (StringLiteral literal) = 1
   levels (Variable t number) = 1
 
-  -- those of the deepest of some expressions
+  -- that of the deepest of some expressions
   pub levels_of_row : Exprs → ℕ
   levels_of_row Nil = 0
   levels_of_row (Cons e es) = max (levels e) (levels_of_row es)
@@ -34,7 +34,7 @@ abbrev mutual
   levels_of_pieces NoPiece = 0
   levels_of_pieces (Piece e literal pieces) = max (levels e) (levels_of_pieces pieces)
 
--- those of a part, if it is there
+-- that of an optional part
 abbrev pub levels_of_part : Option Expr → ℕ
 levels_of_part None = 0
 levels_of_part (Some e) = levels e

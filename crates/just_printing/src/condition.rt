@@ -1,4 +1,4 @@
-// Prints an assertion's condition, where the stack has room for it.
+// Prints an assertion's condition, if the stack budget suffices.
 
 ghost use Rattle.std.specs.Prelude.{IfOk, IsTrue, max, string_bytes, ◌*◌, ◌++◌, ◌∷◌, [], ◌≡◌, ◌≤◌, ◌↔◌};
 ghost use Rattle.std.specs.Option.{option_map};
@@ -11,16 +11,16 @@ use just_syntax::out_of_memory::OutOfMemory;
 use just_syntax::string_literal::StringLiteral;
 use std::alloc::Global;
 
-/// A bound on what a level of printing takes of the stack, in bytes, by what `bench/run frames` measures in both builds.
+/// A bound on the stack use of one level of printing, in bytes, measured in both builds by `bench/run frames`.
 pub const PRINTED: usize = 416;
 
-/// What an assertion without a message says: its condition, in backticks. Parts of the condition that were never evaluated
-/// are printed too, and they may nest deeper than those that were.
+/// The message of an assertion without one of its own: its condition, in backticks. Parts of the condition that were
+/// never evaluated are printed too, and they may nest deeper than those that were.
 ///
 /// # Errors
 ///
-/// `OutOfMemory`, where memory was asked for and refused, or where printing might take more than `room` bytes of the stack:
-/// nothing is made.
+/// `OutOfMemory`, if an allocation fails, or if printing might use more than `room` bytes of the stack: nothing is
+/// created.
 #[inline(never)]
 pub fn in_backticks(
     alloc: Global,
@@ -37,7 +37,7 @@ pub fn in_backticks(
     }
 }
 
-// The condition in backticks. It is made out of line, so that its frame is no part of that of its caller.
+// The condition in backticks. Out of line, to keep the caller's frame small.
 #[inline(never)]
 fn written(alloc: Global, condition: &Expression) -> Result<String, OutOfMemory>
     ensures { IfOk result (λ text. string_bytes text ≡ (96 ∷ printed (view condition.now)) ++ 96 ∷ []) }
@@ -45,7 +45,7 @@ fn written(alloc: Global, condition: &Expression) -> Result<String, OutOfMemory>
     Ok(format!(in alloc; "`{condition}`")?)
 }
 
-// Whether an expression is printed within so many bytes of stack. It takes less of the stack than printing does.
+// Whether printing an expression fits into `room` bytes of stack. It uses less stack itself than printing does.
 #[cycle(fits)]
 fn fits(expression: &Expression, room: usize) -> bool
     ensures { IsTrue result ↔ PRINTED * levels (view expression.now) ≤ room }
@@ -82,7 +82,7 @@ fn fits(expression: &Expression, room: usize) -> bool
     }
 }
 
-// Whether two expressions are.
+// Whether two expressions fit.
 #[cycle(fits)]
 fn both_fit<'src>(lhs: &Expression<'src>, rhs: &Expression<'src>, room: usize) -> bool
     ensures { IsTrue result ↔ PRINTED * max (levels (view lhs.now)) (levels (view rhs.now)) ≤ room }
@@ -90,7 +90,7 @@ fn both_fit<'src>(lhs: &Expression<'src>, rhs: &Expression<'src>, room: usize) -
     fits(lhs, room) && fits(rhs, room)
 }
 
-// Whether a part is, if it is there.
+// Whether an optional part fits.
 #[cycle(fits)]
 fn part_fits(part: Option<&Expression>, room: usize) -> bool
     ensures { IsTrue result ↔ PRINTED * levels_of_part (option_map (λ e. view e.now) part.entry) ≤ room }
@@ -101,7 +101,7 @@ fn part_fits(part: Option<&Expression>, room: usize) -> bool
     }
 }
 
-// Whether each of some expressions is.
+// Whether each of some expressions fits.
 #[cycle(fits)]
 fn row_fits(expressions: &[Expression], room: usize) -> bool
     ensures { IsTrue result ↔ PRINTED * levels_of_row (views expressions.now) ≤ room }
@@ -114,7 +114,7 @@ fn row_fits(expressions: &[Expression], room: usize) -> bool
     true
 }
 
-// Whether each interpolation is.
+// Whether each interpolation fits.
 #[cycle(fits)]
 fn pieces_fit(expressions: &[(Expression, StringLiteral)], room: usize) -> bool
     ensures { IsTrue result ↔ PRINTED * levels_of_pieces (piece_views expressions.now) ≤ room }

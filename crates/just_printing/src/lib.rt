@@ -1,5 +1,5 @@
-// What an assertion without a message says: its condition in backticks, where the stack has room for it. It leans on syntax
-// alone, and not on evaluation.
+// The message of an assertion without one of its own: its condition in backticks, if the stack budget suffices. It
+// depends on `just_syntax` alone, and not on evaluation.
 #![tactic(auto)]
 
 pub mod condition;

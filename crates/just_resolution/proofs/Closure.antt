@@ -1,4 +1,4 @@
--- What is reached is looked through, and none is looked through twice.
+-- The walk over the functions that an expression reaches: it scans each of them, and none twice.
 use Rattle.std.proofs.Common.{◌≡◌, ◌↔◌, ◌⊎◌, inl, inr, ⊎_elim, ℕ, suc, ◌+◌, ◌<◌, ◌≤◌, ◌||◌, Bool, true, false, cond, List, [], ◌∷◌, ◌++◌, length, map, Option, Some, None, refl, ap, sym, ◌∙◌, subst, arith, IsTrue, IsSome, is_some, Bor, length-append}
 use Rattle.std.specs.Option.{option_to_list}
 use Rattle.std.proofs.lemmas.List.{map-append}
@@ -13,7 +13,7 @@ use Rattle.just_meaning.proofs.Reached.{reaches_on}
 use Rattle.just_meaning.specs.Reaches.{VariableOf, CallOf, IsAmong, Reaches, Here, Later, Stands, function_at}
 use Rattle.just_resolution.proofs.Standing.{IsIn, all_called, all_may_be_read, in_append, reads_all, unreadable_alike}
 
--- a set that holds one name more
+-- a set with one more name
 abbrev pub Adds : (Text → Bool) → (Text → Bool) → Text → Type 0
 Adds old new name = (t : Text) → IsTrue (new t) ↔ ((name ≡ t) ⊎ IsTrue (old t))
 
@@ -21,8 +21,9 @@ Adds old new name = (t : Text) → IsTrue (new t) ↔ ((name ≡ t) ⊎ IsTrue (
 abbrev pub IsSettled : (Text → Bool) → List Text → Text → Type 0
 IsSettled admitted pending t = IsTrue (admitted t) ⊎ IsIn pending t
 
--- What an expression calls, and what admitted functions call, is settled; what is pending is reached. The
--- expression reads nothing by itself but what it may, and the admitted functions nothing but what bodies may.
+-- The invariant of the walk. What the expression and the admitted functions call is admitted or pending, and what is
+-- pending is reached. The expression reads by itself only what it may, and admitted functions read only what bodies
+-- may.
 pub record IsWalked (functions : List Function) (e : Expr) (here readable : ℕ → Bool) (admitted : Text → Bool) (pending : List Text) : Type 0 where
   pub start : (name : Text) (n : ℕ) → Stands e (CallOf name n) → IsSettled admitted pending name
   pub own : (n : ℕ) → Stands e (VariableOf (Some n)) → IsTrue (here n)
@@ -30,11 +31,11 @@ pub record IsWalked (functions : List Function) (e : Expr) (here readable : ℕ 
   pub calls : (name : Text) (f : Function) → IsTrue (admitted name) → function_at functions name ≡ Some f → (further : Text) (n : ℕ) → Stands f.body (CallOf further n) → IsSettled admitted pending further
   pub reached : (name : Text) → IsIn pending name → Reaches functions e name
 
--- no own number: what may be read is readable
+-- with no own numbers, what may be read is readable
 pub own_out : (own readable : Bool) → own ≡ false → IsTrue (own || readable) → IsTrue readable
 own_out own readable off h = subst (λ b. (b || readable) ≡ true) off h
 
--- what is found in the body of the function that was found
+-- what is found in the body of a function that a look-up found
 pub body_found : (o : Option Function) (f : Function) (own readable : ℕ → Bool) (r : Option Token) → o ≡ Some f → ((n : ℕ) → IsTrue (own n) ↔ IsAmong f.parameters n) → FindsUnreadable (λ n. IsTrue (own n || readable n)) (sites_in f.body) r →
     FindsBody o (λ n. IsTrue (readable n)) r
 body_found o f own readable r found owns h =
@@ -45,7 +46,7 @@ body_found o f own readable r found owns h =
       (λ k. ⊎_elim (λ mine. or_left (own n) (readable n) ((owns n).1 mine)) (λ other. or_right (own n) (readable n) other) k),
     )) (sites_in f.body) r h)
 
--- nothing is found in the body of a function: it reads nothing but its parameters and what is readable
+-- nothing is found in a function's body: it reads only its parameters and what is readable
 pub body_reads : (o : Option Function) (readable : ℕ → Bool) (r : Option Token) → is_some r ≡ false → FindsBody o (λ n. IsTrue (readable n)) r → (f : Function) → o ≡ Some f → (n : ℕ) → Stands f.body (VariableOf (Some n)) → IsAmong f.parameters n ⊎ IsTrue (readable n)
 body_reads o readable r none h f found =
     reads_all (λ n. IsAmong f.parameters n ⊎ IsTrue (readable n)) f.body r none (subst (λ (p : Option Function). FindsBody p (λ n. IsTrue (readable n)) r) found h)
@@ -61,7 +62,7 @@ module _ (functions : List Function) where
     abbrev pub AllReadable : Type 0
     AllReadable = ReadsWithin functions e here readable
 
-    -- nothing is admitted yet but what was, and what the expression calls is pending
+    -- at the start nothing more is admitted, and what the expression calls is pending
     pub begins : (admitted : Text → Bool) (pending : List Text) → IsAdmitted functions readable admitted → pending ≡ called_names (sites_in e) → ((n : ℕ) → Stands e (VariableOf (Some n)) → IsTrue (here n)) → IsWalked functions e here readable admitted pending
     begins admitted pending closed is own = record {
       start = λ name n s. inr (subst (λ names. IsIn names name) (sym is) ((all_called e name).1 (n, s)));
@@ -84,7 +85,7 @@ module _ (functions : List Function) where
     pub reads_at_once : (own : ℕ → Bool) (r : Option Token) → is_some r ≡ false → ((n : ℕ) → own n ≡ false) → FindsUnreadable (λ n. IsTrue (own n || here n)) (sites_in e) r → (n : ℕ) → Stands e (VariableOf (Some n)) → IsTrue (here n)
     reads_at_once own r nothing none h n s = own_out (own n) (here n) (none n) (reads_all (λ k. IsTrue (own k || here k)) e r nothing h n s)
 
-    -- what is found in the body of a function that is reached
+    -- what is found in the body of a reached function
     pub found_within : (admitted : Text → Bool) (front pending : List Text) (name : Text) (r : Option Token) → IsWalked functions e here readable admitted pending → pending ≡ front ++ name ∷ [] → is_some r ≡ true →
         FindsBody (function_at functions name) (λ n. IsTrue (readable n)) r → FindsBeyond functions e here readable r
     found_within admitted front pending name r w is some h = by r (function_at functions name) refl some h
@@ -103,7 +104,7 @@ module _ (functions : List Function) where
       settled_on t h = ⊎_elim (λ a. inl ((adds t).1 (inr a)))
           (λ k. ⊎_elim (λ j. inr (kept t j)) (λ j. ⊎_elim (λ same. inl ((adds t).1 (inl same))) (λ bad. absurd bad) j) ((in_append front (name ∷ []) t).0 k)) h
 
-      -- one name more is admitted, whose function reads nothing but what it may, and what it calls is settled
+      -- one more name is admitted: its function reads only what it may, and what it calls is admitted or pending
       step : ((f : Function) → function_at functions name ≡ Some f → (n : ℕ) → Stands f.body (VariableOf (Some n)) → IsAmong f.parameters n ⊎ IsTrue (readable n)) →
           ((f : Function) → function_at functions name ≡ Some f → (further : Text) (n : ℕ) → Stands f.body (CallOf further n) → IsSettled next_admitted next further) →
           ((t : Text) → IsIn next t → Reaches functions e t) → IsWalked functions e here readable next_admitted next
@@ -115,7 +116,7 @@ module _ (functions : List Function) where
         reached = reached;
       }
 
-    -- the last of what is pending was admitted before
+    -- the last pending name was already admitted
     pub passes : (admitted next_admitted : Text → Bool) (front : List Text) (name : Text) → IsWalked functions e here readable admitted (front ++ name ∷ []) → Adds admitted next_admitted name → IsTrue (admitted name) →
         IsWalked functions e here readable next_admitted front
     passes admitted next_admitted front name w adds there =
@@ -124,7 +125,7 @@ module _ (functions : List Function) where
         (λ f found further n s. settled_on admitted next_admitted front front name w adds (λ t h. h) further (w.calls name f there found further n s))
         (λ t h. w.reached t ((in_append front (name ∷ []) t).1 (inl h)))
 
-    -- the last of what is pending is admitted now, and what its body calls is pending
+    -- the last pending name is admitted now, and what its body calls is pending
     pub admits : (admitted next_admitted : Text → Bool) (front next : List Text) (name : Text) → IsWalked functions e here readable admitted (front ++ name ∷ []) → Adds admitted next_admitted name →
         ((f : Function) → function_at functions name ≡ Some f → (n : ℕ) → Stands f.body (VariableOf (Some n)) → IsAmong f.parameters n ⊎ IsTrue (readable n)) →
         next ≡ front ++ calls_of (function_at functions name) → IsWalked functions e here readable next_admitted next
@@ -157,9 +158,9 @@ module _ (functions : List Function) where
           b.found n b.stands),
     )
 
--- ---- why the walk ends
+-- ---- termination of the walk
 
--- for each function that is not admitted, what it calls, and one more
+-- for each function that is not admitted: one, and the number of its calls
 abbrev pub work : List Function → (Text → Bool) → ℕ
 work [] admitted = 0
 work (f ∷ fs) admitted = cond (admitted f.name.lexeme) 0 (suc (length (called_names (sites_in f.body)))) + work fs admitted
@@ -183,7 +184,7 @@ module _ (admitted next : Text → Bool) (kept : (t : Text) → IsTrue (admitted
   part_falls false true w off on = omega arith
   part_falls false false w off on = absurd (cc)
 
-  -- one function more is admitted
+  -- one more function is admitted
   work_falls : (fs : List Function) (name : Text) (f : Function) → function_at fs name ≡ Some f → admitted name ≡ false → next name ≡ true →
       work fs next + suc (length (called_names (sites_in f.body))) ≤ work fs admitted
   work_falls [] name f found off on = absurd (cc)
@@ -203,7 +204,7 @@ module _ (admitted next : Text → Bool) (kept : (t : Text) → IsTrue (admitted
           let rest = again is in
           omega (arith, here, rest)
 
-  -- the work falls by what becomes pending, and one more
+  -- the work decreases by what becomes pending, and by one
   pub work_left : (fs : List Function) (name : Text) → admitted name ≡ false → next name ≡ true → work fs next + length (calls_of (function_at fs name)) ≤ work fs admitted
   work_left fs name off on = by (function_at fs name) refl
     where
@@ -211,14 +212,14 @@ module _ (admitted next : Text → Bool) (kept : (t : Text) → IsTrue (admitted
       by None found = let rest = work_kept fs in omega (arith, rest)
       by (Some f) found = let rest = work_falls fs name f found off on in omega (arith, rest)
 
--- the last of what is pending is gone
+-- the last pending name is removed
 pub falls_passed : (fs : List Function) (admitted next : Text → Bool) (front pending : List Text) (name : Text) → Adds admitted next name → pending ≡ front ++ name ∷ [] → work fs next + length front < work fs admitted + length pending
 falls_passed fs admitted next front pending name adds is =
     let rest = work_kept admitted next (λ t h. (adds t).1 (inr h)) fs in
     let size : length pending ≡ length front + 1 = ap length is ∙ length-append front (name ∷ []) in
     omega (arith, rest, size)
 
--- it is gone, and what its body calls is pending
+-- it is removed, and what its body calls is pending
 pub falls_admitted : (fs : List Function) (admitted next_admitted : Text → Bool) (front next pending : List Text) (name : Text) → Adds admitted next_admitted name → admitted name ≡ false → pending ≡ front ++ name ∷ [] →
     next ≡ front ++ calls_of (function_at fs name) → work fs next_admitted + length next < work fs admitted + length pending
 falls_admitted fs admitted next_admitted front next pending name adds off is calls =
@@ -227,21 +228,21 @@ falls_admitted fs admitted next_admitted front next pending name adds off is cal
     let more : length next ≡ length front + length (calls_of (function_at fs name)) = ap length calls ∙ length-append front (calls_of (function_at fs name)) in
     omega (arith, rest, size, more)
 
--- ---- what code does
+-- ---- operations of the code
 
--- the last of a list
+-- popping the last element of a list
 pub last_popped : {X Y : Type 0} (seen : X → Y) (old new : List X) (r : Option X) (x : X) → old ≡ new ++ option_to_list r → r ≡ Some x → map seen old ≡ map seen new ++ seen x ∷ []
 last_popped seen old new r x is some = ap (map seen) (is ∙ ap (λ o. new ++ option_to_list o) some) ∙ map-append seen new (x ∷ [])
 
--- nothing is left
+-- popping nothing
 pub none_popped : {X Y : Type 0} (seen : X → Y) (xs : List X) (r : Option X) → r ≡ None → (0 < length xs → IsSome r) → map seen xs ≡ []
 none_popped seen [] r none some = refl
 none_popped seen (x ∷ xs) r none some = absurd (let h : is_some r ≡ true = some (omega arith) in let e : is_some r ≡ false = ap is_some none in cc)
 
--- the last name of a list
+-- popping the last name of a list
 pub popped : (old new : List (Bor Text)) (r : Option (Bor Text)) (name : Bor Text) → old ≡ new ++ option_to_list r → r ≡ Some name → texts old ≡ texts new ++ name.now ∷ []
 popped = last_popped (λ b. b.now)
 
--- there is no name left
+-- no name is left
 pub emptied : (xs : List (Bor Text)) (r : Option (Bor Text)) → r ≡ None → (0 < length xs → IsSome r) → texts xs ≡ []
 emptied = none_popped (λ b. b.now)

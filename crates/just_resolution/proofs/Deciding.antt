@@ -1,4 +1,4 @@
--- What is decided by what is found.
+-- What a search decides.
 use Rattle.std.proofs.Common.{◌≡◌, ◌↔◌, ℕ, Bool, true, false, List, [], map, Option, Some, None, is_some, not, option_map, refl, ap, sym, ◌∙◌, IsTrue}
 use Rattle.just_syntax.specs.Plain.{Token, Expr, Function}
 use Rattle.just_value.specs.Frames.{Frames, value_in}
@@ -15,14 +15,14 @@ use Rattle.just_resolution.proofs.Standing.{fault_unknown, known_all, sound_stan
 
 -- ---- answers
 
--- something is found, so what nothing would decide does not hold
+-- something is found, so the property that finding nothing decides does not hold
 pub refused : {P R : Type 0} (some : Bool) → true ≡ some → (some ≡ false) ↔ P → (R → P) → (false ≡ true) ↔ R
 refused some is decides implies = (
   (λ h. absurd (cc)),
   (λ r. absurd (let none : some ≡ false = decides.1 (implies r) in let e : true ≡ false = is ∙ none in cc)),
 )
 
--- that nothing is found is the answer
+-- the answer is that nothing is found
 pub none_answers : {P : Type 0} (some answer : Bool) → some ≡ not answer → (some ≡ false) ↔ P → (answer ≡ true) ↔ P
 none_answers some answer is decides = ((λ h. decides.0 (is ∙ ap not h)), (λ p. opposite answer (sym is ∙ decides.1 p)))
   where
@@ -36,11 +36,11 @@ none_if some answer is h = is ∙ ap not h
 through : {P Q R : Type 0} → P ↔ Q → Q ↔ R → P ↔ R
 through p q = ((λ x. q.0 (p.0 x)), (λ z. p.1 (q.1 z)))
 
--- what a result is seen as is there if the result is
+-- the view of a result is present if the result is
 as_seen : {A F : Type 0} (seen : A → F) (o : Option A) → (is_some o ≡ false) ↔ (is_some (option_map seen o) ≡ false)
 as_seen seen o = ((λ h. some_seen seen o ∙ h), (λ h. sym (some_seen seen o) ∙ h))
 
--- ---- what nothing decides
+-- ---- what finding nothing decides
 
 module _ {A : Type 0} (seen : A → Fault) (o : Option A) where
   pub distinct_decided : (functions : List Function) (assignments : Assignments) (outer : Frames) (ps : List (Token × ℕ)) →

@@ -1,4 +1,4 @@
--- What is a fault, and what is resolved.
+-- Faults, and resolved modules.
 use Rattle.std.proofs.Common.{◌≡◌, ◌↔◌, ◌⊎◌, inl, inr, ⊎_elim, ℕ, true, false, List, [], ◌∷◌, ◌++◌, map, Option, Some, None, is_some, option_map, refl, ap, sym, ◌∙◌, subst}
 use Rattle.std.specs.Prelude.{IfSome, IsNone}
 use Rattle.std.proofs.lemmas.Bool.{cases_eq}
@@ -17,7 +17,7 @@ use Rattle.just_resolution.proofs.Finding.{Leads, finds_left, finds_map, finds_r
 use Rattle.just_resolution.proofs.Ordering.{distinct_front}
 use Rattle.just_resolution.proofs.Standing.{all_may_be_read, fault_unknown, known_all}
 
--- what is found at the sites that are left is found at all
+-- what is found at the remaining sites is found at all
 abbrev pub LeadsUnknown : List Function → List Site → List Site → Type 0
 LeadsUnknown functions left all = Leads (λ s. IsKnown functions s.mention) (λ s f. mention_fault functions s.token s.mention ≡ Some f) left all
 
@@ -30,17 +30,17 @@ module _ (functions : List Function) (start left all front : List Site) (r : Opt
   pub unknown_out : is_some r ≡ true → FindsUnknown functions all r
   unknown_out some = leads_out (λ s. IsKnown functions s.mention) (λ s f. mention_fault functions s.token s.mention ≡ Some f) start left all before front r is some found
 
--- the same of variables that may not be read
+-- the same for variables that may not be read
 abbrev pub LeadsUnreadable : (ℕ → Type 0) → List Site → List Site → Type 0
 LeadsUnreadable readable left all = Leads (λ s. MayBeRead readable s.mention) (λ s variable. (s.token ≡ variable) × (MayBeRead readable s.mention → ⊥)) left all
 
--- the same of parameters
+-- the same for parameters
 abbrev pub LeadsBound : Frames → List (Token × ℕ) → List (Token × ℕ) → Type 0
 LeadsBound outer left all = Leads (λ p. HasValue (value_in outer) p.1 → ⊥) (λ p f. (BoundParameter p.0 ≡ f) × HasValue (value_in outer) p.1) left all
 
 -- ---- a fault is not sound
 
--- whether a number is a parameter's
+-- whether a number is that of a parameter
 pub among_cases : (ps : List (Token × ℕ)) (n : ℕ) → IsAmong ps n ⊎ (IsAmong ps n → ⊥)
 among_cases [] n = inr (λ h. h)
 among_cases (p ∷ ps) n =
@@ -50,7 +50,7 @@ first_apart : (readable : ℕ → Type 0) (e : Expr) (variable : Token) → IsFi
 first_apart readable e variable first all =
     not_sound (λ s. MayBeRead readable s.mention) (λ s t. (s.token ≡ t) × (MayBeRead readable s.mention → ⊥)) (λ s t bad fine. bad.1 fine) (sites_in e) variable first ((all_may_be_read readable e).1 all)
 
--- an expression that reads what it may not does not read what it may alone
+-- an expression with an unreadable variable does not read only what it may
 pub unreadable_apart : (functions : List Function) (here readable : ℕ → Type 0) (e : Expr) (variable : Token) → IsUnreadable functions here readable e variable →
     ((n : ℕ) → Stands e (VariableOf (Some n)) → here n) → ((n : ℕ) → ReadsBeyond functions e n → readable n) → ⊥
 unreadable_apart functions here readable e variable (inl first) own beyond = first_apart here e variable first own
@@ -73,7 +73,7 @@ module _ (functions : List Function) (assignments : Assignments) (outer : Frames
 
   -- ---- what is sound
 
-  -- names with their numbers are sound if the numbers are distinct, and none of them stood before
+  -- names with numbers are sound if the numbers are distinct and none of them occurred before
   distinct_if : (earlier : List ℕ) (ps : List (Token × ℕ)) → AllSound (IsSound functions assignments outer) (number_places earlier ps)
       ↔ (AreDistinct (map (λ p. p.1) ps) × ((n : ℕ) → IsOneOf (map (λ p. p.1) ps) n → IsOneOf earlier n → ⊥))
   distinct_if earlier [] = ((λ h. (tt, λ n one. absurd one)), (λ h. tt))
@@ -91,7 +91,7 @@ module _ (functions : List Function) (assignments : Assignments) (outer : Frames
   pub all_distinct : (ps : List (Token × ℕ)) → AllSound (IsSound functions assignments outer) (number_places [] ps) ↔ AreDistinct (map (λ p. p.1) ps)
   all_distinct ps = let all = distinct_if [] ps in ((λ h. (all.0 h).0), (λ d. all.1 (d, λ n one before. before)))
 
-  -- names of an order are sound if they may come in it
+  -- the names of an order are sound if they may occur in it
   pub names_if : (taken : List ℕ) (left : List Token) → AllSound (IsSound functions assignments outer) (name_places assignments taken left) ↔ (AreAssignments assignments left × AreInOrder functions assignments outer taken left)
   names_if taken [] = ((λ h. (tt, tt)), (λ h. tt))
   names_if taken (t ∷ left) = let rest = names_if (with_taken assignments (assignment_at assignments t.lexeme) taken) left in ((λ h. let r = rest.0 h.1 in ((h.0.0, r.0), (h.0.1, r.1))), (λ h. ((h.0.0, h.1.0), rest.1 (h.0.1, h.1.1))))
@@ -117,7 +117,7 @@ numbers_alone (a ∷ all) = ap (λ ns. a.number ∷ ns) (numbers_alone all)
 pub all_numbers : (all : List Assignment) (ps : List (Token × ℕ)) → map (λ p. p.1) (numbered all ++ ps) ≡ map (λ a. a.number) all ++ map (λ p. p.1) ps
 all_numbers all ps = map-append (λ (p : Token × ℕ). p.1) (numbered all) ps ∙ ap (λ ns. ns ++ map (λ (p : Token × ℕ). p.1) ps) (numbers_alone all)
 
--- a recipe's parameters, each with its number
+-- a recipe's parameters with their numbers
 abbrev pub recipe_pairs : List Parameter → List (Token × ℕ)
 recipe_pairs ps = map (λ p. (p.name, p.number)) ps
 
@@ -125,12 +125,12 @@ recipe_numbers : (ps : List Parameter) → map (λ p. p.1) (recipe_pairs ps) ≡
 recipe_numbers [] = refl
 recipe_numbers (p ∷ ps) = ap (λ ns. p.number ∷ ns) (recipe_numbers ps)
 
--- the numbers of the parameters of functions, and of a recipe's
+-- the numbers of the parameters of functions and of a recipe
 pub parameters_with : (fs : List Function) (ps : List Parameter) → map (λ p. p.1) (parameters_of fs ++ recipe_pairs ps) ≡ parameter_numbers fs ++ map (λ p. p.number) ps
 parameters_with fs ps =
     map-append (λ (p : Token × ℕ). p.1) (parameters_of fs) (recipe_pairs ps) ∙ ap (λ ns. ns ++ map (λ (p : Token × ℕ). p.1) (recipe_pairs ps)) (numbers_of fs) ∙ ap (λ ns. parameter_numbers fs ++ ns) (recipe_numbers ps)
 
--- the same behind those of assignments
+-- the same after those of assignments
 pub numbers_with : (all : List Assignment) (fs : List Function) (ps : List Parameter) → map (λ p. p.1) (numbered all ++ parameters_of fs ++ recipe_pairs ps) ≡ map (λ a. a.number) all ++ parameter_numbers fs ++ map (λ p. p.number) ps
 numbers_with all fs ps =
     map-append (λ (p : Token × ℕ). p.1) (numbered all ++ parameters_of fs) (recipe_pairs ps)
@@ -164,7 +164,7 @@ module _ (functions : List Function) (assignments : Assignments) (outer : Frames
   whole : map (λ p. p.1) (numbered assignments.all ++ parameters_of functions) ≡ map (λ a. a.number) assignments.all ++ parameter_numbers functions
   whole = all_numbers assignments.all (parameters_of functions) ∙ ap (λ ns. map (λ (a : Assignment). a.number) assignments.all ++ ns) (numbers_of functions)
 
-  -- a module is resolved exactly if all that is looked at is sound
+  -- a module is resolved exactly if all its places are sound
   pub sound_if_resolved : AllSound Sound (places functions assignments) ↔ IsResolved functions assignments outer
   sound_if_resolved =
       let first = sound_append Sound Faulty (numbers ++ parameters) (values ++ (bodies ++ names)) in
@@ -205,7 +205,7 @@ module _ (functions : List Function) (assignments : Assignments) (outer : Frames
         )),
       )
 
-  -- what is found among all that is looked at is what is promised
+  -- a search through all places finds what is promised
   pub told : {A : Type 0} (seen : A → Fault) (r : Option A) → Finds Sound Faulty (places functions assignments) (option_map seen r) → (IsNone r ↔ IsResolved functions assignments outer) × IfSome r (λ f. IsFirstFault functions assignments outer (seen f))
   told seen None h = (((λ e. sound_if_resolved.0 h), (λ resolved. refl)), tt)
   told seen (Some f) h = (

@@ -1,4 +1,4 @@
--- What is found among items, one after another.
+-- Searches among items, one after another.
 use Rattle.std.proofs.Common.{◌≡◌, ◌↔◌, inl, inr, ⊎_elim, true, false, List, [], ◌∷◌, ◌++◌, map, Option, Some, None, is_some, option_map, refl, sym, subst}
 use Rattle.just_resolution.specs.First.{AllSound, Finds, IsFirstFaulty}
 
@@ -25,32 +25,32 @@ module _ {X F : Type 0} (sound : X → Type 0) (faulty : X → F → Type 0) whe
   first_right [] ys f all h = h
   first_right (x ∷ xs) ys f all h = inr (all.0, first_right xs ys f all.1 h)
 
-  -- what is found in a front
+  -- what is found in a front is found in the whole
   pub finds_left : (xs ys : List X) (r : Option F) → is_some r ≡ true → Finds sound faulty xs r → Finds sound faulty (xs ++ ys) r
   finds_left xs ys None some h = absurd (let e : false ≡ true = some in cc)
   finds_left xs ys (Some f) some h = first_left xs ys f h
 
-  -- each is sound where nothing is found
+  -- each item is sound if nothing is found
   pub sound_if : (xs : List X) (r : Option F) → is_some r ≡ false → Finds sound faulty xs r → AllSound sound xs
   sound_if xs None none h = h
   sound_if xs (Some f) none h = absurd (let e : true ≡ false = none in cc)
 
-  -- what is found behind a sound front
+  -- what is found after a sound front
   pub finds_right : (xs ys : List X) (r : Option F) → AllSound sound xs → Finds sound faulty ys r → Finds sound faulty (xs ++ ys) r
   finds_right xs ys None all h = (sound_append xs ys).1 (all, h)
   finds_right xs ys (Some f) all h = first_right xs ys f all h
 
-  -- what is found among what is left is found among all
+  -- what is found among the rest is found among all
   abbrev pub Leads : List X → List X → Type 0
   Leads left all = (r : Option F) → Finds sound faulty left r → Finds sound faulty all r
 
   module _ (start left all : List X) (before : Leads start all) where
-    -- one more is sound
+    -- one more item is sound
     pub leads_on : (x : X) → start ≡ x ∷ left → sound x → Leads left all
     leads_on x is fine None h = before None (subst (λ xs. Finds sound faulty xs None) (sym is) (fine, h))
     leads_on x is fine (Some f) h = before (Some f) (subst (λ xs. Finds sound faulty xs (Some f)) (sym is) (inr (fine, h)))
 
-    -- one is faulty
+    -- one item is faulty
     pub leads_off : (x : X) (f : F) → start ≡ x ∷ left → faulty x f → Finds sound faulty all (Some f)
     leads_off x f is bad = before (Some f) (subst (λ xs. Finds sound faulty xs (Some f)) (sym is) (inl bad))
 
@@ -71,12 +71,12 @@ module _ {X F : Type 0} (sound : X → Type 0) (faulty : X → F → Type 0) whe
     not_sound [] f h all = h
     not_sound (x ∷ xs) f h all = ⊎_elim (λ bad. apart x f bad all.0) (λ later. not_sound xs f later.1 all.1) h
 
-    -- nothing is found exactly where each is sound
+    -- nothing is found exactly if each item is sound
     pub finds_none : (xs : List X) (r : Option F) → Finds sound faulty xs r → (is_some r ≡ false) ↔ AllSound sound xs
     finds_none xs None h = ((λ e. h), (λ all. refl))
     finds_none xs (Some f) h = ((λ e. absurd (let off : true ≡ false = e in cc)), (λ all. absurd (not_sound xs f h all)))
 
--- what is found among items that others stand for
+-- a search among items through a view of them
 module _ {X Y F : Type 0} (sound : Y → Type 0) (faulty : Y → F → Type 0) (on : X → Y) where
   pub sound_map : (xs : List X) → AllSound (λ x. sound (on x)) xs → AllSound sound (map on xs)
   sound_map [] h = tt
@@ -94,7 +94,7 @@ module _ {X Y F : Type 0} (sound : Y → Type 0) (faulty : Y → F → Type 0) (
   finds_map xs None h = sound_map xs h
   finds_map xs (Some f) h = first_map xs f h
 
--- the same items, in other words
+-- the same search with equivalent properties
 module _ {X F : Type 0} (sound other : X → Type 0) (faulty wrong : X → F → Type 0) (on : (x : X) → sound x → other x) (bad : (x : X) (f : F) → faulty x f → wrong x f) where
   sound_alike : (xs : List X) → AllSound sound xs → AllSound other xs
   sound_alike [] h = tt

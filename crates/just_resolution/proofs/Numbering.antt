@@ -1,4 +1,4 @@
--- Numbers that are looked at, one after another.
+-- Checking numbers, one after another.
 use Rattle.std.proofs.Common.{◌≡◌, ◌↔◌, ◌⊎◌, inl, inr, ⊎_elim, ℕ, Bool, true, false, not, List, [], ◌∷◌, Some, None, refl, sym, ◌∙◌, subst, IsTrue}
 use Rattle.std.specs.BTreeSet.{BTreeSet}
 use Rattle.std.proofs.lemmas.Bool.{not-false, not-true}
@@ -11,13 +11,13 @@ use Rattle.just_resolution.specs.First.{Finds}
 use Rattle.just_resolution.specs.Seen.{is_number_in}
 use Rattle.just_resolution.proofs.Finding.{Leads, leads_off, leads_on}
 
--- A list of the numbers that were seen, which holds the same; and what is found in what is left is found in all.
+-- A list of the numbers seen so far, with the same members as the set; and what is found in the rest is found in all.
 pub record IsCountedTo (seen : BTreeSet ℕ) (left all : List (Token × ℕ)) : Type 0 where
   pub earlier : List ℕ
   pub same : (n : ℕ) → IsOneOf earlier n ↔ IsTrue (is_number_in seen n)
   pub leads : (functions : List Function) (assignments : Assignments) (outer : Frames) → Leads (IsSound functions assignments outer) (IsFaulty functions assignments outer) (number_places earlier left) (number_places [] all)
 
--- none was seen yet
+-- no number was seen yet
 pub counts_from : (seen : BTreeSet ℕ) (all : List (Token × ℕ)) → ((n : ℕ) → is_number_in seen n ≡ false) → IsCountedTo seen all all
 counts_from seen all none = record {
   earlier = [];
@@ -29,7 +29,7 @@ module _ (seen : BTreeSet ℕ) (p : Token × ℕ) (left start all : List (Token 
   next : IsCountedTo seen (p ∷ left) all
   next = subst (λ xs. IsCountedTo seen xs all) is counted
 
-  -- one more was seen
+  -- one more number was seen
   pub counts_on : (more : BTreeSet ℕ) → added ≡ true → ((n : ℕ) → IsTrue (is_number_in more n) ↔ ((p.1 ≡ n) ⊎ IsTrue (is_number_in seen n))) → IsCountedTo more left all
   counts_on more on adds =
       let c = next in
@@ -45,7 +45,7 @@ module _ (seen : BTreeSet ℕ) (p : Token × ℕ) (left start all : List (Token 
             (NumberOf p.0 p.1 c.earlier) refl (λ one. let there : is_number_in seen p.1 ≡ true = (c.same p.1).0 one in let e : false ≡ true = sym out ∙ there in cc);
       }
 
-  -- it was seen before
+  -- this number was seen before
   pub counts_off : added ≡ false → (functions : List Function) (assignments : Assignments) (outer : Frames) → Finds (IsSound functions assignments outer) (IsFaulty functions assignments outer) (number_places [] all) (Some (DuplicateNumber p.0))
   counts_off off functions assignments outer =
       let c = next in

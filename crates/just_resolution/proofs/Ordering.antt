@@ -24,7 +24,7 @@ use Rattle.just_resolution.proofs.Standing.{IsIn, unreadable_alike}
 
 -- ---- numbers that are distinct
 
--- what is found in a table stands there
+-- what is found in a table occurs there
 found_in : (name : Text) (vs : List Assignment) (a : Assignment) → value_at (λ v. v.name.lexeme) name vs ≡ Some a → IsIn vs a
 found_in name vs a found = found_is (λ v. v.name.lexeme) name (λ xs. (b : Assignment) → IsIn xs b → IsIn vs b) (IsIn vs) (λ v xs h. h v (inl refl)) (λ v xs h b later. h b (inr later)) vs a (λ b h. h) found
 
@@ -33,7 +33,7 @@ number_in [] a h = absurd h
 number_in (v ∷ vs) a (inl same) = inl (ap (λ (w : Assignment). w.number) same)
 number_in (v ∷ vs) a (inr later) = inr (number_in vs a later)
 
--- two assignments of one number are one
+-- two assignments with one number are the same
 one_assignment : (vs : List Assignment) → AreDistinct (map (λ v. v.number) vs) → (a b : Assignment) → IsIn vs a → IsIn vs b → a.number ≡ b.number → a ≡ b
 one_assignment [] distinct a b h k same = absurd h
 one_assignment (v ∷ vs) distinct a b (inl h) (inl k) same = sym h ∙ k
@@ -65,7 +65,7 @@ readable_if r outer is n =
           (λ k. or_right (is_taken r n) (is_some (value_in (frames_view r.outer.now) n)) (bound.1 (subst (λ frames. HasValue (value_in frames) n) (sym is) k))) h),
     )
 
--- where more is taken, more is readable
+-- if more is taken, more is readable
 pub more_readable : (old new : Readable) → new.outer ≡ old.outer → ((n : ℕ) → IsTrue (is_taken old n) → IsTrue (is_taken new n)) → (n : ℕ) → IsTrue (is_readable old n) → IsTrue (is_readable new n)
 more_readable old new same on n h =
     let was = readable_if old (frames_view old.outer.now) refl n in
@@ -73,14 +73,14 @@ more_readable old new same on n h =
     now_if.1 (⊎_elim (λ k. inl (on n k)) (λ k. inr k) (was.0 h))
 
 module _ (functions : List Function) (assignments : Assignments) where
-  -- more is readable
+  -- admitted functions stay admitted if more is readable
   pub admitted_on : (readable more : ℕ → Bool) (admitted : Text → Bool) → ((n : ℕ) → IsTrue (readable n) → IsTrue (more n)) → IsAdmitted functions readable admitted → IsAdmitted functions more admitted
   admitted_on readable more admitted on closed = record {
     reads = λ name f h found n s. ⊎_elim (λ own. inl own) (λ k. inr (on n k)) (closed.reads name f h found n s);
     calls = closed.calls;
   }
 
-  -- an assignment is taken, whose reads are readable
+  -- an assignment is taken, and what it reads is readable
   pub takes_one : (t : Token) (a : Assignment) (taken next readable more : ℕ → Bool) (old admitted : Text → Bool) → IsTakenBy functions assignments taken readable old → assignment_at assignments t.lexeme ≡ Some a →
       IsAdmitted functions readable admitted → ReadsReadable functions readable a →
       ((n : ℕ) → IsTrue (next n) ↔ (IsTrue (taken n) ⊎ (a.number ≡ n))) → ((n : ℕ) → IsTrue (readable n) → IsTrue (more n)) → IsTakenBy functions assignments next more admitted
@@ -92,7 +92,7 @@ module _ (functions : List Function) (assignments : Assignments) where
         ((adds n).0 h);
   }
 
-  -- ---- what one name does
+  -- ---- one name
 
   abbrev Changes : (ℕ → Bool) → (ℕ → Bool) → Token → Type 0
   Changes taken next t = (n : ℕ) → IsTrue (next n) ↔ (IsTrue (taken n) ⊎ IsNumberOf assignments t n)
@@ -101,7 +101,7 @@ module _ (functions : List Function) (assignments : Assignments) where
     is_the_one : (b : Assignment) → assignment_at assignments t.lexeme ≡ Some b → a ≡ b
     is_the_one b found_b = let e = sym found ∙ found_b in cc
 
-    -- it decides
+    -- the assignment decides
     may_come_found : (readable : ℕ → Bool) → (assignments.referenced a.number ≡ true → ReadsReadable functions readable a) → MayComeNext functions assignments (λ n. IsTrue (readable n)) t
     may_come_found readable reads = (
       (a, found),
@@ -135,7 +135,7 @@ module _ (functions : List Function) (assignments : Assignments) where
       (λ h. ⊎_elim (λ k. k) (λ k. subst (λ m. taken m ≡ true) (ap (λ (b : Assignment). b.number) (is_the_one k.0 k.1) ∙ k.3) there) h),
     )
 
-    -- it is taken now, or reads too early
+    -- it is taken now, or it reads too early
     pub comes_now : {A : Type 0} (seen : A → Fault) (readable : ℕ → Bool) (r : Option A) → assignments.referenced a.number ≡ true → MatchOption r (ReadsReadable functions readable a) (λ f. ReadsUntaken functions (λ n. IsTrue (readable n)) a (seen f)) →
         FindsMisplaced functions assignments readable t (option_map seen r)
     comes_now seen readable None on h = may_come_found readable (λ referenced. h)
@@ -149,8 +149,8 @@ module _ (functions : List Function) (assignments : Assignments) where
 
   -- ---- the order, name by name
 
-  -- A list of what was taken, which holds the same numbers; and what is found in what is left of the order is found in
-  -- the whole order.
+  -- A list of the numbers taken so far, with the same members as the set; and what is found in the rest of the order is
+  -- found in all of it.
   pub record IsWalkedTo (outer : Frames) (taken readable : ℕ → Bool) (admitted : Text → Bool) (left all : List Token) : Type 0 where
     pub by_now : IsTakenBy functions assignments taken readable admitted
     pub readable_if : (n : ℕ) → IsTrue (readable n) ↔ (IsTrue (taken n) ⊎ HasValue (value_in outer) n)
@@ -159,7 +159,7 @@ module _ (functions : List Function) (assignments : Assignments) where
     pub leads : Leads (IsSound functions assignments outer) (IsFaulty functions assignments outer) (name_places assignments numbers left) (name_places assignments [] all)
 
   module _ (outer : Frames) where
-    -- what is readable is what was taken or is bound outside
+    -- what is readable was taken or is bound outside
     taken_or_bound : (taken readable : ℕ → Bool) (numbers : List ℕ) → ((n : ℕ) → IsTrue (readable n) ↔ (IsTrue (taken n) ⊎ HasValue (value_in outer) n)) → ((n : ℕ) → IsOneOf numbers n ↔ IsTrue (taken n)) →
         (n : ℕ) → IsTrue (readable n) ↔ IsTakenOrBound outer numbers n
     taken_or_bound taken readable numbers readable_if same n = (
@@ -167,7 +167,7 @@ module _ (functions : List Function) (assignments : Assignments) where
       (λ h. (readable_if n).1 (⊎_elim (λ k. inl ((same n).0 k)) (λ k. inr k) h)),
     )
 
-    -- where the same is readable, the same may come next, and the same may not
+    -- if the same is readable, the same may come next and the same may not
     next_alike : (P Q : ℕ → Type 0) (t : Token) → ((n : ℕ) → P n ↔ Q n) → MayComeNext functions assignments P t → MayComeNext functions assignments Q t
     next_alike P Q t same h = (h.0, λ a found referenced n r. (same n).0 (h.1 a found referenced n r))
 
@@ -204,7 +204,7 @@ module _ (functions : List Function) (assignments : Assignments) where
         )
 
     module _ (taken readable : ℕ → Bool) (admitted : Text → Bool) (t : Token) (left all : List Token) (w : IsWalkedTo outer taken readable admitted (t ∷ left) all) where
-      -- one name more was taken
+      -- one more name was taken
       pub walks_on : (next more : ℕ → Bool) (admits : Text → Bool) → IsTakenBy functions assignments next more admits → ((n : ℕ) → IsTrue (more n) ↔ (IsTrue (next n) ⊎ HasValue (value_in outer) n)) →
           ((n : ℕ) → IsTrue (next n) ↔ (IsTrue (taken n) ⊎ IsNumberOf assignments t n)) → MayComeNext functions assignments (λ n. IsTrue (readable n)) t → IsWalkedTo outer next more admits left all
       walks_on next more admits by_then more_if number follows = record {
@@ -219,18 +219,18 @@ module _ (functions : List Function) (assignments : Assignments) where
             (NameOf t w.numbers) refl (next_alike (λ n. IsTrue (readable n)) (IsTakenOrBound outer w.numbers) t (taken_or_bound taken readable w.numbers w.readable_if w.same) follows);
       }
 
-      -- a name that may not come next is what is found
+      -- a name that may not come next is the one found
       pub walks_off : (f : Fault) → IsMisplaced functions assignments (λ n. IsTrue (readable n)) t f → Finds (IsSound functions assignments outer) (IsFaulty functions assignments outer) (name_places assignments [] all) (Some f)
       walks_off f bad = leads_off (IsSound functions assignments outer) (IsFaulty functions assignments outer) (name_places assignments w.numbers (t ∷ left)) (name_places assignments (with_taken assignments (assignment_at assignments t.lexeme) w.numbers) left) (name_places assignments [] all) w.leads
           (NameOf t w.numbers) f refl (misplaced_alike (λ n. IsTrue (readable n)) (IsTakenOrBound outer w.numbers) t f (taken_or_bound taken readable w.numbers w.readable_if w.same) bad)
 
-    -- what is found, where a name may not come next
+    -- the result of a search that meets a name that may not come next
     pub spoils : (taken readable : ℕ → Bool) (admitted : Text → Bool) (t : Token) (left start all : List Token) (r : Option Fault) → start ≡ t ∷ left → IsWalkedTo outer taken readable admitted start all → is_some r ≡ true → FindsMisplaced functions assignments readable t r →
         Finds (IsSound functions assignments outer) (IsFaulty functions assignments outer) (name_places assignments [] all) r
     spoils taken readable admitted t left start all None is w some h = absurd (let e : false ≡ true = some in cc)
     spoils taken readable admitted t left start all (Some f) is w some h = walks_off taken readable admitted t left all (subst (λ l. IsWalkedTo outer taken readable admitted l all) is w) f h
 
-    -- nothing is found, where all names were walked
+    -- nothing is found if all names were walked
     pub walked_all : (taken readable : ℕ → Bool) (admitted : Text → Bool) (start all : List Token) → start ≡ [] → IsWalkedTo outer taken readable admitted start all →
         Finds (IsSound functions assignments outer) (IsFaulty functions assignments outer) (name_places assignments [] all) None
     walked_all taken readable admitted start all is w =
@@ -256,7 +256,7 @@ module _ (functions : List Function) (assignments : Assignments) where
 
 -- ---- results
 
--- nothing is found: an assignment reads nothing but what is readable
+-- nothing is found: an assignment reads only what is readable
 pub reads_if : {A P : Type 0} (Q : A → Type 0) (r : Option A) → MatchOption r P Q → is_some r ≡ false → P
 reads_if Q None h none = h
 reads_if Q (Some x) h none = absurd (let e : true ≡ false = none in cc)

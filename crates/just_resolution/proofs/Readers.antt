@@ -1,4 +1,4 @@
--- Readers that differ in what was looked through alone, and what may be read besides what was taken.
+-- Readers that differ only in the functions scanned, and what may be read besides what was taken.
 use Rattle.std.proofs.Common.{◌≡◌, ◌↔◌, ◌⊎◌, inl, inr, ⊎_elim, ℕ, Bool, false, List, map, Bor, refl, ap, sym, ◌∙◌, subst, IsTrue}
 use Rattle.just_syntax.specs.Plain.{Function}
 use Rattle.just_syntax.specs.View.{function_view}
@@ -18,7 +18,7 @@ same_back old new same = record { functions = sym same.functions; here = sym sam
 pub same_on : (first old new : Reader) → IsSameReader first old → IsSameReader old new → IsSameReader first new
 same_on first old new before same = record { functions = same.functions ∙ before.functions; here = same.here ∙ before.here; bodies = same.bodies ∙ before.bodies }
 
--- what holds of what one may read holds of the other
+-- what holds of what one reader may read holds of the other's
 pub alike : (P : List Function → (ℕ → Bool) → (ℕ → Bool) → Type 0) (old new : Reader) → IsSameReader old new →
     P (map function_view old.functions.now) (is_readable old.here) (is_readable old.bodies) → P (map function_view new.functions.now) (is_readable new.here) (is_readable new.bodies)
 alike P old new same h =
@@ -26,12 +26,12 @@ alike P old new same h =
     (subst (λ r. P (map function_view old.functions.now) (is_readable r) (is_readable new.bodies)) (sym same.here)
     (subst (λ r. P (map function_view old.functions.now) (is_readable old.here) (is_readable r)) (sym same.bodies) h))
 
--- the same, the other way round
+-- the same in the other direction
 pub alike_back : (P : List Function → (ℕ → Bool) → (ℕ → Bool) → Type 0) (old new : Reader) → IsSameReader old new →
     P (map function_view new.functions.now) (is_readable new.here) (is_readable new.bodies) → P (map function_view old.functions.now) (is_readable old.here) (is_readable old.bodies)
 alike_back P old new same h = alike P new old (same_back old new same) h
 
--- where nothing is taken, what is bound may be read
+-- if nothing is taken, what is bound may be read
 pub bound_alone : (r : Readable) (scope : Bor Scope) → ((n : ℕ) → is_taken r n ≡ false) → r.outer ≡ scope → (n : ℕ) → IsTrue (is_readable r n) ↔ HasValue (value_in (frames_view scope.now)) n
 bound_alone r scope none is n =
     let readable = readable_if r (frames_view scope.now) (ap (λ (s : Bor Scope). frames_view s.now) is) n in (
@@ -39,7 +39,7 @@ bound_alone r scope none is n =
       (λ k. readable.1 (inr k)),
     )
 
--- one number more is taken
+-- one more number is taken
 pub grown : (old new : Readable) (k : ℕ) → new.outer ≡ old.outer → ((n : ℕ) → IsTrue (is_taken new n) ↔ (IsTrue (is_taken old n) ⊎ (k ≡ n))) → (n : ℕ) → IsTrue (is_readable new n) ↔ (IsTrue (is_readable old n) ⊎ (k ≡ n))
 grown old new k same taken n =
     let was = readable_if old (frames_view old.outer.now) refl n in

@@ -14,7 +14,7 @@ refuses b off decides implies = (
   (λ r. absurd (let e : b ≡ true = decides.1 (implies r) in cc)),
 )
 
--- all the other parts hold, and the order decides
+-- if all the other parts hold, the order decides
 pub is_resolved : (functions : List Function) (assignments : Assignments) (outer : Frames) (A : Type 0) → AreDistinct (map (λ a. a.number) assignments.all ++ parameter_numbers functions) →
     ((n : ℕ) → IsOneOf (parameter_numbers functions) n → HasValue (value_in outer) n → ⊥) → AllKnown functions (map (λ a. a.value) assignments.all) → AllKnown functions (map (λ f. f.body) functions) →
     A ↔ (AreAssignments assignments assignments.order × AreInOrder functions assignments outer [] assignments.order) → A ↔ IsResolved functions assignments outer
@@ -31,7 +31,7 @@ is_resolved_const assignments outer A distinct values order = (
   (λ r. order.1 (r.named, r.in_order)),
 )
 
--- what is evaluated for a recipe: all the other parts hold, and what is read decides
+-- for a recipe: if all the other parts hold, what is read decides
 pub is_resolved_here : (functions : List Function) (assignments : List Assignment) (base frames : Frames) (attributes : List (Attribute × Token)) (parameters : List Parameter) (expressions : List Expr) (A : Type 0) →
     AreDistinct (map (λ a. a.number) assignments ++ parameter_numbers functions ++ map (λ p. p.number) parameters) →
     ((n : ℕ) → IsOneOf (parameter_numbers functions ++ map (λ p. p.number) parameters) n → HasValue (value_in frames) n ⊎ HasValue (value_in base) n → ⊥) → AllKnown functions (map (λ f. f.body) functions) →
@@ -42,7 +42,7 @@ is_resolved_here functions assignments base frames attributes parameters express
   (λ r. all.1 (r.known, r.readable, r.in_turn)),
 )
 
--- where the same is readable here and in bodies
+-- if the same is readable here and in bodies
 pub within_reads : {A : Type 0} (functions : List Function) (readable : ℕ → Bool) (a : Assignment) → A ↔ ReadsWithin functions a.value readable readable → A ↔ ReadsReadable functions readable a
 within_reads functions readable a h = (
   (λ x n reads. ⊎_elim (λ s. (h.0 x).0 n s) (λ b. (h.0 x).1 n b) reads),

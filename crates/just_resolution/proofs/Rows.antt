@@ -1,4 +1,4 @@
--- Expressions whose parts are no boxes.
+-- Expressions with unboxed parts.
 use Rattle.std.proofs.Common.{◌≡◌, List, ap}
 use Rattle.just_syntax.specs.declared.expression.Expression.TheViews as expressions
 use Rattle.just_syntax.specs.View.{name_view, view, views, piece_views}

@@ -1,4 +1,4 @@
--- What sets hold once a number or a name is put in, and what is left of lists.
+-- The members of sets after an insertion, and the rest of lists.
 use Rattle.std.proofs.Common.{◌≡◌, ◌↔◌, ◌⊎◌, inl, inr, ⊎_elim, ℕ, suc, ◌+◌, ◌-◌, ◌<◌, arith, length-drop, Bool, true, false, cond, List, [], ◌∷◌, ◌++◌, length, map, take, drop, drop-cons, add-one, get_or, Bor, refl, ap, sym, ◌∙◌, subst, IsTrue}
 use Rattle.std.specs.Bool.{Decides}
 use Rattle.std.specs.BTreeSet.{BTreeSet, contains}
@@ -29,14 +29,14 @@ added : (P : Type 0) (t b x : Bool) → Decides t P → x ≡ cond t true b → 
 added P true b x d is = ((λ h. inl (d.0 refl)), (λ h. is))
 added P false b x d is = ((λ h. inr (sym is ∙ h)), (λ h. ⊎_elim (λ p. absurd (let e : false ≡ true = d.1 p in cc)) (λ k. is ∙ k) h))
 
--- a set with one number more
+-- a set with one more number
 pub number_added : (old new : BTreeSet ℕ) (k : ℕ) → ((q : ℕ) → contains nat_cmp new q ≡ cond (is_at (nat_cmp k) q) true (contains nat_cmp old q)) → (n : ℕ) → IsTrue (is_number_in new n) ↔ ((k ≡ n) ⊎ IsTrue (is_number_in old n))
 number_added old new k updates n = added (k ≡ n) (eq_by_cmp nat_cmp k n) (is_number_in old n) (is_number_in new n) (number_decides k n) (updates n)
 
 abbrev name_cmp : Bor Text → Bor Text → Ordering
 name_cmp x y = slice_cmp nat_cmp x.now y.now
 
--- a set with one name more
+-- a set with one more name
 pub name_added : (old new : BTreeSet (Bor Text)) (name : Bor Text) → ((q : Bor Text) → contains name_cmp new q ≡ cond (is_at (name_cmp name) q) true (contains name_cmp old q)) → (t : Text) →
     IsTrue (is_name_in new t) ↔ ((name.now ≡ t) ⊎ IsTrue (is_name_in old t))
 name_added old new name updates t = added (name.now ≡ t) (is_eq (slice_cmp nat_cmp name.now t)) (is_name_in old t) (is_name_in new t) (name_decides name.now t) (updates (record { ref_ptr = (0, 0); now = t }))
@@ -48,11 +48,11 @@ no_number set empty n = ap (list_any (is_at (nat_cmp n))) empty
 pub no_name : (set : BTreeSet (Bor Text)) → set.keys ≡ [] → (t : Text) → is_name_in set t ≡ false
 no_name set empty t = ap (list_any (λ (key : Bor Text). is_eq (slice_cmp nat_cmp t key.now))) empty
 
--- what is left of a list begins with the item
+-- the rest of a list begins with the item
 pub front : {X : Type 0} (xs : List X) (i : ℕ) (x : X) → i < length xs → x ≡ get_or xs i x → drop i xs ≡ x ∷ drop (i + 1) xs
 front xs i x h is = drop-cons xs i x h ∙ ap (λ y. y ∷ drop (suc i) xs) (sym is) ∙ ap (λ j. x ∷ drop j xs) (sym (add-one i))
 
--- the same, where the item has a default
+-- the same for an item with a default
 pub front_at : {X : Type 0} (xs : List X) (i : ℕ) (d : X) → i < length xs → drop i xs ≡ get_or xs i d ∷ drop (i + 1) xs
 front_at xs i d h = drop-cons xs i d h ∙ ap (λ j. get_or xs i d ∷ drop j xs) (sym (add-one i))
 
@@ -66,7 +66,7 @@ among_append (x ∷ xs) p n =
       (λ h. ⊎_elim (λ e. inr (rest.1 (inl e))) (λ k. ⊎_elim (λ e. inl e) (λ j. inr (rest.1 (inr j))) k) h),
     )
 
--- one item more was gone over
+-- one more item was visited
 pub taken_more : {X Y : Type 0} (seen : X → Y) (xs : List X) (i : ℕ) (x : X) → i < length xs → x ≡ get_or xs i x → map seen (take (i + 1) xs) ≡ map seen (take i xs) ++ seen x ∷ []
 taken_more seen xs i x within is = map_more seen xs i x within ∙ ap (λ y. map seen (take i xs) ++ seen y ∷ []) (sym is)
 
@@ -81,7 +81,7 @@ own_more pair xs i x old new n within is was now =
       (λ h. now.1 (⊎_elim (λ e. inl e) (λ k. inr (was.1 k)) (all.0 (subst (λ ps. IsAmong ps n) more h)))),
     )
 
--- what was put behind a list is left once the list is dropped
+-- dropping a list leaves what was appended to it
 pub behind : {X Y : Type 0} (seen : X → Y) (all : List X) (first more : List Y) (n : ℕ) → map seen all ≡ first ++ more → n ≡ length first → map seen (take (length all - n) (drop n all)) ≡ more
 behind seen all first more n is size =
     ap (map seen) (take_all (length all - n) (drop n all) (let l = length-drop n all in omega (arith, l))) ∙ sym (drop-map seen n all) ∙ ap (drop n) is ∙ ap (λ k. drop k (first ++ more)) size ∙ drop-append_seam first more

@@ -1,4 +1,4 @@
--- What stands in an expression stands at its sites.
+-- What occurs in an expression occurs at its sites.
 use Rattle.std.proofs.Common.{◌≡◌, ◌↔◌, ◌⊎◌, inl, inr, ⊎_elim, ℕ, Bool, true, false, List, [], ◌∷◌, ◌++◌, Option, Some, None, is_some, refl, ap, sym, ◌∙◌, subst, IsTrue, append_assoc}
 use Rattle.std.specs.List.{list_all}
 use Rattle.std.proofs.lemmas.Bool.{and_parts, and_from}
@@ -30,18 +30,18 @@ in_append (y ∷ xs) ys x =
       (λ h. ⊎_elim (λ k. ⊎_elim (λ j. inl j) (λ j. inr (rest.1 (inl j))) k) (λ k. inr (rest.1 (inr k))) h),
     )
 
--- ---- what is mentioned, and what stands there
+-- ---- mentions, and what occurs in an expression
 
--- it is at one of these sites
+-- it occurs at one of these sites
 abbrev pub Mentioned : List Site → Mention → Type 0
 Mentioned [] x = ⊥
 Mentioned (s ∷ ss) x = (s.mention ≡ x) ⊎ Mentioned ss x
 
--- nothing more
+-- an impossible alternative adds nothing
 same : {A E : Type 0} → (E → ⊥) → A ↔ (A ⊎ E)
 same none = ((λ a. inl a), (λ s. ⊎_elim (λ a. a) (λ e. absurd (none e)) s))
 
--- one part more, and then another
+-- one more part, and then another
 two : {A B C L R : Type 0} → A ↔ (B ⊎ R) → B ↔ (C ⊎ L) → A ↔ (C ⊎ (L ⊎ R))
 two p q = (
   (λ a. ⊎_elim (λ b. ⊎_elim (λ c. inl c) (λ l. inr (inl l)) (q.0 b)) (λ r. inr (inr r)) (p.0 a)),
@@ -88,7 +88,7 @@ module _ (x : Mention) where
     stands_pieces NoPiece ss = same (λ h. h)
     stands_pieces (Piece e literal pieces) ss = two (stands_pieces pieces (sites ss e)) (stands e ss)
 
--- what is at the sites of an expression is what stands there
+-- what occurs in an expression is what is mentioned at its sites
 pub mentioned : (e : Expr) (x : Mention) → Mentioned (sites_in e) x ↔ Stands e x
 mentioned e x = let all = stands x e [] in ((λ h. ⊎_elim (λ k. absurd k) (λ k. k) (all.0 h)), (λ s. all.1 (inr s)))
 
@@ -103,7 +103,7 @@ module _ (P : Mention → Type 0) where
         (λ h. (h s.mention (inl refl), rest.1 (λ x k. h x (inr k)))),
       )
 
-  -- each site of an expression is sound if what stands there is
+  -- each site of an expression is sound if what occurs there is
   pub sound_stands : (e : Expr) → AllSound (λ s. P s.mention) (sites_in e) ↔ ((x : Mention) → Stands e x → P x)
   sound_stands e =
       let all = all_sound (sites_in e) in (
@@ -124,7 +124,7 @@ known_all functions (e ∷ es) =
       (λ h. both.1 (here.1 h.0, rest.1 h.1)),
     )
 
--- what is wrong is not known
+-- a mention with a fault is not known
 pub fault_unknown : (functions : List Function) (t : Token) (x : Mention) (f : Fault) → mention_fault functions t x ≡ Some f → IsKnown functions x → ⊥
 fault_unknown functions t (VariableOf None) f h known = known
 fault_unknown functions t (VariableOf (Some n)) f h known = let e : None ≡ Some f = h in cc
@@ -133,7 +133,7 @@ fault_unknown functions t (CallOf name n) f h known =
     let e : None ≡ Some f = rw on at h in
     cc
 
--- what is not wrong is known
+-- a mention without a fault is known
 pub no_fault_known : (functions : List Function) (t : Token) (x : Mention) → mention_fault functions t x ≡ None → IsKnown functions x
 no_fault_known functions t (VariableOf None) h = absurd (cc)
 no_fault_known functions t (VariableOf (Some n)) h = tt
@@ -158,7 +158,7 @@ numbered_unless e (VariableOf None) without s = absurd (without s)
 numbered_unless e (VariableOf (Some n)) without s = refl
 numbered_unless e (CallOf name n) without s = refl
 
--- the sites decide
+-- the test of its sites decides
 pub numbered_decided : (e : Expr) → IsTrue (list_all (λ s. is_numbered s.mention) (sites_in e)) ↔ IsNumbered e
 numbered_decided e =
     let tests = all_true is_numbered (sites_in e) in
@@ -186,7 +186,7 @@ all_may_be_read readable e =
       (λ h. all.1 (λ x s. may_be_read readable e x h s)),
     )
 
--- where none is found that may not be read, all may
+-- if no variable is found that may not be read, all may be read
 pub reads_all : (readable : ℕ → Type 0) (e : Expr) (r : Option Token) → is_some r ≡ false → FindsUnreadable readable (sites_in e) r → (n : ℕ) → Stands e (VariableOf (Some n)) → readable n
 reads_all readable e r none found =
     (all_may_be_read readable e).0 (sound_if (λ s. MayBeRead readable s.mention) (λ s v. (s.token ≡ v) × (MayBeRead readable s.mention → ⊥)) (sites_in e) r none found)
@@ -202,7 +202,7 @@ unreadable_alike P Q same ss r h =
     finds_alike (λ s. MayBeRead P s.mention) (λ s. MayBeRead Q s.mention) (λ s v. (s.token ≡ v) × (MayBeRead P s.mention → ⊥)) (λ s v. (s.token ≡ v) × (MayBeRead Q s.mention → ⊥))
     (λ s k. may_alike P Q (λ n. (same n).0) s.mention k) (λ s v k. (k.0, λ j. k.1 (may_alike Q P (λ n. (same n).1) s.mention j))) ss r h
 
--- ---- what is called
+-- ---- called names
 
 one_called : (x : Mention) (name : Text) (rest : List Text) (R : ℕ → Type 0) → IsIn rest name ↔ ((n : ℕ) × R n) → IsIn (name_called x ++ rest) name ↔ ((n : ℕ) × ((x ≡ CallOf name n) ⊎ R n))
 one_called (CallOf t k) name rest R later = (
@@ -218,12 +218,12 @@ named_called : (ss : List Site) (name : Text) → IsIn (called_names ss) name �
 named_called [] name = ((λ h. absurd h), (λ h. absurd h.1))
 named_called (s ∷ ss) name = one_called s.mention name (called_names ss) (λ n. Mentioned ss (CallOf name n)) (named_called ss name)
 
--- the names at one site more
+-- the names called at one more site
 pub called_more : (ss : List Site) (s : Site) → called_names (ss ++ s ∷ []) ≡ called_names ss ++ name_called s.mention
 called_more [] s = append-nil (name_called s.mention)
 called_more (r ∷ ss) s = ap (λ names. name_called r.mention ++ names) (called_more ss s) ∙ sym (append_assoc (name_called r.mention) (called_names ss) (name_called s.mention))
 
--- the names that are called
+-- the names that an expression calls
 pub all_called : (e : Expr) (name : Text) → IsIn (called_names (sites_in e)) name ↔ ((n : ℕ) × Stands e (CallOf name n))
 all_called e name =
     let names = named_called (sites_in e) name in (

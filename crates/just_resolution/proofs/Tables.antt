@@ -1,4 +1,4 @@
--- What is found in tables.
+-- Look-ups in tables.
 use Rattle.std.proofs.Common.{◌≡◌, ℕ, nat_eq, length, List, map, Option, Some, None, Bor, refl, sym, ap, ◌∙◌}
 use Rattle.std.specs.Option.{option_map}
 use Rattle.std.proofs.lemmas.List.{length-map}
@@ -16,7 +16,7 @@ module _ {X Y : Type 0} (f : X → Y) (key : Y → Text) where
   behind None = refl
   behind (Some v) = refl
 
-  -- what a look-up found, as plain data
+  -- the result of a look-up, as plain data
   pub found_at : (name : Text) (xs : List X) (r : Option (Bor X)) → option_map (λ v. v.now) r ≡ value_at (λ x. key (f x)) name xs → value_at key name (map f xs) ≡ option_map (λ v. f v.now) r
   found_at name xs r is = seen_at f key name xs ∙ ap (option_map f) (sym is) ∙ behind r
 
@@ -33,6 +33,6 @@ pub assignment_seen : (text name : Text) (vs : List assignment.Assignment) (r : 
 assignment_seen text name vs r o same is found =
     ap (λ (t : Text). value_at (λ (a : Assignment). a.name.lexeme) t (map assignment_view vs)) (sym same) ∙ assignment_found text vs r found ∙ ap (option_map (λ (v : Bor assignment.Assignment). assignment_view v.now)) is
 
--- whether a function that was found has so many parameters
+-- whether a function that was found has this many parameters
 pub accepts_found : (o : Option Function) (f : FunctionDefinition) (other : Callee) (k n : ℕ) → o ≡ Some (function_view f) → k ≡ length f.parameters.items → nat_eq k n ≡ accepts (defined_or o other) n
 accepts_found o f other k n found is = ap (λ j. nat_eq j n) (is ∙ sym (length-map f.parameters.items parameter_view)) ∙ ap (λ p. accepts (defined_or p other) n) (sym found)

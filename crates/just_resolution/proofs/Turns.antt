@@ -22,7 +22,7 @@ one_more A B C E same = (
 )
 
 module _ (functions : List Function) (here readable : ℕ → Bool) where
-  -- the last of some expressions apart from the others
+  -- the last of some expressions, separated from the others
   stand_append : (es : List Expr) (e : Expr) → MayAllStand functions here readable (es ++ e ∷ []) ↔ (MayAllStand functions here readable es × MayStand functions here readable e)
   stand_append [] e = ((λ h. ((tt, tt), (h.0.0, h.1.0))), (λ h. ((h.1.0, tt), (h.1.1, tt))))
   stand_append (d ∷ es) e =
@@ -32,7 +32,7 @@ module _ (functions : List Function) (here readable : ℕ → Bool) where
       )
 
   module _ (D : Type 0) (old new : List Expr) (e : Expr) (is : old ≡ new ++ e ∷ []) (all : MayAllStand functions here readable old ↔ D) where
-    -- the last one may stand
+    -- the last one may occur
     pub stand_next : (answer : Bool) → answer ≡ true → (answer ≡ true) ↔ MayStand functions here readable e → MayAllStand functions here readable new ↔ D
     stand_next answer on decides =
         let last = stand_append new e in (
@@ -40,7 +40,7 @@ module _ (functions : List Function) (here readable : ℕ → Bool) where
           (λ d. (last.0 (subst (MayAllStand functions here readable) is (all.1 d))).0),
         )
 
-    -- the last one may not stand
+    -- the last one may not occur
     pub stand_off : (answer : Bool) → answer ≡ false → (answer ≡ true) ↔ MayStand functions here readable e → (false ≡ true) ↔ D
     stand_off answer off decides = refuses answer off decides (λ d. ((stand_append new e).0 (subst (MayAllStand functions here readable) is (all.1 d))).1)
 
@@ -68,7 +68,7 @@ module _ (functions : List Function) (readable : ℕ → Bool) where
         (λ h. ((h.0.0, own.1 h.0.1), rest.1 h.1)),
       )
 
-  -- one parameter was looked at, and is readable from now on
+  -- one parameter was checked, and is readable from now on
   pub follow_next : (D : Type 0) (here next : ℕ → Type 0) (p : Parameter) (ps : List Parameter) → (AllKnown functions (expressions_of p) × AllReadBy functions here readable (expressions_of p)) → ((n : ℕ) → next n ↔ (here n ⊎ (p.number ≡ n)))
       → MayFollowInTurn functions here readable (p ∷ ps) ↔ D → MayFollowInTurn functions next readable ps ↔ D
   follow_next D here next p ps own grows all =
@@ -83,7 +83,7 @@ module _ (functions : List Function) (readable : ℕ → Bool) where
   follow_off D here p ps answer off decides all = refuses answer off decides (λ d. (all.1 d).0)
 
 module _ (functions : List Function) (base names : Names) (readable : ℕ → Bool) (bodies : (n : ℕ) → IsTrue (readable n) ↔ HasValue base n) where
-  -- what tests say of reading is what is bound
+  -- what the tests say about reading is what is bound
   pub read_readable : (here other : ℕ → Type 0) (es : List Expr) → ((n : ℕ) → here n ↔ other n) → AllReadBy functions here readable es ↔ AllReadable functions base other es
   read_readable here other [] same = ((λ h. h), (λ h. h))
   read_readable here other (e ∷ es) same =

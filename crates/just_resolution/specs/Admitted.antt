@@ -1,4 +1,4 @@
--- Functions that need not be looked through again, and what follows in an order.
+-- Functions that need no second scan, and the next name of an order.
 use Rattle.std.specs.Prelude.{◌≡◌, ◌⊎◌, ℕ, Bool, true, List, [], ◌∷◌, Option, Some, None, is_some, IsTrue, MatchOption}
 use Rattle.just_syntax.specs.Plain.{Text, Token, Assignment, Expr, Function, Parameter}
 use Rattle.just_value.specs.Frames.{Frames, value_in}
@@ -11,12 +11,12 @@ use Rattle.just_resolution.specs.First.{Finds}
 use Rattle.just_resolution.specs.Sites.{Site, sites_in}
 use Rattle.just_resolution.specs.Unreadable.{IsUnreadable, MayBeRead}
 
--- whether a number passes a test, if there is one
+-- whether a number, if there is one, passes a test
 abbrev pub may_be_read : (ℕ → Bool) → Option ℕ → Bool
 may_be_read test None = true
 may_be_read test (Some n) = test n
 
--- whether it is a call, or a variable whose number passes a test, if it has one
+-- whether it is a call, or a variable whose number, if it has one, passes a test
 abbrev pub may_stand : (ℕ → Bool) → Mention → Bool
 may_stand test (VariableOf number) = may_be_read test number
 may_stand test (CallOf name k) = true
@@ -26,64 +26,64 @@ abbrev pub is_numbered : Mention → Bool
 is_numbered (VariableOf number) = is_some number
 is_numbered (CallOf name k) = true
 
--- what is found among sites: nothing, or what is wrong with the first that is not known
+-- the result of a search among sites: nothing, or the fault of the first that is not known
 abbrev pub FindsUnknown : List Function → List Site → Option Fault → Type 0
 FindsUnknown functions ss found = Finds (λ s. IsKnown functions s.mention) (λ s f. mention_fault functions s.token s.mention ≡ Some f) ss found
 
--- what is found among parameters: nothing, or the first that is bound outside
+-- the result of a search among parameters: nothing, or the first that is bound outside
 abbrev pub FindsBound : Frames → List (Token × ℕ) → Option Fault → Type 0
 FindsBound outer ps found = Finds (λ p. HasValue (value_in outer) p.1 → ⊥) (λ p f. (BoundParameter p.0 ≡ f) × HasValue (value_in outer) p.1) ps found
 
--- what is found among sites: nothing, or the first variable that may not be read
+-- the result of a search among sites: nothing, or the first variable that may not be read
 abbrev pub FindsUnreadable : (ℕ → Type 0) → List Site → Option Token → Type 0
 FindsUnreadable readable ss found = Finds (λ s. MayBeRead readable s.mention) (λ s variable. (s.token ≡ variable) × (MayBeRead readable s.mention → ⊥)) ss found
 
--- an admitted function reads nothing but its own parameters and what is readable, and calls admitted functions alone
+-- an admitted function reads only its own parameters and what is readable, and calls only admitted functions
 pub record IsAdmitted (functions : List Function) (readable : ℕ → Bool) (admitted : Text → Bool) : Type 0 where
   pub reads : (name : Text) (f : Function) → IsTrue (admitted name) → function_at functions name ≡ Some f → (n : ℕ) → Stands f.body (VariableOf (Some n)) → IsAmong f.parameters n ⊎ IsTrue (readable n)
   pub calls : (name : Text) (f : Function) → IsTrue (admitted name) → function_at functions name ≡ Some f → (further : Text) (n : ℕ) → Stands f.body (CallOf further n) → IsTrue (admitted further)
 
--- By itself an expression reads nothing but what is readable here, and through functions nothing but what bodies may read.
+-- By itself an expression reads only what is readable here. Through functions it reads only what bodies may read.
 abbrev pub ReadsWithin : List Function → Expr → (ℕ → Bool) → (ℕ → Bool) → Type 0
 ReadsWithin functions e here readable = ((n : ℕ) → Stands e (VariableOf (Some n)) → IsTrue (here n)) × ((n : ℕ) → ReadsBeyond functions e n → IsTrue (readable n))
 
--- nothing is found where an expression reads nothing but that, or else the first variable that may not be read
+-- nothing is found if an expression reads only that; otherwise the first variable that may not be read
 abbrev pub FindsBeyond : List Function → Expr → (ℕ → Bool) → (ℕ → Bool) → Option Token → Type 0
 FindsBeyond functions e here readable found = MatchOption found (ReadsWithin functions e here readable) (λ variable. IsUnreadable functions (λ n. IsTrue (here n)) (λ n. IsTrue (readable n)) e variable)
 
--- the same of the body of a function, if there is one: it may read its own parameters too
+-- the same for the body of a function, if there is one: it may read its own parameters too
 abbrev pub FindsBody : Option Function → (ℕ → Type 0) → Option Token → Type 0
 FindsBody None readable found = found ≡ None
 FindsBody (Some f) readable found = FindsUnreadable (λ n. IsAmong f.parameters n ⊎ readable n) (sites_in f.body) found
 
--- By themselves some expressions read nothing but these numbers, and through functions nothing but what bodies may read.
+-- By themselves these expressions read only these numbers. Through functions they read only what bodies may read.
 abbrev pub AllReadBy : List Function → (ℕ → Type 0) → (ℕ → Bool) → List Expr → Type 0
 AllReadBy functions here readable [] = Unit {0}
 AllReadBy functions here readable (e ∷ es) = (((n : ℕ) → Stands e (VariableOf (Some n)) → here n) × ((n : ℕ) → ReadsBeyond functions e n → IsTrue (readable n))) × AllReadBy functions here readable es
 
--- the same where a test tells what is readable here
+-- the same with a test of what is readable here
 abbrev pub AllWithin : List Function → (ℕ → Bool) → (ℕ → Bool) → List Expr → Type 0
 AllWithin functions here readable es = AllReadBy functions (λ n. IsTrue (here n)) readable es
 
--- all that stands in an expression is known, and it reads nothing but what it may
+-- everything that occurs in an expression is known, and it reads only what it may
 abbrev pub MayStand : List Function → (ℕ → Bool) → (ℕ → Bool) → Expr → Type 0
 MayStand functions here readable e = ((x : Mention) → Stands e x → IsKnown functions x) × ReadsWithin functions e here readable
 
--- the same of each of some expressions
+-- the same for each of these expressions
 abbrev pub MayAllStand : List Function → (ℕ → Bool) → (ℕ → Bool) → List Expr → Type 0
 MayAllStand functions here readable es = AllKnown functions es × AllWithin functions here readable es
 
--- the default and the value of each parameter are known, and read nothing but what is readable here, or an earlier parameter
+-- the default and the value of each parameter are known, and read only what is readable here or an earlier parameter
 abbrev pub MayFollowInTurn : List Function → (ℕ → Type 0) → (ℕ → Bool) → List Parameter → Type 0
 MayFollowInTurn functions here readable [] = Unit {0}
 MayFollowInTurn functions here readable (p ∷ ps) =
     (AllKnown functions (expressions_of p) × AllReadBy functions here readable (expressions_of p)) × MayFollowInTurn functions (λ n. here n ⊎ (p.number ≡ n)) readable ps
 
--- an assignment reads nothing but what is readable
+-- an assignment reads only what is readable
 abbrev pub ReadsReadable : List Function → (ℕ → Bool) → Assignment → Type 0
 ReadsReadable functions readable a = (n : ℕ) → Reads functions a.value n → IsTrue (readable n)
 
--- each number that was taken is that of an assignment that reads nothing but what is readable
+-- each taken number is that of an assignment that reads only what is readable
 pub record IsTakenBy (functions : List Function) (assignments : Assignments) (taken readable : ℕ → Bool) (admitted : Text → Bool) : Type 0 where
   pub closed : IsAdmitted functions readable admitted
   pub origin : (n : ℕ) → IsTrue (taken n) → (name : Text) × (a : Assignment) × (assignment_at assignments name ≡ Some a) × (a.number ≡ n) × ReadsReadable functions readable a
@@ -92,6 +92,6 @@ pub record IsTakenBy (functions : List Function) (assignments : Assignments) (ta
 abbrev pub IsNumberOf : Assignments → Token → ℕ → Type 0
 IsNumberOf assignments t n = (a : Assignment) × (assignment_at assignments t.lexeme ≡ Some a) × (assignments.referenced a.number ≡ true) × (a.number ≡ n)
 
--- what is found at a name: nothing, where it may come next, or why it may not
+-- the result at a name: nothing if it may come next, or why it may not
 abbrev pub FindsMisplaced : List Function → Assignments → (ℕ → Bool) → Token → Option Fault → Type 0
 FindsMisplaced functions assignments readable t found = MatchOption found (MayComeNext functions assignments (λ n. IsTrue (readable n)) t) (λ f. IsMisplaced functions assignments (λ n. IsTrue (readable n)) t f)

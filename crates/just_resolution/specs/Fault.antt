@@ -1,4 +1,4 @@
--- Why a module is not resolved: what is looked at, in order, and what is a fault there.
+-- Why a module is not resolved: the places that are checked, in order, and the faults there.
 use Rattle.std.specs.Prelude.{◌≡◌, ◌⊎◌, ℕ, Bool, true, false, List, [], ◌∷◌, ◌++◌, map, codes, Option, Some, None, if◌then◌else◌}
 use Rattle.just_syntax.specs.Plain.{Text, Token, Assignment, Expr, Function}
 use Rattle.just_value.specs.Frames.{Frames, value_in}
@@ -11,7 +11,7 @@ use Rattle.just_resolution.specs.First.{IsFirstFaulty}
 use Rattle.just_resolution.specs.Sites.{Site, all_sites}
 use Rattle.just_resolution.specs.Unreadable.{IsUnreadable}
 
--- a fault, and the token that it stands at
+-- a fault, and the token where it occurs
 pub data Fault : Type 0 where
   -- a call, and the number of its arguments
   ArgumentCountMismatch : Token → ℕ → Fault
@@ -32,7 +32,7 @@ fault_token (UndefinedVariable variable) = variable
 fault_token (UnknownAssignment assignment) = assignment
 fault_token (UntakenVariable assignment variable) = variable
 
--- what is said of it: where evaluation is refused for it, the same
+-- its message; if evaluation is refused for it, the message is the same
 abbrev pub fault_text : Fault → Text
 fault_text (ArgumentCountMismatch function n) = miscounted_text function.lexeme
 fault_text (BoundParameter parameter) = (codes "parameter `" ++ parameter.lexeme) ++ codes "` has a number that is bound outside"
@@ -42,14 +42,14 @@ fault_text (UndefinedVariable variable) = unresolved_text variable.lexeme
 fault_text (UnknownAssignment assignment) = unknown_assignment_text assignment.lexeme
 fault_text (UntakenVariable assignment variable) = unevaluated_text variable.lexeme
 
--- ---- what is a fault
+-- ---- faults
 
 -- whether a name stands for nothing
 abbrev pub is_unknown : Callee → Bool
 is_unknown Unknown = true
 is_unknown c = false
 
--- what is wrong with a call that a name does not take: it stands for nothing, or takes another number of arguments
+-- the fault of a call that its name does not take: the name stands for nothing, or takes another number of arguments
 abbrev pub miscalled : Callee → Token → ℕ → Fault
 miscalled c t n = if is_unknown c then UndefinedFunction t else ArgumentCountMismatch t n
 
@@ -62,7 +62,7 @@ mention_fault functions t (VariableOf None) = Some (UndefinedVariable t)
 mention_fault functions t (VariableOf (Some n)) = None
 mention_fault functions t (CallOf name n) = call_fault (callee functions name) t n
 
--- the name is an assignment's, which reads nothing but what is readable if it is referenced
+-- the name is that of an assignment which, if referenced, reads only what is readable
 abbrev pub MayComeNext : List Function → Assignments → (ℕ → Type 0) → Token → Type 0
 MayComeNext functions assignments readable t =
     ((a : Assignment) × (assignment_at assignments t.lexeme ≡ Some a))
@@ -72,15 +72,15 @@ MayComeNext functions assignments readable t =
 abbrev pub ReadsUntaken : List Function → (ℕ → Type 0) → Assignment → Fault → Type 0
 ReadsUntaken functions readable a f = (variable : Token) × (UntakenVariable a.name variable ≡ f) × IsUnreadable functions readable readable a.value variable
 
--- the name is no assignment's, or that of one that is referenced and reads such a variable
+-- the name is no assignment's, or that of a referenced assignment that reads such a variable
 abbrev pub IsMisplaced : List Function → Assignments → (ℕ → Type 0) → Token → Fault → Type 0
 IsMisplaced functions assignments readable t f =
     ((UnknownAssignment t ≡ f) × (assignment_at assignments t.lexeme ≡ None))
     ⊎ ((a : Assignment) × (assignment_at assignments t.lexeme ≡ Some a) × (assignments.referenced a.number ≡ true) × ReadsUntaken functions readable a f)
 
--- ---- where it stands
+-- ---- places
 
--- what is looked at
+-- a place that is checked
 pub data Place : Type 0 where
   -- an assignment or a parameter, its number, and the numbers before it
   NumberOf : Token → ℕ → List ℕ → Place
@@ -96,14 +96,14 @@ abbrev pub IsTakenOrBound : Frames → List ℕ → ℕ → Type 0
 IsTakenOrBound outer taken n = IsOneOf taken n ⊎ HasValue (value_in outer) n
 
 module _ (functions : List Function) (assignments : Assignments) (outer : Frames) where
-  -- nothing is a fault there
+  -- there is no fault at this place
   abbrev pub IsSound : Place → Type 0
   IsSound (NumberOf t n earlier) = IsOneOf earlier n → ⊥
   IsSound (ParameterOf t n) = HasValue (value_in outer) n → ⊥
   IsSound (SiteOf s) = IsKnown functions s.mention
   IsSound (NameOf t taken) = MayComeNext functions assignments (IsTakenOrBound outer taken) t
 
-  -- this is a fault there
+  -- this is a fault at this place
   abbrev pub IsFaulty : Place → Fault → Type 0
   IsFaulty (NumberOf t n earlier) f = (DuplicateNumber t ≡ f) × IsOneOf earlier n
   IsFaulty (ParameterOf t n) f = (BoundParameter t ≡ f) × HasValue (value_in outer) n
@@ -133,8 +133,8 @@ abbrev pub name_places : Assignments → List ℕ → List Token → List Place
 name_places assignments taken [] = []
 name_places assignments taken (t ∷ left) = NameOf t taken ∷ name_places assignments (with_taken assignments (assignment_at assignments t.lexeme) taken) left
 
--- What is looked at in a module, in order: the numbers of assignments and of parameters, whether a parameter is bound
--- outside, what stands in assignments and in bodies, and the evaluation order.
+-- The places of a module that are checked, in order: the numbers of assignments and parameters, whether a parameter is
+-- bound outside, what occurs in assignments and in bodies, and the evaluation order.
 abbrev pub places : List Function → Assignments → List Place
 places functions assignments =
     number_places [] (numbered assignments.all ++ parameters_of functions)
@@ -143,6 +143,6 @@ places functions assignments =
     ++ (site_places (map (λ f. f.body) functions)
     ++ name_places assignments [] assignments.order))
 
--- it is a fault at one of the places, and there is none at those before it
+-- it is a fault at one of the places, and the places before it have none
 abbrev pub IsFirstFault : List Function → Assignments → Frames → Fault → Type 0
 IsFirstFault functions assignments outer f = IsFirstFaulty (IsSound functions assignments outer) (λ place. IsFaulty functions assignments outer place f) (places functions assignments)

@@ -1,4 +1,4 @@
--- The first of some items that is not as it should be.
+-- The first faulty item of a list.
 use Rattle.std.specs.Prelude.{◌⊎◌, List, [], ◌∷◌, Option, Some, None}
 
 -- each of them is sound
@@ -11,7 +11,7 @@ abbrev pub IsFirstFaulty : {X : Type 0} → (X → Type 0) → (X → Type 0) �
 IsFirstFaulty sound faulty [] = ⊥
 IsFirstFaulty sound faulty (x ∷ xs) = faulty x ⊎ (sound x × IsFirstFaulty sound faulty xs)
 
--- what is found among them: nothing, where each is sound, or else what is wrong with the first that is not
+-- the result of a search among them: nothing if each is sound, or the fault of the first that is not
 abbrev pub Finds : {X F : Type 0} → (X → Type 0) → (X → F → Type 0) → List X → Option F → Type 0
 Finds sound faulty xs None = AllSound sound xs
 Finds sound faulty xs (Some f) = IsFirstFaulty sound (λ x. faulty x f) xs

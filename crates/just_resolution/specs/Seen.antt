@@ -1,4 +1,4 @@
--- What sites, faults, sets and names are as plain data.
+-- Sites, faults, sets and names as plain data.
 use Rattle.std.specs.Prelude.{◌≡◌, ℕ, Bool, ◌||◌, List, [], Option, Some, None, map, is_some}
 use Rattle.std.specs.Borrow.{Bor}
 use Rattle.std.specs.BTreeSet.{BTreeSet, contains_by}
@@ -60,7 +60,7 @@ is_taken r n = is_number_in r.taken n
 abbrev pub is_readable : Readable → ℕ → Bool
 is_readable r n = is_taken r n || is_some (value_in (frames_view r.outer.now) n)
 
--- expressions that are lent
+-- borrowed expressions
 abbrev pub expressions_view : List (Bor Expression) → List Expr
 expressions_view es = map (λ e. view e.now) es
 
@@ -69,7 +69,7 @@ abbrev pub attributes_of : Option (Bor Recipe) → List (Attribute × Token)
 attributes_of None = []
 attributes_of (Some recipe) = (recipe_view recipe.now).attributes
 
--- the same but for the functions that were looked through
+-- the same except for the functions that were scanned
 pub record IsSameReader (old new : Reader) : Type 0 where
   pub functions : new.functions ≡ old.functions
   pub here : new.here ≡ old.here

@@ -1,4 +1,4 @@
--- Where variables and calls stand in an expression, in order.
+-- Where variables and calls occur in an expression, in order.
 use Rattle.std.specs.Prelude.{ℕ, List, [], ◌∷◌, ◌++◌, Option, Some, None}
 use Rattle.just_syntax.specs.Plain.{Text, Token, Function, Expr, And, Assert, AssertOnly, Backtick, Call, Comparison, Concatenation, Conditional, ConditionalOnly, FormatString, Group, Join, JoinOnly, ListOf, ListConcatenation, Not, Or, StringLiteral, Variable, Exprs, Nil, Cons, count, Pieces, NoPiece, Piece}
 use Rattle.just_meaning.specs.Reaches.{Mention, VariableOf, CallOf}
@@ -14,7 +14,7 @@ with_call ss t n = ss ++ (record { token = t; mention = CallOf t.lexeme n }) ∷
 abbrev pub with_variable : List Site → Token → Option ℕ → List Site
 with_variable ss t number = ss ++ (record { token = t; mention = VariableOf number }) ∷ []
 
--- behind these sites those in an expression
+-- these sites, and then those of an expression
 abbrev mutual
   pub sites : List Site → Expr → List Site
   sites ss (And l r) = sites (sites ss l) r
@@ -45,20 +45,20 @@ abbrev mutual
   sites_of_pieces ss NoPiece = ss
   sites_of_pieces ss (Piece e literal pieces) = sites_of_pieces (sites ss e) pieces
 
--- the same of an expression that may be left out
+-- the same for an optional expression
 abbrev pub sites_of_some : List Site → Option Expr → List Site
 sites_of_some ss None = ss
 sites_of_some ss (Some e) = sites ss e
 
--- the same of a call
+-- the same for a call
 abbrev pub sites_of_call : List Site → Token → Exprs → List Site
 sites_of_call ss t es = sites_of_row (with_call ss t (count es)) es
 
--- the sites in an expression
+-- the sites of an expression
 abbrev pub sites_in : Expr → List Site
 sites_in e = sites [] e
 
--- the sites in some expressions, one after another
+-- the sites of several expressions, one after another
 abbrev pub all_sites : List Expr → List Site
 all_sites [] = []
 all_sites (e ∷ es) = sites_in e ++ all_sites es

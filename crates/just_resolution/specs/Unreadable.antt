@@ -19,7 +19,7 @@ AllMayBeRead readable e = AllSound (λ s. MayBeRead readable s.mention) (sites_i
 abbrev pub IsFirstUnreadable : (ℕ → Type 0) → Expr → Token → Type 0
 IsFirstUnreadable readable e variable = IsFirstFaulty (λ s. MayBeRead readable s.mention) (λ s. (s.token ≡ variable) × (MayBeRead readable s.mention → ⊥)) (sites_in e)
 
--- the first variable in the body of a function that is reached, which is neither its parameter nor readable
+-- the first variable in the body of a reached function that is neither its parameter nor readable
 pub record IsUnreadableBeyond (functions : List Function) (readable : ℕ → Type 0) (e : Expr) (variable : Token) : Type 0 where
   pub name : Text
   pub function : Function
@@ -27,7 +27,7 @@ pub record IsUnreadableBeyond (functions : List Function) (readable : ℕ → Ty
   pub found : function_at functions name ≡ Some function
   pub first : IsFirstUnreadable (λ n. IsAmong function.parameters n ⊎ readable n) function.body variable
 
--- An expression reads a variable that it may not: the first such in its own text, or, where it has none, the first in a
--- body that it reaches. By itself it may read other numbers than bodies may.
+-- An expression reads a variable that it may not: the first one in its own text or, if it has none, the first in a body
+-- that it reaches. By itself it may read other numbers than bodies may.
 abbrev pub IsUnreadable : List Function → (ℕ → Type 0) → (ℕ → Type 0) → Expr → Token → Type 0
 IsUnreadable functions here readable e variable = IsFirstUnreadable here e variable ⊎ (AllMayBeRead here e × IsUnreadableBeyond functions readable e variable)

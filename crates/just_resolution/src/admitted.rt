@@ -22,13 +22,13 @@ use just_syntax::table::Table;
 use std::alloc::Global;
 use std::collections::BTreeSet;
 
-// The first variable that an expression may not read: by itself what is not readable here, and through functions what is
-// not readable in bodies.
+// The first variable that an expression may not read: by itself one that is not readable here, or through functions one
+// that is not readable in bodies.
 //
-// Each function that it reaches is looked through, unless it is admitted: then it and what it calls were looked
-// through before, and what bodies could read then they can read now. Each is admitted before it is looked through, so
-// that none is looked through twice, and functions that call each other for ever come to an end. Where nothing is
-// found, what is admitted is a closed set: it holds what its functions call.
+// Each function that it reaches is scanned, unless it is admitted: then it and what it calls were scanned before, and
+// what bodies could read then they can read now. A function is admitted before it is scanned, so that none is scanned
+// twice, and mutual recursion terminates. If nothing is found, the admitted functions are a closed set: it holds what
+// they call.
 pub(crate) fn first_unreadable<'src>(
     alloc: Global,
     functions: &Table<FunctionDefinition<'src>>,
@@ -61,7 +61,7 @@ pub(crate) fn first_unreadable<'src>(
 }
 
 // The first variable in the body of the function with a name, if there is one, that is neither its own parameter nor
-// readable. If there is none, the names that it calls are added.
+// readable. If nothing is found, the names that the body calls are added to `pending`.
 fn look_through_function<'src>(
     alloc: Global,
     functions: &Table<FunctionDefinition<'src>>,
@@ -81,8 +81,8 @@ fn look_through_function<'src>(
     }
 }
 
-// The first variable in an expression that is neither own nor readable. If there is none, the names that it calls are
-// added.
+// The first variable in an expression that is neither own nor readable. If nothing is found, the names that it calls
+// are added to `pending`.
 fn look_through<'src>(
     alloc: Global,
     readable: &Readable<'src, '_, '_>,
@@ -118,7 +118,7 @@ fn first_unreadable_site<'src>(
     None
 }
 
-// Whether it is a call, or a variable that is own or readable, if it has a number.
+// Whether it is a call, or a variable whose number, if it has one, is own or readable.
 fn may_stand(readable: &Readable, own: &BTreeSet<Number>, site: &Site) -> bool
     ensures { result ≡ may_stand (λ n. is_number_in own.now n || is_readable readable.now n) (site_view site.now).mention }
 {

@@ -13,7 +13,7 @@ use just_syntax::parameter::Parameter;
 use just_syntax::recipe::Recipe;
 use std::alloc::Global;
 
-// The keys and the values of a recipe's `[env]` attributes, in their order; none where there is no recipe.
+// The keys and the values of a recipe's `[env]` attributes, in order; none if there is no recipe.
 pub(crate) fn recipe_expressions<'a, 'src>(
     alloc: Global,
     recipe: Option<&'a Recipe<'src>>,
@@ -26,7 +26,7 @@ pub(crate) fn recipe_expressions<'a, 'src>(
     }
 }
 
-// The keys and the values of `[env]` attributes, in their order.
+// The keys and the values of `[env]` attributes, in order.
 fn attribute_expressions<'a, 'src>(
     alloc: Global,
     attributes: &'a AttributeSet<'src>,
@@ -43,7 +43,7 @@ fn attribute_expressions<'a, 'src>(
     Ok(all)
 }
 
-// The default and the value of a parameter, those that it has.
+// The default and the value of a parameter, if it has them.
 pub(crate) fn expressions_of<'a, 'src>(
     alloc: Global,
     parameter: &'a Parameter<'src>,

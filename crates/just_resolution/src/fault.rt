@@ -11,10 +11,10 @@ use just_syntax::unstyled::write_unstyled;
 use std::error::Error;
 use std::fmt;
 
-/// Why a module is not resolved, and the name where that shows.
+/// Why a module is not resolved, with the name where that shows.
 #[derive(Clone, Copy, Debug, PartialEq)]
 pub enum Fault<'src> {
-    /// A call has another number of arguments than its name takes: so many.
+    /// A call has `found` arguments, which its name does not take.
     ArgumentCountMismatch {
         function: Name<'src>,
         found: usize,
@@ -27,7 +27,7 @@ pub enum Fault<'src> {
     DuplicateNumber {
         variable: Name<'src>,
     },
-    /// A name is called that no function has.
+    /// A called name is not that of a function.
     UndefinedFunction {
         function: Name<'src>,
     },
@@ -39,7 +39,7 @@ pub enum Fault<'src> {
     UnknownAssignment {
         assignment: Name<'src>,
     },
-    /// An assignment reads a variable, by itself or in a body that it reaches, which is neither taken before it nor
+    /// An assignment reads a variable, by itself or in a body that it reaches, that is neither taken before it nor
     /// bound outside.
     UntakenVariable {
         assignment: Name<'src>,
@@ -48,7 +48,7 @@ pub enum Fault<'src> {
 }
 
 impl<'src> Fault<'src> {
-    /// The token where it stands: that of the name that is called, declared, ordered or read.
+    /// The token where the fault occurs: that of the name that is called, declared, ordered or read.
     pub fn token(&self) -> Token<'src>
         ensures { token_view result ≡ fault_token (fault_view self.now) }
     {

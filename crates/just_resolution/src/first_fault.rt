@@ -18,25 +18,25 @@ use just_value::scope::Scope;
 use std::alloc::Global;
 use std::collections::HashSet;
 
-/// The first reason why a module is not [`resolved`]; none, if it is.
+/// The first reason why a module is not [`resolved`]; `None` if it is.
 ///
-/// What is looked at, in this order:
+/// It checks, in this order:
 ///
-/// - the numbers of all assignments, in the order of their names, and of all parameters of functions, in the order of the
-///   functions' names: one that stood before is a [`Fault::DuplicateNumber`];
+/// - the numbers of all assignments, in the order of their names, and of all parameters of functions, in the order of
+///   the functions' names: one that occurred before is a [`Fault::DuplicateNumber`];
 /// - the same parameters: one that `parent` binds is a [`Fault::BoundParameter`];
-/// - each variable and each call in the values of assignments and then in the bodies of functions, in the order of their
-///   names and of their text: [`Fault::UndefinedVariable`], [`Fault::UndefinedFunction`],
+/// - each variable and each call in the values of assignments and then in the bodies of functions, in the order of
+///   their names and of their text: [`Fault::UndefinedVariable`], [`Fault::UndefinedFunction`],
 ///   [`Fault::ArgumentCountMismatch`];
-/// - each name of the evaluation order: [`Fault::UnknownAssignment`], or [`Fault::UntakenVariable`], whose variable is the
-///   first such in the assignment's text; if there is none, the first in a body that it reaches. Which of several bodies
-///   that is, is not said.
+/// - each name of the evaluation order: [`Fault::UnknownAssignment`], or [`Fault::UntakenVariable`], whose variable is
+///   the first such in the assignment's text or, if there is none, the first in a body that it reaches. It is
+///   unspecified which body that is if there are several.
 ///
 /// [`resolved`]: crate::resolved::resolved
 ///
 /// # Errors
 ///
-/// `OutOfMemory` where memory was asked for and refused.
+/// `OutOfMemory` if an allocation fails.
 pub fn first_fault<'src, 'run>(
     alloc: Global,
     module: &Justfile<'src>,

@@ -1,4 +1,5 @@
-// What is evaluated for a recipe: whether its numbers are apart, and whether all is known and bound before it is read.
+// What is evaluated for a recipe: whether its numbers clash, and whether everything is known and bound before it is
+// read.
 
 ghost use Rattle.std.specs.Prelude.{◌↔◌, ◌++◌, IfOk, IsTrue, [], map};
 ghost use Rattle.just_syntax.specs.View.{assignment_view, function_view, recipe_parameter_view, view};
@@ -54,7 +55,7 @@ pub(crate) fn are_parameters_apart<'src>(
     Ok(number_fault(alloc, &numbers)?.is_none())
 }
 
-// Whether all that is evaluated is known, and bound before it is read.
+// Whether everything that is evaluated is known and bound before it is read.
 pub(crate) fn are_readable_here<'src, 'run>(
     alloc: Global,
     context: &ExecutionContext<'src, 'run>,
@@ -76,19 +77,19 @@ pub(crate) fn are_readable_here<'src, 'run>(
     reader.may_stand_and_follow(alloc, recipe, parameters, expressions)
 }
 
-// What may be read, and the functions that were looked through.
+// What may be read, and the functions that were scanned.
 #[derive(Drop)]
 struct Reader<'src, 'a, 'run> {
     functions: &'a Table<FunctionDefinition<'src>>,
-    // What is evaluated may read this by itself.
+    // What expressions here may read by themselves.
     here: Readable<'src, 'a, 'run>,
-    // Bodies may read this besides their own parameters.
+    // What bodies may read besides their own parameters.
     bodies: Readable<'src, 'a, 'run>,
     admitted: BTreeSet<&'src str>,
 }
 
 impl<'src> Reader<'src, '_, '_> {
-    // Whether an expression is known, and reads nothing but what it may.
+    // Whether an expression is known and reads only what it may.
     fn may_stand(
         &mut self,
         alloc: Global,
@@ -113,7 +114,7 @@ impl<'src> Reader<'src, '_, '_> {
         Ok(unreadable.is_none())
     }
 
-    // The same of each of these expressions: the answer does not depend on which is looked at first.
+    // The same for each of these expressions. The answer does not depend on the order in which they are checked.
     fn may_all_stand(
         &mut self,
         alloc: Global,
@@ -133,8 +134,8 @@ impl<'src> Reader<'src, '_, '_> {
         Ok(true)
     }
 
-    // Whether these expressions and a recipe's attributes are known and read nothing but what they may, and these parameters
-    // nothing but that and the earlier ones.
+    // Whether these expressions and a recipe's attributes are known and read only what they may, and these parameters
+    // only that and the earlier ones.
     fn may_stand_and_follow(
         &mut self,
         alloc: Global,
@@ -156,7 +157,7 @@ impl<'src> Reader<'src, '_, '_> {
         self.may_follow(alloc, parameters)
     }
 
-    // Whether the defaults and values of these parameters are known, and read nothing but what they may and the earlier
+    // Whether the defaults and values of these parameters are known and read only what they may and the earlier
     // parameters.
     fn may_follow(
         &mut self,

@@ -1,4 +1,4 @@
-// The first variable that has no number, or call that its name does not take.
+// The first variable without a number, or call that its name does not take.
 
 ghost use Rattle.std.specs.Prelude.{◌≡◌, ◌↔◌, IfOk, IsTrue, map, not};
 ghost use Rattle.std.specs.List.{list_all};
@@ -23,7 +23,7 @@ use just_syntax::out_of_memory::OutOfMemory;
 use just_syntax::table::Table;
 use std::alloc::Global;
 
-// Whether a name stands for what may be called with so many arguments: a function of the file, or another one.
+// Whether a name can be called with this many arguments, as a function of the file or otherwise.
 fn is_callable(functions: &Table<FunctionDefinition>, name: &str, arguments: usize) -> bool
     ensures { result ≡ accepts (callee (map function_view functions.now) name.now) arguments }
 {
@@ -33,7 +33,7 @@ fn is_callable(functions: &Table<FunctionDefinition>, name: &str, arguments: usi
     }
 }
 
-// The same of a name that the file does not define: a built-in function's, or that of one that is left out.
+// The same for a name that the file does not define: that of a built-in function, or of one that is left out.
 fn is_callable_outside(name: &str, arguments: usize) -> bool
     ensures { result ≡ accepts (undefined name.now) arguments }
 {
@@ -56,14 +56,14 @@ fn is_function(functions: &Table<FunctionDefinition>, name: &str) -> bool
     }
 }
 
-// The same of a name that the file does not define.
+// The same for a name that the file does not define.
 fn is_function_outside(name: &str) -> bool
     ensures { result ≡ not (is_unknown (undefined name.now)) }
 {
     get(name).is_some() || is_left_out(name)
 }
 
-// What is wrong with a call, if anything is.
+// The fault of a call, if there is one.
 fn call_fault<'src>(
     functions: &Table<FunctionDefinition<'src>>,
     name: &Name<'src>,
@@ -84,7 +84,7 @@ fn call_fault<'src>(
     }
 }
 
-// What is wrong with a variable or a call, if anything is.
+// The fault of a variable or a call, if there is one.
 fn site_fault<'src>(
     functions: &Table<FunctionDefinition<'src>>,
     site: &Site<'src>,
@@ -99,7 +99,7 @@ fn site_fault<'src>(
     }
 }
 
-// What is wrong with the first of these sites where anything is.
+// The first fault at these sites.
 fn sites_fault<'src>(
     functions: &Table<FunctionDefinition<'src>>,
     sites: &[Site<'src>],
@@ -115,7 +115,7 @@ fn sites_fault<'src>(
     None
 }
 
-// The same of what stands in an expression.
+// The first fault in an expression.
 pub(crate) fn expression_fault<'src>(
     alloc: Global,
     functions: &Table<FunctionDefinition<'src>>,
@@ -127,7 +127,7 @@ pub(crate) fn expression_fault<'src>(
     Ok(sites_fault(functions, &sites))
 }
 
-// The same of what stands in the values of assignments.
+// The first fault in the values of assignments.
 pub(crate) fn values_fault<'src>(
     alloc: Global,
     functions: &Table<FunctionDefinition<'src>>,
@@ -144,7 +144,7 @@ pub(crate) fn values_fault<'src>(
     Ok(None)
 }
 
-// The same of what stands in the bodies of functions.
+// The first fault in the bodies of functions.
 pub(crate) fn bodies_fault<'src>(
     alloc: Global,
     functions: &Table<FunctionDefinition<'src>>,

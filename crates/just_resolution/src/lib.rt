@@ -1,6 +1,7 @@
-// The exact tests whether a module, its assignments before any run, or what is evaluated for a recipe are resolved: whether each
-// name means one thing, and all is evaluated before it is read; and, of a module, why it is not. They lean on the definitions
-// of `just_meaning` and on what is below them alone, and never on the laws of evaluation nor on the evaluator.
+// Exact tests of whether a module, its assignments before any run, or what is evaluated for a recipe is resolved: each
+// name means one thing, and everything is evaluated before it is read. For a module there is also the reason why it is
+// not. They build on the definitions of `just_meaning` and on what is below them, and never on the laws of evaluation
+// or on the evaluator.
 #![tactic(auto)]
 
 mod admitted;

@@ -1,4 +1,4 @@
-// The numbers of assignments and parameters: the first that stands there twice, and the first that is bound outside.
+// The numbers of assignments and parameters: the first that occurs twice, and the first that is bound outside.
 
 ghost use Rattle.std.specs.Prelude.{◌≡◌, ◌↔◌, ◌++◌, ℕ, List, [], ◌∷◌, IfOk, OnOk, IsTrue, map};
 ghost use Rattle.std.specs.Option.{option_map};
@@ -27,7 +27,7 @@ use just_value::scope::Scope;
 use std::alloc::Global;
 use std::collections::BTreeSet;
 
-// The first of all assignments and parameters with the number of an earlier one, or else the first parameter that
+// The first assignment or parameter with the number of an earlier one or, if there is none, the first parameter that
 // `parent` binds.
 pub(crate) fn numbering_fault<'src>(
     alloc: Global,
@@ -48,7 +48,7 @@ pub(crate) fn numbering_fault<'src>(
     Ok(parameter_fault(parent, &numbers[first_parameter..]))
 }
 
-// Assignments, each with its number.
+// Assignments with their numbers.
 pub(crate) fn assignment_numbers<'src>(
     alloc: Global,
     assignments: &Table<Assignment<'src>>,
@@ -62,7 +62,7 @@ pub(crate) fn assignment_numbers<'src>(
     Ok(numbers)
 }
 
-// Adds the parameters of functions, each with its number.
+// Adds the parameters of functions with their numbers.
 pub(crate) fn add_parameter_numbers<'src>(
     numbers: &mut Vec<(Name<'src>, Number)>,
     functions: &Table<FunctionDefinition<'src>>,
@@ -75,7 +75,7 @@ pub(crate) fn add_parameter_numbers<'src>(
     Ok(())
 }
 
-// Adds a recipe's parameters, each with its number.
+// Adds a recipe's parameters with their numbers.
 pub(crate) fn add_recipe_numbers<'src>(
     numbers: &mut Vec<(Name<'src>, Number)>,
     parameters: &[Parameter<'src>],
@@ -137,7 +137,7 @@ pub(crate) fn parameter_fault<'src>(
 ///
 /// # Errors
 ///
-/// `OutOfMemory` where memory was asked for and refused.
+/// `OutOfMemory` if an allocation fails.
 pub fn own_numbers(
     alloc: Global,
     parameters: &[(Name, Number)],

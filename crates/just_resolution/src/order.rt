@@ -26,7 +26,7 @@ use just_value::scope::Scope;
 use std::alloc::Global;
 use std::collections::{BTreeSet, HashSet};
 
-// What is wrong with the first name that is no assignment's, or that of an assignment which reads what is neither taken
+// The fault of the first name that is no assignment's, or that of an assignment that reads what is neither taken
 // earlier nor bound outside.
 pub(crate) fn order_fault<'src>(
     alloc: Global,
@@ -59,8 +59,8 @@ pub(crate) fn order_fault<'src>(
     Ok(None)
 }
 
-// Takes the assignment with a name, unless it is not referenced, and answers why it may not come next, if so. One that
-// was taken before may come again. What it takes does not depend on the rest of the order, so its clauses have none.
+// Takes the assignment with a name if it is referenced, and returns the reason if it may not come next. One that was
+// already taken may come again. The rest of the order does not matter: the clauses use an empty one.
 fn take_next<'src>(
     alloc: Global,
     functions: &Table<FunctionDefinition<'src>>,
@@ -95,7 +95,7 @@ fn take_next<'src>(
     }
 }
 
-// Takes an assignment, unless it reads what is not readable, and answers the first such variable.
+// Takes an assignment, unless it reads what is not readable; then the fault names the first such variable.
 fn take<'src>(
     alloc: Global,
     functions: &Table<FunctionDefinition<'src>>,

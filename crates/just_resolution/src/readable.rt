@@ -18,7 +18,7 @@ pub(crate) struct Readable<'src, 'scope, 'run> {
 impl<'src, 'scope, 'run> Readable<'src, 'scope, 'run> {
     ghost use Rattle.just_resolution.specs.Seen.{is_readable, is_taken};
 
-    // None is taken. It takes no memory.
+    // With nothing taken. It does not allocate.
     pub(crate) fn new(
         alloc: Global,
         outer: &'scope Scope<'src, 'run>,

@@ -6,7 +6,7 @@ ghost use Rattle.just_meaning.specs.View.{is_referenced_in};
 use just_syntax::number::Number;
 use std::collections::HashSet;
 
-/// Whether a number is referenced: each one is where no set is given. It takes no memory.
+/// Whether a number is referenced. Without a set each number is. It does not allocate.
 pub fn is_referenced(references: Option<&HashSet<Number>>, number: Number) -> bool
     ensures { result ≡ is_referenced_in references.entry number }
 {

@@ -22,22 +22,22 @@ use std::collections::HashSet;
 /// assignment, and each assignment is taken before it is read.
 ///
 /// - The numbers of all assignments are distinct.
-/// - Each variable in an assignment has a number, also in one that is not taken. Nothing is asked of the names that
-///   are called.
-/// - Each name of the evaluation order is an assignment's. The variables that stand in a taken assignment, overridden
-///   or not, are taken earlier or bound in `scope`. Taken are the assignments of the order that are referenced.
+/// - Each variable in an assignment has a number, even if the assignment is not taken. There is no condition on called
+///   names.
+/// - Each name of the evaluation order is an assignment's. The variables that occur in a taken assignment, overridden
+///   or not, are taken earlier or bound in `scope`. The assignments taken are those of the order that are referenced.
 ///
-/// [`resolved`] asks besides that each called name takes as many arguments as the call has, that parameters have
-/// numbers of their own, which are not bound outside, that each variable in a body has a number, and that what is
-/// read in the bodies that are reached is taken earlier or bound outside too.
+/// [`resolved`] also requires that each called name takes as many arguments as the call has, that parameters have
+/// numbers of their own, which are not bound outside, that each variable in a body has a number, and that what reached
+/// bodies read is taken earlier or bound outside.
 ///
-/// Each assignment is looked through a bounded number of times.
+/// Each assignment is scanned a bounded number of times.
 ///
 /// [`resolved`]: crate::resolved::resolved
 ///
 /// # Errors
 ///
-/// `OutOfMemory`, where memory was asked for and refused: nothing is decided, and the assignments stay as they were.
+/// `OutOfMemory` if an allocation fails: nothing is decided, and the assignments are unchanged.
 pub fn resolved_const<'src, 'run>(
     alloc: Global,
     assignments: &Table<Assignment<'src>>,

@@ -18,23 +18,22 @@ use just_syntax::recipe::Recipe;
 use just_value::scope::Scope;
 use std::alloc::Global;
 
-/// Whether what is evaluated for a recipe is resolved: the attributes of `recipe`, if one is given, these parameters, and
-/// these expressions, of lines for example. Then what they mean does not depend on the calls that are pending.
+/// Whether what is evaluated for a recipe is resolved: the attributes of `recipe`, if one is given, these parameters,
+/// and these expressions (those of lines, for example). If it is, their meaning does not depend on the pending calls.
 ///
 /// - The numbers of all assignments of the context's module, of all parameters of its functions and of these parameters
 ///   are distinct, and neither `scope` nor the context's scope binds one of a parameter.
 /// - Each variable in what is evaluated, and in a function's body, has a number, and each called name takes as many
 ///   arguments as the call has.
-/// - What an attribute or an expression reads by itself is bound in `scope`; what a parameter's default or value reads,
-///   there or among the earlier parameters. What a body that is reached reads is its own parameter, or bound in the
+/// - What an attribute or an expression reads by itself is bound in `scope`. What a parameter's default or value reads
+///   is bound there or among the earlier parameters. What a reached body reads is its own parameter or bound in the
 ///   context's scope.
 ///
-/// Each expression and each body is looked through a bounded number of times. The expressions come as a vector, which is
-/// used up.
+/// Each expression and each body is scanned a bounded number of times. The vector of expressions is consumed.
 ///
 /// # Errors
 ///
-/// `OutOfMemory`, where memory was asked for and refused: nothing is decided, and `expressions` is used up all the same.
+/// `OutOfMemory` if an allocation fails: nothing is decided, and `expressions` is consumed all the same.
 pub fn resolved_here<'src, 'run>(
     alloc: Global,
     context: &ExecutionContext<'src, 'run>,
@@ -51,7 +50,8 @@ pub fn resolved_here<'src, 'run>(
     are_readable_here(alloc, context, scope, recipe, parameters, expressions)
 }
 
-// Whether the numbers of the module and of these parameters are apart, and each variable and each call in a body is known.
+// Whether the numbers of the module and of these parameters do not clash, and each variable and each call in a body is
+// known.
 fn are_apart_and_known<'src, 'run>(
     alloc: Global,
     context: &ExecutionContext<'src, 'run>,

@@ -1,20 +1,20 @@
-// Where variables and calls stand.
+// Where variables and calls occur.
 
 use just_syntax::name::Name;
 use just_syntax::number::Number;
 
-/// A variable or a call that stands in an expression.
+/// A variable or a call that occurs in an expression.
 #[derive(Clone, Copy, Debug, PartialEq)]
 pub struct Site<'src> {
-    /// The variable's name, or the one that is called.
+    /// The name of the variable, or the called name.
     pub name: Name<'src>,
     pub mention: Mention,
 }
 
-/// What stands at a site.
+/// What occurs at a site.
 #[derive(Clone, Copy, Debug, PartialEq)]
 pub enum Mention {
-    /// A call with so many arguments.
+    /// A call with this many arguments.
     Call { arguments: usize },
     /// A variable with its number, if it has one.
     Variable { number: Option<Number> },

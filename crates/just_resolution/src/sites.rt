@@ -1,4 +1,4 @@
-// Where variables and calls stand in an expression, in order.
+// Where variables and calls occur in an expression, in order.
 
 ghost use Rattle.std.specs.Prelude.{◌≡◌, ◌++◌, [], ◌∷◌, IfOk, OnOk};
 ghost use Rattle.std.specs.Option.{option_map};
@@ -14,12 +14,12 @@ use just_syntax::out_of_memory::OutOfMemory;
 use just_syntax::string_literal::StringLiteral;
 use std::alloc::Global;
 
-/// Where variables and calls stand in an expression, in the order of its text: the name of a call comes before its
-/// arguments. They are gathered in one walk, so that what is asked of them needs no recursion.
+/// Where variables and calls occur in an expression, in the order of its text: the name of a call comes before its
+/// arguments. One walk collects them, so that checking them needs no recursion.
 ///
 /// # Errors
 ///
-/// `OutOfMemory` where memory was asked for and refused.
+/// `OutOfMemory` if an allocation fails.
 pub fn sites_in<'src>(
     alloc: Global,
     expression: &Expression<'src>,
@@ -31,8 +31,8 @@ pub fn sites_in<'src>(
     Ok(all)
 }
 
-// Adds what stands in an expression. The arms that go further down are functions of their own, so that the frame
-// of this one stays small: expressions may nest as deep as the stack has room.
+// Adds the sites of an expression. The recursive arms are functions of their own, to keep this frame small: expressions
+// may nest as deeply as the stack allows.
 #[cycle(add)]
 fn add<'src>(all: &mut Vec<Site<'src>>, expression: &Expression<'src>) -> Result<(), OutOfMemory>
     ensures { OnOk result (sites_view all.new.items ≡ sites (sites_view all.old.items) (view expression.now)) }
@@ -88,7 +88,7 @@ fn add<'src>(all: &mut Vec<Site<'src>>, expression: &Expression<'src>) -> Result
     }
 }
 
-// Adds what stands in two expressions.
+// Adds the sites of two expressions.
 #[cycle(add)]
 fn add_both<'src>(
     all: &mut Vec<Site<'src>>,
@@ -101,7 +101,7 @@ fn add_both<'src>(
     add(all, rhs)
 }
 
-// Adds what stands in an expression, if there is one.
+// Adds the sites of an expression, if there is one.
 #[cycle(add)]
 fn add_some<'src>(
     all: &mut Vec<Site<'src>>,
@@ -115,7 +115,7 @@ fn add_some<'src>(
     }
 }
 
-// Adds what stands in an assertion.
+// Adds the sites of an assertion.
 #[cycle(add)]
 fn add_assert<'src>(
     all: &mut Vec<Site<'src>>,
@@ -128,7 +128,7 @@ fn add_assert<'src>(
     add_some(all, message)
 }
 
-// Adds what stands in a conditional.
+// Adds the sites of a conditional.
 #[cycle(add)]
 fn add_conditional<'src>(
     all: &mut Vec<Site<'src>>,
@@ -142,7 +142,7 @@ fn add_conditional<'src>(
     add_some(all, otherwise)
 }
 
-// Adds what stands in a join, whose left side may be left out.
+// Adds the sites of a join, whose left side is optional.
 #[cycle(add)]
 fn add_join<'src>(
     all: &mut Vec<Site<'src>>,
@@ -155,7 +155,7 @@ fn add_join<'src>(
     add(all, rhs)
 }
 
-// Adds a call, and what stands in its arguments.
+// Adds a call, and the sites of its arguments.
 #[cycle(add)]
 fn add_call<'src>(
     all: &mut Vec<Site<'src>>,
@@ -168,7 +168,7 @@ fn add_call<'src>(
     add_row(all, arguments)
 }
 
-// Adds what stands in some expressions.
+// Adds the sites of some expressions.
 #[cycle(add)]
 fn add_row<'src>(
     all: &mut Vec<Site<'src>>,
@@ -182,7 +182,7 @@ fn add_row<'src>(
     Ok(())
 }
 
-// Adds what stands in interpolations.
+// Adds the sites of interpolations.
 #[cycle(add)]
 fn add_pieces<'src>(
     all: &mut Vec<Site<'src>>,
@@ -196,7 +196,8 @@ fn add_pieces<'src>(
     Ok(())
 }
 
-// Adds a call, and nothing of its arguments. What adds a site is no part of the recursion, and is kept out of its frames.
+// Adds a call, without its arguments. Functions that add a site are out of line, to keep them out of the recursion's
+// frames.
 #[inline(never)]
 fn add_one_call<'src>(
     all: &mut Vec<Site<'src>>,

@@ -1,4 +1,4 @@
-// The recipe, as a parser would give it:
+// The recipe, as a parser would build it:
 //
 //     [env('STAMP', `date`)]
 //     build target output=(target / 'out') *flags:
@@ -29,14 +29,14 @@ pub(crate) fn recipe<'src>(alloc: Global) -> Result<Recipe<'src>, OutOfMemory> {
     Ok(recipe)
 }
 
-// What gives `STAMP` its text.
+// The attribute that sets `STAMP`.
 fn stamp<'src>(alloc: Global) -> Result<Attribute<'src>, OutOfMemory> {
     let stamp = Expression::literal(alloc, "STAMP", "'STAMP'")?;
     let date = Expression::backtick(alloc, "date", token("`date`"))?;
     Ok(Attribute::Env(stamp, date))
 }
 
-/// Its parameters. Their numbers are what a resolver gave them.
+/// The recipe's parameters, with the numbers that a resolver gave them.
 pub(crate) fn parameters<'src>(alloc: Global) -> Result<Vec<Parameter<'src>>, OutOfMemory> {
     let output = output(alloc)?;
     let target = Parameter::new(name("target"), Number::new(0), ParameterKind::Singular);
@@ -60,10 +60,10 @@ fn output<'src>(alloc: Global) -> Result<Parameter<'src>, OutOfMemory> {
     })
 }
 
-/// A line, and whether it goes on the line before.
+/// A line, and whether it continues the line before.
 pub(crate) type Continued<'src> = (Line<'src>, bool);
 
-/// Its lines.
+/// The recipe's lines.
 pub(crate) fn lines<'src>(alloc: Global) -> Result<Vec<Continued<'src>>, OutOfMemory> {
     let mut lines = Vec::new(alloc);
     add_lines(alloc, &mut lines)?;
@@ -117,7 +117,7 @@ fn name<'src>(lexeme: &'src str) -> Name<'src> {
     Name::new(lexeme, Some(Place::start_of("justfile")))
 }
 
-// A token; a parser would know its place.
+// A token. A parser would give its place.
 fn token<'src>(lexeme: &'src str) -> Token<'src> {
     Token::new(lexeme, Some(Place::start_of("justfile")))
 }

@@ -10,7 +10,7 @@ use just_syntax::out_of_memory::OutOfMemory;
 use just_value::error::CommandFault;
 use std::alloc::Global;
 
-/// Answers `date` with a day, and keeps each command that it is asked for.
+/// Answers `date` with a day, and records each command that it is asked for.
 #[derive(Drop)]
 pub(crate) struct Calendar {
     pub(crate) asked: Vec<String>,
@@ -19,7 +19,7 @@ pub(crate) struct Calendar {
 impl Host for Calendar {
     ghost use Rattle.std.specs.Prelude.{⊤};
 
-    // Nothing is said of what it answers.
+    // Its answers are unspecified.
     ghost step = { λ _ _ _ _. ⊤ };
 
     fn command(
@@ -48,7 +48,7 @@ impl Host for Calendar {
 }
 
 impl Calendar {
-    // What a command writes, if it is known.
+    // The output of a command, if it is known.
     fn answer(&mut self, alloc: Global, command: &str) -> Result<Option<String>, OutOfMemory> {
         self.asked.push(String::from_str(alloc, command)?)?;
         if command == "date" {

@@ -1,4 +1,4 @@
-// What stays the same while recipes are run.
+// The fixed context of running recipes.
 
 ghost use Rattle.std.specs.Prelude.{◌≡◌};
 
@@ -12,7 +12,7 @@ use just_value::scope::Scope;
 use std::alloc::Global;
 use std::collections::{BTreeMap, HashMap};
 
-/// What a command line and the files that it names come to, and the module, which has nothing but the recipe.
+/// The data of a command line and of the files that it names, and the module, which is empty.
 #[derive(Drop)]
 pub(crate) struct Invocation<'src> {
     config: Config,
@@ -24,8 +24,8 @@ pub(crate) struct Invocation<'src> {
 }
 
 impl<'src> Invocation<'src> {
-    /// One in `/work`, with no override and no dotenv file. A module's assignments would be evaluated first, and theirs would
-    /// be its scope.
+    /// An invocation in `/work`, without overrides or a dotenv file. If the module had assignments, they would be
+    /// evaluated first, and their scope would be used here.
     pub(crate) fn new(alloc: Global) -> Result<Invocation<'src>, OutOfMemory> {
         let (config, search) = place(alloc)?;
         let module = Justfile::new(alloc, "/work/justfile", "/work")?;
@@ -40,7 +40,7 @@ impl<'src> Invocation<'src> {
         })
     }
 
-    /// What is handed to each call of the evaluator.
+    /// The context that each call of the evaluator takes.
     pub(crate) fn context(&self) -> ExecutionContext<'src, '_>
         ensures limit { result.recursion_limit ≡ 100 }
     {

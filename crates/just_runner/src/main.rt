@@ -1,5 +1,5 @@
-// A small recipe runner. Each line of standard input is the words that its one recipe is called with; what would be run
-// is printed.
+// A small recipe runner. Each line of standard input has the words that its only recipe is called with. It prints what
+// would be run.
 #![tactic(auto)]
 
 mod build;

@@ -1,4 +1,4 @@
-// From words to the environment, the positional words and the lines of the recipe.
+// Turns words into the environment, the positional words and the lines of the recipe.
 
 ghost use Rattle.just_eval.specs.View.{HasRoom};
 ghost use Rattle.std.specs.Prelude.{◌<◌};
@@ -19,14 +19,14 @@ use just_value::value::Value;
 use std::alloc::Global;
 use std::collections::BTreeMap;
 
-/// What is printed where the recipe is called with these words.
+/// The output for a call of the recipe with these words.
 pub(crate) fn explain(alloc: Global, words: &str) -> Result<String, OutOfMemory> {
     let mut text = format!(in alloc; "build {words}\n")?;
     explain_words(alloc, &mut text, words)?;
     Ok(text)
 }
 
-// Adds what the recipe comes to that is called with these words.
+// Adds the output for a call of the recipe with these words.
 fn explain_words(alloc: Global, text: &mut String, words: &str) -> Result<(), OutOfMemory> {
     let invocation = Invocation::new(alloc)?;
     let explained = explain_in(alloc, &invocation.context(), text, words);
@@ -49,7 +49,7 @@ fn explain_in(
     explained
 }
 
-// The same of what is called: its parameters first, and then its lines.
+// The same for a call: its parameters first, and then its lines.
 fn explain_called<'src>(
     alloc: Global,
     context: &ExecutionContext<'src, '_>,
@@ -80,7 +80,7 @@ fn explain_called<'src>(
     }
 }
 
-// Adds whether a name means more than one thing.
+// Adds `unresolved` if a name is ambiguous.
 fn explain_resolution<'src>(
     alloc: Global,
     context: &ExecutionContext<'src, '_>,
@@ -102,7 +102,7 @@ fn explain_resolution<'src>(
     Ok(())
 }
 
-// Adds the commands that were asked for.
+// Adds the commands that the host was asked for.
 fn explain_questions(text: &mut String, asked: &[String]) -> Result<(), OutOfMemory> {
     for command in asked {
         writeln!(text, "  asked for `{command}`")?;
@@ -110,7 +110,7 @@ fn explain_questions(text: &mut String, asked: &[String]) -> Result<(), OutOfMem
     Ok(())
 }
 
-// The same, then the positional words and the environment, and then the lines.
+// Adds these, then the positional words and the environment, and then the lines.
 fn explain_given<'src>(
     alloc: Global,
     context: &ExecutionContext<'src, '_>,
@@ -179,7 +179,7 @@ fn explain_each<'src>(
     Ok(())
 }
 
-// The recipe as it is called.
+// A call of the recipe.
 #[derive(Drop)]
 struct Called<'src> {
     arguments: Vec<Value>,
@@ -192,7 +192,7 @@ struct Called<'src> {
 type Given<'src, 'run> = (Scope<'src, 'run>, Vec<String>, BTreeMap<String, String>);
 
 impl<'src> Called<'src> {
-    // The recipe, called with these words.
+    // The call of the recipe with these words.
     fn new(alloc: Global, words: &str) -> Result<Called<'src>, OutOfMemory> {
         let arguments = arguments(alloc, words)?;
         let lines = build::lines(alloc)?;
@@ -230,8 +230,8 @@ impl<'src> Called<'src> {
     }
 }
 
-// The first word is for the first parameter, the second for the second, and the others are for the last, which takes any
-// number. An argument of no element stands for the default.
+// The first word is for the first parameter, the second for the second, and the others are for the last, which takes
+// any number. An empty argument stands for the default.
 fn arguments(alloc: Global, words: &str) -> Result<Vec<Value>, OutOfMemory> {
     let mut words = words.split_whitespace();
     let mut arguments = Vec::new(alloc);
@@ -250,7 +250,7 @@ fn arguments(alloc: Global, words: &str) -> Result<Vec<Value>, OutOfMemory> {
     Ok(arguments)
 }
 
-// Refuses what leads out of the directory: a pattern, say, would be tested here.
+// Refuses paths that lead out of the directory. This is also the place to test a pattern, for example.
 fn inside(alloc: Global, value: &Value) -> Result<(), CheckFault> {
     for element in value.elements() {
         if element.starts_with("..") {
@@ -263,7 +263,7 @@ fn inside(alloc: Global, value: &Value) -> Result<(), CheckFault> {
     Ok(())
 }
 
-// Adds why the recipe is not run.
+// Adds the reason why the recipe is not run.
 fn explain_refusal(text: &mut String, error: &Error) -> Result<(), OutOfMemory> {
     match error {
         Error::OutOfMemory => Err(OutOfMemory),

@@ -1,4 +1,4 @@
--- What hosts are as plain data.
+-- Hosts as plain data.
 use Rattle.std.specs.Prelude.{List, map, string_bytes}
 use Rattle.std.specs.Vec.Iter.{into_iter_items}
 use Rattle.std.specs.declared.string.String.{String}
@@ -9,7 +9,7 @@ use Rattle.just_script.specs.Script.{Script}
 use Rattle.just_script.specs.declared.fail_at.FailAt.{FailAt}
 use Rattle.just_script.specs.declared.scripted_host.ScriptedHost.{ScriptedHost}
 
--- what is always answered, and the answers to come
+-- the fixed answers, and the remaining ones
 abbrev pub script_view : ScriptedHost → Script
 script_view host = record {
   always = map pair_view host.always.items;
@@ -19,6 +19,6 @@ script_view host = record {
   numbers = into_iter_items host.numbers;
 }
 
--- the host that is asked, how many questions are still passed on to it, and how it fails then
+-- the inner host, how many questions are still passed on to it, and how it fails afterwards
 abbrev pub failing_view : {H : Type 0} → FailAt H → Failing H
 failing_view host = record { host = host.host; left = host.left; how = host.how }

@@ -1,4 +1,4 @@
-// A host that fails from a question on.
+// A host that fails from some question on.
 
 ghost use Rattle.std.specs.Prelude.{◌≡◌, false, suc, true};
 ghost use Rattle.just_value.specs.View.{fault_view};
@@ -16,15 +16,15 @@ use just_syntax::out_of_memory::OutOfMemory;
 use just_value::error::CommandFault;
 use std::alloc::Global;
 
-// What the fault of a host that fails says.
+// The message of the fault of a failing host.
 const BROKEN: &str = "broken";
 
 /// How a host fails.
 #[derive(Clone, Copy, Debug, PartialEq, Eq)]
 pub enum How {
-    /// By the fault `broken`. A question that has no fault, for existence or for a number, is passed on all the same.
+    /// With the fault `broken`. A question that has no fault, for existence or for a number, is still passed on.
     Fault,
-    /// By want of memory.
+    /// With `OutOfMemory`.
     Memory,
 }
 
@@ -37,14 +37,14 @@ pub struct FailAt<H> {
 }
 
 impl<H> FailAt<H> {
-    /// A host that passes the first `n` questions on to `host`, and then fails. It takes no memory.
+    /// A host that passes the first `n` questions on to `host`, and then fails. It allocates nothing.
     pub fn new(host: H, n: usize, how: How) -> FailAt<H>
         ensures { failing_view result ≡ record { host = host; left = n; how = how } }
     {
         FailAt { host, left: n, how }
     }
 
-    // Whether the next question is passed on, which then is one fewer.
+    // Whether the next question is passed on; if so, one fewer is left.
     fn passes(&mut self) -> bool
         ensures passed { result ≡ true → self.old.left ≡ suc self.new.left }
         ensures failed { result ≡ false → (self.old.left ≡ 0) × (self.new.left ≡ 0) }
@@ -109,7 +109,7 @@ impl<H: Host> Host for FailAt<H> {
     }
 }
 
-// The fault of a command, or want of memory for its text.
+// The fault of a command, or `OutOfMemory` if its message cannot be allocated.
 fn broken_command(alloc: Global) -> CommandFault
     ensures { UnlessNoMemory (Failed (fault_view result)) broken }
 {
@@ -119,7 +119,7 @@ fn broken_command(alloc: Global) -> CommandFault
     }
 }
 
-// The fault in place of a text, or want of memory for what it says.
+// The fault instead of a text, or `OutOfMemory` if its message cannot be allocated.
 fn broken_text(alloc: Global) -> TextAnswer
     ensures { UnlessNoMemory (text_replied result) broken }
 {

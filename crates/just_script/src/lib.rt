@@ -1,5 +1,5 @@
-// Hosts for programs that show evaluation and for tests: one that answers by a script, and one that fails from a question on.
-// They lean on the host's questions alone, and not on evaluation.
+// Hosts for programs that show evaluation and for tests: one that answers by a script, and one that fails from some
+// question on. They depend on the host's questions alone, and not on evaluation.
 #![tactic(auto)]
 
 pub mod fail_at;

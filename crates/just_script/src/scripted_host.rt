@@ -18,12 +18,13 @@ use just_value::error::CommandFault;
 use std::alloc::Global;
 use std::vec::IntoIter;
 
-// It takes little stack itself, and nor does the program that it was made for, so that 320 KiB of 8 MiB are enough for both.
+// The host itself uses little stack, and so does the program that it was written for: 320 KiB of 8 MiB are enough for
+// both.
 const PROGRAM_ROOM: usize = 7_872 * 1024;
 
-/// A host that answers by a script. A command that is always answered gets its text, and any other the next of
-/// the replies, and then the fault `no reply`. Each other kind of question has a list of answers, taken in their
-/// order, and then gets `Absent`, `false` or 0. Evaluation may take 7,872 KiB of stack.
+/// A host that answers by a script. A command with a fixed text gets that text; any other command gets the next of the
+/// replies, or the fault `no reply` after the last. Each other kind of question takes its answers from a list, in
+/// order, and gets `Absent`, `false` or 0 after the last. The stack budget of evaluation is 7,872 KiB.
 #[derive(Debug, Drop)]
 pub struct ScriptedHost {
     always: Vec<(String, String)>,
@@ -34,8 +35,8 @@ pub struct ScriptedHost {
 }
 
 impl ScriptedHost {
-    /// A host with these answers to come. `always` has commands and the texts that they are always answered with,
-    /// of one command the last. It takes no memory, so a command is looked for among all of `always`, one by one.
+    /// A host with these answers. `always` has commands and their fixed texts; for each command the last pair counts.
+    /// It allocates nothing, so commands are searched for in `always` linearly.
     pub fn new(
         always: Vec<(String, String)>,
         replies: Vec<Result<String, CommandFault>>,
@@ -96,7 +97,7 @@ impl Host for ScriptedHost {
     }
 }
 
-// The text of the last pair with a command.
+// The text of the last pair with this command.
 fn text_for<'a>(always: &'a [(String, String)], command: &str) -> Option<&'a str>
     ensures { option_map (λ text. text.now) result ≡ text_for command.now (map pair_view always.now) }
 {
@@ -109,7 +110,7 @@ fn text_for<'a>(always: &'a [(String, String)], command: &str) -> Option<&'a str
     found
 }
 
-// A text once more, as what a command wrote.
+// A copy of a text, as a command's output.
 fn copied(alloc: Global, text: &str) -> Result<String, CommandFault>
     ensures { UnlessNoMemory (replied result) (Replied text.now) }
 {

@@ -1,4 +1,4 @@
--- The texts of things, joined.
+-- The texts of a list, joined.
 use Rattle.std.proofs.Common.{◌≡◌, ℕ, List, [], ◌∷◌, ◌++◌, map, refl, ap}
 use Rattle.std.specs.List.{flat_map, join_by}
 

@@ -1,4 +1,4 @@
--- Entries that each stand at their value's own key.
+-- Lists of entries, each stored under its value's own key.
 use Rattle.std.proofs.Common.{◌≡◌, ℕ, cond, List, [], ◌∷◌, map, refl, ap, sym, ◌∙◌, subst, Some, string_bytes}
 use Rattle.std.specs.declared.cmp.Ordering.{Ordering}
 use Rattle.std.specs.declared.cmp.Ordering.TheVariants.{Less, Equal, Greater}
@@ -21,7 +21,7 @@ module _ {A V : Type 0} (key : V → List ℕ) where
   texts_are_keys [] k = refl
   texts_are_keys (e ∷ es) k = ap (λ t. t ∷ map string_bytes (keys_of es)) k.0 ∙ ap (λ ts. key e.1 ∷ ts) (texts_are_keys es k.1)
 
-  -- a look-up by bytes finds the value that has them as its key
+  -- a look-up by bytes finds the value whose key has these bytes
   pub value_at_kept : (q : List ℕ) (es : List (String A × V)) → IsKeyed key es → lookup (is_at (λ (k : String A). slice_cmp nat_cmp q (string_bytes k))) es ≡ value_at key q (values_of es)
   value_at_kept q [] k = refl
   value_at_kept q (e ∷ es) k =
@@ -33,7 +33,7 @@ module _ {A V : Type 0} (key : V → List ℕ) where
   kept_choice Equal a b c p q r = q refl
   kept_choice Greater a b c p q r = r
 
-  -- a value put at its own key leaves each value at its own
+  -- inserting a value under its own key keeps each value under its own
   pub kept_insert : (es : List (String A × V)) (k : String A) (v : V) → string_bytes k ≡ key v → IsKeyed key es → IsKeyed key (insert_entry string_cmp es k v)
   kept_insert [] k v e h = (e, tt)
   kept_insert (x ∷ xs) k v e h =
@@ -44,7 +44,7 @@ module _ {A V : Type 0} (key : V → List ℕ) where
   values_choice Equal a b c = refl
   values_choice Greater a b c = refl
 
-  -- and the values are those with that one more
+  -- and the values are the old ones with this one inserted
   pub values_insert : (es : List (String A × V)) (k : String A) (v : V) → string_bytes k ≡ key v → IsKeyed key es → values_of (insert_entry string_cmp es k v) ≡ with_value key (values_of es) v
   values_insert [] k v e h = refl
   values_insert (x ∷ xs) k v e h =

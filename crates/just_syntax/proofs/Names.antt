@@ -1,4 +1,4 @@
--- Names of variables, one after another.
+-- Lists of names of variables.
 use Rattle.std.proofs.Common.{◌≡◌, ℕ, suc, ◌+◌, ◌<◌, true, false, cond, List, [], ◌∷◌, ◌++◌, length, get_or, take, drop, map, Option, Some, None, Bor, option_map, unwrap_or, refl, sym, ap, ◌∙◌, add-one, drop-cons}
 use Rattle.std.specs.Bool.{nat_eq}
 use Rattle.std.specs.List.{list_any}
@@ -11,7 +11,7 @@ use Rattle.just_syntax.specs.Variables.{first_unknown, given, has_number, number
 use Rattle.just_syntax.specs.View.{assignment_view}
 use Rattle.just_syntax.proofs.Tables.{seen_at}
 
--- the number of what a table has
+-- the number of the assignment that a table finds
 pub named : (name : Text) (assignments : List Declared) (found : Option (Bor Declared)) → option_map (λ a. a.now) found ≡ value_at (λ a. a.name.token.lexeme.now) name assignments
     → option_map (λ a. a.now.number) found ≡ number_named (map assignment_view assignments) name
 named name assignments found is = sees found ∙ ap (λ o. option_map (λ a. a.number) (option_map assignment_view o)) is ∙ ap (option_map (λ a. a.number)) (sym (seen_at assignment_view (λ a. a.name.lexeme) name assignments))
@@ -27,13 +27,13 @@ module _ {A : Type 0} (name_of : A → Text) (assignments : List Assignment) whe
       ∙ ap (λ y. name_of y ∷ map name_of (drop (suc i) xs)) (sym is)
       ∙ ap (λ j. name_of x ∷ map name_of (drop j xs)) (sym (add-one i))
 
-  -- a name that a variable has is passed over
+  -- a name that has a variable is skipped
   pub known_on : (xs : List A) (i : ℕ) (x : A) (n : ℕ) → i < length xs → x ≡ get_or xs i x → number_named assignments (name_of x) ≡ Some n
       → first_unknown assignments (map name_of (drop i xs)) ≡ first_unknown assignments (map name_of xs)
       → first_unknown assignments (map name_of (drop (i + 1) xs)) ≡ first_unknown assignments (map name_of xs)
   known_on xs i x n h is known so_far = sym (ap (first_unknown assignments) (front xs i x h is) ∙ rw known refl) ∙ so_far
 
--- a number is among these exactly if a name has it
+-- a number is in this list exactly if one of the names has it
 pub is_had : (numbered : Text → Option ℕ) (names : List Text) (numbers : List ℕ) → map Some numbers ≡ map numbered names → (n : ℕ) → list_any (λ number. nat_eq number n) numbers ≡ list_any (λ name. unwrap_or (option_map (λ m. nat_eq m n) (numbered name)) false) names
 is_had numbered [] [] are n = refl
 is_had numbered [] (k ∷ ks) are n = absurd cc
@@ -53,7 +53,7 @@ or_assoc : {X : Type 0} (a b c : Option X) → option_or (option_or a b) c ≡ o
 or_assoc None b c = refl
 or_assoc (Some x) b c = refl
 
--- what a pair gives a number
+-- the text that one pair gives a number
 abbrev own : List Assignment → Text × Text → ℕ → Option Text
 own assignments p n = cond (has_number assignments n p.0) (Some p.1) None
 

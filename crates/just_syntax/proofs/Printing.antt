@@ -1,4 +1,4 @@
--- What is written of rows of expressions, one after another.
+-- What is written for rows of expressions.
 use Rattle.std.proofs.Common.{◌≡◌, ℕ, ◌+◌, ◌<◌, ◌≤◌, List, ◌++◌, length, get_or, drop, codes, sym, ap, ◌∙◌}
 use Rattle.std.proofs.lemmas.List.{append_assoc, append-nil, drop_all}
 use Rattle.just_syntax.specs.declared.expression.Expression.{Expression}

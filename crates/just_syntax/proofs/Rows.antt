@@ -1,4 +1,4 @@
--- Expressions whose parts are no boxes.
+-- Expressions whose parts are not boxes.
 use Rattle.std.proofs.Common.{◌≡◌, ℕ, suc, List, [], ◌∷◌, ◌++◌, ◌+◌, ◌<◌, length, get_or, drop, add-one, drop-cons, codes, refl, ap, sym, ◌∙◌, rules, Option, Some, None, Box, Global}
 use Rattle.std.specs.Option.{option_map}
 use Rattle.just_syntax.specs.declared.expression.Expression.{Expression, Row_of-Expression, end_of-Expression, more_of-Expression, items-the_row-Expression, Row_of-Expression-FormatString-1-2, items-the_row-Expression-FormatString-1-2, end_of-Expression-FormatString-1-2, more_of-Expression-FormatString-1-2}
@@ -19,7 +19,7 @@ view_list es t = search (rules, the_lemmas, row_items)
 pub view_call : (es : _) (name : _) → view (expressions.Call es name) ≡ Call (name_view name) (views es.items)
 view_call es name = search (rules, the_lemmas, row_items)
 
--- a row has as many parts as there are expressions
+-- a row has as many elements as there are expressions
 pub count_views : (es : List Expression) → count (views es) ≡ length es
 count_views [] = refl
 count_views (e ∷ es) = ap suc (count_views es)
@@ -54,7 +54,7 @@ printed_list es t = ap printed (view_list es t)
 pub printed_format_string : (start : _) (es : _) → printed (view (expressions.FormatString start es)) ≡ start.lexeme.now ++ printed_pieces (piece_views es.items)
 printed_format_string start es = ap printed (view_format_string start es)
 
--- what is left begins with the item
+-- the rest begins with the item
 pub views_front : (es : List Expression) (i : ℕ) (e : Expression) → i < length es → e ≡ get_or es i e → views (drop i es) ≡ Cons (view e) (views (drop (i + 1) es))
 views_front es i e h is = ap views (drop-cons es i e h) ∙ ap (λ x. Cons (view x) (views (drop (suc i) es))) (sym is) ∙ ap (λ j. Cons (view e) (views (drop j es))) (sym (add-one i))
 

@@ -1,4 +1,4 @@
--- What is written under the options of a formatter, and under none.
+-- What is written with the options of a formatter, and without options.
 use Rattle.std.proofs.Common.{◌≡◌, ℕ, List, [], ◌∷◌, ◌++◌, Option, Some, None, Result, Ok, Err, IsOk, OnOk, IfSome, refl, ap, sym, subst, ◌∙◌, rules}
 use Rattle.std.specs.List.{FoldsTo, concat}
 use Rattle.std.specs.declared.fmt.Error.{Error}
@@ -9,14 +9,14 @@ use Rattle.std.proofs.lemmas.List.{append_assoc}
 use Rattle.just_syntax.specs.declared.unstyled.Unstyled.{Unstyled}
 
 module _ {W : Type 0} (took : W → List ℕ → W → Type 0) where
-  -- no options are options too
+  -- what is written for all options is written without options too
   pub plain_of_styled : (f : Formatter W) (bs : List ℕ) (g : Formatter W) → IsPlainFormatter f → HasWrittenStyled took f bs g → HasWritten took f bs g
   plain_of_styled f bs g plain written = record {
     wrote = written.wrote;
     plain = record { bare = subst IsDefaultSpec (sym written.spec) plain.bare; flush = written.flush };
   }
 
-  -- the same of what is written in the end
+  -- the same for the whole of what is displayed
   pub displays_plain : (f g : Formatter W) (r : Result (Unit {0}) Error) (o : Option (List ℕ)) → DisplaysStyledOnOk took f r o g → DisplaysOnOk took f r o g
   displays_plain f g r None styled = tt
   displays_plain f g r (Some bs) styled = λ plain ok. plain_of_styled f bs g plain (styled plain.flush ok)
@@ -34,7 +34,7 @@ module _ {W : Type 0} (took : W → List ℕ → W → Type 0) where
   pub styled_five : (f g h i j k : Formatter W) (a b c d e all : List ℕ) → HasWrittenStyled took f a g → HasWrittenStyled took g b h → HasWrittenStyled took h c i → HasWrittenStyled took i d j → HasWrittenStyled took j e k → a ++ (b ++ (c ++ (d ++ e))) ≡ all → HasWrittenStyled took f all k
   styled_five f g h i j k a b c d e all p q r s t is = styled_four f g h i k a b c (d ++ e) all p q r (has_written_styled_append took _ _ _ _ _ s t) is
 
-  -- what one call writes to the formatter within
+  -- what one call writes to the inner formatter
   abbrev Took : Unstyled W → List ℕ → Unstyled W → Type 0
   Took s bs t = (t.inner.ghost_name ≡ s.inner.ghost_name) × (IsFlush s.inner.now → HasWrittenStyled took s.inner.now bs t.inner.now)
 
@@ -46,7 +46,7 @@ module _ {W : Type 0} (took : W → List ℕ → W → Type 0) where
         λ flush. has_written_styled_append took _ _ _ _ _ (p.1.1 flush) (rest.1 (p.1.1 flush).flush),
       )
 
-  -- calls on the formatter within, which is g once the loan ends
+  -- calls on the inner formatter, which is g once the loan ends
   pub displays_unstyled : (s t : Unstyled W) (g : Formatter W) (r : Result (Unit {0}) Error) (o : Option (List ℕ)) → (t.inner.ghost_name ≡ s.inner.ghost_name → g ≡ t.inner.now) → OnOk r (WritesText Took s o t)
       → DisplaysStyledOnOk took s.inner.now r o g
   displays_unstyled s t g r None back written = tt

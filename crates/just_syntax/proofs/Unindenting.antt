@@ -8,7 +8,7 @@ use Rattle.std.proofs.lemmas.Str.{IsCharBoundary-after_ascii, IsCharBoundary-sta
 use Rattle.just_syntax.specs.Plain.{Text}
 use Rattle.just_syntax.specs.Unindented.{lines, is_blank, is_gap, indentation, common_start, with_line, common_indentation, width, unindented_line, unindented_lines}
 
--- the first line ends behind the first newline
+-- the first line ends after the first newline
 pub lines_cut : (text : Text) (k : ℕ) → k < length text → get_or text k 0 ≡ 10 → ((i : ℕ) → i < k → get_or text i 0 ≢ 10) → lines text ≡ take (suc k) text ∷ lines (drop (suc k) text)
 lines_cut [] k h e none = absurd (omega arith)
 lines_cut (b ∷ bs) zero h e none = rw (eq-eqb b 10 e) refl
@@ -34,7 +34,7 @@ none_left (b ∷ bs) =
     cond_both (eqb b 10) ((b ∷ []) ∷ lines bs) (onto_first b (lines bs)) (λ ls. eqb (length ls) 0 ≡ false) (λ e. some_line ((b ∷ []) ∷ lines bs) (omega arith)) (λ e. onto_some b (lines bs))
     ∙ sym (ne_eqb (length (b ∷ bs)) 0 (λ e. omega arith))
 
--- each line that is not blank begins with so many spaces and tabs
+-- each line that is not blank begins with at least this many spaces and tabs
 abbrev pub EachLoses : ℕ → List Text → Type 0
 EachLoses n [] = Unit {0}
 EachLoses n (line ∷ rest) = (is_blank line ≡ false → n ≤ length (indentation line)) × EachLoses n rest
@@ -45,7 +45,7 @@ start_left xs ys = omega (arith, length-take (common_prefix_len (λ x y. eqb x y
 start_right : (xs ys : Text) → length (common_start xs ys) ≤ length ys
 start_right xs ys = omega (arith, length-take (common_prefix_len (λ x y. eqb x y) xs ys) xs, (common_prefix_len-le (λ x y. eqb x y) xs ys).1)
 
--- what is common gets no longer
+-- the common indentation never grows
 shrinks : (so_far : Text) (ls : List Text) → width (common_indentation (Some so_far) ls) ≤ length so_far
 shrinks so_far [] = omega arith
 shrinks so_far (line ∷ rest) = cond_both (is_blank line) (Some so_far) (Some (common_start so_far (indentation line))) (λ o. width (common_indentation o rest) ≤ length so_far)
@@ -72,7 +72,7 @@ cut_boundary line (suc n) utf8 h =
     let same : n + 1 ≡ suc n = omega arith in
     rw same at there
 
--- the longest common start is behind the shorter text
+-- the common start is at most as long as the shorter text
 pub nothing_common : (xs ys : Text) (i : ℕ) → min (length xs) (length ys) ≤ i → common_prefix_len (λ x y. eqb x y) (drop i xs) (drop i ys) ≡ 0
 nothing_common xs ys i h =
     let both = common_prefix_len-le (λ x y. eqb x y) (drop i xs) (drop i ys) in

@@ -1,9 +1,9 @@
--- How two lists are put together, element by element.
+-- How two lists are combined element by element.
 use Rattle.std.specs.Prelude.{ℕ, List, [], codes}
 use Rattle.just_syntax.specs.declared.list_operator.ListOperator.{ListOperator}
 use Rattle.just_syntax.specs.declared.list_operator.ListOperator.TheVariants.{Concatenate, Join}
 
--- what stands between two elements: nothing, or a slash
+-- the separator between two combined elements: nothing, or a slash
 abbrev pub separator : ListOperator → List ℕ
 separator Concatenate = []
 separator Join = codes "/"

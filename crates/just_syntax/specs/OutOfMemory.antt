@@ -1,4 +1,4 @@
--- What want of memory says.
+-- The message of `OutOfMemory`.
 use Rattle.std.specs.Prelude.{codes}
 use Rattle.just_syntax.specs.Plain.{Text}
 

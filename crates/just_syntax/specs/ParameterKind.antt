@@ -3,7 +3,7 @@ use Rattle.std.specs.Prelude.{Bool, true, false}
 use Rattle.just_syntax.specs.declared.parameter_kind.ParameterKind.{ParameterKind}
 use Rattle.just_syntax.specs.declared.parameter_kind.ParameterKind.TheVariants.{Singular, Plus, Star}
 
--- any number, at least one of them or none
+-- whether a parameter takes one or more arguments, or any number
 abbrev pub is_variadic : ParameterKind → Bool
 is_variadic Singular = false
 is_variadic Plus = true

@@ -1,4 +1,4 @@
--- Plain syntax: texts are their bytes, and nothing has a place in memory.
+-- Plain syntax: texts are their bytes, and nothing has an address in memory.
 use Rattle.std.specs.Prelude.{ℕ, suc, Bool, List, Option}
 use Rattle.just_syntax.specs.declared.conditional_operator.ConditionalOperator.{ConditionalOperator}
 use Rattle.just_syntax.specs.declared.indentation.Indentation as declared
@@ -7,7 +7,7 @@ use Rattle.just_syntax.specs.declared.parameter_kind.ParameterKind.{ParameterKin
 abbrev pub Text : Type 0
 Text = List ℕ
 
--- where a piece of a file begins, in numbers from 0, and the path of the file
+-- where a piece of a file begins, counted from 0, and the path of the file
 pub record Place : Type 0 where
   pub column : ℕ
   pub line : ℕ
@@ -53,17 +53,17 @@ mutual
     StringLiteral : Literal → Expr
     Variable : Token → Option ℕ → Expr
 
-  -- expressions, one after another
+  -- a row of expressions
   pub data Exprs : Type 0 where
     Nil : Exprs
     Cons : Expr → Exprs → Exprs
 
-  -- interpolations, each with the text behind it
+  -- interpolations, each with the text after it
   pub data Pieces : Type 0 where
     NoPiece : Pieces
     Piece : Expr → Literal → Pieces → Pieces
 
--- how many expressions
+-- the number of expressions
 abbrev pub count : Exprs → ℕ
 count Nil = 0
 count (Cons e es) = suc (count es)
@@ -77,7 +77,7 @@ pub record Assignment : Type 0 where
   pub private : Bool
   pub value : Expr
 
--- a function that the file defines; each parameter is a name and its number
+-- a function defined in the file; each parameter is a name and its number
 pub record Function : Type 0 where
   pub body : Expr
   pub name : Token
@@ -87,12 +87,12 @@ pub data Attribute : Type 0 where
   Env : Expr → Expr → Attribute
   Other : Attribute
 
--- a command and the arguments that come before all others
+-- a command and its first arguments
 pub record Interpreter (A : Type 0) : Type 0 where
   pub arguments : List A
   pub command : A
 
--- what a setting is set to
+-- a setting and its value
 pub data Setting : Type 0 where
   AllowDuplicateRecipes : Bool → Setting
   AllowDuplicateVariables : Bool → Setting
@@ -124,7 +124,7 @@ pub data Setting : Type 0 where
   WindowsShell : Interpreter Expr → Setting
   WorkingDirectory : Expr → Setting
 
--- what `set` says: a setting by its name
+-- a `set` statement: a setting by its name
 pub record Set : Type 0 where
   pub name : Token
   pub value : Setting
@@ -145,7 +145,7 @@ pub record Recipe : Type 0 where
   pub attributes : List (Attribute × Token)
   pub name : Token
 
--- a fragment of a line: text as it is written, or an interpolation
+-- a fragment of a line: verbatim text, or an interpolation
 pub data Fragment : Type 0 where
   TextFragment : Token → Fragment
   Interpolation : Expr → Fragment

@@ -4,33 +4,33 @@ use Rattle.just_syntax.specs.declared.conditional_operator.ConditionalOperator.{
 use Rattle.just_syntax.specs.declared.conditional_operator.ConditionalOperator.TheVariants.{Equality, Inequality, RegexMatch, RegexMismatch}
 use Rattle.just_syntax.specs.Plain.{Text, Expr, And, Assert, AssertOnly, Backtick, Call, Comparison, Concatenation, Conditional, ConditionalOnly, FormatString, Group, Join, JoinOnly, ListOf, ListConcatenation, Not, Or, StringLiteral, Variable, Exprs, Nil, Cons, Pieces, NoPiece, Piece}
 
--- how a comparison is written
+-- the comparison operator as written
 abbrev pub comparison_text : ConditionalOperator → Text
 comparison_text Equality = codes "=="
 comparison_text Inequality = codes "!="
 comparison_text RegexMatch = codes "=~"
 comparison_text RegexMismatch = codes "!~"
 
--- a text, an operator with a space on each side, and a text
+-- two texts with an operator between them, a space on each side of it
 abbrev pub between : Text → Text → Text → Text
 between l operator r = (((l ++ codes " ") ++ operator) ++ codes " ") ++ r
 
--- an assertion, its message left out or not
+-- an assertion, with or without its message
 abbrev pub printed_assertion : Text → Option Text → Text
 printed_assertion condition (Some message) = (((codes "assert(" ++ condition) ++ codes ", ") ++ message) ++ codes ")"
 printed_assertion condition None = (codes "assert(" ++ condition) ++ codes ")"
 
--- a conditional, its other branch left out or not
+-- a conditional, with or without its other branch
 abbrev pub printed_conditional : Text → Text → Option Text → Text
 printed_conditional condition consequence (Some otherwise) = (((((codes "if " ++ condition) ++ codes " { ") ++ consequence) ++ codes " } else { ") ++ otherwise) ++ codes " }"
 printed_conditional condition consequence None = (((codes "if " ++ condition) ++ codes " { ") ++ consequence) ++ codes " }"
 
--- a join, its left side left out or not
+-- a join, with or without its left side
 abbrev pub printed_join : Option Text → Text → Text
 printed_join (Some l) r = between l (codes "/") r
 printed_join None r = codes "/ " ++ r
 
--- a call, its arguments in parentheses behind the name
+-- a call, its arguments in parentheses after the name
 abbrev pub printed_call : Text → Text → Text
 printed_call name arguments = ((name ++ codes "(") ++ arguments) ++ codes ")"
 
@@ -56,12 +56,12 @@ abbrev mutual
   printed (StringLiteral literal) = literal.lexeme
   printed (Variable t number) = t.lexeme
 
-  -- expressions, a comma and a space before each but the first
+  -- expressions, with a comma and a space before each but the first
   pub printed_row : Text → Exprs → Text
   printed_row separator Nil = []
   printed_row separator (Cons e es) = (separator ++ printed e) ++ printed_row (codes ", ") es
 
-  -- each interpolation, and the text behind it
+  -- each interpolation, and the text after it
   pub printed_pieces : Pieces → Text
   printed_pieces NoPiece = []
   printed_pieces (Piece e literal pieces) = (printed e ++ literal.lexeme) ++ printed_pieces pieces

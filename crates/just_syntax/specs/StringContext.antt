@@ -1,9 +1,9 @@
--- Where one text is wanted, and a list of another length is refused.
+-- The places that require one text and refuse a list of any other length.
 use Rattle.std.specs.Prelude.{◌++◌, codes}
 use Rattle.just_syntax.specs.Plain as plain
 use Rattle.just_syntax.specs.Plain.{Text}
 
--- the key of an attribute, an argument of a function, or a setting, by its name
+-- the key of an attribute, an argument of a function, or a setting, each by its name
 pub data StringContext : Type 0 where
   EnvKey : plain.Token → StringContext
   Function : plain.Token → StringContext
@@ -15,7 +15,7 @@ token (EnvKey name) = name
 token (Function name) = name
 token (Setting name) = name
 
--- how it is written
+-- the context as written
 abbrev pub context_text : StringContext → Text
 context_text (EnvKey name) = codes "in key of `" ++ (name.lexeme ++ codes "` attribute")
 context_text (Function name) = codes "in argument to function `" ++ (name.lexeme ++ codes "`")

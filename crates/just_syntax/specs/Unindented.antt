@@ -12,19 +12,19 @@ lines (c ∷ cs) = if c == 10 then (c ∷ []) ∷ lines cs else onto_first c (li
 abbrev pub is_gap : ℕ → Bool
 is_gap c = c == 32 || c == 9
 
--- all of a line is space, tab, return and newline
+-- whether a line is only spaces, tabs, returns and newlines
 abbrev pub is_blank : Text → Bool
 is_blank line = list_all (λ c. is_gap c || (c == 13 || c == 10)) line
 
--- the spaces and tabs that a line begins with
+-- the leading spaces and tabs of a line
 abbrev pub indentation : Text → Text
 indentation line = take_while is_gap line
 
--- the longest common start of two texts
+-- the longest common prefix of two texts
 abbrev pub common_start : Text → Text → Text
 common_start xs ys = take (common_prefix_len (λ x y. x == y) xs ys) xs
 
--- what is common to the lines so far and one more indentation
+-- the common prefix of the lines so far and one more indentation
 abbrev pub or_common : Option Text → Text → Option Text
 or_common None indentation = Some indentation
 or_common (Some so_far) indentation = Some (common_start so_far indentation)
@@ -33,7 +33,7 @@ or_common (Some so_far) indentation = Some (common_start so_far indentation)
 abbrev pub with_line : Option Text → Text → Option Text
 with_line so_far line = if is_blank line then so_far else or_common so_far (indentation line)
 
--- the longest common start of the indentations of all lines that are not blank
+-- the longest common prefix of the indentations of all lines that are not blank
 abbrev pub common_indentation : Option Text → List Text → Option Text
 common_indentation so_far [] = so_far
 common_indentation so_far (line ∷ rest) = common_indentation (with_line so_far line) rest
@@ -43,7 +43,7 @@ abbrev pub width : Option Text → ℕ
 width None = 0
 width (Some text) = length text
 
--- a line without so many bytes; a blank one is a newline, or nothing where it is the first or the last
+-- a line without its first n bytes; a blank one becomes a newline, or nothing if it is the first or the last
 abbrev pub unindented_line : ℕ → Bool → Bool → Text → Text
 unindented_line n is_first is_last line = if is_blank line then (if is_first || is_last then [] else codes "\n") else drop n line
 
@@ -51,7 +51,7 @@ unindented_line n is_first is_last line = if is_blank line then (if is_first || 
 abbrev pub is_none_left : List Text → Bool
 is_none_left rest = length rest == 0
 
--- the lines without so many bytes, one after another
+-- the lines, each without its first n bytes, concatenated
 abbrev pub unindented_lines : ℕ → Bool → List Text → Text
 unindented_lines n is_first [] = []
 unindented_lines n is_first (line ∷ rest) = unindented_line n is_first (is_none_left rest) line ++ unindented_lines n false rest

@@ -5,7 +5,7 @@ use Rattle.just_syntax.specs.Keyed.{value_at}
 use Rattle.just_syntax.specs.OutOfMemory.{no_memory_text}
 use Rattle.just_syntax.specs.Plain.{Text, Assignment}
 
--- the number of the variable that has this name
+-- the number of the variable with this name
 abbrev pub number_named : List Assignment → Text → Option ℕ
 number_named assignments name = option_map (λ a. a.number) (value_at (λ a. a.name.lexeme) name assignments)
 
@@ -14,16 +14,16 @@ abbrev pub first_unknown : List Assignment → List Text → Option Text
 first_unknown assignments [] = None
 first_unknown assignments (name ∷ names) = if is_some (number_named assignments name) then first_unknown assignments names else Some name
 
--- the variable of this name has the number
+-- whether the variable with this name has the number
 abbrev pub has_number : List Assignment → ℕ → Text → Bool
 has_number assignments n name = unwrap_or (option_map (λ m. nat_eq m n) (number_named assignments name)) false
 
--- the text that a number is given by pairs of a name and a text: the last pair counts whose variable has the number
+-- the text that pairs of a name and a text give a number: of the pairs whose name has this number, the last counts
 abbrev pub given : List Assignment → List (Text × Text) → ℕ → Option Text
 given assignments [] n = None
 given assignments (p ∷ ps) n = option_or (given assignments ps n) (if has_number assignments n p.0 then Some p.1 else None)
 
--- what is said of a name that no variable has, or of want of memory
+-- the message for a name that no variable has, or for `OutOfMemory`
 abbrev pub variable_error_text : Option Text → Text
 variable_error_text (Some name) = codes "variable `" ++ (name ++ codes "` is not assigned")
 variable_error_text None = no_memory_text

@@ -1,4 +1,4 @@
--- What declared syntax is as plain syntax.
+-- The plain syntax of each declared type.
 use Rattle.std.specs.Prelude.{ℕ, List, [], ◌∷◌, map, nat_eq, Option, Some, None, string_bytes, option_map}
 use Rattle.std.specs.BTreeMap.{BTreeMap}
 use Rattle.std.specs.HashMap.{HashMap}
@@ -88,12 +88,12 @@ abbrev mutual
   held_view None' = None
   held_view (Some' p e) = Some (view e)
 
--- expressions, one after another
+-- a row of expressions
 abbrev pub views : List Expression → Exprs
 views [] = plain.Nil
 views (e ∷ es) = plain.Cons (view e) (views es)
 
--- interpolations, each with the text behind it
+-- interpolations, each with the text after it
 abbrev pub piece_views : List (Expression × Written) → Pieces
 piece_views [] = plain.NoPiece
 piece_views (p ∷ ps) = plain.Piece (view p.0) (literal_view p.1) (piece_views ps)
@@ -122,7 +122,7 @@ attributes_view set = map named_attribute_view set.attributes.items
 abbrev pub interpreter_view : {A : Type 0} → Interpreter (String A) → plain.Interpreter plain.Text
 interpreter_view i = record { arguments = map string_bytes i.arguments.items; command = string_bytes i.command }
 
--- a command and its first arguments that are expressions
+-- a command and its first arguments, which are expressions
 abbrev pub expression_interpreter_view : Interpreter Expression → plain.Interpreter Expr
 expression_interpreter_view i = record { arguments = map view i.arguments.items; command = view i.command }
 
@@ -160,7 +160,7 @@ setting_view (settings.WorkingDirectory e) = plain.WorkingDirectory (view e)
 abbrev pub set_view : declared_set.Set → plain.Set
 set_view s = record { name = name_view s.name; value = setting_view s.value }
 
--- the recipe's parameter that is handed in
+-- the recipe's parameter
 abbrev pub recipe_parameter_view : Parameter → plain.Parameter
 recipe_parameter_view p = record { default = option_map view p.default; export = p.export; flag = p.flag; kind = p.kind; multiple = p.multiple; name = name_view p.name; number = p.number; value = option_map view p.value }
 
@@ -184,11 +184,11 @@ string_context_view (contexts.Setting name) = Setting (name_view name)
 abbrev pub enclosed : {T : Type 0} → Enclosure T → T
 enclosed e = e.value
 
--- a name, or a command, and a text
+-- a pair of two texts, for example a name and its text
 abbrev pub pair_view : {A B : Type 0} → String A × String B → plain.Text × plain.Text
 pair_view pair = (string_bytes pair.0, string_bytes pair.1)
 
--- a map of texts: its pairs, by rising key
+-- a map of texts: its pairs, in ascending order of keys
 abbrev pub pairs_view : {A B : Type 0} → BTreeMap (String A) (String B) → List (plain.Text × plain.Text)
 pairs_view m = map pair_view m.entries
 
@@ -196,7 +196,7 @@ pairs_view m = map pair_view m.entries
 abbrev pub text_numbered : {A S : Type 0} → HashMap ℕ (String A) S → ℕ → Option plain.Text
 text_numbered m n = option_map string_bytes (lookup (nat_eq n) m.entries)
 
--- the name that no variable has; none for want of memory
+-- the name that no variable has; `None` for `OutOfMemory`
 abbrev pub unknown_name : VariableError → Option plain.Text
 unknown_name (variables.Unknown name) = Some name.now
 unknown_name variables.OutOfMemory = None

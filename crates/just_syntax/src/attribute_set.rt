@@ -10,14 +10,14 @@ use crate::out_of_memory::OutOfMemory;
 use std::alloc::Global;
 use std::slice::Iter;
 
-/// Attributes and the names that they were written under, in the order handed in.
+/// Attributes and the names that they were written under, in the order of insertion.
 #[derive(Debug, Drop)]
 pub struct AttributeSet<'src> {
     attributes: Vec<(Attribute<'src>, Name<'src>)>,
 }
 
 impl<'src> AttributeSet<'src> {
-    /// No attribute. It takes no memory. Upstream's `AttributeSet::new`.
+    /// An empty set. It allocates nothing. Upstream's `AttributeSet::new`.
     pub fn new(alloc: Global) -> AttributeSet<'src>
         ensures { attributes_view result ≡ [] }
     {
@@ -26,11 +26,11 @@ impl<'src> AttributeSet<'src> {
         }
     }
 
-    /// Puts an attribute behind the others, with the name that it was written under.
+    /// Adds an attribute after the others, with the name that it was written under.
     ///
     /// # Errors
     ///
-    /// `OutOfMemory`, where memory was asked for and refused: the set stays as it was, and the attribute is dropped.
+    /// `OutOfMemory`, if an allocation fails: the set is unchanged, and the attribute is dropped.
     pub fn push(&mut self, attribute: Attribute<'src>, name: Name<'src>) -> Result<(), OutOfMemory>
         ensures ok { OnOk result (attributes_view self.new ≡ attributes_view self.old ++ (attribute_view attribute.entry, name_view name.entry) ∷ []) }
         ensures err { OnErr result (attributes_view self.new ≡ attributes_view self.old) }
@@ -39,7 +39,7 @@ impl<'src> AttributeSet<'src> {
         Ok(())
     }
 
-    /// The attributes, each with its name, in the order handed in.
+    /// The attributes, each with its name, in the order of insertion.
     pub fn iter(&self) -> Iter<'_, (Attribute<'src>, Name<'src>)>
         ensures { map named_attribute_view (iter_rest result) ≡ attributes_view self.now }
     {

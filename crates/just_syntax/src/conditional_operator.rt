@@ -19,7 +19,7 @@ pub enum ConditionalOperator {
 }
 
 impl ConditionalOperator {
-    // How the operator is written.
+    // The operator as written.
     pub(crate) fn text(self) -> &'static str
         ensures { result.now ≡ comparison_text self }
     {

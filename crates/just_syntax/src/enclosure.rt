@@ -1,4 +1,4 @@
-// Values that are shown in backticks.
+// Values shown in backticks.
 
 ghost use Rattle.std.specs.Prelude.{◌≡◌};
 ghost use Rattle.just_syntax.specs.View.{enclosed};
@@ -6,14 +6,14 @@ ghost use Rattle.just_syntax.specs.View.{enclosed};
 use crate::unstyled::write_unstyled;
 use std::fmt;
 
-/// A value that is shown in backticks.
+/// A value shown in backticks.
 #[derive(Debug, Drop)]
 pub struct Enclosure<T> {
     value: T,
 }
 
 impl<T> Enclosure<T> {
-    /// The value, shown in backticks. It takes no memory. Upstream's `Enclosure::tick`.
+    /// Encloses a value in backticks. It allocates nothing. Upstream's `Enclosure::tick`.
     pub fn tick(value: T) -> Enclosure<T>
         ensures { enclosed result ≡ value }
     {

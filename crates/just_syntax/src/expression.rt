@@ -47,13 +47,13 @@ pub enum Expression<'src> {
         operator: Token<'src>,
         rhs: Box<Expression<'src>>,
     },
-    /// `if condition { consequence } else { otherwise }`, where the last part may be left out
+    /// `if condition { consequence } else { otherwise }`, whose last part may be left out
     Conditional {
         condition: Box<Expression<'src>>,
         consequence: Box<Expression<'src>>,
         otherwise: Option<Box<Expression<'src>>>,
     },
-    /// A format string: its start, and then interpolations, each with the text behind it.
+    /// A format string: its start, and then interpolations, each with the text after it.
     FormatString {
         start: StringLiteral<'src>,
         expressions: Vec<(Expression<'src>, StringLiteral<'src>)>,

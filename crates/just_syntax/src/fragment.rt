@@ -6,7 +6,7 @@ use crate::token::Token;
 /// A fragment of a line.
 #[derive(Debug, Drop)]
 pub enum Fragment<'src> {
-    /// Text as it is written, in which `{{{{` stands for `{{`.
+    /// Verbatim text, in which `{{{{` stands for `{{`.
     Text { token: Token<'src> },
     /// `{{expression}}`
     Interpolation { expression: Expression<'src> },

@@ -1,4 +1,4 @@
-// Functions that a file defines.
+// Functions defined in the file.
 
 ghost use Rattle.std.specs.Prelude.{◌≡◌, map};
 ghost use Rattle.just_syntax.specs.View.{function_view, name_view, parameter_view, view};
@@ -8,7 +8,7 @@ use crate::keyed::Keyed;
 use crate::name::Name;
 use crate::number::Number;
 
-/// A function that the file defines: its parameters, each with its number, and its body.
+/// A function defined in the file: its parameters, each with its number, and its body.
 #[derive(Debug, Drop)]
 pub struct FunctionDefinition<'src> {
     pub body: Expression<'src>,
@@ -17,7 +17,7 @@ pub struct FunctionDefinition<'src> {
 }
 
 impl<'src> FunctionDefinition<'src> {
-    /// The function of this name, with parameters, each with its number, in their order.
+    /// The function with this name and these parameters, each with its number, in order.
     pub fn new(
         name: Name<'src>,
         parameters: Vec<(Name<'src>, Number)>,

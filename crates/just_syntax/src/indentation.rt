@@ -1,9 +1,9 @@
-// What recipe lines are indented by.
+// The indentation of recipe lines.
 
-/// What a level of indentation is.
+/// One level of indentation.
 #[derive(Clone, Copy, Debug, PartialEq, Eq)]
 pub enum Indentation {
-    /// So many spaces.
+    /// This many spaces.
     Spaces(u64),
     Tabs,
 }

@@ -1,6 +1,6 @@
-// The syntax that evaluation goes over: names, expressions, assignments, functions, and tables of them, each with its view
-// as plain data, and `unindent`, which makes the text of an indented string. It leans on std alone, and general lemmas of
-// lists, tables and texts stand in its `proofs/`.
+// The syntax that evaluation works on: names, expressions, assignments, functions, and tables of them, each with its
+// view as plain data, and `unindent`, which computes the text of an indented string. It depends on std alone. Its
+// `proofs/` also hold general lemmas on lists, tables and texts.
 #![tactic(auto)]
 
 pub mod assignment;

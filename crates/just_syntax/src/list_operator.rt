@@ -1,11 +1,11 @@
-// The operators that put two lists together, element by element.
+// The operators that combine two lists element by element.
 
 ghost use Rattle.std.specs.Prelude.{◌≡◌};
 ghost use Rattle.just_syntax.specs.ListOperator.{separator};
 
 use std::fmt;
 
-/// How two lists are put together, element by element.
+/// How two lists are combined element by element.
 #[derive(Clone, Copy, Debug, PartialEq, Eq)]
 pub enum ListOperator {
     /// `+`, with nothing between two elements.
@@ -15,7 +15,7 @@ pub enum ListOperator {
 }
 
 impl ListOperator {
-    /// What stands between two elements that are put together: nothing, or a slash. Upstream's `ListOperator::separator`.
+    /// The separator between two combined elements: nothing, or a slash. Upstream's `ListOperator::separator`.
     pub fn separator(self) -> &'static str
         ensures { result.now ≡ separator self }
     {

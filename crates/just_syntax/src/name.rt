@@ -16,7 +16,7 @@ pub struct Name<'src> {
 }
 
 impl<'src> Name<'src> {
-    /// A name at a place, or without one at the start of a file whose path is empty.
+    /// A name at a place; without a place, at the start of a file whose path is empty.
     pub fn new(lexeme: &'src str, place: Option<Place<'src>>) -> Name<'src>
         ensures { name_view result ≡ placed (option_map place_view place.entry) lexeme.now }
     {

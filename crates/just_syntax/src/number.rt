@@ -4,7 +4,7 @@ ghost use Rattle.std.specs.Prelude.{◌≡◌};
 
 use std::marker::Model;
 
-/// The number of a variable, by which evaluation knows it.
+/// The number of a variable, which identifies it in evaluation.
 #[derive(Clone, Copy, Debug, PartialEq, Eq, PartialOrd, Ord, Hash)]
 pub struct Number(u64);
 
@@ -19,7 +19,7 @@ impl Model for Number {
 }
 
 impl Number {
-    /// A number as it is counted.
+    /// The number with this value.
     pub fn new(number: u64) -> Number
         ensures { result ≡ number }
     {

@@ -1,4 +1,4 @@
-// Where numbers come from.
+// The source of the numbers of constants.
 
 ghost use Rattle.std.specs.Prelude.{◌≡◌};
 
@@ -9,7 +9,7 @@ use crate::number::Number;
 pub struct Numerator;
 
 impl Numerator {
-    /// The number of the constant at place `i`, counted from 0: that place. Upstream's `Numerator::constant`.
+    /// The number of the constant at index `i`, counted from 0: that index. Upstream's `Numerator::constant`.
     pub fn constant(i: usize) -> Number
         ensures { result ≡ i }
     {

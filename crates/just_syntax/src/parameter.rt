@@ -11,7 +11,7 @@ use crate::parameter_kind::ParameterKind;
 /// A parameter of a recipe.
 #[derive(Debug, Drop)]
 pub struct Parameter<'src> {
-    /// What stands in for an empty argument.
+    /// Replaces an empty argument.
     pub default: Option<Expression<'src>>,
     pub export: bool,
     /// Whether it is an option that takes no value.
@@ -21,7 +21,7 @@ pub struct Parameter<'src> {
     pub multiple: bool,
     pub name: Name<'src>,
     pub number: Number,
-    /// What stands for each element of an argument that is not empty.
+    /// Replaces each element of an argument that is not empty.
     pub value: Option<Expression<'src>>,
 }
 

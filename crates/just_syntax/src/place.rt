@@ -4,8 +4,8 @@ ghost use Rattle.std.specs.Prelude.{◌≡◌};
 ghost use Rattle.just_syntax.specs.Place.{start_of};
 ghost use Rattle.just_syntax.specs.View.{place_view};
 
-/// Where a piece of a source file begins: its column, its line and its offset, all of them from 0, a column and an offset in
-/// bytes; and the path of the file.
+/// Where a piece of a source file begins: its column, line and offset, all counted from 0, column and offset in bytes;
+/// and the path of the file.
 #[derive(Clone, Copy, Debug, PartialEq, Eq)]
 pub struct Place<'src> {
     pub column: usize,

@@ -87,7 +87,7 @@ fn print_between<W: fmt::Write>(
     print(rhs, f)
 }
 
-// Prints an expression behind a text.
+// Prints an expression after a text.
 #[cycle(print)]
 fn print_behind<W: fmt::Write>(
     text: &str,
@@ -191,7 +191,7 @@ fn print_call<W: fmt::Write>(
     f.write_str(")")
 }
 
-// Prints expressions, a comma and a space between them.
+// Prints expressions separated by a comma and a space.
 #[cycle(print)]
 fn print_row<W: fmt::Write>(expressions: &[Expression], f: &mut fmt::Formatter<W>) -> fmt::Result
     ensures { WritesStyledOnOk W.write_str_gives f.old result (printed_row [] (views expressions.now)) f.new }

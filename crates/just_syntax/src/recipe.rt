@@ -1,4 +1,4 @@
-// Recipes, as far as evaluation looks at them.
+// Recipes, as far as evaluation needs them.
 
 ghost use Rattle.std.specs.Prelude.{◌≡◌, []};
 ghost use Rattle.just_syntax.specs.View.{name_view, recipe_view};
@@ -7,7 +7,7 @@ use crate::attribute_set::AttributeSet;
 use crate::name::Name;
 use std::alloc::Global;
 
-/// A recipe, as far as evaluation looks at it.
+/// A recipe, as far as evaluation needs it.
 #[derive(Debug, Drop)]
 pub struct Recipe<'src> {
     pub attributes: AttributeSet<'src>,
@@ -15,7 +15,7 @@ pub struct Recipe<'src> {
 }
 
 impl<'src> Recipe<'src> {
-    /// A recipe of this name, with no attribute. It takes no memory.
+    /// A recipe with this name and no attribute. It allocates nothing.
     pub fn new(alloc: Global, name: Name<'src>) -> Recipe<'src>
         ensures { recipe_view result ≡ record { attributes = []; name = name_view name.entry } }
     {

@@ -1,10 +1,10 @@
-// What `set` says.
+// `set` statements.
 
 use crate::keyed::Keyed;
 use crate::name::Name;
 use crate::setting::Setting;
 
-/// What `set` says: a setting by its name.
+/// A `set` statement: a setting by its name.
 #[derive(Debug, Drop)]
 pub struct Set<'src> {
     pub name: Name<'src>,

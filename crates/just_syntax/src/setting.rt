@@ -6,7 +6,7 @@ use crate::interpreter::Interpreter;
 use crate::string_literal::StringLiteral;
 use crate::token::Token;
 
-/// A setting of a module, of one of the kinds that there are, with what it is set to.
+/// A setting of a module and its value.
 #[derive(Debug, Drop)]
 pub enum Setting<'src> {
     AllowDuplicateRecipes(bool),
@@ -26,25 +26,25 @@ pub enum Setting<'src> {
     Fallback(bool),
     Guards(bool),
     IgnoreComments(bool),
-    /// What a level of indentation is, and the token that says it.
+    /// One level of indentation, and the token that sets it.
     Indentation(Token<'src>, Indentation),
     Lazy(bool),
     Lists(bool),
-    /// The least version of the program that the module is for.
+    /// The minimum version of the program that the module requires.
     MinimumVersion(StringLiteral<'src>),
     NoCd(bool),
     NoExitMessage(bool),
     PositionalArguments(bool),
     Quiet(bool),
-    /// What runs scripts that name no interpreter.
+    /// Runs scripts that name no interpreter.
     ScriptInterpreter(Interpreter<Expression<'src>>),
-    /// What runs commands and recipe lines.
+    /// Runs commands and recipe lines.
     Shell(Interpreter<Expression<'src>>),
     /// The directory for temporary directories.
     Tempdir(Expression<'src>),
     Unstable(bool),
     WindowsPowerShell(bool),
-    /// What runs commands and recipe lines on Windows.
+    /// Runs commands and recipe lines on Windows.
     WindowsShell(Interpreter<Expression<'src>>),
     /// The directory that recipes run in.
     WorkingDirectory(Expression<'src>),

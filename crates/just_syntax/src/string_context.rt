@@ -1,4 +1,4 @@
-// Where one text is wanted.
+// The places that require one text.
 
 ghost use Rattle.std.specs.Prelude.{◌≡◌};
 ghost use Rattle.just_syntax.specs.StringContext.{token};
@@ -9,14 +9,14 @@ use crate::token::Token;
 use crate::unstyled::write_unstyled;
 use std::fmt;
 
-/// Where one text is wanted, so that a value of any other length is refused.
+/// A place that requires one text: a value of any other length is refused.
 #[derive(Clone, Copy, Debug, PartialEq, Eq)]
 pub enum StringContext<'src> {
-    /// The key of the attribute of this name.
+    /// The key of the attribute with this name.
     EnvKey(Name<'src>),
-    /// An argument of the function of this name.
+    /// An argument of the function with this name.
     Function(Name<'src>),
-    /// The setting of this name.
+    /// The setting with this name.
     Setting(Name<'src>),
 }
 

@@ -16,12 +16,12 @@ pub struct StringLiteral<'src> {
 }
 
 impl<'src> StringLiteral<'src> {
-    /// A literal of this text, which was written as `lexeme`, quotes included, and was not unindented. Nothing looks whether
-    /// the two go together.
+    /// A literal with this text, written as `lexeme`, quotes included, and not unindented. It does not check that the
+    /// two agree.
     ///
     /// # Errors
     ///
-    /// `OutOfMemory`, where the text cannot be copied: nothing is made.
+    /// `OutOfMemory`, if the text cannot be copied: nothing is created.
     pub fn new(
         alloc: Global,
         text: &str,

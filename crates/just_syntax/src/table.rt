@@ -1,4 +1,4 @@
-// Tables: values in the order of their keys.
+// Tables: values sorted by their keys.
 
 ghost use Rattle.std.specs.Prelude.{◌≡◌, ℕ, List, [], IfOk, OnOk, OnErr, length, map, ◌==◌};
 ghost use Rattle.std.specs.Option.{option_map};
@@ -14,7 +14,7 @@ use std::fmt;
 use std::fmt::Debug;
 use std::marker::Model;
 
-/// Values by their keys, in the order of the keys' bytes. It keeps the allocator that it was made with.
+/// Values by their keys, sorted by the keys' bytes. It keeps the allocator that it was created with.
 #[derive(Drop)]
 pub struct Table<V: Keyed> {
     alloc: Global,
@@ -34,7 +34,7 @@ impl<V: Keyed> Model for Table<V> {
 }
 
 impl<V: Keyed> Table<V> {
-    /// No value. It takes no memory.
+    /// An empty table. It allocates nothing.
     pub fn new(alloc: Global) -> Table<V>
         ensures { result ≡ [] }
     {
@@ -44,7 +44,7 @@ impl<V: Keyed> Table<V> {
         }
     }
 
-    /// How many values there are.
+    /// The number of values.
     pub fn len(&self) -> usize
         ensures count { result ≡ length self.now }
         ensures in_order { IsInOrder V.key_text self.now }
@@ -52,7 +52,7 @@ impl<V: Keyed> Table<V> {
         self.values.len()
     }
 
-    /// Whether there is no value.
+    /// Whether the table is empty.
     pub fn is_empty(&self) -> bool
         ensures { result ≡ (length self.now == 0) }
     {
@@ -66,12 +66,12 @@ impl<V: Keyed> Table<V> {
         self.values.get(key)
     }
 
-    /// Puts a value in its place, instead of the one that has its key. It takes memory for a copy of the key, also where that
-    /// has a value.
+    /// Inserts a value at its place; it replaces a value with the same key. It allocates a copy of the key, even if the
+    /// key already has a value.
     ///
     /// # Errors
     ///
-    /// `OutOfMemory`, where memory was asked for and refused: the table stays as it was, and the value is dropped.
+    /// `OutOfMemory`, if an allocation fails: the table is unchanged, and the value is dropped.
     pub fn insert(&mut self, value: V) -> Result<(), OutOfMemory>
     where
         V: Drop,
@@ -83,7 +83,7 @@ impl<V: Keyed> Table<V> {
         Ok(())
     }
 
-    /// The values, in the order of their keys.
+    /// The values, sorted by their keys.
     pub fn iter(&self) -> Values<'_, String, V>
         ensures rest { result ≡ self.now }
         ensures runs { ShowsInOrder (deref {X = V}) }
@@ -124,7 +124,7 @@ impl<V: Keyed + Drop> IntoIterator for Table<V> {
     }
 }
 
-// The keys with their values. A reader is promised no bytes.
+// The keys with their values. The format is unspecified.
 impl<V: Keyed + Debug> Debug for Table<V> {
     fn fmt<W: fmt::Write>(&self, f: &mut fmt::Formatter<W>) -> fmt::Result {
         let mut map = f.debug_map();

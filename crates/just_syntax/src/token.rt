@@ -7,7 +7,7 @@ ghost use Rattle.just_syntax.specs.View.{place_view, token_view};
 
 use crate::place::Place;
 
-/// A piece of a source file: its place, in numbers from 0, its text, and the path of the file.
+/// A piece of a source file: its place, counted from 0, its text, and the path of the file.
 #[derive(Clone, Copy, Debug, PartialEq, Eq)]
 pub struct Token<'src> {
     pub column: usize,
@@ -18,7 +18,7 @@ pub struct Token<'src> {
 }
 
 impl<'src> Token<'src> {
-    /// A text at a place, or without one at the start of a file whose path is empty.
+    /// A text at a place; without a place, at the start of a file whose path is empty.
     pub fn new(lexeme: &'src str, place: Option<Place<'src>>) -> Token<'src>
         ensures { token_view result ≡ placed (option_map place_view place.entry) lexeme.now }
     {

@@ -6,12 +6,12 @@ ghost use Rattle.just_syntax.specs.Unindented as spec;
 use crate::out_of_memory::OutOfMemory;
 use std::alloc::Global;
 
-/// The text without the spaces and tabs that all its lines begin with, those lines aside that hold only spaces, tabs and
-/// returns: such a line becomes empty if it is the first or the last, else a newline alone. Upstream's `unindent`.
+/// The text without the leading spaces and tabs that all its lines share. Lines of only spaces, tabs and returns do not
+/// count: such a line becomes empty if it is the first or the last, otherwise a single newline. Upstream's `unindent`.
 ///
 /// # Errors
 ///
-/// `OutOfMemory`, where memory was asked for and refused: nothing is made.
+/// `OutOfMemory`, if an allocation fails: nothing is created.
 pub fn unindent(alloc: Global, text: &str) -> Result<String, OutOfMemory>
     ensures { IfOk result (λ t. string_bytes t ≡ spec.unindented text.now) }
 {
@@ -27,7 +27,7 @@ pub fn unindent(alloc: Global, text: &str) -> Result<String, OutOfMemory>
     Ok(all)
 }
 
-// The first line with its newline, and the text behind it.
+// The first line with its newline, and the text after it.
 fn split_first_line(text: &str) -> Option<(&str, &str)>
     ensures none { IfNone result (text.now ≡ []) }
     ensures cut { IfSome result (λ x. spec.lines text.now ≡ x.0.now ∷ spec.lines x.1.now) }
@@ -42,7 +42,7 @@ fn split_first_line(text: &str) -> Option<(&str, &str)>
     }
 }
 
-// How many bytes the indentation has that all lines share which are not blank.
+// The length in bytes of the indentation that all lines share, not counting blank ones.
 fn common_width(text: &str) -> usize
     ensures { result ≡ spec.width (spec.common_indentation None (spec.lines text.now)) }
 {
@@ -71,7 +71,7 @@ fn common_with<'a>(common: Option<&'a [u8]>, line: &'a [u8]) -> Option<&'a [u8]>
     }
 }
 
-// A line without its share of the indentation; a blank one is empty where it is the first or the last.
+// A line without the common indentation; a blank one becomes a newline, or nothing if it is the first or the last.
 fn unindented_line(line: &str, width: usize, is_first: bool, is_last: bool) -> &str
     requires { spec.is_blank line.now ≡ false → width ≤ length (spec.indentation line.now) }
     ensures { result.now ≡ spec.unindented_line width is_first is_last line.now }
@@ -100,7 +100,7 @@ fn is_gap(byte: u8) -> bool
     byte == b' ' || byte == b'\t'
 }
 
-// The spaces and tabs that a line begins with.
+// The leading spaces and tabs of a line.
 fn indentation(line: &[u8]) -> &[u8]
     ensures { result.now ≡ spec.indentation line.now }
 {
@@ -112,7 +112,7 @@ fn indentation(line: &[u8]) -> &[u8]
     line
 }
 
-// The longest common start of two texts.
+// The longest common prefix of two texts.
 fn common_start<'a>(left: &'a [u8], right: &[u8]) -> &'a [u8]
     ensures { result.now ≡ spec.common_start left.now right.now }
 {

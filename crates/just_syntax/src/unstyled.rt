@@ -1,11 +1,11 @@
-// Text that the options of a formatter do not reach.
+// Text that a formatter's options do not affect.
 
 ghost use Rattle.std.specs.Fmt.{DisplaysOnOk, DisplaysStyledOnOk};
 
 use std::fmt;
 use std::fmt::{Display, Write};
 
-// A formatter as a writer: what is written to it is written with no regard to the formatter's options.
+// A formatter as a writer: it writes text regardless of the formatter's options.
 #[derive(Drop)]
 struct Unstyled<'f, W> {
     inner: &'f mut fmt::Formatter<W>,
@@ -23,12 +23,12 @@ impl<W: fmt::Write> fmt::Write for Unstyled<'_, W> {
     }
 }
 
-/// Writes a value as `{}` does, whatever options the formatter has. `write!` does so too, but it promises it only for a
+/// Writes a value as `{}` does, regardless of the formatter's options. `write!` does so too, but promises it only for a
 /// formatter without options.
 ///
 /// # Errors
 ///
-/// `fmt::Error`, where the value or the writer fails.
+/// `fmt::Error`, if the value or the writer fails.
 pub fn write_unstyled<W: fmt::Write, D: Display + Drop>(
     f: &mut fmt::Formatter<W>,
     value: D,
@@ -39,7 +39,7 @@ pub fn write_unstyled<W: fmt::Write, D: Display + Drop>(
     let mut unstyled = Unstyled { inner: f };
     let result = unstyled.write(value);
     let Unstyled { inner } = unstyled;
-    // No effect at run time. The proof reads what `f` holds from this use of `inner`.
+    // No effect at run time. This use of `inner` fixes what `f` holds once the loan ends.
     let _ = &*inner;
     result
 }

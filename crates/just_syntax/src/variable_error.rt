@@ -1,4 +1,4 @@
-// Why a name stands for no variable.
+// Errors of looking variables up by name.
 
 ghost use Rattle.std.specs.Prelude.{◌≡◌};
 ghost use Rattle.just_syntax.specs.declared.variable_error.VariableError.TheVariants.{OutOfMemory as Wanted};
@@ -9,12 +9,12 @@ use std::alloc::{AllocError, AllocFailed};
 use std::error::Error;
 use std::fmt;
 
-/// Why names stand for no variables.
+/// Why names do not resolve to variables.
 #[derive(Clone, Copy, Debug, PartialEq, Eq)]
 pub enum VariableError<'name> {
     /// No assignment has this name.
     Unknown(&'name str),
-    /// Memory was asked for and refused.
+    /// An allocation failed.
     OutOfMemory,
 }
 

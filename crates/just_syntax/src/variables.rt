@@ -13,7 +13,7 @@ use crate::variable_error::VariableError;
 use std::alloc::Global;
 use std::collections::{HashMap, HashSet};
 
-/// The number of the variable that has this name, if an assignment has it. It takes no memory.
+/// The number of the variable with this name, if there is such an assignment. It allocates nothing.
 pub fn number_of(assignments: &Table<Assignment>, name: &str) -> Option<Number>
     ensures { result ≡ number_named (map assignment_view assignments.now) name.now }
 {
@@ -23,13 +23,13 @@ pub fn number_of(assignments: &Table<Assignment>, name: &str) -> Option<Number>
     }
 }
 
-/// The values that variables are given from outside, by the variables' numbers, of pairs of a name and a text. Where several
-/// pairs have one number, the last counts.
+/// The values that pairs of a name and a text give to variables from outside, by the variables' numbers. If several
+/// pairs have the same number, the last counts.
 ///
 /// # Errors
 ///
-/// `Unknown` with the first name that no assignment has: a caller that passes such names over leaves them out before.
-/// `OutOfMemory`, where there is no memory for the map or for the copy of a text. Either way nothing is made.
+/// `Unknown` with the first name that no assignment has. A caller that wants such names ignored removes them first.
+/// `OutOfMemory`, if there is no memory for the map or for the copy of a text. Either way nothing is created.
 pub fn overrides_of<'name>(
     alloc: Global,
     assignments: &Table<Assignment>,
@@ -49,12 +49,12 @@ pub fn overrides_of<'name>(
     Ok(overrides)
 }
 
-/// The numbers of the variables that have these names, as a run is handed its references.
+/// The set of the numbers of the variables with these names, as a run takes its references.
 ///
 /// # Errors
 ///
-/// `Unknown` with the first name that no assignment has. `OutOfMemory`, where there is no memory for the numbers or for the
-/// set. Either way nothing is made.
+/// `Unknown` with the first name that no assignment has. `OutOfMemory`, if there is no memory for the numbers or for
+/// the set. Either way nothing is created.
 pub fn references_of<'name>(
     alloc: Global,
     assignments: &Table<Assignment>,
@@ -72,7 +72,7 @@ pub fn references_of<'name>(
 ///
 /// # Errors
 ///
-/// `OutOfMemory`, where there is no memory for the set: nothing is made.
+/// `OutOfMemory`, if there is no memory for the set: nothing is created.
 pub fn set_of(alloc: Global, numbers: &[Number]) -> Result<HashSet<Number>, OutOfMemory>
     ensures { IfOk result (λ set. (n : ℕ) → list_any (nat_eq n) set.keys ≡ list_any (λ number. nat_eq number n) numbers.now) }
 {
@@ -83,7 +83,7 @@ pub fn set_of(alloc: Global, numbers: &[Number]) -> Result<HashSet<Number>, OutO
     Ok(set)
 }
 
-// The numbers of names, in their order.
+// The numbers of the names, in their order.
 fn numbers_of<'name>(
     alloc: Global,
     assignments: &Table<Assignment>,

@@ -1,4 +1,4 @@
-// What constant evaluation is refused with: what each refusal says, and where it stands.
+// The refusals of constant evaluation: the message and the place of each.
 
 use crate::compared::is_so;
 use crate::errors::{says, stands};
@@ -13,7 +13,7 @@ use just_value::error::Error;
 use std::alloc::Global;
 use std::process::Abort;
 
-// Whether a refusal says this text and stands at the token of this lexeme, and so does what ends the compilation by it.
+// A refusal says this text at the token of this lexeme, and so does the compile error that it becomes.
 fn expect(rt: &impl Abort, alloc: Global, error: ConstEvalError, text: &str, at: &str) {
     prints(rt, alloc, &error, text);
     stands(rt, text, Some(error.context()), Some(at));
@@ -101,7 +101,7 @@ fn lists_where_one_text_is_wanted(rt: HostRuntime) {
     expect_list(&rt, alloc, &[], function, text, "quote");
 }
 
-// Two lists with an operator between them, and what its refusal says.
+// Two lists with an operator between them, and the message of its refusal.
 const ILL_MATCHED: &[(&[&str], ListOperator, &[&str], &str)] = &[
     (
         &[],
@@ -137,7 +137,7 @@ fn lists_that_do_not_go_together(rt: HostRuntime) {
     }
 }
 
-// Whether compilation ends so.
+// Compilation ends with this error.
 fn ends(rt: &impl Abort, given: CompileError, wanted: CompileError) {
     let is_same = given == wanted;
     drop(given);

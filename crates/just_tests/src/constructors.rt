@@ -1,4 +1,4 @@
-// Syntax made by hand.
+// Syntax built by hand.
 
 use crate::compared::{equal, is_so, same};
 use crate::parts::{made_prints, name, prints, token};
@@ -49,7 +49,7 @@ fn tokens_at_places(rt: HostRuntime) {
     }
 }
 
-// Forms of expressions. One with a part that may be left out stands here with it and without it.
+// Forms of expressions. A form with an optional part occurs with it and without it.
 #[derive(Clone, Copy)]
 enum Form {
     And,
@@ -68,7 +68,8 @@ enum Form {
     Or,
 }
 
-// Forms, the token that each is made with, if it has one, and how it is written, its parts the variables `a`, `b` and `c`.
+// Forms, the token that each is built with, if it has one, and how it is written. Its parts are the variables `a`, `b`
+// and `c`.
 const FORMS: &[(Form, &str, &str)] = &[
     (Form::And, "", "a && b"),
     (Form::Or, "", "a || b"),
@@ -154,7 +155,7 @@ fn format_strings(rt: HostRuntime) {
     made_prints(&rt, alloc, Ok(written), "f'first {{a}} last'");
 }
 
-// Texts, and how literals of them are written.
+// Texts, and how their literals are written.
 const LITERALS: &[(&str, &str)] = &[("x", "'x'"), ("a\tb", "\"a\\tb\""), ("", "''")];
 
 #[test]
@@ -168,7 +169,7 @@ fn texts_of_literals(rt: HostRuntime) {
     }
 }
 
-// Whether a name is the wanted one, and its number too.
+// Whether a name and its number are as expected.
 fn is_numbered(given: Name, number: Number, lexeme: &str, wanted: u64) -> bool {
     given.token == token(lexeme) && number == Number::new(wanted)
 }
@@ -182,7 +183,7 @@ fn plain_assignments(rt: HostRuntime) {
     drop(assignment);
 }
 
-// Whether an assignment is of `x`, whose number is 3, and says nothing else.
+// Whether an assignment is that of `x`, with number 3, and sets nothing else.
 fn is_plain_assignment(assignment: &Assignment) -> bool {
     let says_more = assignment.eager || assignment.export || assignment.private;
     is_numbered(assignment.name, assignment.number, "x", 3) && !says_more
@@ -193,7 +194,7 @@ fn plain_functions(rt: HostRuntime) {
     defines("p", &rt, rt.alloc());
 }
 
-// Whether a function of one parameter is defined so, and its body is written as the parameter.
+// A function of one parameter can be defined with this name, and its body is written like the parameter.
 fn defines<'src>(lexeme: &'src str, rt: &impl Abort, alloc: Global) {
     let mut parameters = Vec::new(alloc);
     let filled = parameters.extend_from_slice(&[(name(lexeme), Number::new(7))]);
@@ -204,7 +205,7 @@ fn defines<'src>(lexeme: &'src str, rt: &impl Abort, alloc: Global) {
     drop(function);
 }
 
-// Whether a function is called `f` and has one parameter, `p`, whose number is 7.
+// Whether a function is named `f` and has one parameter, `p`, with number 7.
 fn takes_one(function: &FunctionDefinition) -> bool {
     match function.parameters.as_slice() {
         [(parameter, number)] => {
@@ -221,7 +222,7 @@ fn plain_parameters(rt: HostRuntime) {
     drop(parameter);
 }
 
-// Whether a parameter is `p`, whose number is 5, takes several arguments, and says nothing else.
+// Whether a parameter is `p`, with number 5, takes several arguments, and sets nothing else.
 fn is_plain_parameter(parameter: &Parameter) -> bool {
     let says_more = parameter.export || parameter.flag || parameter.multiple;
     let holds_more = parameter.default.is_some() || parameter.value.is_some();
@@ -238,7 +239,7 @@ fn plain_recipes(rt: HostRuntime) {
     drop(recipe);
 }
 
-// Whether a recipe is called `build` and has no attribute.
+// Whether a recipe is named `build` and has no attribute.
 fn is_bare_recipe(recipe: &Recipe) -> bool {
     recipe.name() == "build" && recipe.attributes.iter().len() == 0
 }

@@ -1,4 +1,4 @@
-// What `Debug` writes: the fields by their names, as a derive of Rust does, and the scope of a context after them.
+// What `Debug` writes: the fields by name, as a derive of Rust does, and the scope of a context after them.
 
 use crate::compared::{is_so, tells};
 use crate::modules::{Part, assignments, module};
@@ -36,7 +36,7 @@ fn values(rt: HostRuntime) {
     tells(&rt, told, "Value { elements: [\"a\", \"b\"] }");
 }
 
-// What a context lends.
+// What a context borrows.
 #[derive(Drop)]
 struct Around<'src> {
     config: Config,
@@ -47,7 +47,7 @@ struct Around<'src> {
     search: Search,
 }
 
-// Of a module with nothing in it, in a scope that binds one constant.
+// For an empty module, in a scope that binds one constant.
 fn surroundings<'src>(rt: &impl Abort, alloc: Global) -> Around<'src> {
     Around {
         config: Config::new(alloc, "/called/here").expect(rt, "no memory"),
@@ -59,12 +59,12 @@ fn surroundings<'src>(rt: &impl Abort, alloc: Global) -> Around<'src> {
     }
 }
 
-// What `Debug` writes of a context.
+// What `Debug` writes for a context.
 fn told_context(rt: &impl Abort, alloc: Global, context: &ExecutionContext) -> String {
     format!(in alloc; "{context:?}").expect(rt, "no memory")
 }
 
-// What `Debug` writes of what a context lends.
+// What `Debug` writes for the context of these parts.
 fn told(rt: &impl Abort, alloc: Global, around: &Around) -> String {
     let context = ExecutionContext::new(
         &around.config,

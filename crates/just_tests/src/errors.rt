@@ -1,4 +1,4 @@
-// What errors say, and where they stand.
+// The messages of errors, and their places.
 
 use crate::compared::{equal, tells};
 use crate::parts::{name, owned, prints, token, value};
@@ -20,7 +20,7 @@ use std::alloc::Global;
 use std::fmt::Display;
 use std::process::Abort;
 
-// Whether `Display` writes this text, with and without options.
+// `Display` writes this text, with and without format options.
 pub(crate) fn says<T: Display + Drop>(rt: &impl Abort, alloc: Global, error: T, text: &str) {
     prints(rt, alloc, &error, text);
     let told = format!(in alloc; "{error:#120}").expect(rt, "no memory");
@@ -30,7 +30,7 @@ pub(crate) fn says<T: Display + Drop>(rt: &impl Abort, alloc: Global, error: T, 
     drop(error);
 }
 
-// Whether what is said stands at the token of this lexeme, if it stands anywhere.
+// The place of an error is the token of this lexeme, or there is none.
 pub(crate) fn stands(rt: &impl Abort, text: &str, given: Option<Token>, at: Option<&str>) {
     let wanted = match at {
         Some(lexeme) => Some(token(lexeme)),
@@ -110,7 +110,7 @@ fn refusals_of_calls(rt: HostRuntime) {
     expect(&rt, alloc, error, text, None);
 }
 
-// Whether a command that was refused so is said to have failed with this text.
+// A command that is refused so is reported to have failed with this text.
 fn expect_fault(rt: &impl Abort, alloc: Global, output_error: CommandFault, text: &str) {
     let token = token("`exit`");
     let error = Error::Backtick {
@@ -133,7 +133,7 @@ fn refusals_of_commands(rt: HostRuntime) {
     expect_fault(&rt, alloc, CommandFault::OutOfMemory, text);
 }
 
-// What is beside `+` and `c`, `d` and `e`, and what its refusal says.
+// Left operands of `+`, whose right operand is the list of `c`, `d` and `e`, and the message of the refusal.
 const ILL_MATCHED: &[(&[&str], &str)] = &[
     (&[], "operator `+` cannot be applied to empty lists"),
     (
@@ -193,12 +193,12 @@ fn want_of_memory_says(rt: HostRuntime) {
     says(&rt, alloc, CompileError::OutOfMemory, text);
 }
 
-// What becomes of an error that a program passes on.
+// The result of an error that a program passes on.
 fn passed_on<E: std::error::Error>(error: E) -> anyhow::Result<()> {
     Err(error)?
 }
 
-// Whether an error says this text where it is passed on.
+// An error that is passed on has this message.
 fn expect_passed_on<E: std::error::Error>(rt: &impl Abort, alloc: Global, error: E, text: &str) {
     let error = passed_on(error).expect_err(rt, text);
     let told = format!(in alloc; "{error}").expect(rt, "no memory");
@@ -236,7 +236,7 @@ fn faults_are_passed_on(rt: HostRuntime) {
     expect_passed_on(&rt, alloc, CaseError::BadLine(1), "bad line 1");
 }
 
-// A check that takes one element. It is refused memory by `?`.
+// A check that accepts one element. It passes on a failed allocation with `?`.
 fn takes_one(alloc: Global, value: &Value) -> Result<(), CheckFault> {
     if value.len() == 1 {
         return Ok(());
@@ -246,7 +246,7 @@ fn takes_one(alloc: Global, value: &Value) -> Result<(), CheckFault> {
     Err(CheckFault::Refused(message))
 }
 
-// Values, and the message that the check refuses them with.
+// Values, and the message with which the check refuses them.
 const CHECKED: &[(&[&str], Option<&str>)] = &[
     (&["a"], None),
     (&["a", "b"], Some("not one element: a b")),
@@ -263,7 +263,7 @@ fn checks_are_refused_memory_by_question_marks(rt: HostRuntime) {
     }
 }
 
-// Whether a check refused a value with this message, or took it.
+// A check refuses a value with this message, or accepts it.
 fn expect_checked(
     rt: &impl Abort,
     alloc: Global,

@@ -1,4 +1,4 @@
-// Why modules are not resolved: what each fault says, and its place.
+// Why modules are not resolved: the message and the place of each fault.
 
 use crate::compared::equal;
 use crate::modules::Part::{Call, Read, Unnumbered};
@@ -7,22 +7,22 @@ use crate::parts::{name, prints};
 use crate::resolution::{Group, expect_all};
 use just_resolution::fault::Fault;
 
-// A fault in short: assignments, functions and parameters by their names, and parts of an expression by their places.
+// A fault in short: assignments, functions and parameters by name, and parts of an expression by index.
 #[derive(Clone, Copy)]
 pub(crate) enum Short<'a> {
     // A parameter that is bound outside.
     Bound(&'a str),
     // A variable with the number of another.
     Duplicate(&'a str),
-    // A call of this name, at this place, and how many arguments it has.
+    // A call of this name, at this index, and the number of its arguments.
     Miscounted(&'a str, usize, usize),
-    // A call of this name, at this place, which nothing defines.
+    // A call of this name, at this index, which nothing defines.
     Uncallable(&'a str, usize),
-    // A variable without a number, at this place.
+    // A variable without a number, at this index.
     Undefined(usize),
-    // A name of the order that no assignment has.
+    // A name of the order that is no assignment's.
     Unknown(&'a str),
-    // An assignment, and the place of the variable that it reads too early.
+    // An assignment, and the index of the variable that it reads too early.
     Untaken(&'a str, usize),
 }
 
@@ -56,7 +56,7 @@ pub(crate) fn in_full(short: Short<'_>) -> Fault<'_> {
     }
 }
 
-// Faults, what each says, and the name and the offset where it stands.
+// Faults, and the message, the name and the offset of each.
 const SAID: &[(Short, &str, &str, usize)] = &[
     (
         Miscounted("f", 3, 2),
@@ -147,7 +147,7 @@ const UNKNOWN_AND_EARLY: &[Variable] = &[("a", 1, &[Call("nope", &[])]), ("b", 2
 
 const EARLY: &[Variable] = &[("a", 1, &[]), ("b", 2, &[Read(3)])];
 
-// Numbers that stand there twice, or are bound outside.
+// Numbers that occur twice or are bound outside.
 const NUMBERS: &[Group] = &[
     (&[], PLAIN, &[(&["a", "b"], None, None, None)]),
     (
@@ -217,17 +217,17 @@ const ORDERS: &[Group] = &[(
         (&["b", "e", "c"], None, Some(Unknown("e")), None),
         (&["b", "c", "e"], None, Some(Untaken("c", 2)), None),
         (&["c", "b"], None, Some(Untaken("c", 1)), None),
-        // In the body of a function that is reached, unless something is read too early by itself.
+        // In the body of a reached function, unless the assignment itself reads something too early.
         (&["a", "b"], None, Some(Untaken("a", 1)), None),
         (&["d", "b"], None, Some(Untaken("d", 1)), None),
-        // What is not referenced is not taken, and may read what it wants.
+        // What is not referenced is not taken, and may read anything.
         (&["a", "b"], Some(&[2]), None, Some(true)),
         (&["b", "d"], Some(&[4]), Some(Untaken("d", 1)), Some(false)),
         (&["e"], Some(&[2]), Some(Unknown("e")), Some(false)),
     ],
 )];
 
-// Several faults: the first in the order in which they are looked for.
+// Several faults: the first in the order in which they are searched for.
 const SEVERAL: &[Group] = &[
     (
         BOUND_AND_UNNUMBERED,

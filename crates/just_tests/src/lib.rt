@@ -1,6 +1,6 @@
-// Tests of what asks no host: syntax, texts, values, what errors say, and whether a module is resolved. They stand in a crate
-// of their own since a crate with tests is proved twice, and lean on `just_resolution`, on the reader of cases, on what is
-// below these, and on no evaluation.
+// Tests of what asks no host: syntax, texts, values, error messages, and whether a module is resolved. They are a
+// separate crate because a crate with tests is proved twice. They build on `just_resolution`, on the reader of cases
+// and on what is below these, and on no evaluation.
 #![tactic(auto)]
 
 #[cfg(test)]

@@ -1,4 +1,4 @@
-// Modules that tests are made of.
+// Modules for tests.
 
 use crate::parts::{name, numbered, push, token};
 use just_host::justfile::Justfile;
@@ -15,21 +15,21 @@ use std::alloc::Global;
 use std::collections::HashSet;
 use std::process::Abort;
 
-// What stands in an expression.
+// What occurs in an expression.
 #[derive(Clone, Copy)]
 pub(crate) enum Part<'a> {
     // A variable with a number.
     Read(u64),
     // A variable without one.
     Unnumbered,
-    // A call, its arguments variables with these numbers.
+    // A call whose arguments are variables with these numbers.
     Call(&'a str, &'a [u64]),
 }
 
-// A function of the file: its name, the numbers of its parameters, and what stands in its body.
+// A function of the file: its name, the numbers of its parameters, and what occurs in its body.
 pub(crate) type Function<'a> = (&'a str, &'a [u64], &'a [Part<'a>]);
 
-// An assignment: its name, its number, and what stands in its value.
+// An assignment: its name, its number, and what occurs in its value.
 pub(crate) type Variable<'a> = (&'a str, u64, &'a [Part<'a>]);
 
 // A module: its functions, its assignments, and the order of these.
@@ -77,7 +77,7 @@ fn arguments<'a>(
     arguments
 }
 
-// A list of these parts, each at its place among them.
+// A list of these parts, each at its index as offset.
 fn list<'a>(rt: &impl Abort, alloc: Global, parts: &[Part<'a>]) -> Expression<'a> {
     let mut elements = Vec::new(alloc);
     for (offset, part) in parts.iter().enumerate() {
@@ -89,7 +89,7 @@ fn list<'a>(rt: &impl Abort, alloc: Global, parts: &[Part<'a>]) -> Expression<'a
     }
 }
 
-// Puts an item into a table.
+// Adds an item to a table.
 fn insert<T: Drop + Keyed>(rt: &impl Abort, table: &mut Table<T>, item: T) {
     table.insert(item).expect(rt, "no memory");
 }
@@ -156,7 +156,7 @@ pub(crate) fn module<'a>(rt: &impl Abort, alloc: Global, sketch: &Sketch<'a>) ->
     }
 }
 
-// The tests' modules stand below a scope that binds this number.
+// The number that the scope around the tests' modules binds.
 pub(crate) const OUTER: u64 = 100;
 
 pub(crate) fn references(rt: &impl Abort, alloc: Global, numbers: &[u64]) -> HashSet<Number> {

@@ -1,4 +1,4 @@
-// Names and values that tests are made of, and what is shown.
+// Names and values for tests, and what is displayed.
 
 use crate::compared::tells;
 use just_syntax::name::Name;
@@ -11,7 +11,7 @@ use std::alloc::Global;
 use std::fmt::Display;
 use std::process::Abort;
 
-// Where each token and each name stands.
+// The place of each token and each name.
 const PLACE: Place = Place {
     column: 2,
     line: 1,
@@ -35,12 +35,12 @@ pub(crate) fn numbered(number: Option<u64>) -> Option<Number> {
     }
 }
 
-// A text once more.
+// A copy of a text.
 pub(crate) fn owned(rt: &impl Abort, alloc: Global, text: &str) -> String {
     String::from_str(alloc, text).expect(rt, "no memory")
 }
 
-// Puts an item behind others.
+// Adds an item after others.
 pub(crate) fn push<T: Drop>(rt: &impl Abort, items: &mut Vec<T>, item: T) {
     items.push(item).expect(rt, "no memory");
 }
@@ -53,13 +53,13 @@ pub(crate) fn value(rt: &impl Abort, alloc: Global, elements: &[&str]) -> Value 
     value
 }
 
-// Whether `Display` writes this text.
+// `Display` writes this text.
 pub(crate) fn prints<T: Display>(rt: &impl Abort, alloc: Global, item: &T, text: &str) {
     let told = format!(in alloc; "{item}").expect(rt, "no memory");
     tells(rt, told, text);
 }
 
-// The same of what may have been made.
+// The same for an item whose construction may fail.
 pub(crate) fn made_prints<T: Display + Drop>(
     rt: &impl Abort,
     alloc: Global,

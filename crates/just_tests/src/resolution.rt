@@ -1,4 +1,4 @@
-// Modules that are resolved, and modules that are not: by `resolved`, by `first_fault` and by `resolved_const`.
+// Resolved and unresolved modules, as decided by `resolved`, `first_fault` and `resolved_const`.
 
 use crate::compared::{equal, is_so};
 use crate::faults::Short::{
@@ -19,9 +19,9 @@ use std::alloc::Global;
 use std::collections::HashSet;
 use std::process::Abort;
 
-// An order, the numbers that are referenced (each, where none are given), the first fault of a module with this order, if
-// it is not resolved, and whether its assignments are resolved before any run, which is not asked where each number is
-// referenced.
+// An order; the referenced numbers, or `None` for all; the first fault of a module with this order, if it is not
+// resolved; and whether its assignments are resolved before any run, or `None` if that is not tested, because each
+// number is referenced.
 type Case<'a> = (
     &'a [&'a str],
     Option<&'a [u64]>,
@@ -29,10 +29,10 @@ type Case<'a> = (
     Option<bool>,
 );
 
-// Functions and assignments, and what is wanted of a module of them in several cases.
+// Functions and assignments, and the expected answers for a module of them in several cases.
 pub(crate) type Group<'a> = (&'a [Function<'a>], &'a [Variable<'a>], &'a [Case<'a>]);
 
-// Whether the modules of these groups are resolved as they should be. They stand below a scope, and that below another.
+// The modules of these groups are resolved as expected. They are below a scope that is below another.
 pub(crate) fn expect_all<'a>(rt: &impl Abort, alloc: Global, groups: &[Group<'a>]) {
     let mut outer = Scope::root(alloc, &[]).expect(rt, "no memory");
     bind(&mut outer, rt, alloc, "outer", OUTER, "");
@@ -71,7 +71,7 @@ fn answers<'a>(
     }
 }
 
-// Whether the assignments of a module are resolved before any run, or are not.
+// The assignments of a module are resolved before any run, or not, as expected.
 fn same_before<'a>(
     module: &Justfile<'a>,
     rt: &impl Abort,
@@ -86,7 +86,7 @@ fn same_before<'a>(
     equal(rt, of, Some(given.expect(rt, "no memory")), wanted);
 }
 
-// Whether a module has this fault, or is resolved, where it is to have none.
+// A module has this fault or, with none given, is resolved.
 fn same_fault<'a>(
     module: &Justfile<'a>,
     rt: &impl Abort,
@@ -218,7 +218,7 @@ const ORDERS: &[Group] = &[
         UNNUMBERED,
         &[
             (&[], None, Some(Undefined(0)), None),
-            // A number is asked of each variable, also where nothing is taken.
+            // Each variable needs a number, even if nothing is taken.
             (&["a"], Some(&[1]), Some(Undefined(0)), Some(false)),
             (&["a"], Some(&[]), Some(Undefined(0)), Some(false)),
             (&[], Some(&[]), Some(Undefined(0)), Some(false)),
@@ -258,7 +258,7 @@ fn orders_and_functions(rt: HostRuntime) {
     expect_all(&rt, rt.alloc(), ORDERS);
 }
 
-// Calls of names that the file does not define, and of a built-in function's name that it does.
+// Calls of names that the file does not define, and of a built-in function's name that it defines.
 const BUILT_IN_NAMES: &[Group] = &[
     (&[], LEN, &[(IN_ORDER, None, None, None)]),
     (
@@ -314,7 +314,7 @@ const REFERENCED: &[Group] = &[
             (IN_ORDER, Some(&[2]), Some(Untaken("b", 0)), Some(false)),
             (&["a", "c"], Some(&[1, 3]), None, Some(true)),
             (&["a", "c"], Some(&[3]), Some(Untaken("c", 0)), Some(true)),
-            // All else is asked of it too.
+            // All other conditions apply to it too.
             (&["d"], Some(&[]), Some(Unknown("d")), Some(false)),
         ],
     ),
@@ -333,7 +333,7 @@ const REFERENCED: &[Group] = &[
         ],
     ),
     (&[], READS_OUTER, &[(&["a"], Some(&[1]), None, Some(true))]),
-    // Nothing is asked of called names, and all of their arguments.
+    // There is no condition on called names; there are conditions on all of their arguments.
     (
         &[],
         UNKNOWN,

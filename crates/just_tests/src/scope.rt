@@ -61,7 +61,7 @@ fn names_and_numbers(rt: HostRuntime) {
     }
 }
 
-// The context of pairs of these names and numbers.
+// The context of these pairs of names and numbers.
 pub(crate) fn from_pairs<'a>(
     rt: &impl Abort,
     alloc: Global,
@@ -126,7 +126,7 @@ pub(crate) fn bind<'src>(
     bound.expect(rt, "no memory");
 }
 
-// Names, numbers and texts, which are bound one behind the other.
+// Names, numbers and texts, bound one after the other.
 type Bound = &'static [(&'static str, u64, &'static str)];
 
 fn bind_all(scope: &mut Scope, rt: &impl Abort, alloc: Global, all: Bound) {
@@ -161,7 +161,7 @@ fn binds_itself(scope: &Scope, number: u64) -> bool {
     scope.frame().binding(Number::new(number)).is_some()
 }
 
-// How many frames stand around that of a scope; -1, where it is a root.
+// How many frames are around a scope's own; -1 for a root.
 fn told_outer(scope: &Scope) -> i64 {
     if let Some(outer) = scope.parent() {
         return outer.len() as i64;
@@ -174,7 +174,7 @@ pub(crate) fn holds(scope: &Scope, rt: &impl Abort, alloc: Global, number: u64, 
     tells(rt, told_value(scope, rt, alloc, number), wanted);
 }
 
-// Adds each binding, its name and its value, which is joined.
+// Adds the name and the joined value of each binding.
 fn walk(mut bindings: Bindings, rt: &impl Abort, alloc: Global, told: &mut String) {
     while let Some(binding) = bindings.next() {
         tell_binding(binding, rt, alloc, told);
@@ -188,7 +188,7 @@ fn tell_binding(binding: &Binding, rt: &impl Abort, alloc: Global, told: &mut St
     write!(told, "{name}={value}{mark};").expect(rt, "no memory");
 }
 
-// Nothing for a binding as `bind` makes it, `!` for that of a constant, and `?` for any other.
+// Nothing for a binding that `bind` makes, `!` for that of a constant, and `?` for any other.
 fn mark(binding: &Binding) -> &'static str {
     let says_more = binding.eager || binding.export || binding.private;
     let path = binding.name.token.path;
@@ -205,14 +205,14 @@ fn mark(binding: &Binding) -> &'static str {
     }
 }
 
-// Adds the own bindings of a scope, twice: those of the scope, and those of its frame.
+// Adds the own bindings of a scope, twice: from the scope, and from its frame.
 pub(crate) fn tell_own(scope: &Scope, rt: &impl Abort, alloc: Global, told: &mut String) {
     walk(scope.bindings(), rt, alloc, told);
     walk(scope.frame().bindings(), rt, alloc, told);
 }
 
-// Adds what the numbers below 8 mean in a scope, each as its name, its value and `!`, where the scope itself binds it; and
-// then its own bindings, and how many frames stand around it.
+// Adds what the numbers below 8 mean in a scope: for each its name, its value and, if the scope itself binds it, `!`.
+// Then it adds the scope's own bindings and how many frames are around it.
 fn tell(scope: &Scope, rt: &impl Abort, alloc: Global, told: &mut String) {
     for number in 0..8 {
         let name = name_of(scope, number);
@@ -232,9 +232,9 @@ const TOLD_CONSTANTS: &str =
     0 HEX 0123!; 1 RED \u{1b}[31m!; 2 - -; 3 - -; 4 - -; 5 - -; 6 - -; 7 - -; \
     HEX=0123!;RED=\u{1b}[31m!;HEX=0123!;RED=\u{1b}[31m!; -1";
 
-// What a root binds, then what its child binds, and what is told of the child and then of the root.
+// The bindings of a root, those of its child, and the reports on the child and then on the root.
 const SCOPES: &[(Bound, Bound, &str)] = &[
-    // Where nothing is bound.
+    // With nothing bound.
     (
         &[],
         &[],
@@ -254,14 +254,14 @@ const SCOPES: &[(Bound, Bound, &str)] = &[
         "0 - -; 1 y own!; 2 x two; 3 z three!; 4 - -; 5 - -; 6 - -; 7 - -; y=own;z=three;y=own;z=three; 1\n\
         0 - -; 1 y one!; 2 x two!; 3 - -; 4 - -; 5 - -; 6 - -; 7 - -; y=one;x=two;y=one;x=two; -1",
     ),
-    // What is bound again.
+    // Numbers that are bound again.
     (
         &[("x", 2, "two")],
         &[("z", 3, "first"), ("y", 1, "own"), ("z", 3, "three")],
         "0 - -; 1 y own!; 2 x two; 3 z three!; 4 - -; 5 - -; 6 - -; 7 - -; y=own;z=three;y=own;z=three; 1\n\
         0 - -; 1 - -; 2 x two!; 3 - -; 4 - -; 5 - -; 6 - -; 7 - -; x=two;x=two; -1",
     ),
-    // Bound in any order, and walked by rising number.
+    // Bound in any order, and iterated in increasing order.
     (
         &[
             ("x", 5, "five"),
@@ -273,7 +273,7 @@ const SCOPES: &[(Bound, Bound, &str)] = &[
         "0 - -; 1 y second; 2 - -; 3 z three; 4 - -; 5 x five; 6 - -; 7 - -;  1\n\
         0 - -; 1 y second!; 2 - -; 3 z three!; 4 - -; 5 x five!; 6 - -; 7 - -; y=second;z=three;x=five;y=second;z=three;x=five; -1",
     ),
-    // Looked up between and beside what the parent binds.
+    // Looked up between and next to the numbers that the parent binds.
     (
         &[
             ("o", 6, "outer"),
@@ -300,7 +300,7 @@ fn child_binds_its_own(rt: HostRuntime) {
     }
 }
 
-// A child of a root of these constants, and then the root, are told so, on a line each.
+// The reports on a child of a root of these constants, and then on the root, are as expected, on a line each.
 fn are_told(
     rt: &impl Abort,
     alloc: Global,

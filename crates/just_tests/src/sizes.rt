@@ -1,4 +1,4 @@
-// Calls at large sizes that no case reaches. Where memory is there each must succeed: no clause forbids one that gives up.
+// Calls at large sizes that no case reaches. If there is memory each must succeed; no clause forbids a call to give up.
 
 mod scope;
 mod syntax;
@@ -10,14 +10,14 @@ use crate::parts::{owned, push};
 use std::alloc::Global;
 use std::process::Abort;
 
-// A text: what it begins with, a piece and how often that stands there, and what it ends with.
+// A text: its beginning, a piece and how often it occurs, and its end.
 type Long = (&'static str, &'static str, usize, &'static str);
 
 fn long(rt: &impl Abort, alloc: Global, (front, piece, times, back): Long) -> String {
     repeated(rt, alloc, &[(front, 1), (piece, times), (back, 1)])
 }
 
-// Pieces, each as often as it says.
+// Pieces, each repeated as often as given.
 fn repeated(rt: &impl Abort, alloc: Global, pieces: &[(&str, usize)]) -> String {
     let mut text = String::new(alloc);
     for (piece, times) in pieces {
@@ -28,7 +28,7 @@ fn repeated(rt: &impl Abort, alloc: Global, pieces: &[(&str, usize)]) -> String 
     text
 }
 
-// A text so many times.
+// A text, this many times.
 fn texts(rt: &impl Abort, alloc: Global, text: &str, times: usize) -> Vec<String> {
     let mut all = Vec::new(alloc);
     for _ in 0..times {
@@ -47,7 +47,7 @@ fn thousand(rt: &impl Abort, alloc: Global) -> Vec<String> {
     all
 }
 
-// Each text beside itself.
+// Each text next to itself.
 fn beside_themselves<'a>(
     rt: &impl Abort,
     alloc: Global,
@@ -69,7 +69,7 @@ fn borrowed<'a>(rt: &impl Abort, alloc: Global, texts: &'a [String]) -> Vec<&'a 
     all
 }
 
-// Each name, which has its place among them as its number.
+// Each name, with its index as its number.
 fn variables<'a>(rt: &impl Abort, alloc: Global, names: &'a [String]) -> Vec<Variable<'a>> {
     let mut all = Vec::new(alloc);
     for (place, lexeme) in names.iter().enumerate() {
@@ -79,7 +79,7 @@ fn variables<'a>(rt: &impl Abort, alloc: Global, names: &'a [String]) -> Vec<Var
     all
 }
 
-// These texts, one behind the other, twice.
+// These texts, one after the other, twice.
 fn twice(rt: &impl Abort, alloc: Global, texts: &[String]) -> String {
     let once = texts.join(alloc, "").expect(rt, "no memory");
     format!(in alloc; "{once}{once}").expect(rt, "no memory")

@@ -1,4 +1,4 @@
-// Tables, what is printed, and the small calls.
+// Tables, printing, and the small calls.
 
 use crate::compared::{equal, is_so, same, tells};
 use crate::parts::{name, prints};
@@ -28,7 +28,7 @@ impl Keyed for Named<'_> {
     }
 }
 
-// Puts a value behind each of these keys, which holds the place of the key.
+// A table with these keys; the value of each is its index.
 pub(crate) fn table_of<'a>(rt: &impl Abort, alloc: Global, keys: &[&'a str]) -> Table<Named<'a>> {
     let mut table = Table::new(alloc);
     for (place, lexeme) in keys.iter().enumerate() {
@@ -67,7 +67,7 @@ pub(crate) fn has_length(rt: &impl Abort, table: &Table<Named>, len: usize) {
     is_so(rt, "emptiness", table.is_empty() == (len == 0));
 }
 
-// Whether a table has a value at a key, and its place is this one.
+// A table has this value at a key: the index of the key, or none.
 pub(crate) fn keeps(rt: &impl Abort, table: &Table<Named>, key: &str, place: Option<u64>) {
     let given = match table.get(key) {
         Some(named) => Some(named.place),

@@ -1,5 +1,5 @@
-// Paths and texts: a call of each public function, and what no stored case can say, which is parents that a built-in
-// function does not tell apart, and texts with a line break.
+// Paths and texts: a call of each public function, and what no stored case can express, namely parents that a built-in
+// function does not distinguish, and texts with a line break.
 
 use crate::compared::{equal, is_so, same, tells};
 use just_syntax::out_of_memory::OutOfMemory;
@@ -37,7 +37,7 @@ fn trimmed_texts(rt: HostRuntime) {
     same(&rt, trim_end_matches("cabab", "ab"), "c");
 }
 
-// Whether a text that may have been made is the wanted one.
+// A text whose computation may fail is as expected.
 fn gives(rt: &impl Abort, made: Result<String, OutOfMemory>, wanted: &str) {
     tells(rt, made.expect(rt, "no memory"), wanted);
 }
@@ -51,7 +51,7 @@ fn texts(rt: HostRuntime) {
     gives(&rt, encode_uri_component(alloc, "/%\n~"), "%2F%25%0A~");
 }
 
-// Whether there is a text, and it is the wanted one.
+// There is a text, and it is as expected.
 fn gives_some(rt: &impl Abort, made: Result<Option<String>, OutOfMemory>, wanted: &str) {
     let text = made.expect(rt, "no memory");
     equal(rt, "case", text.as_deref(), Some(wanted));
@@ -65,7 +65,7 @@ fn cases(rt: HostRuntime) {
     gives_some(&rt, uppercase(alloc, "hELLO"), "HELLO");
 }
 
-// Whether texts that may have been made are the wanted ones, which have `|` between them.
+// Texts whose computation may fail are as expected; they are written with `|` between them.
 fn gives_all(rt: &impl Abort, alloc: Global, made: Result<Vec<String>, OutOfMemory>, wanted: &str) {
     let texts = made.expect(rt, "no memory");
     let told = texts.join(alloc, "|").expect(rt, "no memory");
@@ -85,14 +85,14 @@ fn cut_texts(rt: HostRuntime) {
     is_so(&rt, "no word", none.is_empty());
 }
 
-// The words `a`, `é` and `b`, with something behind or before each, and as one text.
+// The words `a`, `é` and `b`, with something after or before each, and as one text.
 fn words_are_changed(rt: &impl Abort, alloc: Global, words: &[String]) {
     gives_all(rt, alloc, append(alloc, "!", words), "a!|é!|b!");
     gives_all(rt, alloc, prepend(alloc, "x", words), "xa|xé|xb");
     gives(rt, join_list(alloc, words, ", "), "a, é, b");
 }
 
-// Texts, and what they are without their indentation.
+// Texts, and the same without their indentation.
 const UNINDENTED: &[(&str, &str)] = &[
     ("", ""),
     ("  a", "a"),

@@ -11,8 +11,8 @@ use std::alloc::Global;
 use std::cmp::Ordering;
 use std::process::Abort;
 
-// The elements of values, and what is told of the value: how many there are, whether it is true, whether it is empty,
-// what it is displayed as, and what it is joined to.
+// The elements of values, and the report on each value: how many elements it has, whether it is true, whether it is
+// empty, how it is displayed, and its join.
 const VALUES: &[(&[&str], &str)] = &[
     (&[], "0 false true [] "),
     (&[""], "1 true false \"\" "),
@@ -49,7 +49,7 @@ fn values(rt: HostRuntime) {
     prints(&rt, alloc, &Element("x\ty"), "\"x\\ty\"");
 }
 
-// Whether what may have been made has these elements, each with a `.` behind it.
+// A value whose construction may fail has these elements, each followed by a `.`.
 fn holds(rt: &impl Abort, alloc: Global, made: Result<Value, OutOfMemory>, elements: &str) {
     let value = made.expect(rt, "no memory");
     tells(rt, told_of_elements(rt, alloc, value), elements);
@@ -74,12 +74,12 @@ fn constructors(rt: HostRuntime) {
     holds(&rt, alloc, copied, "a.b c.");
 }
 
-// Adds a text with a `.` behind it.
+// Adds a text followed by a `.`.
 fn add(rt: &impl Abort, told: &mut String, text: &str) {
     write!(told, "{text}.").expect(rt, "no memory");
 }
 
-// The elements that an iterator over references gives, with a `.` behind each.
+// The elements from an iterator over references, each followed by a `.`.
 pub(crate) fn told(rt: &impl Abort, alloc: Global, value: &Value) -> String {
     let mut all = String::new(alloc);
     for text in value.iter() {
@@ -91,7 +91,7 @@ pub(crate) fn told(rt: &impl Abort, alloc: Global, value: &Value) -> String {
     all
 }
 
-// The same of an iterator that takes the value.
+// The same for an iterator that takes the value.
 pub(crate) fn told_of_own(rt: &impl Abort, alloc: Global, value: Value) -> String {
     let mut all = String::new(alloc);
     for text in value {
@@ -100,7 +100,7 @@ pub(crate) fn told_of_own(rt: &impl Abort, alloc: Global, value: Value) -> Strin
     all
 }
 
-// The same of the elements themselves.
+// The same for the elements themselves.
 pub(crate) fn told_of_elements(rt: &impl Abort, alloc: Global, value: Value) -> String {
     let mut all = String::new(alloc);
     for text in value.into_elements() {
@@ -130,7 +130,7 @@ const RISING: &[&[&str]] = &[
     &["é"],
 ];
 
-// Whether values of these elements stand in this order.
+// Values with these elements compare like this.
 fn compare(rt: &impl Abort, alloc: Global, left: &[&str], right: &[&str], order: Ordering) {
     let x = value(rt, alloc, left);
     let y = value(rt, alloc, right);
@@ -150,7 +150,7 @@ fn comparisons(rt: HostRuntime) {
     }
 }
 
-// What is beside an operator, and what that comes to; `refused`, where the lengths of lists do not go together.
+// The operands of an operator, and the result; `refused` if lists have lengths that cannot be combined.
 const APPLIED: &[(&[&str], ListOperator, &[&str], &str)] = &[
     (&[], ListOperator::Concatenate, &[], "[]"),
     (
@@ -191,7 +191,7 @@ const APPLIED: &[(&[&str], ListOperator, &[&str], &str)] = &[
     (&["a", "b"], ListOperator::Join, &["c", "d", "e"], "refused"),
 ];
 
-// What values come to with an operator between them; `refused`, where it is a refusal of it with these values, at `/`.
+// The result of an operator between values; `refused` if it is a refusal with these values, at `/`.
 fn told_of_applied(
     rt: &impl Abort,
     alloc: Global,
@@ -209,7 +209,7 @@ fn told_of_applied(
     }
 }
 
-// `refused`, where it is a refusal of this operator with these lists.
+// `refused`, if it is a refusal of this operator with these lists.
 fn refused(error: &Error, left: &Value, of: ListOperator, right: &Value) -> &'static str {
     match error {
         Error::ListOperation {

@@ -1,4 +1,4 @@
-// Overrides and references, told by the names of variables.
+// Overrides and references, given by the names of variables.
 
 use crate::compared::{equal, tells};
 use crate::modules::{Variable, assignments};
@@ -25,11 +25,11 @@ const NUMBERS: &[(&str, Option<u64>)] = &[
     ("", None),
 ];
 
-// What pairs come to: what they say of `a` and of `b`, and how many variables they say something of; or the first name in
-// them that no assignment has.
+// The overrides from pairs: those of `a` and of `b`, and the number of variables overridden; or the first name that no
+// assignment has.
 type Overridden<'a> = Result<(Option<&'a str>, Option<&'a str>, usize), VariableError<'a>>;
 
-// Pairs of a name and a text, and what they come to.
+// Pairs of a name and a text, and the overrides from them.
 const OVERRIDES: &[(&[(&str, &str)], Overridden)] = &[
     (&[], Ok((None, None, 0))),
     (&[("a", "x")], Ok((Some("x"), None, 1))),
@@ -42,8 +42,8 @@ const OVERRIDES: &[(&[(&str, &str)], Overridden)] = &[
     (&[("", "x")], Err(Unknown(""))),
 ];
 
-// What names come to: whether `a`, `b` and `c` are among them, and how many variables are; or the first name among them that
-// no assignment has.
+// The references from names: whether `a`, `b` and `c` are among them, and how many there are; or the first name that no
+// assignment has.
 type Referenced<'a> = Result<(bool, bool, bool, usize), VariableError<'a>>;
 
 const REFERENCES: &[(&[&str], Referenced)] = &[
@@ -71,7 +71,7 @@ fn are_named(assignments: &Table<Assignment>, rt: &impl Abort, alloc: Global) {
     }
 }
 
-// Whether names come to this.
+// The references from names are as expected.
 fn refer(
     assignments: &Table<Assignment>,
     rt: &impl Abort,
@@ -88,7 +88,7 @@ fn refer(
     drop(references);
 }
 
-// Whether pairs come to this.
+// The overrides from pairs are as expected.
 fn are_overridden(
     assignments: &Table<Assignment>,
     rt: &impl Abort,
@@ -107,7 +107,7 @@ fn are_overridden(
     drop(pairs);
 }
 
-// The pairs, copied.
+// A copy of the pairs.
 pub(crate) fn pairs(rt: &impl Abort, alloc: Global, all: &[(&str, &str)]) -> Vec<(String, String)> {
     let mut pairs = Vec::new(alloc);
     for (name, text) in all {
@@ -120,7 +120,7 @@ pub(crate) fn pairs(rt: &impl Abort, alloc: Global, all: &[(&str, &str)]) -> Vec
     pairs
 }
 
-// What a variable is overridden with, if it is.
+// The override of a variable, if there is one.
 pub(crate) fn text_of(overrides: &HashMap<Number, String>, number: u64) -> Option<&str> {
     match overrides.get(&Number::new(number)) {
         Some(text) => Some(text.as_str()),
@@ -140,7 +140,7 @@ fn sets_of_numbers(rt: HostRuntime) {
     equal(&rt, "numbers", found, (true, false, true, 2));
 }
 
-// Errors, and what each is written as, by itself and where a width is asked for.
+// Errors, and how each is written, by itself and with a width.
 const ERRORS: &[(VariableError, &str)] = &[
     (
         Unknown("x"),

@@ -8,7 +8,7 @@ use just_value::positional::Positional;
 use std::alloc::Global;
 use std::process::Abort;
 
-// Numbers, and what the lists of them say.
+// Numbers, and the lists of them.
 struct Lists {
     numbers: &'static [i32],
     or: &'static str,
@@ -75,7 +75,7 @@ fn word_lists(rt: HostRuntime) {
     }
 }
 
-// Positional words, and what they are told as: the overrides in parentheses, with a `:` behind each key, the directory in
+// Positional words, and the report on them: the overrides in parentheses, with a `:` after each key, the directory in
 // brackets, and the arguments in quotes.
 const POSITIONAL: &[(&[&str], &str)] = &[
     (&[], ""),
@@ -129,7 +129,7 @@ fn told(rt: &impl Abort, alloc: Global, positional: &Positional) -> String {
     told
 }
 
-// Whether positional words that may have been made are told so.
+// The report on positional words, whose construction may fail, is as expected.
 pub(crate) fn are_told(
     rt: &impl Abort,
     alloc: Global,

@@ -1,4 +1,4 @@
--- The components of a path by its last slash, and that `std::path` goes by them.
+-- The components of a path, split at its last slash; `std::path` agrees with them.
 use Rattle.std.proofs.Common.{◌≡◌, ◌≢◌, ◌⊎◌, ℕ, zero, suc, ◌+◌, ◌-◌, ◌<◌, ◌≤◌, List, [], ◌∷◌, ◌++◌, length, take, drop, reverse, get_or, slice_range, Option, Some, None, MatchOption, option_map, true, false, not, ◌&&◌, ◌||◌, cond, eqb, ltb, sym, refl, ap, ap₂, subst, ◌∙◌, inl, inr, arith, zero-add}
 use Rattle.std.specs.List.{onto_first}
 use Rattle.std.specs.Path.{slash, root_dir, cur_dir, is_name, is_trailing, trimmed_len, trim_trailing, rsplit_once, parent_before_slash, parent_and_last, split_last_component, path_parent, normal_name, path_file_name}
@@ -12,12 +12,12 @@ use Rattle.std.proofs.lemmas.Slice.Eq.{bytes_eq-Decides}
 use Rattle.just_text.specs.Path.{segments, place_of, places_from, components, from_last, up_to, before_the_last, last_name, parent, file_name}
 use Rattle.just_text.proofs.LastByte.{Lacks, rsplit_once_parts}
 
--- how many bytes segments take, each with a slash
+-- the length in bytes of segments, each followed by a slash
 total : List (List ℕ) → ℕ
 total [] = 0
 total (s ∷ ss) = (length s + 1) + total ss
 
--- the segments of a path up to its last slash, and behind it
+-- the segments of a path before and after its last slash
 segments_some : (path : List ℕ) → 0 < length (segments path)
 segments_some path = omega (arith, length-slice_split (λ b. eqb b 47) path)
 
@@ -48,7 +48,7 @@ total_segments (b ∷ bs) =
     cond_both (eqb b 47) ([] ∷ segments bs) (onto_first b (segments bs)) (λ ss. total ss ≡ length (b ∷ bs) + 1)
     (λ e. omega (arith, total_segments bs)) (λ e. omega (arith, onto_total b (segments bs) (segments_some bs), total_segments bs))
 
--- the components up to the last slash, and behind it
+-- the components before and after the last slash
 places_push : (at n : ℕ) (ss : List (List ℕ)) (last : List ℕ) → total ss ≡ n → places_from at (ss ++ last ∷ []) ≡ places_from at ss ++ place_of (at + n) last
 unfolding total
 places_push at n [] last e =
@@ -71,7 +71,7 @@ from_last_slash : (dir last : List ℕ) → Lacks slash last → from_last (dir 
 from_last_slash dir last lacks =
     ap reverse (components_last dir last lacks) ∙ (reverse-append (components dir) (place_of (length dir + 1) last) ∙ ap (λ qs. qs ++ from_last dir) (reverse_place (length dir + 1) last))
 
--- a name is a component; nothing and `.` behind a slash are none
+-- a name is a component; an empty segment or `.` after a slash is not
 named_place : (n : ℕ) (last : List ℕ) → is_name last ≡ true → place_of (n + 1) last ≡ (n + 1, (n + 1) + length last) ∷ []
 named_place n last named =
     let neither = or_parts (eqb (length last) 0) (bytes_eq last (46 ∷ [])) (not-true (eqb (length last) 0 || bytes_eq last (46 ∷ [])) named) in
@@ -85,7 +85,7 @@ one_place b bs lacks =
     let place : place_of 0 (b ∷ bs) ≡ (0, 0 + length (b ∷ bs)) ∷ [] = rw (ne_eqb (length (b ∷ bs)) 0 (λ e. absurd (omega arith))) refl in
     ap (λ ss. reverse (places_from 0 ss)) (whole (b ∷ bs) lacks) ∙ ap (λ qs. reverse (qs ++ [])) place
 
--- what trails, and what does not
+-- trailing bytes, and bytes that are not trailing
 trailing_no : (path : List ℕ) (i : ℕ) → get_or path i 0 ≢ 47 → (get_or path i 0 ≢ 46) ⊎ (get_or path (i - 1) 0 ≢ 47) → is_trailing path i ≡ false
 trailing_no path i no_slash other =
     and_right (ltb 0 i) (eqb (get_or path i 0) 47 || (eqb (get_or path i 0) 46 && eqb (get_or path (i - 1) 0) 47))
@@ -127,7 +127,7 @@ named_ends dir (a ∷ b ∷ rest) lacks named =
     ap (is_trailing path) n ∙ trailing_no path (length dir + suc (suc (length rest))) (behind_slash dir (a ∷ b ∷ rest) (suc (length rest)) lacks (omega arith))
     (inr (λ e. behind_slash dir (a ∷ b ∷ rest) (length rest) lacks (omega arith) (ap (λ k. get_or path k 0) (sym before) ∙ e)))
 
--- a front of a path is trimmed as it is alone
+-- trimming a prefix of a path does not depend on the rest
 trimmed_front : (dir rest : List ℕ) (k : ℕ) → k ≤ length dir → trimmed_len (dir ++ rest) k ≡ trimmed_len dir k
 trimmed_front dir rest zero fits = refl
 trimmed_front dir rest (suc k) fits =
@@ -168,7 +168,7 @@ trim_dot dir some =
     let once = trimmed_len_trailing path ((length dir + 1) + 1) (omega arith) (ap (is_trailing path) back ∙ trails) ∙ ap (trimmed_len path) back in
     trim_back dir (47 ∷ 46 ∷ []) (ap (trimmed_len path) n ∙ (once ∙ slash_trails dir (46 ∷ []) some))
 
--- each place is one of the first n bytes, and does not run backwards
+-- each place lies within the first n bytes, and its start is not after its end
 Within : ℕ → List (ℕ × ℕ) → Type 0
 Within n [] = Unit {0}
 Within n (q ∷ qs) = (q.0 ≤ q.1) × (q.1 ≤ n) × Within n qs
@@ -178,12 +178,12 @@ unfolding Within
 within_more m n [] fits w = tt
 within_more m n (q ∷ qs) fits (order, below, more) = (order, omega arith, within_more m n qs fits more)
 
--- what a path is split into at the last of its components, the last first
+-- the two parts of a path split at its last component, given its components in reverse order
 described : List ℕ → List (ℕ × ℕ) → Option (List ℕ × List ℕ)
 described path [] = None
 described path (last ∷ before) = Some (up_to path before, slice_range path last.0 last.1)
 
--- what is said of a path by its components
+-- the functions of std on a path, in terms of its components
 record Known (path : List ℕ) : Type 0 where
   within : Within (length path) (from_last path)
   trimmed : trim_trailing path ≡ up_to path (from_last path)
@@ -199,7 +199,7 @@ split_whole path e some other =
     ap (λ t. cond (eqb (length t) 0 || bytes_eq t root_dir) None (Some (parent_and_last t (rsplit_once slash t)))) e
     ∙ cond-false _ _ _ (or_from _ _ (ne_eqb (length path) 0 (λ z. absurd (omega arith))) other)
 
--- places within a front of a path
+-- places within a prefix of a path
 up_to_front : (d : ℕ) (ds rest : List ℕ) (qs : List (ℕ × ℕ)) → Within (length (d ∷ ds)) qs → up_to ((d ∷ ds) ++ rest) qs ≡ up_to (d ∷ ds) qs
 unfolding Within
 up_to_front d ds rest [] w = refl
@@ -214,7 +214,7 @@ unfolding Within described
 described_front d ds rest [] w = refl
 described_front d ds rest (q ∷ qs) (order, below, more) = ap₂ (λ a b. Some (a, b)) (up_to_front d ds rest qs more) (range_front (d ∷ ds) rest q.0 q.1 order below)
 
--- what adds no component changes nothing
+-- a suffix that adds no component changes nothing
 known_trailing : (d : ℕ) (ds rest : List ℕ) → from_last ((d ∷ ds) ++ rest) ≡ from_last (d ∷ ds) → trim_trailing ((d ∷ ds) ++ rest) ≡ trim_trailing (d ∷ ds) → Known (d ∷ ds) → Known ((d ∷ ds) ++ rest)
 known_trailing d ds rest same trims k =
     let path = (d ∷ ds) ++ rest in
@@ -260,7 +260,7 @@ known_one (b ∷ bs) lacks e =
           ∙ (ap₂ (λ a t. Some (a, t)) (sym (cond-false (eqb b 47) (47 ∷ []) [] unrooted)) (sym whole_range) ∙ ap (described path) (sym place)));
     }
 
--- a name behind the last slash
+-- a name after the last slash
 before_slash : (dir last : List ℕ) → Known dir → parent_before_slash dir ≡ up_to (dir ++ 47 ∷ last) (from_last dir)
 before_slash [] last k = refl
 before_slash (d ∷ ds) last k =
@@ -316,7 +316,7 @@ known_below (suc n) path fits = known_by path (rsplit_once slash path) refl (rsp
 known : (path : List ℕ) → Known path
 known path = known_below (length path) path (omega arith)
 
--- what std's `parent` and `file_name` give
+-- the results of std's `parent` and `file_name`
 parent_described : (path : List ℕ) (qs : List (ℕ × ℕ)) → option_map (λ parts. parts.0) (described path qs) ≡ before_the_last path qs
 unfolding described
 parent_described path [] = refl

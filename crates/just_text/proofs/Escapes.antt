@@ -1,4 +1,4 @@
--- The bytes that an address keeps.
+-- The bytes that a URI keeps.
 use Rattle.std.proofs.Common.{◌≡◌, ◌≢◌, ℕ, ◌<◌, ◌≤◌, List, [], ◌∷◌, ◌++◌, Bool, true, false, not, ◌&&◌, ◌||◌, eqb, leb, cond, refl, ap, ◌∙◌, inl, inr, if◌then◌else◌, arith}
 use Rattle.std.specs.Char.{is_ascii_alphanumeric}
 use Rattle.std.proofs.lemmas.Bool.{lt-ltb, le-ltb, lt-leb, ne_eqb, agree_below_at, cases_lt, and_right}
@@ -9,7 +9,7 @@ use Rattle.percent_encoding.specs.declared.ascii_set.AsciiSet.{AsciiSet}
 use Rattle.percent_encoding.specs.declared.ascii_set.TheConstants.{NON_ALPHANUMERIC}
 use Rattle.just_text.specs.Uri.{is_unreserved, encoded as encoded_text, EscapesReserved}
 
--- letters and digits are what the set lacks at first
+-- the initial set lacks letters and digits
 or_false : (a : Bool) → not a ≡ not (a || false)
 or_false true = refl
 or_false false = refl
@@ -27,7 +27,7 @@ unmarked true m = refl
 unmarked false true = refl
 unmarked false false = refl
 
--- one byte taken out of the set that lacks letters, digits and some marks
+-- one byte removed from the set that lacks letters, digits and some marks
 pub removed : (old new : AsciiSet) (mark : ℕ → Bool) (byte : ℕ) → contains new byte ≡ false → ((b : ℕ) → b < 128 → b ≢ byte → contains new b ≡ contains old b)
     → ((b : ℕ) → b < 128 → contains old b ≡ not (is_ascii_alphanumeric b || mark b)) → (b : ℕ) → b < 128 → contains new b ≡ not (is_ascii_alphanumeric b || (mark b || eqb b byte))
 removed old new mark byte gone others before b below =
@@ -39,7 +39,7 @@ removed old new mark byte gone others before b below =
 no_range : (low high b : ℕ) → high < b → (leb low b && leb b high) ≡ false
 no_range low high b above = rw (lt-leb b high above) (and_right (leb low b) false refl)
 
--- past ASCII each byte is escaped
+-- each byte beyond ASCII is escaped
 past : (b : ℕ) → 128 ≤ b → is_unreserved b ≡ false
 past b above = rw (
   no_range 48 57 b (omega arith),

@@ -1,4 +1,4 @@
--- The definitions at texts that are written out.
+-- The definitions applied to literal texts.
 use Rattle.std.proofs.Common.{◌≡◌, [], ◌∷◌, None, Some, codes, refl}
 use lib.Utf8.{encode}
 use Rattle.std.specs.Str.{chars}

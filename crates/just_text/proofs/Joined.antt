@@ -1,4 +1,4 @@
--- Texts put together.
+-- Joined texts.
 use Rattle.std.proofs.Common.{◌≡◌, ℕ, ◌<◌, List, [], ◌∷◌, ◌++◌, length, refl, ap, arith}
 use Rattle.std.specs.List.{flat_map, join_by, onto_first}
 use Rattle.std.proofs.lemmas.List.{append_assoc}
@@ -7,12 +7,12 @@ use Rattle.std.proofs.lemmas.List.{append_assoc}
 abbrev pub joined : List ℕ → List (List ℕ) → List ℕ
 joined separator texts = join_by (λ text. text) separator texts
 
--- a text put before the others
+-- a text added before the others
 pub joined_more : (separator x : List ℕ) (ps : List (List ℕ)) → 0 < length ps → joined separator (x ∷ ps) ≡ x ++ (separator ++ joined separator ps)
 joined_more separator x [] some = absurd (omega arith)
 joined_more separator x (p ∷ ps) some = ap (λ t. x ++ t) (append_assoc separator p (flat_map (λ y. separator ++ y) ps))
 
--- a byte put before the first
+-- a byte added before the first text
 pub joined_onto : (separator : List ℕ) (b : ℕ) (ps : List (List ℕ)) → 0 < length ps → joined separator (onto_first b ps) ≡ b ∷ joined separator ps
 joined_onto separator b [] some = absurd (omega arith)
 joined_onto separator b (p ∷ ps) some = refl

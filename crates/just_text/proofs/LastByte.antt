@@ -1,4 +1,4 @@
--- A text cut at its last byte of a value.
+-- A text split at the last occurrence of a byte.
 use Rattle.std.proofs.Common.{◌≡◌, ◌≢◌, ℕ, zero, suc, ◌+◌, ◌-◌, ◌<◌, List, [], ◌∷◌, ◌++◌, length, take, drop, get_or, Option, Some, None, MatchOption, option_map, Bool, not, eqb, sym, refl, ap, ◌∙◌, inl, inr, arith, take-append-drop, eqb-true}
 use Rattle.std.specs.List.{before_last, after_last, suffix_len}
 use Rattle.std.specs.Path.{rfind_below, rsplit_once}
@@ -10,7 +10,7 @@ use Rattle.std.proofs.lemmas.List.Sums.{suffix_len_is}
 abbrev pub Lacks : ℕ → List ℕ → Type 0
 Lacks c text = (i : ℕ) → i < length text → get_or text i 0 ≢ c
 
--- r is the place of the last c below n, if there is one
+-- r is the index of the last c below n, if there is one
 abbrev IsLast : ℕ → List ℕ → ℕ → Option ℕ → Type 0
 IsLast c text n r = MatchOption r ((i : ℕ) → i < n → get_or text i 0 ≢ c) (λ k. (k < n) × (get_or text k 0 ≡ c) × ((i : ℕ) → k < i → i < n → get_or text i 0 ≢ c))
 
@@ -34,12 +34,12 @@ parts_at c text (Some k) (fits, at, after) = (
   λ i less e. after ((k + 1) + i) (omega arith) (omega (arith, length-drop (k + 1) text)) (sym (get_or-drop (k + 1) text i 0) ∙ e),
 )
 
--- what std's `rsplit_once` is
+-- the specification of std's `rsplit_once`
 pub rsplit_once_parts : (c : ℕ) (text : List ℕ) → MatchOption (rsplit_once c text) (Lacks c text) (λ parts. (text ≡ parts.0 ++ c ∷ parts.1) × Lacks c parts.1)
 unfolding rsplit_once
 rsplit_once_parts c text = parts_at c text (rfind_below c text (length text)) (last_below c text (length text))
 
--- the same cut in the words `before_last` and `after_last`
+-- the same split by `before_last` and `after_last`
 abbrev not_at : ℕ → ℕ → Bool
 not_at c b = not (eqb b c)
 

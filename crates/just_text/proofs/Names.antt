@@ -1,4 +1,4 @@
--- The stem and the extension of a file name, as `std::path` cuts it at its last dot.
+-- The stem and the extension of a file name, which `std::path` splits at its last dot.
 use Rattle.std.proofs.Common.{◌≡◌, ℕ, List, ◌∷◌, ◌++◌, Option, Some, None, MatchOption, option_map, refl, ap, ◌∙◌}
 use Rattle.std.specs.Option.{option_and_then, option_flatten}
 use Rattle.std.specs.Path.{dot, rsplit_once, stem_of_split, extension_of_split, path_file_name, path_file_stem, path_extension}
@@ -22,7 +22,7 @@ stems : (r : Option (List ℕ)) → option_map (λ name. stem_of_split name (rsp
 stems None = refl
 stems (Some name) = ap Some (stem_by name (rsplit_once dot name) (rsplit_once_parts dot name))
 
--- what std's `extension` and `file_stem` give
+-- the results of std's `extension` and `file_stem`
 pub extension_is : (path : List ℕ) → path_extension path ≡ extension path
 unfolding path_extension extension
 extension_is path = extensions (path_file_name path) ∙ ap (option_and_then extension_of) (file_name_is path)

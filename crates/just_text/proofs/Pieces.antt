@@ -1,4 +1,4 @@
--- The pieces of a text, as `split` gives them, and texts put together.
+-- The pieces of a text that `split` gives, and joined texts.
 use Rattle.std.proofs.Common.{◌≡◌, ℕ, zero, suc, ◌+◌, ◌-◌, ◌<◌, ◌≤◌, List, [], ◌∷◌, ◌++◌, length, take, drop, Some, None, Bor, Bool, true, false, cond, eqb, sym, refl, ap, subst, ◌∙◌, inl, inr, arith, encode_utf8, IsUtf8}
 use Rattle.std.specs.declared.str.Split.{Split}
 use Rattle.std.specs.List.{All, starts_with, flat_map, onto_first}
@@ -19,7 +19,7 @@ use Rattle.just_text.specs.Split.{pieces, pieces_behind, PiecesGiveTextBack, NoP
 use Rattle.just_text.proofs.Ends.{starts, starts_not}
 use Rattle.just_text.proofs.Joined.{joined, joined_more, joined_onto}
 
--- bytes of a place are passed over
+-- the remaining bytes of an occurrence are skipped
 passed : (p : List ℕ) (k : ℕ) (s : List ℕ) → pieces_behind p k s ≡ pieces_behind p 0 (drop k s)
 passed p zero s = refl
 passed p (suc k) [] = refl
@@ -35,7 +35,7 @@ first_here p (b ∷ bs) (suc j) some split ends =
     let left : length p - 1 ≡ j = omega arith in
     rw (starts p (b ∷ bs) (drop j bs) split, left) (ap (λ ps. [] ∷ ps) (passed p j bs))
 
--- the pieces of a text, by the first place of a separator
+-- the pieces of a text, by the first occurrence of a separator
 at_first : (p s : List ℕ) (i j : ℕ) → 0 < length p → ((k : ℕ) → k < i → LacksTextAt p s k) × (drop i s ≡ p ++ drop j s) × (j ≡ i + length p) → pieces_behind p 0 s ≡ take i s ∷ pieces_behind p 0 (drop j s)
 at_first p s zero j some (before, split, ends) = first_here p s j some split (omega arith)
 at_first p [] (suc i) zero some (before, split, ends) = absurd (omega arith)
@@ -56,7 +56,7 @@ pieces_whole : (p s : List ℕ) → 0 < length p → FindsText p s None → piec
 unfolding pieces
 pieces_whole p s some none = at_none p s some none
 
--- there is always a piece
+-- there is always at least one piece
 onto_some : (b : ℕ) (ps : List (List ℕ)) → 0 < length (onto_first b ps)
 onto_some b [] = omega arith
 onto_some b (p ∷ ps) = omega arith
@@ -70,7 +70,7 @@ pieces_some : (p s : List ℕ) → 0 < length (pieces p s)
 unfolding pieces
 pieces_some p s = pieces_behind_some p 0 s
 
--- the pieces that an iterator is still to give
+-- the remaining pieces of an iterator
 abbrev left : Split (Bor (List ℕ)) → List ℕ → List (List ℕ)
 left s separator = cond (split_has_more s) (pieces separator (split_text s)) []
 
@@ -93,7 +93,7 @@ YieldsList-from_pieces {s} separator text some e more same =
     let shown : left s separator ≡ pieces separator text = rw (more, e) refl in
     rw (← shown) all
 
--- what `replace` makes of the text, where something is looked for
+-- the result of `replace` for a pattern that is not empty
 replaced_filled : (p to : List ℕ) (n : ℕ) (q : Bor (List ℕ)) (s out : List ℕ) → 0 < length p → q.now ≡ p
     → ReplacesMatches (λ (n : Bor (List ℕ)). FindsText n.now) (λ n m. m.now ≡ n.now) to n q s out → out ≡ joined to (pieces p s)
 replaced_filled p to zero q s out some same (none, e) =
@@ -106,7 +106,7 @@ replaced_filled p to (suc n) q s out some same (i, j, next, rest, found, kept, i
     let here = subst (λ t. FindsText t s (Some (i, j))) same found in
     absurd (omega (arith, empty, here.1.ends))
 
--- where nothing is looked for, which stands everywhere
+-- the result for the empty pattern, which occurs everywhere
 at_front : (s : List ℕ) (i j : ℕ) → FindsText [] s (Some (i, j)) → (i ≡ 0) × (j ≡ 0)
 at_front s zero j (before, here) = (refl, here.ends)
 at_front s (suc i) j (before, here) = absurd (before 0 (omega arith) s refl)
@@ -133,7 +133,7 @@ replaced_is [] to n q s out utf8 same runs = replaced_empty to n q s out utf8 sa
 replaced_is (b ∷ bs) to n q s out utf8 same runs =
     rw (ne_eqb (length (b ∷ bs)) 0 (λ e. absurd (omega arith))) (replaced_filled (b ∷ bs) to n q s out (omega arith) same runs)
 
--- a byte that is replaced, byte by byte
+-- a byte replaced, byte by byte
 pub quotes_replaced : (text : List ℕ) → joined (39 ∷ 92 ∷ 39 ∷ 39 ∷ []) (pieces (39 ∷ []) text) ≡ flat_map in_quotes text
 unfolding pieces
 quotes_replaced [] = refl
@@ -143,7 +143,7 @@ quotes_replaced (b ∷ bs) =
       | inr w ↦ rw (w.0, ne_eqb 39 b (λ e. w.1 (sym e))) (joined_onto (39 ∷ 92 ∷ 39 ∷ 39 ∷ []) b (pieces_behind (39 ∷ []) 0 bs) (pieces_behind_some (39 ∷ []) 0 bs) ∙ ap (λ t. b ∷ t) (quotes_replaced bs))
     ]
 
--- the text behind a separator that it begins with
+-- the text after a separator that it begins with
 behind_separator : (p s : List ℕ) → starts_with eqb s p ≡ true → s ≡ p ++ drop (length p) s
 behind_separator p s e = sym (take-append-drop (length p) s) ∙ ap (λ t. t ++ drop (length p) s) (sym ((bytes_eq-Decides p (take (length p) s)).0 e))
 
@@ -153,7 +153,7 @@ shorter_behind (c ∷ cs) b bs some =
     let n : length cs ≡ length (c ∷ cs) - 1 = omega arith in
     ap (λ k. drop k bs) n
 
--- the pieces put together again
+-- the pieces joined again
 given_back : (p : List ℕ) → 0 < length p → (n : ℕ) (s : List ℕ) → length s ≤ n → joined p (pieces_behind p 0 s) ≡ s
 given_back p some n [] fits = refl
 given_back p some zero (b ∷ bs) fits = absurd (omega arith)
@@ -170,7 +170,7 @@ pub pieces_joined : PiecesGiveTextBack
 unfolding pieces
 pieces_joined separator text some = given_back separator some (length text) text (omega arith)
 
--- the first piece is how the text begins, and no piece holds the separator
+-- the first piece is the start of the text, and no piece contains the separator
 FreeOf : List ℕ → List ℕ → Type 0
 FreeOf p piece = ¬ (HasSubslice piece p)
 

@@ -1,4 +1,4 @@
--- Two paths joined, as `std::path` joins them.
+-- Two paths joined by `std::path`.
 use Rattle.std.proofs.Common.{◌≡◌, ℕ, List, [], ◌∷◌, refl}
 use Rattle.std.specs.Path.{path_join}
 use Rattle.just_text.specs.Path.{joined}

@@ -1,4 +1,4 @@
--- The words of a text, as `split_whitespace` gives them.
+-- The words of a text that `split_whitespace` gives.
 use Rattle.std.proofs.Common.{◌≡◌, ℕ, zero, suc, ◌<◌, List, [], ◌∷◌, ◌++◌, length, get_or, Bool, true, false, not, sym, refl, ap, subst, ◌∙◌, arith, chars, encode_utf8, encode_utf8_all, IsUtf8}
 use lib.Utf8.{scalar, scalars}
 use Rattle.std.specs.Char.{is_whitespace, is_not_whitespace}
@@ -14,7 +14,7 @@ use Rattle.std.proofs.lemmas.List.Splits.{slice_split_none, slice_split_at}
 use Rattle.std.proofs.lemmas.Str.{chars-encodes, encodes-chars, scalars-chars, cons_from_encodes, encodes_same, encode_same, length-le-encodes}
 use Rattle.just_text.specs.Split.{words, words_of, is_filled}
 
--- a text that goes on behind some characters
+-- a text continued after some characters
 peel : (ds cs rest : List ℕ) → encode_utf8_all ds ≡ encode_utf8_all cs ++ rest → (es : List ℕ) × (ds ≡ cs ++ es) × (encode_utf8_all es ≡ rest)
 peel ds [] rest e = (ds, refl, e)
 peel ds (c ∷ cs) rest e =
@@ -31,7 +31,7 @@ none_at p [] none i h = absurd (omega arith)
 none_at p (c ∷ cs) none zero h = none.0
 none_at p (c ∷ cs) none (suc i) h = none_at p cs none.1 i (omega arith)
 
--- white space before a word is passed over
+-- white space before a word is skipped
 words_gap : (gap ds : List ℕ) → NonePass is_not_whitespace gap → words_of (gap ++ ds) ≡ words_of ds
 words_gap [] ds none = refl
 words_gap (c ∷ cs) ds none = rw (not-false (is_whitespace c) none.0) (words_gap cs ds none.1)

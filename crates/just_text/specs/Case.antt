@@ -5,11 +5,11 @@ use Rattle.std.specs.List.{list_all}
 use Rattle.std.specs.Str.{str_to_ascii_lowercase, str_to_ascii_uppercase}
 use Rattle.just_syntax.specs.Plain.{Text}
 
--- a text changed, if it holds ASCII alone
+-- a text changed, if it is ASCII
 abbrev pub if_ascii : (Text → Text) → Text → Option Text
 if_ascii change text = if list_all is_ascii text then Some (change text) else None
 
--- the first character upper, each later one lower
+-- the first character in upper case, all others in lower case
 abbrev pub capitalized : Text → Text
 capitalized [] = []
 capitalized (c ∷ cs) = to_ascii_uppercase c ∷ str_to_ascii_lowercase cs

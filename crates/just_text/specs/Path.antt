@@ -1,19 +1,19 @@
--- A path is a text. It is taken apart at its slashes.
+-- Paths are texts, split at their slashes.
 use Rattle.std.specs.Prelude.{ℕ, ◌+◌, ◌-◌, Bool, false, not, ◌&&◌, ◌||◌, ◌==◌, if◌then◌else◌, [], ◌∷◌, ◌++◌, List, reverse, length, take, slice_index, slice_range, Option, Some, None, option_and_then, option_map, bytes_eq, codes}
 use Rattle.std.specs.List.{slice_split, before_last, after_last}
 use Rattle.std.specs.Path.{slash, dot}
 use Rattle.just_syntax.specs.Plain.{Text}
 
--- it begins with a slash
+-- the path begins with a slash
 abbrev pub is_rooted : Text → Bool
 is_rooted [] = false
 is_rooted (c ∷ cs) = c == slash
 
--- with a slash at its end, unless it is empty
+-- the base with a slash at its end, unless it is empty
 abbrev pub with_slash : Text → Text
 with_slash base = if length base == 0 || slice_index base (length base - 1) == slash then base else base ++ codes "/"
 
--- the second path if it is rooted, else the two with a slash between them
+-- the second path if it is rooted, otherwise the two joined by a slash
 abbrev pub joined : Text → Text → Text
 joined base path = if is_rooted path then path else with_slash base ++ path
 
@@ -21,15 +21,15 @@ joined base path = if is_rooted path then path else with_slash base ++ path
 abbrev pub segments : Text → List Text
 segments path = slice_split (λ b. b == slash) path
 
--- a segment that begins at a place of the path is a component unless it is empty, or `.` behind a slash
+-- a segment at an index of the path is a component unless it is empty, or is `.` after a slash
 abbrev pub is_component : ℕ → Text → Bool
 is_component at segment = not (length segment == 0) && (at == 0 || not (bytes_eq segment (codes ".")))
 
--- a segment's place, of its first byte and behind its last, if it is a component
+-- the place of a segment, if it is a component: the index of its first byte and the index after its last
 abbrev pub place_of : ℕ → Text → List (ℕ × ℕ)
 place_of at segment = if is_component at segment then (at, at + length segment) ∷ [] else []
 
--- the places of the components among segments, of which the first begins at a place
+-- the places of the components among segments whose first begins at an index
 abbrev pub places_from : ℕ → List Text → List (ℕ × ℕ)
 places_from at [] = []
 places_from at (segment ∷ more) = place_of at segment ++ places_from (at + (length segment + 1)) more
@@ -38,16 +38,16 @@ places_from at (segment ∷ more) = place_of at segment ++ places_from (at + (le
 abbrev pub components : Text → List (ℕ × ℕ)
 components path = places_from 0 (segments path)
 
--- the components, the last first
+-- the components in reverse order
 abbrev pub from_last : Text → List (ℕ × ℕ)
 from_last path = reverse (components path)
 
--- the text up to the end of the first of some components; where there is none, the root or nothing
+-- the text up to the end of the first of some components; if there is none, the root or the empty text
 abbrev pub up_to : Text → List (ℕ × ℕ) → Text
 up_to path [] = if is_rooted path then codes "/" else []
 up_to path (component ∷ more) = take component.1 path
 
--- of components, the last first: the text up to the end of the one before the last, unless there is no last
+-- given components in reverse order: the text up to the end of the one before the last, unless there is no last
 abbrev pub before_the_last : Text → List (ℕ × ℕ) → Option Text
 before_the_last path [] = None
 before_the_last path (last ∷ before) = Some (up_to path before)
@@ -60,7 +60,7 @@ parent path = before_the_last path (from_last path)
 abbrev pub proper : Text → Option Text
 proper name = if bytes_eq name (codes ".") || bytes_eq name (codes "..") then None else Some name
 
--- of components, the last first: the last, if it is a name
+-- given components in reverse order: the last, if it is a name
 abbrev pub last_name : Text → List (ℕ × ℕ) → Option Text
 last_name path [] = None
 last_name path (last ∷ more) = proper (slice_range path last.0 last.1)
@@ -69,24 +69,24 @@ last_name path (last ∷ more) = proper (slice_range path last.0 last.1)
 unfoldable pub file_name : Text → Option Text
 file_name path = last_name path (from_last path)
 
--- what stands before the last dot of a name, and behind it
+-- the parts of a name before and after its last dot
 abbrev pub before_dot : Text → Text
 before_dot name = before_last (λ b. b == dot) name
 
 abbrev pub behind_dot : Text → Text
 behind_dot name = after_last (λ b. b == dot) name
 
--- a name without a dot, or with its last dot as its first byte, has no extension: all of it is its stem
+-- a name without a dot, or whose last dot is its first byte, has no extension: its stem is all of it
 abbrev pub extension_of : Text → Option Text
 extension_of name = if length (before_dot name) == 0 then None else Some (behind_dot name)
 
 abbrev pub stem_of : Text → Text
 stem_of name = if length (before_dot name) == 0 then name else before_dot name
 
--- the file name behind its last dot
+-- the part of the file name after its last dot
 unfoldable pub extension : Text → Option Text
 extension path = option_and_then extension_of (file_name path)
 
--- the file name before its last dot
+-- the part of the file name before its last dot
 unfoldable pub file_stem : Text → Option Text
 file_stem path = option_map stem_of (file_name path)

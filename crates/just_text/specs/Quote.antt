@@ -3,7 +3,7 @@ use Rattle.std.specs.Prelude.{ℕ, ◌++◌, ◌==◌, if◌then◌else◌, [], 
 use Rattle.std.specs.List.{flat_map}
 use Rattle.just_syntax.specs.Plain.{Text}
 
--- a byte between single quotes: a quote ends them, stands behind a backslash, and begins them again
+-- a byte within single quotes: a quote closes them, is escaped by a backslash, and opens them again
 abbrev pub in_quotes : ℕ → Text
 in_quotes b = if b == 39 then codes "'\\''" else b ∷ []
 

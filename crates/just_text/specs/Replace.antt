@@ -1,4 +1,4 @@
--- Texts with another text in place of one.
+-- Texts with the occurrences of a text replaced.
 use Rattle.std.specs.Prelude.{◌++◌, ◌==◌, if◌then◌else◌, length, chars, encode_utf8}
 use Rattle.std.specs.List.{flat_map, join_by}
 use Rattle.just_syntax.specs.Plain.{Text}
@@ -8,6 +8,7 @@ use Rattle.just_text.specs.Split.{pieces}
 abbrev pub interleaved : Text → Text → Text
 interleaved text to = flat_map (λ c. to ++ encode_utf8 c) (chars text) ++ to
 
--- `to` between the pieces that `from` stands between; an empty `from` stands before each character and at the end
+-- the pieces between the occurrences of `from`, joined by `to`; an empty `from` occurs before each character and at the
+-- end
 abbrev pub replaced : Text → Text → Text → Text
 replaced text from to = if length from == 0 then interleaved text to else join_by (λ piece. piece) to (pieces from text)

@@ -1,19 +1,19 @@
--- Texts cut into pieces.
+-- Texts split into pieces.
 use Rattle.std.specs.Prelude.{◌≡◌, ℕ, zero, suc, ◌-◌, ◌<◌, ◌==◌, Bool, not, if◌then◌else◌, List, [], ◌∷◌, length, map, filter, nat_eq, chars, encode_utf8, encode_utf8_all}
 use Rattle.std.specs.Char.{is_whitespace}
 use Rattle.std.specs.List.{All, starts_with, join_by, onto_first, slice_split}
 use Rattle.std.specs.Str.Iter.{HasSubslice}
 use Rattle.just_syntax.specs.Plain.{Text}
 
--- whether there is anything in a piece
+-- whether a piece is not empty
 abbrev pub is_filled : Text → Bool
 is_filled piece = not (length piece == 0)
 
--- the filled pieces between white space, of characters
+-- the pieces between white space that are not empty, from characters
 abbrev pub words_of : List ℕ → List Text
 words_of characters = map encode_utf8_all (filter is_filled (slice_split is_whitespace characters))
 
--- the words of a text: what stands between White_Space and is not empty
+-- the words of a text: the pieces between characters of the property White_Space that are not empty
 unfoldable pub words : Text → List Text
 words text = words_of (chars text)
 
@@ -21,7 +21,7 @@ words text = words_of (chars text)
 abbrev pub characters : Text → List Text
 characters text = map encode_utf8 (chars text)
 
--- the pieces of a text between the places of a separator, where some bytes of a place are still to be passed over
+-- the pieces of a text between the occurrences of a separator, after the first `left` bytes are skipped
 abbrev pub pieces_behind : Text → ℕ → Text → List Text
 pieces_behind separator left [] = [] ∷ []
 pieces_behind separator (suc left) (b ∷ bs) = pieces_behind separator left bs
@@ -30,18 +30,18 @@ pieces_behind separator zero (b ∷ bs) =
     then [] ∷ pieces_behind separator (length separator - 1) bs
     else onto_first b (pieces_behind separator zero bs)
 
--- the pieces between the leftmost places of a separator that do not overlap
+-- the pieces between the leftmost occurrences of a separator that do not overlap
 unfoldable pub pieces : Text → Text → List Text
 pieces separator text = pieces_behind separator 0 text
 
--- the pieces between the places of a separator; of an empty one, the characters
+-- the pieces between the occurrences of a separator; for an empty one, the characters
 abbrev pub split : Text → Text → List Text
 split text separator = if length separator == 0 then characters text else pieces separator text
 
--- with the separator between them, the pieces are the text again
+-- the pieces joined by the separator are the original text
 abbrev pub PiecesGiveTextBack : Type 0
 PiecesGiveTextBack = (separator text : Text) → 0 < length separator → join_by (λ piece. piece) separator (pieces separator text) ≡ text
 
--- no piece holds the separator
+-- no piece contains the separator
 abbrev pub NoPieceHoldsSeparator : Type 0
 NoPieceHoldsSeparator = (separator text : Text) → 0 < length separator → All (λ piece. ¬ (HasSubslice piece separator)) (pieces separator text)

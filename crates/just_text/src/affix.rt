@@ -1,15 +1,15 @@
-// Texts with another text behind or before each.
+// Texts with a suffix or a prefix added to each.
 
 ghost use Rattle.std.specs.Prelude.{◌≡◌, ◌++◌, IfOk, map, string_bytes};
 
 use just_syntax::out_of_memory::OutOfMemory;
 use std::alloc::Global;
 
-/// Each text with the suffix behind it, in their order. Upstream's `append`, of the texts that it goes over.
+/// Each text followed by the suffix, in order. Upstream's `append`, of the texts that it goes over.
 ///
 /// # Errors
 ///
-/// `OutOfMemory`, where memory was asked for and refused: nothing is made.
+/// `OutOfMemory`, if an allocation fails: nothing is created.
 pub fn append(alloc: Global, suffix: &str, texts: &[String]) -> Result<Vec<String>, OutOfMemory>
     ensures { IfOk result (λ v. map string_bytes v.items ≡ map (λ text. text ++ suffix.now) (map string_bytes texts.now)) }
 {
@@ -20,11 +20,11 @@ pub fn append(alloc: Global, suffix: &str, texts: &[String]) -> Result<Vec<Strin
     Ok(all)
 }
 
-/// Each text with the prefix before it, in their order. Upstream's `prepend`, of the texts that it goes over.
+/// Each text preceded by the prefix, in order. Upstream's `prepend`, of the texts that it goes over.
 ///
 /// # Errors
 ///
-/// `OutOfMemory`, where memory was asked for and refused: nothing is made.
+/// `OutOfMemory`, if an allocation fails: nothing is created.
 pub fn prepend(alloc: Global, prefix: &str, texts: &[String]) -> Result<Vec<String>, OutOfMemory>
     ensures { IfOk result (λ v. map string_bytes v.items ≡ map (λ text. prefix.now ++ text) (map string_bytes texts.now)) }
 {
@@ -35,7 +35,7 @@ pub fn prepend(alloc: Global, prefix: &str, texts: &[String]) -> Result<Vec<Stri
     Ok(all)
 }
 
-// The second text behind the first.
+// The second text appended to the first.
 fn concatenated(alloc: Global, front: &str, back: &str) -> Result<String, OutOfMemory>
     ensures { IfOk result (λ text. string_bytes text ≡ front.now ++ back.now) }
 {

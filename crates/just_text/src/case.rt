@@ -6,12 +6,12 @@ ghost use Rattle.just_text.specs.Case as spec;
 use just_syntax::out_of_memory::OutOfMemory;
 use std::alloc::Global;
 
-/// The text with its first character upper and each later one lower. None if it holds a byte past ASCII. Upstream's
-/// `capitalize`, which knows all letters.
+/// The text with its first character in upper case and all others in lower case. `None` if it contains a byte beyond
+/// ASCII. Upstream's `capitalize`, which handles all letters.
 ///
 /// # Errors
 ///
-/// `OutOfMemory`, where memory was asked for and refused: nothing is made.
+/// `OutOfMemory`, if an allocation fails: nothing is created.
 pub fn capitalize(alloc: Global, text: &str) -> Result<Option<String>, OutOfMemory>
     ensures { IfOk result (λ answer. option_map string_bytes answer ≡ spec.capitalize text.now) }
 {
@@ -27,11 +27,12 @@ pub fn capitalize(alloc: Global, text: &str) -> Result<Option<String>, OutOfMemo
     Ok(Some(capitalized))
 }
 
-/// The text with all letters lower. None if it holds a byte past ASCII. Upstream's `lowercase`, which knows all letters.
+/// The text in lower case. `None` if it contains a byte beyond ASCII. Upstream's `lowercase`, which handles all
+/// letters.
 ///
 /// # Errors
 ///
-/// `OutOfMemory`, where memory was asked for and refused: nothing is made.
+/// `OutOfMemory`, if an allocation fails: nothing is created.
 pub fn lowercase(alloc: Global, text: &str) -> Result<Option<String>, OutOfMemory>
     ensures { IfOk result (λ answer. option_map string_bytes answer ≡ spec.lowercase text.now) }
 {
@@ -41,11 +42,12 @@ pub fn lowercase(alloc: Global, text: &str) -> Result<Option<String>, OutOfMemor
     Ok(Some(text.to_ascii_lowercase(alloc)?))
 }
 
-/// The text with all letters upper. None if it holds a byte past ASCII. Upstream's `uppercase`, which knows all letters.
+/// The text in upper case. `None` if it contains a byte beyond ASCII. Upstream's `uppercase`, which handles all
+/// letters.
 ///
 /// # Errors
 ///
-/// `OutOfMemory`, where memory was asked for and refused: nothing is made.
+/// `OutOfMemory`, if an allocation fails: nothing is created.
 pub fn uppercase(alloc: Global, text: &str) -> Result<Option<String>, OutOfMemory>
     ensures { IfOk result (λ answer. option_map string_bytes answer ≡ spec.uppercase text.now) }
 {

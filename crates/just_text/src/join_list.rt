@@ -1,4 +1,4 @@
-// Texts put together.
+// Joined texts.
 
 ghost use Rattle.std.specs.Prelude.{◌≡◌, IfOk, map, string_bytes};
 ghost use Rattle.std.specs.List.{join_by};
@@ -6,11 +6,11 @@ ghost use Rattle.std.specs.List.{join_by};
 use just_syntax::out_of_memory::OutOfMemory;
 use std::alloc::Global;
 
-/// The texts in one, in their order, with the separator between each two. Upstream's `join_list`.
+/// The texts joined by the separator, in order. Upstream's `join_list`.
 ///
 /// # Errors
 ///
-/// `OutOfMemory`, where memory was asked for and refused: nothing is made.
+/// `OutOfMemory`, if an allocation fails: nothing is created.
 pub fn join_list(alloc: Global, texts: &[String], separator: &str) -> Result<String, OutOfMemory>
     ensures { IfOk result (λ text. string_bytes text ≡ join_by (λ t. t) separator.now (map string_bytes texts.now)) }
 {

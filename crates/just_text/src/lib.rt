@@ -1,5 +1,5 @@
-// Texts and paths: what built-in functions do with them, each function equal to its definition. It leans on syntax and on the
-// kit's `percent_encoding`.
+// The operations of built-in functions on texts and paths, each equal to its definition. It depends on `just_syntax`
+// and on the kit's `percent_encoding`.
 #![tactic(auto)]
 
 pub mod affix;

@@ -1,4 +1,4 @@
-// A path is a text.
+// Paths are texts.
 
 ghost use Rattle.std.specs.Prelude.{◌≡◌, IfOk, option_copied, string_bytes};
 ghost use Rattle.just_text.specs.Path as spec;
@@ -7,12 +7,12 @@ use just_syntax::out_of_memory::OutOfMemory;
 use std::alloc::Global;
 use std::path::Path;
 
-/// The second path if it begins with `/`, else the two with a slash between them. None is put behind a base that is empty or
-/// ends with one. Upstream's `join`, of two paths.
+/// The second path if it begins with `/`, otherwise the two joined by a slash. No slash is added to a base that is
+/// empty or ends with one. Upstream's `join`, of two paths.
 ///
 /// # Errors
 ///
-/// `OutOfMemory`, where memory was asked for and refused: nothing is made.
+/// `OutOfMemory`, if an allocation fails: nothing is created.
 pub fn join(alloc: Global, base: &str, path: &str) -> Result<String, OutOfMemory>
     ensures { IfOk result (λ text. string_bytes text ≡ spec.joined base.now path.now) }
 {
@@ -20,10 +20,10 @@ pub fn join(alloc: Global, base: &str, path: &str) -> Result<String, OutOfMemory
     Ok(joined.into_string())
 }
 
-/// The text up to the end of the component before the last: `a` of `a//b`, `/` of `/a`, the empty text of `a`.
-/// None where there is no component.
+/// The text up to the end of the component before the last: `a` of `a//b`, `/` of `/a`, the empty text of `a`. `None`
+/// if there is no component.
 ///
-/// Components are what stands between slashes, but nothing and `.`; a `.` at the start of a path is one.
+/// Components are the pieces between slashes, except empty ones and `.`; a `.` at the start of a path is one.
 pub fn parent(path: &str) -> Option<&str>
     ensures { option_copied result ≡ spec.parent path.now }
 {
@@ -31,14 +31,14 @@ pub fn parent(path: &str) -> Option<&str>
     Some(parent.as_str())
 }
 
-/// The last component. None where there is none, or where it is `.` or `..`. Upstream's `file_name`.
+/// The last component. `None` if there is none, or if it is `.` or `..`. Upstream's `file_name`.
 pub fn file_name(path: &str) -> Option<&str>
     ensures { option_copied result ≡ spec.file_name path.now }
 {
     Path::new(path).file_name()
 }
 
-/// The file name before its last `.`, and all of it where it has no extension. None where there is no file name. Upstream's
+/// The file name up to its last `.`, or all of it if it has no extension. `None` if there is no file name. Upstream's
 /// `file_stem`.
 pub fn file_stem(path: &str) -> Option<&str>
     ensures { option_copied result ≡ spec.file_stem path.now }
@@ -46,8 +46,8 @@ pub fn file_stem(path: &str) -> Option<&str>
     Path::new(path).file_stem()
 }
 
-/// The file name behind its last `.`. None where there is no file name, no `.` in it, or where that `.` is its first byte.
-/// Upstream's `extension`.
+/// The file name after its last `.`. `None` if there is no file name, if it has no `.`, or if its last `.` is its first
+/// byte. Upstream's `extension`.
 pub fn extension(path: &str) -> Option<&str>
     ensures { option_copied result ≡ spec.extension path.now }
 {

@@ -1,4 +1,4 @@
-// Texts without another text at their ends. No memory is taken.
+// Texts without a pattern at their ends. Nothing here allocates.
 
 ghost use Rattle.std.specs.Prelude.{◌≡◌};
 ghost use Rattle.just_text.specs.Pattern as spec;
@@ -10,8 +10,8 @@ pub fn trim_start_match<'a>(text: &'a str, pattern: &str) -> &'a str
     text.strip_prefix(pattern).unwrap_or(text)
 }
 
-/// The text without the pattern at its start, as often as it stands there. An empty pattern takes nothing. Upstream's
-/// `trim_start_matches`.
+/// The text without the pattern at its start, removed as often as it occurs there. An empty pattern removes nothing.
+/// Upstream's `trim_start_matches`.
 pub fn trim_start_matches<'a>(text: &'a str, pattern: &str) -> &'a str
     ensures { result.now ≡ spec.without_starts pattern.now text.now }
 {
@@ -25,8 +25,8 @@ pub fn trim_end_match<'a>(text: &'a str, pattern: &str) -> &'a str
     text.strip_suffix(pattern).unwrap_or(text)
 }
 
-/// The text without the pattern at its end, as often as it stands there. An empty pattern takes nothing. Upstream's
-/// `trim_end_matches`.
+/// The text without the pattern at its end, removed as often as it occurs there. An empty pattern removes nothing.
+/// Upstream's `trim_end_matches`.
 pub fn trim_end_matches<'a>(text: &'a str, pattern: &str) -> &'a str
     ensures { result.now ≡ spec.without_ends pattern.now text.now }
 {

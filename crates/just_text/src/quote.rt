@@ -7,11 +7,11 @@ use crate::replace::replace;
 use just_syntax::out_of_memory::OutOfMemory;
 use std::alloc::Global;
 
-/// The text with `'` before and behind it, and each `'` in it written `'\''`. Upstream's `quote`.
+/// The text between single quotes, with each `'` in it written `'\''`. Upstream's `quote`.
 ///
 /// # Errors
 ///
-/// `OutOfMemory`, where memory was asked for and refused: nothing is made.
+/// `OutOfMemory`, if an allocation fails: nothing is created.
 pub fn quote(alloc: Global, text: &str) -> Result<String, OutOfMemory>
     ensures { IfOk result (λ quoted. string_bytes quoted ≡ single_quoted text.now) }
 {

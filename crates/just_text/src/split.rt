@@ -1,4 +1,4 @@
-// Texts cut into pieces.
+// Texts split into pieces.
 
 ghost use Rattle.std.specs.Prelude.{◌≡◌, ◌<◌, IfOk, length, map, string_bytes};
 ghost use Rattle.just_text.specs.Split as spec;
@@ -6,11 +6,12 @@ ghost use Rattle.just_text.specs.Split as spec;
 use just_syntax::out_of_memory::OutOfMemory;
 use std::alloc::Global;
 
-/// What stands between White_Space and is not empty, in its order. Upstream's `split` without a separator.
+/// The pieces between characters of the property White_Space that are not empty, in order. Upstream's `split` without a
+/// separator.
 ///
 /// # Errors
 ///
-/// `OutOfMemory`, where memory was asked for and refused: nothing is made.
+/// `OutOfMemory`, if an allocation fails: nothing is created.
 pub fn split_whitespace(alloc: Global, text: &str) -> Result<Vec<String>, OutOfMemory>
     ensures { IfOk result (λ v. map string_bytes v.items ≡ spec.words text.now) }
 {
@@ -21,12 +22,12 @@ pub fn split_whitespace(alloc: Global, text: &str) -> Result<Vec<String>, OutOfM
     Ok(words)
 }
 
-/// The pieces between the leftmost places of the separator that do not overlap, in their order: one more than there are places.
-/// An empty separator gives the characters, each as a text. Upstream's `split` with a separator.
+/// The pieces between the occurrences of the separator, leftmost first and without overlaps, in order: one more than
+/// there are occurrences. An empty separator gives the characters, each as a text. Upstream's `split` with a separator.
 ///
 /// # Errors
 ///
-/// `OutOfMemory`, where memory was asked for and refused: nothing is made.
+/// `OutOfMemory`, if an allocation fails: nothing is created.
 pub fn split(alloc: Global, text: &str, separator: &str) -> Result<Vec<String>, OutOfMemory>
     ensures { IfOk result (λ v. map string_bytes v.items ≡ spec.split text.now separator.now) }
 {
@@ -50,7 +51,7 @@ fn characters(alloc: Global, text: &str) -> Result<Vec<String>, OutOfMemory>
     Ok(all)
 }
 
-// The pieces between the places of a separator that is not empty.
+// The pieces between the occurrences of a separator that is not empty.
 fn pieces(alloc: Global, text: &str, separator: &str) -> Result<Vec<String>, OutOfMemory>
     requires { 0 < length separator.now }
     ensures { IfOk result (λ v. map string_bytes v.items ≡ spec.pieces separator.now text.now) }

@@ -1,4 +1,4 @@
-// Texts escaped for addresses.
+// Texts escaped for URIs.
 
 ghost use Rattle.std.specs.Prelude.{◌≡◌, IfOk, string_bytes};
 ghost use Rattle.just_text.specs.Uri.{EscapesReserved, encoded};
@@ -7,12 +7,12 @@ use just_syntax::out_of_memory::OutOfMemory;
 use percent_encoding::{AsciiSet, NON_ALPHANUMERIC, utf8_percent_encode};
 use std::alloc::Global;
 
-/// The text with each byte of its UTF-8 as `%` and two upper-case hexadecimal digits, but ASCII letters, digits and `-` `_` `.`
-/// `!` `~` `*` `'` `(` `)`. Upstream's `encode_uri_component`.
+/// The text with each byte of its UTF-8 as `%` and two upper-case hexadecimal digits, except ASCII letters, digits and
+/// `-` `_` `.` `!` `~` `*` `'` `(` `)`. Upstream's `encode_uri_component`.
 ///
 /// # Errors
 ///
-/// `OutOfMemory`, where memory was asked for and refused: nothing is made.
+/// `OutOfMemory`, if an allocation fails: nothing is created.
 pub fn encode_uri_component(alloc: Global, text: &str) -> Result<String, OutOfMemory>
     ensures { IfOk result (λ t. string_bytes t ≡ encoded text.now) }
 {

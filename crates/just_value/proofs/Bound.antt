@@ -1,4 +1,4 @@
--- What a frame gives once a number is bound.
+-- The bindings of a frame after a number is bound.
 use Rattle.std.proofs.Common.{◌≡◌, ℕ, Bool, true, false, cond, eqb, List, [], ◌∷◌, Option, Some, refl, ap, sym, ◌∙◌, arith}
 use Rattle.std.specs.declared.cmp.Ordering.{Ordering}
 use Rattle.std.specs.declared.cmp.Ordering.TheVariants.{Less, Equal, Greater}
@@ -38,7 +38,7 @@ insert_step n k b x xs more Greater e rest =
     ap (cond (is_at (nat_cmp n) x.0) (Some x.1)) rest
     ∙ both (is_at (nat_cmp n) x.0) (is_at (nat_cmp n) k) (Some x.1) (Some b) (lookup (is_at (nat_cmp n)) xs) (λ p q. absurd (omega (arith, number_at n x.0 p, number_at n k q)))
 
--- a look-up once a number is bound
+-- a look-up after a number is bound
 pub found_insert : {X : Type 0} (n k : ℕ) (b : X) (es : List (ℕ × X)) → lookup (is_at (nat_cmp n)) (insert_entry nat_cmp es k b) ≡ cond (is_at (nat_cmp n) k) (Some b) (lookup (is_at (nat_cmp n)) es)
 found_insert n k b [] = refl
 found_insert n k b (x ∷ xs) = insert_step n k b x xs (insert_entry nat_cmp xs k b) (nat_cmp k x.0) refl (found_insert n k b xs)

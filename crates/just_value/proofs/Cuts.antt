@@ -1,4 +1,4 @@
--- A text round a byte that it has, or does not have.
+-- A text around a byte that it contains, or lacks.
 use Rattle.std.proofs.Common.{◌≡◌, ◌≢◌, ℕ, suc, ◌<◌, List, [], ◌∷◌, ◌++◌, length, get_or, take, drop, map, Option, Some, None, false, cond, eqb, refl, ap, sym, ◌∙◌, arith}
 use Rattle.std.specs.Str.{NoCharPasses}
 use Rattle.std.specs.Str.Pattern.{HasCharAt}
@@ -7,7 +7,7 @@ use Rattle.std.proofs.lemmas.Bool.{ne_eqb, eq-eqb}
 use Rattle.std.proofs.lemmas.Str.Pattern.{NoCharPasses-char, drop_at_char}
 use Rattle.just_value.specs.Positional.{Positional, cut_at_first, behind_last, cut_behind_last, is_dots, directory_and_tail, tail_before, with_directory, behind_overrides, override_of, with_override, with_next, with_word}
 
--- the byte is not in the text
+-- the text lacks the byte
 abbrev pub Lacks : ℕ → List ℕ → Type 0
 Lacks c bs = (i : ℕ) → i < length bs → get_or bs i 0 ≢ c
 
@@ -27,7 +27,7 @@ pub last_found : (c : ℕ) (xs ys : List ℕ) → Lacks c ys → cut_behind_last
 last_found c [] ys lacks = rw (last_none c ys lacks, eq-eqb c c refl) refl
 last_found c (b ∷ bs) ys lacks = ap (behind_last c b (bs ++ c ∷ ys)) (last_found c bs ys lacks)
 
--- round the place of the byte that a search gave
+-- the text around the byte that a search found
 round : (c : ℕ) (s : List ℕ) (i j : ℕ) → c < 128 → HasCharAt c s i j → s ≡ take i s ++ c ∷ drop j s
 round c s i j ascii found = sym (take-append-drop i s) ∙ ap (λ t. take i s ++ t) (drop_at_char c s i j found ascii)
 
@@ -46,7 +46,7 @@ last_missed c s ascii none = last_none c s (lacks c s ascii none)
 pub last_split : (c : ℕ) (s : List ℕ) (i j : ℕ) → c < 128 → NoCharPasses (λ d. eqb d c) (drop j s) × HasCharAt c s i j → cut_behind_last c s ≡ Some (take i s ++ c ∷ [], drop j s)
 last_split c s i j ascii (none, found) = ap (cut_behind_last c) (round c s i j ascii found) ∙ last_found c (take i s) (drop j s) (lacks c (drop j s) ascii none)
 
--- what the first word behind the overrides means
+-- the meaning of the first word after the overrides
 no_dots_here : (word : List ℕ) (o : Option (List ℕ × List ℕ)) → is_dots word ≡ false → directory_and_tail word ≡ o → behind_overrides word [] ≡ with_directory word [] o
 no_dots_here word o dots e = ap (λ b. cond b (record { arguments = []; overrides = []; search_directory = Some word }) (with_directory word [] (directory_and_tail word))) dots ∙ ap (with_directory word []) e
 
@@ -72,7 +72,7 @@ pub no_tail : (tail : List ℕ) → length tail ≡ 0 → [] ≡ tail_before tai
 no_tail [] none = refl
 no_tail (b ∷ bs) none = absurd (omega arith)
 
--- a word while no directory and no argument has come
+-- a word that comes before any directory or argument
 pub first_next : (p : Positional) (word : List ℕ) (o : Option (List ℕ × List ℕ)) → p.search_directory ≡ None → p.arguments ≡ [] → override_of word ≡ o → with_word p word ≡ with_override p word o
 first_next p word o none empty e = ap (λ d. with_next p word d p.arguments) none ∙ (ap (with_next p word None) empty ∙ ap (with_override p word) e)
 
@@ -80,7 +80,7 @@ pub no_element : {X : Type 0} (f : X → List ℕ) (xs : List X) → length xs �
 no_element f [] none = refl
 no_element f (x ∷ xs) none = absurd (omega arith)
 
--- an override at the end
+-- an override added at the end
 pub override_push : {X : Type 0} (f : X → List ℕ) (xs more : List (X × X)) (name value : X) (x y : List ℕ) → more ≡ xs ++ (name, value) ∷ [] → f name ≡ x → f value ≡ y
     → map (λ o. let p : List ℕ × List ℕ = (f o.0, f o.1) in p) xs ++ (x, y) ∷ [] ≡ map (λ o. let p : List ℕ × List ℕ = (f o.0, f o.1) in p) more
 override_push f xs more name value x y e p q =

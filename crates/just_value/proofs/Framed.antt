@@ -1,4 +1,4 @@
--- Bindings that rise, as a frame.
+-- Bindings with strictly increasing numbers, as a frame.
 use Rattle.std.proofs.Common.{◌≡◌, ℕ, ◌-◌, true, List, [], ◌∷◌, length, get_or, set, map, Some, None, Ok, Err, refl, ap, sym, subst, ◌∙◌, Ordering, Less, Equal, Greater, nat_cmp, is_eq, is_lt}
 use Rattle.std.specs.List.{insert}
 use Rattle.std.specs.List.Sorted.{IsStrictlySortedBy}
@@ -34,7 +34,7 @@ less Less h = refl
 less Equal h = cc
 less Greater h = cc
 
--- a number past the last
+-- a number greater than the last
 pub past_last : (bs : List Binding) → AreRising bs → (n : ℕ) (last : Binding) → ((d : Binding) → last ≡ get_or bs (length bs - 1) d) → is_lt (nat_cmp last.number n) ≡ true → IsPlace (λ b. nat_cmp b.number n) bs (Err (length bs))
 past_last bs rising n last is lt = at_end (λ b. b.number) nat_cmp_total bs (rising_by_key (λ b. b.number) nat_cmp bs rising) n (λ d. ap (λ (b : Binding). nat_cmp b.number n) (sym (is d)) ∙ less _ lt)
 

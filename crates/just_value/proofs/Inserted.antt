@@ -1,4 +1,4 @@
--- What an edit at the place of a number does to elements whose numbers rise.
+-- Edits at the place of a number, in elements with strictly increasing numbers.
 use Rattle.std.proofs.Common.{◌≡◌, ℕ, zero, suc, ◌<◌, ◌≤◌, List, [], ◌∷◌, length, set, map, refl, ap, sym, ◌∙◌, arith, Ordering, Less, Equal, Greater, nat_cmp}
 use Rattle.std.specs.Ordering.{match_ordering, ordering_reverse}
 use Rattle.std.specs.List.{AllByRecursion, AllWithin, HoldsAt, insert}
@@ -10,7 +10,7 @@ turned : (a b : ℕ) (o : Ordering) → nat_cmp a b ≡ o → nat_cmp b a ≡ or
 turned a b o e = nat_cmp_total.antisymm b a ∙ ap ordering_reverse e
 
 module _ {X Y : Type 0} (number : X → ℕ) (f : X → Y) (y : X) where
-  -- an element by its number, seen by f
+  -- an element's number, and its view by f
   abbrev pub entry : X → ℕ × Y
   entry x = (number x, f x)
 
@@ -42,7 +42,7 @@ module _ {X : Type 0} (number : X → ℕ) (y : X) where
   all_inserted P [] (suc i) p h = (p, tt)
   all_inserted P (x ∷ xs) (suc i) p h = (h.0, all_inserted P xs i p h.1)
 
-  -- the numbers still rise
+  -- the numbers are still strictly increasing
   pub rising_inserted : (xs : List X) (i : ℕ) → i ≤ length xs → AllWithin (λ x. nat_cmp (number x) (number y) ≡ Less) xs 0 i → AllWithin (λ x. nat_cmp (number x) (number y) ≡ Greater) xs i (length xs) → IsStrictlySortedBy nat_cmp (map number xs) → IsStrictlySortedBy nat_cmp (map number (insert xs i y))
   unfolding IsStrictlySortedBy
   rising_inserted [] zero within below above h = (tt, tt)

@@ -1,4 +1,4 @@
--- Names with their numbers: in the order of their bytes, sorted, and each once.
+-- Names with their numbers: sorted by their bytes, without duplicates.
 use Rattle.std.proofs.Common.{◌≡◌, ℕ, ◌&&◌, Bool, true, false, cond, not, List, [], ◌∷◌, ◌++◌, get_or, map, reverse, Option, Some, None, Ok, Err, Bor, refl, ap, sym, subst, ◌∙◌, nat_cmp, is_eq, is_lt}
 use Rattle.std.specs.Cmp.Lexicographic.{slice_cmp}
 use Rattle.std.specs.List.{dedup, dedup_from}
@@ -28,7 +28,7 @@ pub nothing_rises : AreRisingNames []
 unfolding IsStrictlySortedBy
 nothing_rises = tt
 
--- two names are the same where they tie
+-- two names are equal exactly if they compare as equal
 same_ties : (q : Text) (b : Bor Text × ℕ) → is_named q b.0 ≡ is_eq (slice_cmp nat_cmp b.0.now q)
 same_ties q b = nat_list_eq_equiv.symm q b.0.now ∙ sym (is_eq-slice_cmp b.0.now q)
 
@@ -39,7 +39,7 @@ module _ (names : Names) (rising : AreRisingNames names) (q : Text) (i : ℕ) wh
   pub name_missing : IsPlace (λ b. slice_cmp nat_cmp b.0.now q) names (Err i) → lookup (is_named q) names ≡ None
   name_missing place = ap (lookup (is_named q)) (sym (map-id names)) ∙ lookup_between (λ b. b.0.now) nat_list_cmp_total names rising q (λ b. b) (is_named q) (same_ties q) i place
 
--- a stable sort finds what is found before it
+-- a look-up in the stably sorted list finds what it finds in the original one
 tied : (q k : Text) → q ≡ k → (not (is_lt (slice_cmp nat_cmp q k)) && not (is_lt (slice_cmp nat_cmp k q))) ≡ true
 tied q k e = subst (λ k. (not (is_lt (slice_cmp nat_cmp q k)) && not (is_lt (slice_cmp nat_cmp k q))) ≡ true) e (ap (λ o. not (is_lt o) && not (is_lt o)) (tied_itself nat_list_cmp_total q))
 
@@ -52,7 +52,7 @@ module _ (xs ys : Names) where
       ∙ ap (lookup (is_named q)) (stable (record { ref_ptr = (0, 0); now = q }, 0))
       ∙ lookup-filter-keys (is_named q) ties true named xs
 
--- the first of a run of equal names is what is found
+-- a look-up finds the first of a run of equal names
 abbrev pub is_same : Bor Text × ℕ → Bor Text × ℕ → Bool
 is_same a b = bytes_eq a.0.now b.0.now
 
@@ -83,12 +83,12 @@ module _ (q : Text) where
   found_in_both [] ys = refl
   found_in_both (x ∷ xs) ys = ap (cond (is_named q x.0) (Some x.1)) (found_in_both xs ys) ∙ or_choice (is_named q x.0) x.1 (lookup (is_named q) xs) (lookup (is_named q) ys)
 
--- sorted names rise once each stands once
+-- sorted names without duplicates are strictly increasing
 pub rising_once : (xs : Names) → IsSortedByKey (λ b. b.0) (λ x y. slice_cmp nat_cmp x.now y.now) xs → AreRisingNames (dedup is_same xs)
 rising_once xs sorted = IsStrictlySortedBy-dedup (on_total (λ (b : Bor Text × ℕ). b.0.now) nat_list_cmp_total) (λ a b. sym (is_eq-slice_cmp a.0.now b.0.now)) xs sorted
 
 module _ {X : Type 0} (pair : X → Token × ℕ) (name : X → Bor Text × ℕ) (is : (x : X) → ((pair x).0.lexeme ≡ (name x).0.now) × ((pair x).1 ≡ (name x).1)) where
-  -- the last is the first of the list turned round
+  -- the last pair of a name is the first in the reversed list
   pub last_first : (xs : List X) (q : Text) → lookup (is_named q) (map name (reverse xs)) ≡ last_of (map pair xs) q
   last_first [] q = refl
   last_first (x ∷ xs) q =

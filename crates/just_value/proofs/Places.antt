@@ -1,4 +1,4 @@
--- What a search finds among elements whose keys rise.
+-- Searches among elements with strictly increasing keys.
 use Rattle.std.proofs.Common.{◌≡◌, ℕ, zero, suc, ◌+◌, ◌-◌, ◌<◌, Bool, false, List, [], ◌∷◌, length, get_or, map, Some, None, Result, Ok, Err, inl, inr, refl, ap, sym, ◌∙◌, arith, Ordering, Less, Equal, Greater, is_eq, is_lt}
 use Rattle.std.specs.Cmp.{IsTotalOrder}
 use Rattle.std.specs.Ordering.{ordering_index, ordering_reverse}
@@ -11,7 +11,7 @@ use Rattle.std.proofs.lemmas.List.Sorted.{searchable_from_sorted}
 use Rattle.std.proofs.lemmas.Map.Keys.{Less-from_sorted}
 use Rattle.just_value.specs.Places.{IsPlace}
 
--- whether two are equal does not hang on which comes first
+-- equality does not depend on the order of the two sides
 pub ties_back : (o : Ordering) → is_eq (ordering_reverse o) ≡ is_eq o
 ties_back Less = refl
 ties_back Equal = refl
@@ -21,13 +21,13 @@ all_mapped : {X K : Type 0} (key : X → K) (P : K → Type 0) (xs : List X) →
 all_mapped key P [] h = tt
 all_mapped key P (x ∷ xs) h = (h.0, all_mapped key P xs h.1)
 
--- elements whose keys rise, by the order of their keys
+-- strictly increasing keys give strictly increasing elements, compared by their keys
 pub rising_by_key : {X K : Type 0} (key : X → K) (R : K → K → Ordering) (xs : List X) → IsStrictlySortedBy R (map key xs) → IsStrictlySortedBy (λ a b. R (key a) (key b)) xs
 unfolding IsStrictlySortedBy
 rising_by_key key R [] h = tt
 rising_by_key key R (x ∷ xs) h = (all_mapped key (λ k. R (key x) k ≡ Less) xs h.0, rising_by_key key R xs h.1)
 
--- a look-up among the entries that elements are seen as, by a test that holds where ord is equal
+-- a look-up among the entries of elements, by a test that holds exactly where ord is equal
 module _ {X J Y : Type 0} (entry : X → J × Y) (test : J → Bool) (ord : X → Ordering) (tests : (x : X) → test (entry x).0 ≡ is_eq (ord x)) where
   missing : (xs : List X) → ((k : ℕ) (d : X) → k < length xs → is_eq (ord (get_or xs k d)) ≡ false) → lookup test (map entry xs) ≡ None
   missing [] h = refl
@@ -44,12 +44,12 @@ module _ {X K : Type 0} (key : X → K) {R : K → K → Ordering} (total : IsTo
   searchable : IsNonDecreasingBy (λ x. ordering_index (R (key x) k)) xs
   searchable = searchable_from_sorted total key xs k (λ i d lo hi. ap is_lt (total.antisymm _ _ ∙ ap ordering_reverse (Less-from_sorted _ xs i (i + 1) d rising (omega arith) hi)))
 
-  -- what a binary search says
+  -- the result of a binary search is a place
   pub searched : (r : Result ℕ ℕ) → IsSearchInRange r (length xs) → IsBinarySearchResult (λ x. R (key x) k) xs r → IsPlace (λ x. R (key x) k) xs r
   searched (Ok i) within here = (within, here)
   searched (Err i) within parted = (within, parted searchable)
 
-  -- what is greater than the last goes to the end
+  -- the place of a number greater than the last is the end
   pub at_end : HoldsAt (λ x. R (key x) k ≡ Less) xs (length xs - 1) → IsPlace (λ x. R (key x) k) xs (Err (length xs))
   at_end last = (
     omega arith,

@@ -1,9 +1,9 @@
--- What positional words mean, and what their cut is.
+-- Proofs of the laws of positional words and their cut.
 use Rattle.std.proofs.Common.{◌≡◌, ℕ, Bool, true, false, cond, eqb, ◌&&◌, List, [], ◌∷◌, ◌++◌, Option, Some, None, IfSome, option_map, refl, ap, sym, ◌∙◌}
 use Rattle.std.proofs.lemmas.Bool.{eqb-true, eq-eqb}
 use Rattle.just_value.specs.Positional.{Positional, cut_at_first, behind_last, cut_behind_last, override_of, is_dots, directory_and_tail, tail_before, with_directory, with_first, positional, cut_directory, cut_first, cut_words, put_back, KeepsWords, MeansTheCut, SameExactlyIfCutAlike, with_override, with_word}
 
--- what is cut at the first of a byte is put together again
+-- the two sides of a cut at the first occurrence of a byte, joined by it, are the text
 first_step : (c b : ℕ) (bs : List ℕ) (same : Bool) (o : Option (List ℕ × List ℕ)) → eqb b c ≡ same → IfSome o (λ p. (p.0 ++ c ∷ []) ++ p.1 ≡ bs)
     → IfSome (cond {A = Option (List ℕ × List ℕ)} same (Some ([], bs)) (option_map (λ p. (b ∷ p.0, p.1)) o)) (λ p. (p.0 ++ c ∷ []) ++ p.1 ≡ b ∷ bs)
 first_step c b bs true o test more = ap (λ x. x ∷ bs) (sym (eqb-true b c test))
@@ -14,7 +14,7 @@ first_whole : (c : ℕ) (bs : List ℕ) → IfSome (cut_at_first c bs) (λ p. (p
 first_whole c [] = tt
 first_whole c (b ∷ bs) = first_step c b bs (eqb b c) (cut_at_first c bs) refl (first_whole c bs)
 
--- what is cut behind the last of a byte is put together again, and the front ends with it
+-- the two sides of a cut after the last occurrence of a byte are the text, and the first ends with the byte
 abbrev IsLastCut : ℕ → List ℕ → List ℕ × List ℕ → Type 0
 IsLastCut c bs p = (p.0 ++ p.1 ≡ bs) × ((front : List ℕ) × (p.0 ≡ front ++ c ∷ []))
 
@@ -35,7 +35,7 @@ last_at_end : (c : ℕ) (front : List ℕ) → cut_behind_last c (front ++ c ∷
 last_at_end c [] = rw (eq-eqb c c refl) refl
 last_at_end c (b ∷ bs) = ap (behind_last c b (bs ++ c ∷ [])) (last_at_end c bs)
 
--- a front of a text without the byte has none
+-- a prefix of a text that lacks the byte lacks it too
 none_step : (b : ℕ) (bs cs : List ℕ) (same : Bool) (o q : Option (List ℕ × List ℕ)) → (o ≡ None → q ≡ None)
     → cond {A = Option (List ℕ × List ℕ)} same (Some ([], bs)) (option_map (λ p. (b ∷ p.0, p.1)) o) ≡ None
     → cond {A = Option (List ℕ × List ℕ)} same (Some ([], cs)) (option_map (λ p. (b ∷ p.0, p.1)) q) ≡ None
@@ -47,7 +47,7 @@ none_in_front : (c : ℕ) (x y : List ℕ) → cut_at_first c (x ++ y) ≡ None 
 none_in_front c [] y e = refl
 none_in_front c (b ∷ bs) y e = none_step b (bs ++ y) bs (eqb b c) (cut_at_first c (bs ++ y)) (cut_at_first c bs) (none_in_front c bs y) e
 
--- a text that ends with a slash is neither of the two dots
+-- a text that ends with a slash is neither `.` nor `..`
 and_false : (a : Bool) → (a && false) ≡ false
 and_false true = refl
 and_false false = refl
@@ -74,7 +74,7 @@ pub kept : (words : List (List ℕ)) → put_back (positional words) ≡ cut_wor
 kept [] = refl
 kept (w ∷ ws) = kept_step w ws (cut_words ws) (positional ws) (override_of w) (first_whole 61 w) (kept ws)
 
--- the cut means the same
+-- the cut words have the same meaning
 same_cut : (w : List ℕ) (ws : List (List ℕ)) (d t : List ℕ) → override_of w ≡ None → d ++ t ≡ w → (front : List ℕ) → d ≡ front ++ 47 ∷ []
     → positional (d ∷ tail_before t ws) ≡ record { arguments = tail_before t ws; overrides = []; search_directory = Some d }
 same_cut w ws d t none whole front ends =

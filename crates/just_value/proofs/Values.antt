@@ -1,4 +1,4 @@
--- What frames bind.
+-- Values that frames bind.
 use Rattle.std.proofs.Common.{◌≡◌, ℕ, [], ◌∷◌, Option, Some, None, refl, sym, ap, ◌∙◌}
 use Rattle.std.specs.Option.{option_map, option_or}
 use Rattle.just_value.specs.Frames.{Bound, Frames, bound_at, innermost, value_of, or_else, value_in}

@@ -1,4 +1,4 @@
--- One more word of a sentence.
+-- Writing a sentence word by word.
 use Rattle.std.proofs.Common.{◌≡◌, ℕ, suc, ◌+◌, List, [], ◌∷◌, ◌++◌, length, Option, Some, None, IfSome, Result, IsOk, option_map, option_and_then, sym, refl, ap, ◌∙◌, arith, add-zero, zero-add}
 use Rattle.std.specs.Fmt.{HasWrittenStyled, IsFlush, DisplaysStyledOnOk, ◌++?◌}
 use Rattle.std.specs.declared.fmt.Error.{Error}
@@ -7,7 +7,7 @@ use Rattle.std.proofs.Output.{has_written_styled_append, has_written_styled_of_e
 use Rattle.std.proofs.lemmas.List.{append_assoc, append-nil}
 use Rattle.just_value.specs.Listed.{before, listed, listed_from, outputs}
 
--- a text behind others, where all are there
+-- a text added to others, if all are specified
 abbrev pushed : Option (List (List ℕ)) → Option (List ℕ) → Option (List (List ℕ))
 pushed texts text = option_and_then (λ ts. option_map (λ t. ts ++ t ∷ []) text) texts
 
@@ -44,7 +44,7 @@ many : {T : Type 0} (output : T → Option (List ℕ)) (xs : List T) → IfSome 
 many output [] = refl
 many output (x ∷ xs) = many_first (output x) (outputs output xs) (length xs) (many output xs)
 
--- a write of three texts and one more that may not say what it writes
+-- a write of three texts and a fourth whose output may be unspecified
 pub from_write : {W : Type 0} (took : W → List ℕ → W → Type 0) (g h : Formatter W) (r : Result (Unit {0}) Error) → IsOk r → (m w p pre : List ℕ) → (m ++ w) ++ p ≡ pre → (o : Option (List ℕ)) → DisplaysStyledOnOk took g r (Some m ++? (Some w ++? (Some p ++? o))) h → IfSome o (λ t. IsFlush g → HasWrittenStyled took g (pre ++ t) h)
 from_write took g h r ok m w p pre e None wrote = tt
 from_write took g h r ok m w p pre e (Some t) wrote = λ flush. has_written_styled_of_eq took g _ _ h (sym (append_assoc m w (p ++ t)) ∙ (sym (append_assoc (m ++ w) p t) ∙ ap (λ l. l ++ t) e)) (wrote flush ok)

@@ -1,4 +1,4 @@
--- How an operator puts two lists of texts together.
+-- How an operator combines two lists of texts.
 use Rattle.std.specs.Prelude.{[], ◌∷◌, ◌++◌, length, map, Option, Some, None, if◌then◌else◌, ◌==◌}
 use Rattle.just_syntax.specs.Plain.{Text, Token}
 use Rattle.just_syntax.specs.declared.list_operator.ListOperator.{ListOperator}
@@ -7,13 +7,14 @@ use Rattle.just_value.specs.Value.{Value}
 use Rattle.just_value.specs.Refusal.{ListOperation}
 use Rattle.just_value.specs.Outcome.{Outcome, Gave, Refused}
 
--- the elements in pairs, while both lists have one
+-- pairs of elements, until one list ends
 abbrev pub paired : Text → Value → Value → Value
 paired s [] ys = []
 paired s (x ∷ xs) [] = []
 paired s (x ∷ xs) (y ∷ ys) = ((x ++ s) ++ y) ∷ paired s xs ys
 
--- One element goes with each of the other list, equal lengths go in pairs, and no other lengths go together.
+-- One element is combined with each of the other list, and lists of equal length are paired. No other lengths can be
+-- combined.
 abbrev pub applied : Text → Value → Value → Option Value
 applied s (x ∷ []) (y ∷ ys) = Some (map (λ y. (x ++ s) ++ y) (y ∷ ys))
 applied s (x ∷ z ∷ xs) (y ∷ []) = Some (map (λ x. (x ++ s) ++ y) (x ∷ z ∷ xs))

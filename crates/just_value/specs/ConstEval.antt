@@ -1,4 +1,4 @@
--- What constant evaluation is refused with: which refusals it has, what each says, and where it stands.
+-- The refusals of constant evaluation: which refusals those are, and the message and the token of each.
 use Rattle.std.specs.Prelude.{◌==◌, ◌||◌, ◌++◌, [], length, codes, if◌then◌else◌}
 use Rattle.just_syntax.specs.Plain.{Text, Token}
 use Rattle.just_syntax.specs.declared.list_operator.ListOperator.{ListOperator}
@@ -11,7 +11,7 @@ use Rattle.just_value.specs.Refusal.{Refusal, Assert, Backtick, Check, Const, Em
 use Rattle.just_value.specs.Shown.{shown}
 use Rattle.just_value.specs.Value.{Value}
 
--- Constant evaluation has this refusal. It runs no command, checks no argument and enters no function.
+-- Whether constant evaluation can have this refusal. It runs no command, checks no argument and enters no function.
 abbrev pub IsConstEval : Refusal → Type 0
 IsConstEval (Assert message name) = Unit {0}
 IsConstEval (Backtick t fault) = ⊥
@@ -32,27 +32,27 @@ const_error_text (constant.Backtick t) = codes "cannot call backticks in const c
 const_error_text (constant.FunctionCall name) = codes "cannot call functions in const context"
 const_error_text (constant.Variable name) = codes "cannot access non-const variable `" ++ (name.lexeme ++ codes "` in const context")
 
--- a value, and where one text is wanted
+-- a value that is not one text, and the place that requires one
 abbrev pub list_where : StringContext → Value → Text
 list_where wanted v = codes "list value " ++ (shown v ++ (codes " " ++ context_text wanted))
 
--- the same, with a note on lists in the arguments of functions
+-- the same, with a note on lists as arguments of functions
 abbrev pub list_text : StringContext → Value → Text
 list_text (context.EnvKey name) v = list_where (context.EnvKey name) v
 list_text (context.Function name) v = list_where (context.Function name) v ++ codes "\nthe behavior of lists with many built-in functions is undecided\nsee https://github.com/casey/just#lists"
 list_text (context.Setting name) v = list_where (context.Setting name) v
 
--- what an operator cannot be applied to: empty lists, if one is empty, and else lists of different lengths
+-- why an operator cannot be applied: empty lists, if one is empty, otherwise lists of different lengths
 abbrev pub lists_text : Value → Text → Value → Text
 lists_text l o r =
     if length l == 0 || length r == 0 then codes " cannot be applied to empty lists"
     else codes " cannot be applied to lists of different lengths: " ++ (shown l ++ (codes " " ++ (o ++ (codes " " ++ shown r))))
 
--- an operator, and what it cannot be applied to
+-- an operator, and why it cannot be applied
 abbrev pub operation_text : Value → ListOperator → Value → Text
 operation_text l o r = (codes "operator `" ++ (operator_text o ++ codes "`")) ++ lists_text l (operator_text o) r
 
--- what a refusal of constant evaluation says; the others say nothing here
+-- the message of a refusal of constant evaluation; empty for the others
 abbrev pub const_eval_text : Refusal → Text
 const_eval_text (Assert message name) = codes "assert failed: " ++ message
 const_eval_text (Const refusal) = const_error_text refusal
@@ -63,11 +63,11 @@ const_eval_text (ListInStringContext wanted v) = list_text wanted v
 const_eval_text (ListOperation l o r t) = operation_text l o r
 const_eval_text _ = []
 
--- no place in a file
+-- the token of no place in a file
 abbrev pub no_token : Token
 no_token = record { column = 0; line = 0; offset = 0; lexeme = []; path = [] }
 
--- where a refusal of constant evaluation stands; the others have no place here
+-- the token of a refusal of constant evaluation; `no_token` for the others
 abbrev pub const_eval_token : Refusal → Token
 const_eval_token (Assert message name) = name
 const_eval_token (Const refusal) = const_token refusal

@@ -1,4 +1,4 @@
--- Bindings; a frame, its bindings by rising number; frames, innermost first.
+-- Bindings; frames, which are bindings in ascending order of number; and lists of frames, innermost first.
 use Rattle.std.specs.Prelude.{◌≡◌, ◌==◌, if◌then◌else◌, ℕ, suc, Bool, true, false, List, [], ◌∷◌, Option, Some, None, map, codes}
 use Rattle.std.specs.Option.{option_or}
 use Rattle.std.specs.Ordering.{nat_cmp}
@@ -28,7 +28,7 @@ Frames = List Frame
 abbrev pub bound_at : ℕ → Frame → Option Bound
 bound_at n frame = lookup (is_at (nat_cmp n)) frame
 
--- the frame with one more binding, in place of one of its number
+-- the frame with one more binding, which replaces one with the same number
 abbrev pub with_bound : Frame → Bound → Frame
 with_bound frame b = insert_entry nat_cmp frame b.number b
 
@@ -45,16 +45,16 @@ abbrev pub or_else : Option Value → Option Value → Option Value
 or_else None other = other
 or_else (Some v) other = Some v
 
--- a frame's values, before these names
+-- a frame's values; they shadow those of `names`
 abbrev pub over : Frame → Names → Names
 over frame names n = or_else (value_of (bound_at n frame)) (names n)
 
--- the values of frames, an inner frame's before an outer one's
+-- the values of frames; an inner frame shadows an outer one
 abbrev pub value_in : Frames → Names
 value_in [] = λ n. None
 value_in (frame ∷ outer) = over frame (value_in outer)
 
--- a binding put into the first frame
+-- the frames with a binding added to the first
 abbrev pub bound_in_front : Frames → Bound → Frames
 bound_in_front [] b = []
 bound_in_front (frame ∷ outer) b = with_bound frame b ∷ outer
@@ -81,16 +81,16 @@ plainly_bound name n v = record { attributes = []; eager = false; export = false
 abbrev pub constant_bound : ℕ → Text → Value → Bound
 constant_bound n key v = record { attributes = []; eager = false; export = false; file_depth = 0; name = record { column = 0; line = 0; offset = 0; lexeme = key; path = codes "PRELUDE" }; number = n; prelude = true; private = false; value = v }
 
--- a frame with constants put in, keys and texts, numbered from a number on
+-- a frame with constants added, which are keys and texts, numbered consecutively from n
 abbrev pub with_constants : Frame → ℕ → List (Text × Text) → Frame
 with_constants frame n [] = frame
 with_constants frame n (c ∷ cs) = with_constants (with_bound frame (constant_bound n c.0 (c.1 ∷ []))) (suc n) cs
 
--- a number that is bound in the first frame has that binding, and each other number what it had
+-- after a binding is added to the first frame, its number has that binding, and each other number keeps its own
 abbrev pub BindsOneNumber : Type 0
 BindsOneNumber = (frame : Frame) (outer : Frames) (b : Bound) (n : ℕ) → innermost n (bound_in_front (frame ∷ outer) b) ≡ (if n == b.number then Some b else innermost n (frame ∷ outer))
 
--- a frame with no binding in front changes no answer
+-- an empty frame as the new innermost one changes no look-up
 abbrev pub ChildAnswersAsParent : Type 0
 ChildAnswersAsParent = (frames : Frames) (n : ℕ) → innermost n ([] ∷ frames) ≡ innermost n frames
 

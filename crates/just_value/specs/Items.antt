@@ -1,11 +1,11 @@
--- What a caller hands over to be gone through.
+-- The items of an iterable argument.
 use Rattle.std.specs.Prelude.{List, Option}
 use Rattle.std.specs.Iterator.{Count, Drains, IsFinite}
 
--- each iterator that is made of it ends
+-- each iterator over it ends
 abbrev pub Ends : {X S : Type 0} → (X → S → Type 0) → (S → Type 0) → (S → Count) → X → Type 0
 Ends makes can_next remaining x = (s : _) → makes x s → can_next s × IsFinite (remaining s)
 
--- an iterator that is made of it gives these items, and then ends
+-- some iterator over it gives these items, and then ends
 abbrev pub Gives : {X S A : Type 0} → (X → S → Type 0) → (S → Option A → S → Type 0) → X → List A → Type 0
 Gives makes next x items = (s : _) × makes x s × Drains next s items

@@ -2,7 +2,8 @@
 use Rattle.std.specs.Prelude.{ℕ, ◌+◌, ◌==◌, ◌++◌, List, [], ◌∷◌, length, Option, Some, option_map, option_and_then, codes, if◌then◌else◌}
 use Rattle.just_syntax.specs.Plain.{Text}
 
--- what stands before the word at a place, of so many words: before the last the conjunction, and before all but the first, of more than two, a comma
+-- the text before the word at an index, of a given number of words: the conjunction before the last, and a comma before
+-- all but the first of more than two
 abbrev pub before : Text → ℕ → ℕ → Text
 before conjunction count at =
     if at == 0 then []
@@ -10,7 +11,7 @@ before conjunction count at =
     else (if at + 1 == count then (codes ", " ++ conjunction) ++ codes " "
     else codes ", "))
 
--- the words from a place on, of so many words
+-- the words from an index on, of a given number of words
 abbrev pub listed_from : Text → ℕ → ℕ → List Text → Text
 listed_from conjunction count at [] = []
 listed_from conjunction count at (word ∷ words) = (before conjunction count at ++ word) ++ listed_from conjunction count (at + 1) words
@@ -19,7 +20,7 @@ listed_from conjunction count at (word ∷ words) = (before conjunction count at
 abbrev pub listed : Text → List Text → Text
 listed conjunction words = listed_from conjunction (length words) 0 words
 
--- what each item writes, if all of them say it
+-- what all items write, if the output of each is specified
 abbrev pub outputs : {T : Type 0} → (T → Option Text) → List T → Option (List Text)
 outputs output [] = Some []
 outputs output (item ∷ items) = option_and_then (λ text. option_map (λ texts. text ∷ texts) (outputs output items)) (output item)

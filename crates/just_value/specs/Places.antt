@@ -1,11 +1,11 @@
--- Where a search ends.
+-- The result of a search.
 use Rattle.std.specs.Prelude.{◌≡◌, ◌<◌, ◌≤◌, ℕ, List, length, Result, Ok, Err}
 use Rattle.std.specs.List.{HoldsAt}
 use Rattle.std.specs.List.Sorted.{IsPartitionPoint}
 use Rattle.std.specs.declared.cmp.Ordering.{Ordering}
 use Rattle.std.specs.declared.cmp.Ordering.TheVariants.{Less, Equal, Greater}
 
--- the place of an element that is equal, or the one between those that are less and those that are greater
+-- the index of an equal element, or the index between the lesser and the greater ones
 abbrev pub IsPlace : {X : Type 0} → (X → Ordering) → List X → Result ℕ ℕ → Type 0
 IsPlace ord xs (Ok i) = (i < length xs) × HoldsAt (λ x. ord x ≡ Equal) xs i
 IsPlace ord xs (Err i) = (i ≤ length xs) × IsPartitionPoint (λ x. ord x ≡ Less) (λ x. ord x ≡ Greater) xs i

@@ -1,4 +1,4 @@
--- Bindings in the order of their numbers, and names in that of their bytes.
+-- Bindings in ascending order of number, and names in ascending order of bytes.
 use Rattle.std.specs.Prelude.{ℕ, List, map}
 use Rattle.std.specs.Borrow.{Bor}
 use Rattle.std.specs.Cmp.Lexicographic.{slice_cmp}

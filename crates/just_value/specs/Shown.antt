@@ -4,7 +4,7 @@ use Rattle.std.specs.List.{flat_map, join_by}
 use Rattle.just_syntax.specs.Plain.{Text}
 use Rattle.just_value.specs.Value.{Value}
 
--- a character as a quoted text shows it: tab, return, newline, quote and backslash behind a backslash
+-- a character as a quoted text shows it: tab, return, newline, quote and backslash are escaped with a backslash
 abbrev pub escaped : ℕ → Text
 escaped c =
     if c == 9 then codes "\\t"
@@ -18,7 +18,7 @@ escaped c =
 abbrev pub quoted : Text → Text
 quoted text = codes "\"" ++ (flat_map escaped (chars text) ++ codes "\"")
 
--- one element as a quoted text, else quoted elements in brackets
+-- one element as a quoted text, otherwise the quoted elements in brackets
 abbrev pub shown : Value → Text
 shown (text ∷ []) = quoted text
 shown texts = codes "[" ++ (join_by quoted (codes ", ") texts ++ codes "]")

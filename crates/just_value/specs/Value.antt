@@ -9,7 +9,7 @@ use Rattle.just_syntax.specs.Plain.{Text}
 abbrev pub Value : Type 0
 Value = List Text
 
--- what numbers stand for
+-- the values of numbers
 abbrev pub Names : Type 0
 Names = ℕ → Option Value
 
@@ -23,7 +23,7 @@ abbrev pub from_condition : Bool → Value
 from_condition true = codes "true" ∷ []
 from_condition false = []
 
--- the elements, with one space between
+-- the elements, separated by spaces
 abbrev pub joined : Value → Text
 joined v = join_by (λ text. text) (codes " ") v
 
@@ -31,15 +31,15 @@ joined v = join_by (λ text. text) (codes " ") v
 abbrev pub is_same : Value → Value → Bool
 is_same = pointwise (pointwise nat_eq)
 
--- the order of values: by their first texts that differ, texts by their first bytes that differ
+-- the order of values: lexicographic by their texts, and these lexicographic by their bytes
 abbrev pub value_cmp : Value → Value → Ordering
 value_cmp = slice_cmp (slice_cmp nat_cmp)
 
--- the comparison tells exactly whether two values are equal
+-- the comparison yields `Equal` exactly if two values are equal
 abbrev pub SameExactlyIfEqual : Type 0
 SameExactlyIfEqual = (v w : Value) → IsTrue (is_same v w) ↔ (v ≡ w)
 
--- no element joined is the empty text, and one element is that element
+-- the join of no element is the empty text, and the join of one element is that element
 abbrev pub JoinsNoneAndOne : Type 0
 JoinsNoneAndOne = (joined [] ≡ []) × ((text : Text) → joined (text ∷ []) ≡ text)
 

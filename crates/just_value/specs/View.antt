@@ -1,4 +1,4 @@
--- What bindings, frames, scopes and refusals are as plain data.
+-- Bindings, frames, scopes and refusals as plain data.
 use Rattle.std.specs.Prelude.{◌≡◌, ℕ, List, ◌∷◌, map, Option, Some, None, string_bytes, option_map, Result, Ok, Err}
 use Rattle.std.specs.Borrow.{Bor}
 use Rattle.std.specs.Str.{bytes_eq}
@@ -37,7 +37,7 @@ use Rattle.just_value.specs.Outcome.{Outcome, Gave, without_value}
 abbrev pub bound_view : Binding → Bound
 bound_view b = record { attributes = attributes_view b.attributes; eager = b.eager; export = b.export; file_depth = b.file_depth; name = name_view b.name; number = b.number; prelude = b.prelude; private = b.private; value = b.value }
 
--- the bindings of a frame, by rising number
+-- the bindings of a frame, in ascending order of number
 abbrev pub frame_view : Frame → plain.Frame
 frame_view f = map (λ b. (b.number, bound_view b)) f
 
@@ -53,7 +53,7 @@ bindings_steps s next t = TakesFirst deref (bindings_left s) next (bindings_left
 abbrev pub frames_view : Scope → Frames
 frames_view s = frame_view s.frame ∷ map (λ f. frame_view f.now) s.outer.items
 
--- a key and a text, as they are handed in
+-- a key and a text, as the caller passes them
 abbrev pub constant_view : Bor Text × Bor Text → Text × Text
 constant_view c = (c.0.now, c.1.now)
 
@@ -62,7 +62,7 @@ fault_view (faults.Code n) = Code n
 fault_view (faults.Fault text) = Message (string_bytes text)
 fault_view faults.OutOfMemory = NoMemory
 
--- the message of a check that refused; none for want of memory
+-- the message of a check that refused; `None` for `OutOfMemory`
 abbrev pub check_refusal : CheckFault → Option Text
 check_refusal (checks.Refused message) = Some (string_bytes message)
 check_refusal checks.OutOfMemory = None
@@ -72,7 +72,7 @@ const_refusal (consts.Backtick t) = constant.Backtick (token_view t)
 const_refusal (consts.FunctionCall name) = constant.FunctionCall (name_view name)
 const_refusal (consts.Variable name) = constant.Variable (name_view name)
 
--- the refusal of constant evaluation that an error is
+-- the refusal of an error of constant evaluation
 abbrev pub const_eval_refusal : ConstEvalError → Refusal
 const_eval_refusal (const_evals.Assert message name) = Assert (string_bytes message) (name_view name)
 const_eval_refusal (const_evals.Const e) = Const (const_refusal e)
@@ -82,21 +82,21 @@ const_eval_refusal (const_evals.LeftOutRegex t) = LeftOutRegex (token_view t)
 const_eval_refusal (const_evals.ListInStringContext context value) = ListInStringContext (string_context_view context) value
 const_eval_refusal (const_evals.ListOperation l o r t) = ListOperation l o r (token_view t)
 
--- the refusal that an error before any run is, if it is not want of memory
+-- the refusal of an error before any run; `None` for `OutOfMemory`
 abbrev pub compile_refusal : CompileError → Option Refusal
 compile_refusal (compiles.ConstEval t e) = Some (const_eval_refusal e)
 compile_refusal compiles.OutOfMemory = None
 
--- the token that such an error has, if it is not want of memory
+-- the token of such an error; `None` for `OutOfMemory`
 abbrev pub compile_token : CompileError → Option Token
 compile_token (compiles.ConstEval t e) = Some (token_view t)
 compile_token compiles.OutOfMemory = None
 
--- the error's token is the place of its refusal
+-- the error's token is that of its refusal
 abbrev pub HasOwnToken : CompileError → Type 0
 HasOwnToken e = compile_token e ≡ option_map const_eval_token (compile_refusal e)
 
--- the refusal that an error is, if it is not want of memory
+-- the refusal of an error; `None` for `OutOfMemory`
 abbrev pub refusal : Error → Option Refusal
 refusal (errors.Assert message name) = Some (Assert (string_bytes message) (name_view name))
 refusal (errors.Backtick t f) = Some (Backtick (token_view t) (fault_view f))
@@ -112,12 +112,12 @@ refusal (errors.ListOperation l o r t) = Some (ListOperation l o r (token_view t
 refusal (errors.RecursionLimit last) = Some (RecursionLimit (name_view last))
 refusal errors.OutOfMemory = None
 
--- how a call ended, its value seen by f
+-- the outcome of a call, its value viewed by f
 abbrev pub ended : {X A : Type 0} → (X → A) → Result X Error → Outcome A
 ended f (Ok x) = Gave (f x)
 ended f (Err e) = without_value (refusal e)
 
--- how a call before any run ended, its value seen by f
+-- the outcome of a call before any run, its value viewed by f
 abbrev pub const_ended : {X A : Type 0} → (X → A) → Result X CompileError → Outcome A
 const_ended f (Ok x) = Gave (f x)
 const_ended f (Err e) = without_value (compile_refusal e)
@@ -129,7 +129,7 @@ conjunction_of l = l.conjunction.now
 abbrev pub items_of : {T : Type 0} → list.List T → List T
 items_of l = l.items.items
 
--- the number that a name has
+-- the number of a name
 abbrev pub looked_up : ExpressionContext → Text → Option ℕ
 looked_up context name = lookup (λ key. bytes_eq name key.now) context.bindings.items
 

@@ -1,4 +1,4 @@
-// What a variable is bound to.
+// Bindings of variables.
 
 use crate::value::Value;
 use just_syntax::attribute_set::AttributeSet;

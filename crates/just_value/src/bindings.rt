@@ -1,9 +1,9 @@
-// The bindings of a frame, one after another.
+// Iteration over the bindings of a frame.
 
 use crate::binding::Binding;
 use std::collections::vec_deque::Iter;
 
-/// Goes over the bindings of a frame, each once, by rising number.
+/// Iterates over the bindings of a frame, in ascending order of number.
 #[derive(Debug, Drop)]
 pub struct Bindings<'frame, 'src> {
     left: Iter<'frame, Binding<'src>>,

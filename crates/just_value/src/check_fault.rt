@@ -1,4 +1,4 @@
-// Why a value check took no value.
+// Why a value check failed.
 
 ghost use Rattle.std.specs.Prelude.{◌≡◌};
 ghost use Rattle.just_value.specs.declared.check_fault.CheckFault.TheVariants.{OutOfMemory as Wanted};
@@ -9,7 +9,7 @@ use std::alloc::{AllocError, AllocFailed};
 use std::error::Error;
 use std::fmt;
 
-/// Why a value check did not take a value.
+/// Why a value check did not accept a value.
 #[derive(Debug, Drop)]
 pub enum CheckFault {
     /// It refused the value, with this message.

@@ -1,4 +1,4 @@
-// What a module is refused with before any run.
+// Errors of a module before any run.
 
 ghost use Rattle.std.specs.Prelude.{◌≡◌};
 ghost use Rattle.std.specs.Option.{option_map};
@@ -17,17 +17,17 @@ use std::fmt;
 /// Why a module is refused before any run.
 #[derive(Debug, Drop, PartialEq)]
 pub enum CompileError<'src> {
-    /// What constant evaluation was refused with, and the token where that stands.
+    /// A refusal of constant evaluation, and its token.
     ConstEval {
         token: Token<'src>,
         error: ConstEvalError<'src>,
     },
-    /// Memory was asked for and refused.
+    /// An allocation failed.
     OutOfMemory,
 }
 
 impl<'src> CompileError<'src> {
-    /// The token where it stands. Want of memory stands nowhere.
+    /// The token of the refusal. `OutOfMemory` has none.
     pub fn token(&self) -> Option<Token<'src>>
         ensures { option_map token_view result ≡ compile_token self.now }
     {
@@ -38,7 +38,7 @@ impl<'src> CompileError<'src> {
     }
 }
 
-/// Writes what constant evaluation was refused with, or `out of memory`.
+/// Writes the message of the refusal, or `out of memory`.
 impl fmt::Display for CompileError<'_> {
     ghost use Rattle.std.specs.Prelude.{Some};
     ghost use Rattle.just_value.specs.Said.{error_text};

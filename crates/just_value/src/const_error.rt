@@ -18,12 +18,12 @@ pub enum ConstError<'src> {
     Backtick(Token<'src>),
     /// A call of a function.
     FunctionCall(Name<'src>),
-    /// A variable that has no constant value.
+    /// A variable without a constant value.
     Variable(Name<'src>),
 }
 
 impl<'src> ConstError<'src> {
-    /// The token where it stands. Upstream's `ConstError::context`.
+    /// The token of the refusal. Upstream's `ConstError::context`.
     pub fn context(self) -> Token<'src>
         ensures { token_view result ≡ const_token (const_refusal self.entry) }
     {

@@ -1,4 +1,4 @@
-// What constant evaluation is refused with.
+// Refusals of constant evaluation.
 
 ghost use Rattle.std.specs.Prelude.{◌≡◌, Some};
 ghost use Rattle.just_syntax.specs.View.{token_view};
@@ -19,7 +19,7 @@ use just_syntax::unstyled::write_unstyled;
 use std::error::Error;
 use std::fmt;
 
-/// Why constant evaluation gave no value.
+/// Why constant evaluation yielded no value.
 #[derive(Debug, Drop, PartialEq)]
 pub enum ConstEvalError<'src> {
     /// An assertion failed.
@@ -29,7 +29,7 @@ pub enum ConstEvalError<'src> {
     },
     /// What constant evaluation does not allow.
     Const(ConstError<'src>),
-    /// A setting that needs a command was set to no element.
+    /// A setting that needs a command evaluated to the empty list.
     EmptyInterpreter {
         setting: Name<'src>,
     },
@@ -38,16 +38,16 @@ pub enum ConstEvalError<'src> {
         message: String,
         token: Token<'src>,
     },
-    /// `=~` or `!~` was reached.
+    /// `=~` or `!~` was evaluated.
     LeftOutRegex {
         token: Token<'src>,
     },
-    /// A value without exactly one element where one text is wanted.
+    /// A value without exactly one element in a place that requires one text.
     ListInStringContext {
         context: StringContext<'src>,
         value: Value,
     },
-    /// Lists of these lengths do not go together.
+    /// Lists whose lengths do not match.
     ListOperation {
         lhs: Value,
         operator: ListOperator,
@@ -57,7 +57,7 @@ pub enum ConstEvalError<'src> {
 }
 
 impl<'src> ConstEvalError<'src> {
-    /// The token where it stands. Upstream's `ConstEvalError::context`.
+    /// The token of the refusal. Upstream's `ConstEvalError::context`.
     pub fn context(&self) -> Token<'src>
         ensures { token_view result ≡ const_eval_token (const_eval_refusal self.now) }
     {
@@ -72,7 +72,7 @@ impl<'src> ConstEvalError<'src> {
         }
     }
 
-    /// The same refusal, with the token where it stands. It takes no memory. Upstream's `ConstEvalError::into_compile_error`.
+    /// The same refusal, with its token. It allocates nothing. Upstream's `ConstEvalError::into_compile_error`.
     pub fn into_compile_error(self) -> CompileError<'src>
         ensures refusal { compile_refusal result ≡ Some (const_eval_refusal self.entry) }
         ensures token { compile_token result ≡ Some (const_eval_token (const_eval_refusal self.entry)) }

@@ -1,4 +1,4 @@
-// How a text is shown.
+// How a text is displayed.
 
 ghost use Rattle.std.specs.Fmt.{WritesStyledOnOk};
 ghost use Rattle.just_value.specs.Shown.{escaped, quoted};
@@ -6,8 +6,8 @@ ghost use Rattle.just_value.specs.Shown.{escaped, quoted};
 use std::fmt;
 use std::fmt::Write;
 
-/// A text that is shown in quotes: tab, return, newline, quote and backslash are written `\t`, `\r`, `\n`,
-/// `\"` and `\\`, all else as it stands.
+/// A text that is displayed in quotes: tab, return, newline, quote and backslash are written `\t`, `\r`, `\n`, `\"` and
+/// `\\`, all else verbatim.
 #[derive(Clone, Copy, Debug, PartialEq, Eq)]
 pub struct Element<'text>(pub &'text str);
 

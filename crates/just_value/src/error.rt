@@ -1,4 +1,4 @@
-// What evaluation is refused with.
+// Errors of evaluation.
 
 ghost use Rattle.std.specs.Prelude.{◌≡◌};
 ghost use Rattle.std.specs.Option.{ForSome, option_map};
@@ -22,18 +22,18 @@ use just_syntax::string_context::StringContext;
 use just_syntax::token::Token;
 use std::alloc::{AllocError, AllocFailed};
 
-/// Why a command gave no text.
+/// Why a command produced no text.
 #[derive(Debug, Drop)]
 pub enum CommandFault {
     /// It ended with this status.
     Code(i32),
-    /// It could not be run, or what it wrote is no text.
+    /// It could not be run, or its output is not text.
     Fault(String),
     /// There was no memory for it.
     OutOfMemory,
 }
 
-/// Why a run gave no value.
+/// Why a run yielded no value.
 #[derive(Debug, Drop)]
 pub enum Error<'src> {
     /// An assertion failed.
@@ -41,7 +41,7 @@ pub enum Error<'src> {
         message: String,
         name: Name<'src>,
     },
-    /// A command's fault, which is never want of memory.
+    /// A command's fault, which is never `OutOfMemory`.
     Backtick {
         token: Token<'src>,
         output_error: CommandFault,
@@ -51,7 +51,7 @@ pub enum Error<'src> {
         parameter: &'src str,
         message: String,
     },
-    /// What constant evaluation does not allow, where there is no context.
+    /// What constant evaluation does not allow, in an evaluation without a context.
     Const(ConstError<'src>),
     /// An empty argument for a parameter that needs an element.
     EmptyListArgument {
@@ -68,36 +68,37 @@ pub enum Error<'src> {
         message: String,
         token: Token<'src>,
     },
-    /// A built-in function that is left out was called.
+    /// A call of a built-in function that is left out.
     LeftOut {
         function: Name<'src>,
     },
-    /// `=~` or `!~` was reached.
+    /// `=~` or `!~` was evaluated.
     LeftOutRegex {
         token: Token<'src>,
     },
-    /// A value without exactly one element where one text is wanted.
+    /// A value without exactly one element in a place that requires one text.
     ListInStringContext {
         context: StringContext<'src>,
         value: Value,
     },
-    /// Lists of these lengths do not go together.
+    /// Lists whose lengths do not match.
     ListOperation {
         lhs: Value,
         operator: ListOperator,
         rhs: Value,
         token: Token<'src>,
     },
-    /// Memory was asked for and refused.
+    /// An allocation failed.
     OutOfMemory,
-    /// A call of the function `last` would have gone as deep as the limit.
+    /// A call of the function `last` would have reached the limit on depth.
     RecursionLimit {
         last: Name<'src>,
     },
 }
 
 impl<'src> Error<'src> {
-    /// The token where it stands. Want of memory stands nowhere, nor does the refusal of an argument, which is handed in.
+    /// The token of the refusal. `OutOfMemory` has none, nor has the refusal of an argument, which comes from the
+    /// caller.
     pub fn token(&self) -> Option<Token<'src>>
         ensures { option_map token_view result ≡ error_token (refusal self.now) }
     {
@@ -116,8 +117,9 @@ impl<'src> Error<'src> {
         }
     }
 
-    /// The same refusal as one of constant evaluation, where it is one, or want of memory. It is for no other refusal, and
-    /// takes no memory. Upstream's `Error::unwrap_const`, and `ConstEvalError::into_compile_error` behind it.
+    /// The same refusal as one of constant evaluation, or `OutOfMemory`. It must not be called for a refusal that
+    /// constant evaluation does not have. It allocates nothing. Upstream's `Error::unwrap_const`, followed by
+    /// `ConstEvalError::into_compile_error`.
     pub fn unwrap_const(self) -> CompileError<'src>
         requires constant { ForSome (refusal self) IsConstEval }
         ensures refusal { compile_refusal result ≡ refusal self.entry }

@@ -1,4 +1,4 @@
-// Which numbers names have in an expression.
+// The numbers of names in an expression.
 
 ghost use Rattle.std.proofs.Props.{props};
 ghost use Rattle.just_value.specs.Rising.{AreRisingNames};
@@ -9,7 +9,7 @@ use just_syntax::out_of_memory::OutOfMemory;
 use just_syntax::parameter::Parameter;
 use std::alloc::{AllocError, Global};
 
-/// Which numbers names have in an expression. The names stand in the order of their bytes, each once.
+/// The numbers of names in an expression. The names are sorted by their bytes, without duplicates.
 #[derive(Debug, Drop)]
 pub struct ExpressionContext<'src> {
     bindings: Vec<(&'src str, Number)>,
@@ -27,7 +27,7 @@ impl<'src> ExpressionContext<'src> {
     ghost use Rattle.just_value.specs.Places.{IsPlace};
     ghost use Rattle.just_value.specs.View.{looked_up};
 
-    /// No name. It takes no memory. Upstream's `ExpressionContext::new`.
+    /// No names. It allocates nothing. Upstream's `ExpressionContext::new`.
     pub fn new(alloc: Global) -> ExpressionContext<'src>
         ensures { (name : List ℕ) → looked_up result name ≡ None }
     {
@@ -36,12 +36,12 @@ impl<'src> ExpressionContext<'src> {
         }
     }
 
-    /// The names of pairs, each with its number. Of equal names the last pair counts. Upstream's `ExpressionContext::from` of
-    /// such pairs.
+    /// The names of pairs, each with its number. Of equal names the last pair counts. Upstream's
+    /// `ExpressionContext::from` of such pairs.
     ///
     /// # Errors
     ///
-    /// `OutOfMemory`, where memory was asked for and refused: nothing is made.
+    /// `OutOfMemory`, if an allocation fails: nothing is created.
     pub fn from_pairs(
         alloc: Global,
         pairs: &[(Name<'src>, Number)],
@@ -56,7 +56,7 @@ impl<'src> ExpressionContext<'src> {
     ///
     /// # Errors
     ///
-    /// `OutOfMemory`, where memory was asked for and refused: nothing is made.
+    /// `OutOfMemory`, if an allocation fails: nothing is created.
     pub fn from_parameters(
         alloc: Global,
         parameters: &[Parameter<'src>],
@@ -76,7 +76,7 @@ impl<'src> ExpressionContext<'src> {
         }
     }
 
-    // Where a name stands, or would stand.
+    // The index of a name, or the index where it would be inserted.
     fn place(&self, name: &str) -> Result<usize, usize>
         ensures { IsPlace (λ b. slice_cmp nat_cmp b.0.now name.now) self.now.bindings.items result }
     {
@@ -84,7 +84,7 @@ impl<'src> ExpressionContext<'src> {
             .binary_search_by_key(&name, |binding| binding.0)
     }
 
-    // The names of pairs with their numbers, the last first.
+    // The names of pairs with their numbers, in reverse order.
     fn pairs_backwards(
         alloc: Global,
         pairs: &[(Name<'src>, Number)],
@@ -98,7 +98,7 @@ impl<'src> ExpressionContext<'src> {
             .collect(alloc)
     }
 
-    // The names of parameters with their numbers, the last first.
+    // The names of parameters with their numbers, in reverse order.
     fn parameters_backwards(
         alloc: Global,
         parameters: &[Parameter<'src>],
@@ -112,7 +112,7 @@ impl<'src> ExpressionContext<'src> {
             .collect(alloc)
     }
 
-    // Of equal names the first counts: the sort is stable, and then the first of a run of equal names is kept.
+    // Of equal names the first counts: the sort is stable, and the first of a run of equal names is kept.
     fn from_first(
         mut bindings: Vec<(&'src str, Number)>,
     ) -> Result<ExpressionContext<'src>, OutOfMemory>

@@ -1,4 +1,4 @@
-// Frames: bindings by rising number.
+// Frames: bindings in ascending order of number.
 
 ghost use Rattle.std.specs.Prelude.{◌≡◌, [], OnOk, OnErr, map};
 ghost use Rattle.std.specs.Ordering.{nat_cmp};
@@ -17,7 +17,7 @@ use std::collections::VecDeque;
 use std::fmt;
 use std::marker::Model;
 
-/// Bindings by their numbers. They stand by rising number, each number once.
+/// Bindings by their numbers, in ascending order, each number once.
 #[derive(Drop)]
 pub struct Frame<'src> {
     bindings: VecDeque<Binding<'src>>,
@@ -42,7 +42,7 @@ impl<'src> Model for Frame<'src> {
 }
 
 impl<'src> Frame<'src> {
-    // No binding.
+    // An empty frame.
     pub(crate) fn new(alloc: Global) -> Frame<'src>
         ensures { frame_view result ≡ [] }
     {
@@ -61,7 +61,7 @@ impl<'src> Frame<'src> {
         }
     }
 
-    /// The bindings, by rising number.
+    /// The bindings, in ascending order of number.
     pub fn bindings(&self) -> Bindings<'_, 'src>
         ensures once { map bound_view (bindings_left result) ≡ values_of (frame_view self.now) }
         ensures rising { IsRising (map bound_view (bindings_left result)) }
@@ -83,7 +83,8 @@ impl<'src> Frame<'src> {
         }
     }
 
-    // Where a number is bound, or would be. A number past the last needs no search.
+    // The index of a number's binding, or the index where it would be inserted. A number greater than the last needs no
+    // search.
     fn place(&self, number: Number) -> Result<usize, usize>
         ensures { IsPlace (λ b. nat_cmp b.number number) self.now result }
     {
@@ -96,7 +97,7 @@ impl<'src> Frame<'src> {
     }
 }
 
-// The names with their values. A reader is promised no bytes.
+// The names with their values. The format is unspecified.
 impl fmt::Debug for Frame<'_> {
     fn fmt<W: fmt::Write>(&self, f: &mut fmt::Formatter<W>) -> fmt::Result {
         let mut map = f.debug_map();

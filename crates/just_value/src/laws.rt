@@ -1,4 +1,4 @@
-// Laws of values, of scopes and of positional words. Each function does nothing: its contract is the law.
+// Laws of values, scopes and positional words. Each function does nothing: its contract is the law.
 
 ghost use Rattle.just_value.specs.Frames.{BindsOneNumber, ChildAnswersAsParent, ValueIsOfBinding};
 ghost use Rattle.just_value.specs.Positional.{KeepsWords, MeansTheCut, SameExactlyIfCutAlike};
@@ -9,7 +9,7 @@ pub fn values_equal_exactly_if_same()
     ensures { SameExactlyIfEqual }
 {}
 
-/// No element joined is the empty text, and one element is that element.
+/// The join of no element is the empty text, and the join of one element is that element.
 pub fn join_of_none_and_one()
     ensures { JoinsNoneAndOne }
 {}
@@ -19,12 +19,12 @@ pub fn empty_text_is_truthy()
     ensures { EmptyTextIsTruthy }
 {}
 
-/// A number that is bound has that binding from then on, and each other number what it had.
+/// Binding a number gives it that binding, and each other number keeps its own.
 pub fn scope_binds_one_number()
     ensures { BindsOneNumber }
 {}
 
-/// A new child answers as its parent does.
+/// Look-ups in a new child give the same results as in its parent.
 pub fn child_answers_as_parent()
     ensures { ChildAnswersAsParent }
 {}
@@ -34,18 +34,18 @@ pub fn value_is_of_binding()
     ensures { ValueIsOfBinding }
 {}
 
-/// The overrides with `=` put back, then the directory, then the arguments are the words again, but that the
-/// directory's word is cut.
+/// The overrides with `=` between their parts, then the directory, then the arguments are the original words, except
+/// that the directory's word is split.
 pub fn positional_keeps_words()
     ensures { KeepsWords }
 {}
 
-/// Words whose directory's word is cut mean what the words mean.
+/// Splitting the directory's word does not change the meaning of words.
 pub fn positional_means_the_cut()
     ensures { MeansTheCut }
 {}
 
-/// Two lists of words mean the same exactly if they are the same once the directory's word is cut.
+/// Two lists of words have the same meaning exactly if they are equal after the directory's word is split.
 pub fn positional_same_exactly_if_cut_alike()
     ensures { SameExactlyIfCutAlike }
 {}

@@ -1,5 +1,5 @@
-// Values, bindings, frames, scopes, and what evaluation is refused with, each with its view as plain data. It leans on
-// syntax alone.
+// Values, bindings, frames, scopes, and the refusals of evaluation, each with its view as plain data. It depends on
+// `just_syntax` alone.
 #![tactic(auto)]
 
 pub mod binding;

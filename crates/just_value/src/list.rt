@@ -31,11 +31,11 @@ impl<T> List<T> {
 }
 
 impl<T: Drop> List<T> {
-    /// The items that an iterator gives until it ends, with `or` before the last. Upstream's `List::or`, with items of its own.
+    /// The items of an iterator, with `or` before the last. Upstream's `List::or`, with items of its own.
     ///
     /// # Errors
     ///
-    /// `OutOfMemory`, where memory was asked for and refused: the items that were taken are dropped.
+    /// `OutOfMemory`, if an allocation fails: the items taken so far are dropped.
     pub fn or<I: IntoIterator<Item = T>>(alloc: Global, items: I) -> Result<List<T>, OutOfMemory>
         requires { Ends I.into_iter_gives I.IntoIter.can_next I.IntoIter.remaining items }
         ensures conjunction { IfOk result (λ list. conjunction_of list ≡ codes "or") }
@@ -44,12 +44,11 @@ impl<T: Drop> List<T> {
         Ok(List::of("or", gathered(alloc, items)?))
     }
 
-    /// The items that an iterator gives until it ends, with `and` before the last. Upstream's `List::and`, with items of its
-    /// own.
+    /// The items of an iterator, with `and` before the last. Upstream's `List::and`, with items of its own.
     ///
     /// # Errors
     ///
-    /// `OutOfMemory`, where memory was asked for and refused: the items that were taken are dropped.
+    /// `OutOfMemory`, if an allocation fails: the items taken so far are dropped.
     pub fn and<I: IntoIterator<Item = T>>(alloc: Global, items: I) -> Result<List<T>, OutOfMemory>
         requires { Ends I.into_iter_gives I.IntoIter.can_next I.IntoIter.remaining items }
         ensures conjunction { IfOk result (λ list. conjunction_of list ≡ codes "and") }
@@ -58,12 +57,12 @@ impl<T: Drop> List<T> {
         Ok(List::of("and", gathered(alloc, items)?))
     }
 
-    /// The items that an iterator gives until it ends, each in backticks, with `or` before the last. Upstream's
-    /// `List::or_ticked`, with items of its own.
+    /// The items of an iterator, each in backticks, with `or` before the last. Upstream's `List::or_ticked`, with items
+    /// of its own.
     ///
     /// # Errors
     ///
-    /// `OutOfMemory`, where memory was asked for and refused: the items that were taken are dropped.
+    /// `OutOfMemory`, if an allocation fails: the items taken so far are dropped.
     pub fn or_ticked<I: IntoIterator<Item = T>>(
         alloc: Global,
         items: I,
@@ -75,12 +74,12 @@ impl<T: Drop> List<T> {
         Ok(List::of("or", ticked(alloc, items)?))
     }
 
-    /// The items that an iterator gives until it ends, each in backticks, with `and` before the last. Upstream's
-    /// `List::and_ticked`, with items of its own.
+    /// The items of an iterator, each in backticks, with `and` before the last. Upstream's `List::and_ticked`, with
+    /// items of its own.
     ///
     /// # Errors
     ///
-    /// `OutOfMemory`, where memory was asked for and refused: the items that were taken are dropped.
+    /// `OutOfMemory`, if an allocation fails: the items taken so far are dropped.
     pub fn and_ticked<I: IntoIterator<Item = T>>(
         alloc: Global,
         items: I,
@@ -93,7 +92,7 @@ impl<T: Drop> List<T> {
     }
 }
 
-// The items that an iterator gives until it ends.
+// The items of an iterator.
 fn gathered<T: Drop, I: IntoIterator<Item = T>>(
     alloc: Global,
     items: I,
@@ -105,7 +104,7 @@ fn gathered<T: Drop, I: IntoIterator<Item = T>>(
     Ok(gathered)
 }
 
-// The items that an iterator gives until it ends, each in backticks.
+// The items of an iterator, each in backticks.
 fn ticked<T: Drop, I: IntoIterator<Item = T>>(
     alloc: Global,
     items: I,
@@ -120,7 +119,7 @@ fn ticked<T: Drop, I: IntoIterator<Item = T>>(
     Ok(ticked)
 }
 
-// What stands before the word at a place, in three parts.
+// The text before the word at an index, in three parts.
 fn parts_before(
     conjunction: &'static str,
     count: usize,

@@ -8,25 +8,25 @@ ghost use Rattle.just_value.specs.View.{positional_view};
 use just_syntax::out_of_memory::OutOfMemory;
 use std::alloc::Global;
 
-/// What the words of a command line mean that are no flags, options or subcommands.
+/// The meaning of the words of a command line that are not flags, options or subcommands.
 ///
-/// Words with `=` come first and are overrides. Behind them may come a search directory: `.`, `..`, or a word with
-/// a `/`, of which what stands behind the last `/` is the first argument. All else is arguments.
+/// Words with `=` come first and are overrides. After them may come a search directory: `.`, `..`, or a word with a
+/// `/`, whose text after the last `/` is the first argument. All other words are arguments.
 #[derive(Debug, Drop, PartialEq, Eq)]
 pub struct Positional {
     pub arguments: Vec<String>,
-    /// What stands before and behind the first `=`.
+    /// The texts before and after the first `=`.
     pub overrides: Vec<(String, String)>,
     /// `.`, `..`, or a text that ends with `/`.
     pub search_directory: Option<String>,
 }
 
 impl Positional {
-    /// What the words mean that an iterator gives until it ends. Upstream's `Positional::from_values`.
+    /// The meaning of the words of an iterator. Upstream's `Positional::from_values`.
     ///
     /// # Errors
     ///
-    /// `OutOfMemory`, where memory was asked for and refused: nothing is made.
+    /// `OutOfMemory`, if an allocation fails: nothing is created.
     pub fn from_values<'values, I: IntoIterator<Item = &'values str>>(
         alloc: Global,
         values: I,
@@ -45,7 +45,7 @@ impl Positional {
         Ok(positional)
     }
 
-    // One more word.
+    // Adds a word.
     fn add(&mut self, alloc: Global, word: &str) -> Result<(), OutOfMemory>
         ensures { OnOk result (positional_view self.new ≡ with_word (positional_view self.old) word.now) }
     {
@@ -64,7 +64,7 @@ impl Positional {
         }
     }
 
-    // The first word behind the overrides.
+    // Adds the first word after the overrides.
     fn add_behind_overrides(&mut self, alloc: Global, word: &str) -> Result<(), OutOfMemory>
         requires no_directory { (positional_view self.old).search_directory ≡ None }
         requires no_argument { (positional_view self.old).arguments ≡ [] }
@@ -87,7 +87,7 @@ impl Positional {
     }
 }
 
-// A text with a slash behind it.
+// A text with a slash appended.
 fn directory(alloc: Global, front: &str) -> Result<String, OutOfMemory>
     ensures { IfOk result (λ text. string_bytes text ≡ front.now ++ codes "/") }
 {

@@ -1,4 +1,4 @@
-// What is said of refusals that a run and constant evaluation share.
+// Messages of the refusals that runs and constant evaluation share.
 #![tactic(auto, using(just_syntax::proofs::Styled::styled_steps))]
 
 ghost use Rattle.std.specs.Prelude.{◌++◌, codes};
@@ -13,7 +13,7 @@ use just_syntax::string_context::StringContext;
 use just_syntax::unstyled::write_unstyled;
 use std::fmt;
 
-// An assertion's message.
+// The message of a failed assertion.
 pub(crate) fn write_assertion<W: fmt::Write>(
     f: &mut fmt::Formatter<W>,
     message: &str,
@@ -23,21 +23,21 @@ pub(crate) fn write_assertion<W: fmt::Write>(
     write_unstyled(f, format_args!("assert failed: {message}"))
 }
 
-// What is said of a module that is not resolved.
+// The message for a module that is not resolved.
 pub(crate) fn write_internal<W: fmt::Write>(f: &mut fmt::Formatter<W>, message: &str) -> fmt::Result
     ensures { WritesStyledOnOk W.write_str_gives f.old result (codes "internal error: " ++ message.now) f.new }
 {
     write_unstyled(f, format_args!("internal error: {message}"))
 }
 
-// That `=~` or `!~` was reached.
+// The message for an evaluated `=~` or `!~`.
 pub(crate) fn write_left_out_regex<W: fmt::Write>(f: &mut fmt::Formatter<W>) -> fmt::Result
     ensures { WritesStyledOnOk W.write_str_gives f.old result (codes "regular expression operators are left out") f.new }
 {
     f.write_str("regular expression operators are left out")
 }
 
-// A value where one text is wanted.
+// The message for a value that is not one text, in a place that requires one.
 pub(crate) fn write_list<W: fmt::Write>(
     f: &mut fmt::Formatter<W>,
     context: &StringContext,
@@ -56,7 +56,7 @@ pub(crate) fn write_list<W: fmt::Write>(
     }
 }
 
-// An operator, and what it cannot be applied to.
+// The message for an operator that cannot be applied.
 pub(crate) fn write_operation<W: fmt::Write>(
     f: &mut fmt::Formatter<W>,
     lhs: &Value,
@@ -69,7 +69,7 @@ pub(crate) fn write_operation<W: fmt::Write>(
     write_lists(f, lhs, operator, rhs)
 }
 
-// What an operator cannot be applied to.
+// Why an operator cannot be applied.
 fn write_lists<W: fmt::Write>(
     f: &mut fmt::Formatter<W>,
     lhs: &Value,

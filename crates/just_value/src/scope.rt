@@ -1,4 +1,4 @@
-// Scopes: an own frame, and the frames outside it.
+// Scopes: an own frame, and the enclosing frames.
 
 ghost use Rattle.std.specs.Prelude.{◌≡◌, [], ◌∷◌, IfOk, OnOk, OnErr, map};
 ghost use Rattle.std.specs.Map.{values_of};
@@ -19,7 +19,7 @@ use just_syntax::token::Token;
 use std::alloc::Global;
 use std::fmt;
 
-/// An own frame, and the frames outside it, innermost first.
+/// An own frame, and the enclosing frames, innermost first.
 #[derive(Drop)]
 pub struct Scope<'src, 'run> {
     frame: Frame<'src>,
@@ -27,12 +27,12 @@ pub struct Scope<'src, 'run> {
 }
 
 impl<'src, 'run> Scope<'src, 'run> {
-    /// One frame that binds these constants, keys and values, to their places counted from 0. Each is of the prelude, and its
-    /// name's path is `PRELUDE`. Upstream's `Scope::root`, which has constants of its own.
+    /// One frame that binds these constants, given as keys and values, to their indices counted from 0. Each belongs to
+    /// the prelude, and its name's path is `PRELUDE`. Upstream's `Scope::root`, which has constants of its own.
     ///
     /// # Errors
     ///
-    /// `OutOfMemory`, where memory was asked for and refused: nothing is made.
+    /// `OutOfMemory`, if an allocation fails: nothing is created.
     pub fn root(
         alloc: Global,
         constants: &[(&'src str, &'src str)],
@@ -50,12 +50,12 @@ impl<'src, 'run> Scope<'src, 'run> {
         })
     }
 
-    /// A new frame with no binding, and the frames of this scope outside it. It takes memory for one reference a frame outside.
-    /// Upstream's `Scope::child`.
+    /// A new frame without bindings, enclosed by the frames of this scope. It allocates one reference for each
+    /// enclosing frame. Upstream's `Scope::child`.
     ///
     /// # Errors
     ///
-    /// `OutOfMemory`, where memory was asked for and refused: nothing is made, and this scope stays as it was.
+    /// `OutOfMemory`, if an allocation fails: nothing is created, and this scope is unchanged.
     pub fn child<'inner>(&'inner self, alloc: Global) -> Result<Scope<'src, 'inner>, OutOfMemory>
         ensures { IfOk result (λ scope. frames_view scope ≡ [] ∷ frames_view self.now) }
     {
@@ -66,12 +66,12 @@ impl<'src, 'run> Scope<'src, 'run> {
         })
     }
 
-    /// Binds a number in the own frame, in place of what it was bound to there. It takes memory only for a number that is not
-    /// bound there. Upstream's `Scope::bind`.
+    /// Binds a number in the own frame; this replaces its binding there, if it has one. It allocates only for a number
+    /// that is not bound there. Upstream's `Scope::bind`.
     ///
     /// # Errors
     ///
-    /// `OutOfMemory`, where memory was asked for and refused: the scope stays as it was, and the binding is dropped.
+    /// `OutOfMemory`, if an allocation fails: the scope is unchanged, and the binding is dropped.
     pub fn bind(&mut self, binding: Binding<'src>) -> Result<(), OutOfMemory>
         ensures ok { OnOk result (frames_view self.new ≡ bound_in_front (frames_view self.old) (bound_view binding.entry)) }
         ensures err { OnErr result (frames_view self.new ≡ frames_view self.old) }
@@ -99,7 +99,7 @@ impl<'src, 'run> Scope<'src, 'run> {
         }
     }
 
-    /// The bindings of the own frame, by rising number. Upstream's `Scope::bindings`.
+    /// The bindings of the own frame, in ascending order of number. Upstream's `Scope::bindings`.
     pub fn bindings(&self) -> Bindings<'_, 'src>
         ensures once { map bound_view (bindings_left result) ≡ values_of (own_frame (frames_view self.now)) }
         ensures rising { IsRising (map bound_view (bindings_left result)) }
@@ -114,8 +114,8 @@ impl<'src, 'run> Scope<'src, 'run> {
         &self.frame
     }
 
-    /// The frames outside the own one, innermost first, if there are any. A scope from `root` has none, and one from `child`
-    /// has some. Upstream's `Scope::parent`, which gives a scope.
+    /// The enclosing frames, innermost first, if there are any. A scope from `root` has none, and one from `child` has
+    /// some. Upstream's `Scope::parent`, which gives a scope.
     pub fn parent(&self) -> Option<&Vec<&'run Frame<'src>>>
         ensures { option_map (λ outer. map (λ f. frame_view f.now) outer.now.items) result ≡ outer_frames (frames_view self.now) }
     {
@@ -126,7 +126,7 @@ impl<'src, 'run> Scope<'src, 'run> {
     }
 }
 
-// One value, and others behind it. They are lent as a vector, so that the caller makes no slice of it, in a call of its own.
+// One value followed by others. The others are passed as a vector, so that the caller needs no call to borrow a slice.
 fn in_front<T: Copy>(alloc: Global, first: T, others: &Vec<T>) -> Result<Vec<T>, OutOfMemory>
     ensures { IfOk result (λ all. all.items ≡ first ∷ others.now.items) }
 {
@@ -151,7 +151,7 @@ fn binding_in<'frame, 'src>(
     None
 }
 
-// What a constant is bound to.
+// The binding of a constant.
 fn constant<'src>(alloc: Global, number: Number, key: &'src str, value: Value) -> Binding<'src>
     ensures { bound_view result ≡ constant_bound number key.now value }
 {
@@ -176,7 +176,7 @@ fn constant<'src>(alloc: Global, number: Number, key: &'src str, value: Value) -
     }
 }
 
-// The frames, innermost first. A reader is promised no bytes.
+// The frames, innermost first. The format is unspecified.
 impl fmt::Debug for Scope<'_, '_> {
     fn fmt<W: fmt::Write>(&self, f: &mut fmt::Formatter<W>) -> fmt::Result {
         f.debug_list()

@@ -24,7 +24,7 @@ use std::fmt::Display;
 use std::marker::Model;
 use std::{fmt, slice, vec};
 
-/// A list of texts. A call that is refused memory answers `OutOfMemory`, and changes nothing.
+/// A list of texts. A call whose allocation fails returns `OutOfMemory`, and changes nothing.
 #[derive(Debug, Drop)]
 pub struct Value {
     elements: Vec<String>,
@@ -39,7 +39,7 @@ impl Model for Value {
 }
 
 impl Value {
-    /// No element. It takes no memory. Upstream's `Value::new`.
+    /// The empty list. It allocates nothing. Upstream's `Value::new`.
     pub fn new(alloc: Global) -> Value
         ensures { result ≡ [] }
     {
@@ -48,8 +48,8 @@ impl Value {
         }
     }
 
-    /// The one element `true` where the condition holds, else no element, which takes no memory. `OutOfMemory` where memory is
-    /// refused: nothing is made. Upstream's `From<bool>`.
+    /// The one element `true` if the condition holds, otherwise the empty list, which allocates nothing. `OutOfMemory`,
+    /// if an allocation fails: nothing is created. Upstream's `From<bool>`.
     pub fn from_bool(alloc: Global, condition: bool) -> Result<Value, OutOfMemory>
         ensures { IfOk result (λ v. v ≡ from_condition condition) }
     {
@@ -60,15 +60,16 @@ impl Value {
         }
     }
 
-    /// These elements, moved. It takes no memory, and keeps the allocator of `elements`. Upstream's `From<Vec<String>>`.
+    /// These elements, moved. It allocates nothing, and keeps the allocator of `elements`. Upstream's
+    /// `From<Vec<String>>`.
     pub fn from_elements(elements: Vec<String>) -> Value
         ensures { result ≡ map string_bytes elements.items }
     {
         Value { elements }
     }
 
-    /// The texts that an iterator gives until it ends, in their order. The texts are moved. `OutOfMemory` where memory is
-    /// refused: those taken are dropped. Upstream's `FromIterator<String>`.
+    /// The texts of an iterator, in order. They are moved. `OutOfMemory`, if an allocation fails: those taken so far
+    /// are dropped. Upstream's `FromIterator<String>`.
     pub fn from_iterator<I: IntoIterator<Item = String>>(
         alloc: Global,
         elements: I,
@@ -80,7 +81,8 @@ impl Value {
         Ok(Value::from_elements(elements))
     }
 
-    /// The one element `text`, which is moved. `OutOfMemory` where memory is refused: it is dropped. Upstream's `From<String>`.
+    /// The one element `text`, which is moved. `OutOfMemory`, if an allocation fails: it is dropped. Upstream's
+    /// `From<String>`.
     pub fn from_string(alloc: Global, text: String) -> Result<Value, OutOfMemory>
         ensures { IfOk result (λ v. v ≡ string_bytes text ∷ []) }
     {
@@ -89,7 +91,8 @@ impl Value {
         Ok(Value::from_elements(elements))
     }
 
-    /// The one element `text`, copied. `OutOfMemory` where memory is refused: nothing is made. Upstream's `From<&str>`.
+    /// The one element `text`, copied. `OutOfMemory`, if an allocation fails: nothing is created. Upstream's
+    /// `From<&str>`.
     pub fn from_text(alloc: Global, text: &str) -> Result<Value, OutOfMemory>
         ensures { IfOk result (λ v. v ≡ text.now ∷ []) }
     {
@@ -97,7 +100,7 @@ impl Value {
         Value::from_string(alloc, text)
     }
 
-    /// The same elements once more. `OutOfMemory` where memory is refused: nothing is made. Upstream's `Value::clone`.
+    /// A copy of the value. `OutOfMemory`, if an allocation fails: nothing is created. Upstream's `Value::clone`.
     pub fn try_clone(&self, alloc: Global) -> Result<Value, OutOfMemory>
         ensures { IfOk result (λ v. v ≡ self.now) }
     {
@@ -105,14 +108,14 @@ impl Value {
         Ok(Value::from_elements(elements))
     }
 
-    /// The texts, in their order. Upstream's `Value::elements`.
+    /// The texts, in order. Upstream's `Value::elements`.
     pub fn elements(&self) -> &[String]
         ensures { map string_bytes result.now ≡ self.now }
     {
         self.elements.as_slice()
     }
 
-    /// The texts, in their order. They are moved. Upstream's `Value::into_elements`.
+    /// The texts, in order. They are moved. Upstream's `Value::into_elements`.
     pub fn into_elements(self) -> Vec<String>
         ensures { map string_bytes result.items ≡ self }
     {
@@ -120,7 +123,7 @@ impl Value {
         texts
     }
 
-    /// Goes over the texts, in their order. Upstream's `Value::iter`.
+    /// Iterates over the texts, in order. Upstream's `Value::iter`.
     pub fn iter(&self) -> slice::Iter<'_, String>
         ensures rest { map string_bytes (iter_rest result) ≡ self.now }
         ensures runs { IterYieldsInOrder (String Global) }
@@ -128,7 +131,7 @@ impl Value {
         self.elements.iter()
     }
 
-    /// How many elements there are. Upstream's `Value::len`.
+    /// The number of elements. Upstream's `Value::len`.
     pub fn len(&self) -> usize
         ensures { result ≡ length self.now }
     {
@@ -149,8 +152,8 @@ impl Value {
         !self.elements.is_empty()
     }
 
-    /// Puts a copy of a text behind the elements, by the allocator that the value was made with. `OutOfMemory` where memory is
-    /// refused: the value stays as it was. Upstream's `Value::push`.
+    /// Appends a copy of a text, with the allocator that the value was created with. `OutOfMemory`, if an allocation
+    /// fails: the value is unchanged. Upstream's `Value::push`.
     pub fn push(&mut self, element: &str) -> Result<(), OutOfMemory>
         ensures ok { OnOk result (self.new ≡ self.old ++ element.now ∷ []) }
         ensures err { OnErr result (self.new ≡ self.old) }
@@ -161,8 +164,8 @@ impl Value {
         Ok(())
     }
 
-    /// The elements in one text, with one space between. `OutOfMemory` where memory is refused: nothing is made. Upstream's
-    /// `Value::join`.
+    /// The elements in one text, separated by spaces. `OutOfMemory`, if an allocation fails: nothing is created.
+    /// Upstream's `Value::join`.
     pub fn join(&self, alloc: Global) -> Result<String, OutOfMemory>
         ensures { IfOk result (λ text. string_bytes text ≡ joined self.now) }
     {
@@ -170,13 +173,14 @@ impl Value {
         Ok(text)
     }
 
-    /// The elements of both, put together one by one with the operator's separator between. One element goes with each of the
-    /// other list's, from either side; lists of equal length go in pairs. Upstream's `Value::apply`.
+    /// The elements of both lists, combined one by one with the operator's separator between them. A single element, on
+    /// either side, is combined with each element of the other list; lists of equal length are paired. Upstream's
+    /// `Value::apply`.
     ///
     /// # Errors
     ///
-    /// `ListOperation` with both lists where the lengths differ and one of them is 0 or neither is 1. `OutOfMemory`, where
-    /// memory was asked for and refused, also for the lists of `ListOperation`: nothing is made.
+    /// `ListOperation` with both lists, if the lengths differ and one of them is 0 or neither is 1. `OutOfMemory`, if
+    /// an allocation fails, also one for the lists of `ListOperation`: nothing is created.
     pub fn apply<'src>(
         &self,
         alloc: Global,
@@ -233,7 +237,7 @@ impl fmt::Display for Value {
     }
 }
 
-// A quoted text, behind a comma if it is not the first.
+// A quoted text, after a comma if it is not the first.
 #[tactic(auto, using(just_syntax::proofs::Styled::styled_steps))]
 fn write_element<W: fmt::Write>(f: &mut fmt::Formatter<W>, first: bool, text: &str) -> fmt::Result
     ensures { WritesStyledOnOk W.write_str_gives f.old result ((if first then [] else codes ", ") ++ quoted text.now) f.new }
@@ -333,7 +337,7 @@ impl IntoIterator for Value {
     }
 }
 
-// The texts once more.
+// Copies of the texts.
 fn copies(alloc: Global, texts: &[String]) -> Result<Vec<String>, OutOfMemory>
     ensures { IfOk result (λ v. map string_bytes v.items ≡ map string_bytes texts.now) }
 {
@@ -354,7 +358,7 @@ fn joined(alloc: Global, x: &str, separator: &str, y: &str) -> Result<String, Ou
     Ok(text)
 }
 
-// Each text behind x.
+// x followed by each of the texts.
 fn after(alloc: Global, x: &str, separator: &str, ys: &[String]) -> Result<Vec<String>, OutOfMemory>
     ensures { IfOk result (λ v. map string_bytes v.items ≡ map (λ y. (x.now ++ separator.now) ++ y) (map string_bytes ys.now)) }
 {
@@ -365,7 +369,7 @@ fn after(alloc: Global, x: &str, separator: &str, ys: &[String]) -> Result<Vec<S
     Ok(all)
 }
 
-// Each text before y.
+// Each of the texts followed by y.
 fn before(
     alloc: Global,
     xs: &[String],
@@ -381,7 +385,7 @@ fn before(
     Ok(all)
 }
 
-// The texts in pairs.
+// The texts, paired.
 fn in_pairs(
     alloc: Global,
     xs: &[String],

@@ -7,7 +7,7 @@ use std::test::Fail;
 
 const COUNT: usize = 1000;
 
-// Assignments in a row, with these texts at the first and the last.
+// Assignments in a row, with these texts as the first and the last.
 fn row(alloc: Global, first: &str, last: &str) -> Result<String, Fail> {
     let mut text = format!(in alloc; "str {first}\nassign v0\n")?;
     for place in 1..COUNT {

@@ -1,4 +1,4 @@
-// Commands that a recipe runner runs for itself.
+// Commands that a recipe runner itself runs.
 
 ghost use Rattle.std.specs.Prelude.{false, map, string_bytes, ◌≡◌};
 ghost use Rattle.std.specs.Option.{option_map};
@@ -18,14 +18,14 @@ use std::alloc::Global;
 use std::collections::BTreeMap;
 
 impl<'src, 'run> Evaluator<'src, 'run> {
-    /// Asks the host to run a command in a context, with this environment, the variables of a scope, and the arguments behind
-    /// the command, where it takes some. It is not for a dry run. Upstream's `Evaluator::run_command`, which starts the
+    /// Asks the host to run a command in a context, with this environment, the variables of a scope, and the arguments
+    /// after the command, if any. It is not for a dry run. Upstream's `Evaluator::run_command`, which starts the
     /// process.
     ///
     /// # Errors
     ///
-    /// The host's fault, or `OutOfMemory` where the host says so, or where memory was asked for and refused before the host is
-    /// asked: then it is not asked, and stays as it was.
+    /// The host's fault. `OutOfMemory` if the host reports it, or if an allocation fails; in the latter case the host
+    /// is not asked and its state is unchanged.
     pub fn run_command<H: Host>(
         alloc: Global,
         host: &mut H,

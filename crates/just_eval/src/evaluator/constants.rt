@@ -1,4 +1,4 @@
-// Evaluation before any run: which assignments are settled, and what expressions come to.
+// Evaluation before any run: which assignments are settled, and what expressions evaluate to.
 
 ghost use Rattle.std.specs.Prelude.{[], IfErr, IfOk, List, string_bytes, ◌≡◌, ◌∷◌};
 ghost use Rattle.std.specs.Option.{ForSome};
@@ -33,19 +33,19 @@ use std::alloc::Global;
 use std::collections::{BTreeMap, HashMap, HashSet};
 
 impl<'src, 'run> Evaluator<'src, 'run> {
-    /// Evaluates assignments before any run, in their evaluation order, those that are referenced, and gives an evaluator whose
-    /// scope is a child of `scope` with the values that are settled. It asks nothing. Upstream's
+    /// Evaluates the referenced assignments before any run, in their evaluation order, and returns an evaluator whose
+    /// scope is a child of `scope` with the settled values. It asks nothing. Upstream's
     /// `Evaluator::evaluate_const_assignments`.
     ///
-    /// A number that `scope` binds, or that is bound or open already, is passed over. Else an override settles it, and without
-    /// one its expression does, unless evaluation reaches a call, a command or an open variable: then the number is open, and
-    /// the stage goes on. So what an untaken branch holds does not matter.
+    /// A number that `scope` binds, or that is already bound or open, is skipped. Otherwise an override settles it;
+    /// without one, its expression does, unless evaluation reaches a call, a command or an open variable. In that case
+    /// the number is open, and the stage continues. The contents of a branch that is not taken do not matter.
     ///
     /// # Errors
     ///
-    /// Any other refusal ends the stage, as `ConstEval`: a failed assertion, lists that do not go together, a regular
-    /// expression operator; where the stage is not resolved also `Internal`. `OutOfMemory` comes where memory was asked for and
-    /// refused, or where forms nest deeper than the stack has room for. Then nothing is made.
+    /// Any other refusal ends the stage, as `ConstEval`: a failed assertion, lists that cannot be combined, or a
+    /// regular expression operator; if the stage is not resolved, also `Internal`. `OutOfMemory` if an allocation
+    /// fails, or if forms nest too deeply for the stack budget. In each case no evaluator is returned.
     pub fn evaluate_const_assignments(
         alloc: Global,
         assignments: &Table<Assignment<'src>>,
@@ -55,14 +55,14 @@ impl<'src, 'run> Evaluator<'src, 'run> {
         variable_references: &HashSet<Number>,
         lists: bool,
     ) -> Result<Evaluator<'src, 'run>, CompileError<'src>>
-        // The const rules give what is settled and what is open, or the refusal.
+        // The settled and the open numbers, or the refusal, are those of the const rules.
         ensures headline { let m = constants_of assignments.now evaluation_order.now overrides.now variable_references.now in
             Staged m (at_start lists (frames_view scope.entry.now)) m.assignments.order (const_ended standing_of result) }
         ensures before_runs { IfOk result IsConst }
         ensures never_internal { let m = constants_of assignments.now evaluation_order.now overrides.now variable_references.now in
             IsResolvedConst m.assignments (frames_view scope.entry.now) → IsNotInternal (const_ended standing_of result) }
 
-        // A refusal has its own token.
+        // A refusal carries its own token.
         ensures token { IfErr result HasOwnToken }
     {
         let mut evaluator = Evaluator::of_assignments(alloc, lists, scope.child(alloc)?);
@@ -78,7 +78,7 @@ impl<'src, 'run> Evaluator<'src, 'run> {
         Ok(evaluator)
     }
 
-    // Settles the assignment with a name, or opens it, if it is referenced.
+    // Settles or opens the assignment with a name, if it is referenced.
     fn evaluate_const_named(
         &mut self,
         alloc: Global,
@@ -107,8 +107,8 @@ impl<'src, 'run> Evaluator<'src, 'run> {
         }
     }
 
-    // Opens a number whose expression only a run can evaluate; another refusal ends the stage. Apart, so that a settled
-    // variable makes no room for a refusal.
+    // Opens a number whose expression only a run can evaluate; any other refusal ends the stage. Out of line, to keep
+    // the frame of the settled case small.
     #[cold]
     #[inline(never)]
     fn open_or_end(&mut self, number: Number, error: Error<'src>) -> Result<(), CompileError<'src>>
@@ -127,15 +127,15 @@ impl<'src, 'run> Evaluator<'src, 'run> {
         }
     }
 
-    /// The value of an expression before any run, on an evaluator from `evaluate_const_assignments`. It asks nothing.
-    /// Upstream's `Evaluator::evaluate_value_const`.
+    /// The value of an expression before any run. The evaluator comes from `evaluate_const_assignments`. It asks
+    /// nothing. Upstream's `Evaluator::evaluate_value_const`.
     ///
     /// # Errors
     ///
-    /// The first refusal, as `ConstEval`: `Const` at the first call, command or open variable; a failed assertion, lists that
-    /// do not go together, a regular expression operator; where a variable has no number or no value also `Internal`.
-    /// `OutOfMemory` where memory was asked for and refused, or where forms nest deeper than the stack has room for. The
-    /// evaluator stays as it was.
+    /// The first refusal, as `ConstEval`: `Const` at the first call, command or open variable; a failed assertion;
+    /// lists that cannot be combined; a regular expression operator; if a variable has no number or no value, also
+    /// `Internal`. `OutOfMemory` if an allocation fails, or if forms nest too deeply for the stack budget. The
+    /// evaluator is unchanged.
     pub fn evaluate_value_const(
         &self,
         alloc: Global,
@@ -152,13 +152,13 @@ impl<'src, 'run> Evaluator<'src, 'run> {
         }
     }
 
-    /// The text of an expression before any run, where one text is wanted. It asks nothing. Upstream's
+    /// The text of an expression before any run, where a single text is required. It asks nothing. Upstream's
     /// `Evaluator::evaluate_string_const`.
     ///
     /// # Errors
     ///
-    /// As `evaluate_value_const`, want of memory too; `ListInStringContext` for a value that has not exactly one element. The
-    /// evaluator stays as it was.
+    /// Those of `evaluate_value_const`, including `OutOfMemory`. `ListInStringContext` if the value does not have
+    /// exactly one element. The evaluator is unchanged.
     pub fn evaluate_string_const(
         &self,
         alloc: Global,
@@ -178,15 +178,15 @@ impl<'src, 'run> Evaluator<'src, 'run> {
         }
     }
 
-    /// What is bound: the values that are settled, in front of the scope that the evaluator was made with.
+    /// The bindings: the settled values, in a child of the scope that the evaluator was created with.
     pub fn scope(&self) -> &Scope<'src, 'run>
         ensures { frames_view result.now ≡ (standing_of self.now).frames }
     {
         &self.scope
     }
 
-    /// Whether an assignment's number is open: its expression reaches a call, a command or an open variable, so that only a run
-    /// tells its value. It takes no memory.
+    /// Whether an assignment's number is open: its expression reaches a call, a command or an open variable, so that
+    /// only a run determines its value. It does not allocate.
     pub fn is_open(&self, number: Number) -> bool
         ensures { result ≡ (standing_of self.now).is_open number }
     {

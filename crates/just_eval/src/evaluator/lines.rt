@@ -24,12 +24,12 @@ use just_value::error::Error;
 use std::alloc::Global;
 
 impl<'src, 'run> Evaluator<'src, 'run> {
-    /// The text of an expression where one text is wanted. Upstream's `Evaluator::evaluate_string`.
+    /// The text of an expression where a single text is required. Upstream's `Evaluator::evaluate_string`.
     ///
     /// # Errors
     ///
-    /// As `evaluate_value`, want of memory too; `ListInStringContext` for a value that has not exactly one element. A refusal
-    /// leaves the evaluator as it was, and what the host was asked before it stays asked.
+    /// Those of `evaluate_value`, including `OutOfMemory`. `ListInStringContext` if the value does not have exactly one
+    /// element. A refusal leaves the evaluator unchanged. Questions already asked are not undone.
     pub fn evaluate_string<H: Host>(
         &self,
         alloc: Global,
@@ -39,21 +39,21 @@ impl<'src, 'run> Evaluator<'src, 'run> {
     ) -> Result<String, Error<'src>>
         requires room { HasRoom self.now }
 
-        // In a run, where all that is reached is resolved, the lexical rules give the text or the refusal, by the questions
-        // that they ask.
+        // In a run, if everything reached is resolved, the text or the refusal, and the questions asked, are those of
+        // lexical scope.
         ensures headline { Resolves self.now (view expression.now ∷ []) → Runs freely H.step host.old (string (lexical_meaning self.now) (string_context_view context.entry) (view expression.now)) (ended string_bytes result) host.new }
         ensures never_internal { Resolves self.now (view expression.now ∷ []) → IsNotInternal (ended string_bytes result) }
 
-        // Resolved or not, dynamic scoping gives the text or the refusal, by the questions that it asks.
+        // Resolved or not, they are those of dynamic scope.
         ensures dynamic { Runs (rules_of self.now) H.step host.old
             (string (meaning self.now) (string_context_view context.entry) (view expression.now)) (ended string_bytes result) host.new }
 
-        // Resolved or not, a run is not refused as constant evaluation is, and only answered questions change the host.
+        // Resolved or not, the refusal in a run is never `Const`, and only answered questions change the host's state.
         ensures never_const { IsInRun self.now → IfRefused IsFinal (ended string_bytes result) }
         ensures answered { GoesByAnswers H.step host.old host.new }
 
-        // Before any run the const rules give it, and nothing is asked. Where each variable is bound or open, it is not
-        // refused as `Internal`.
+        // Before any run the result is that of the const rules, and nothing is asked. If each variable is bound or
+        // open, the refusal is not `Internal`.
         ensures constants { IsConst self.now → UnlessStopped (ended string_bytes result) (constant (standing_of self.now).is_open (string (const_meaning (standing_of self.now)) (string_context_view context.entry) (view expression.now))) }
         ensures still { IsConst self.now → host.new ≡ host.old }
         ensures resolved_constants { IsConst self.now → IsResolvedOn (standing_of self.now) (view expression.now) → IsNotInternal (ended string_bytes result) }
@@ -61,7 +61,7 @@ impl<'src, 'run> Evaluator<'src, 'run> {
         self.evaluated_string(alloc, host, expression, context)
     }
 
-    // The same by dynamic scoping.
+    // The same under dynamic scope.
     pub(crate) fn evaluated_string<H: Host>(
         &self,
         alloc: Global,
@@ -76,14 +76,14 @@ impl<'src, 'run> Evaluator<'src, 'run> {
         one_text(value, context)
     }
 
-    /// The text of a line: its fragments in their order. In text `{{{{` stands for `{{`; an interpolation is its value joined
-    /// by spaces. Where the line is `continued`, text that it begins with has lost its leading white space. Upstream's
+    /// The text of a line: its fragments in order. In text `{{{{` stands for `{{`; an interpolation is its value joined
+    /// by spaces. If the line is `continued`, text at its start loses its leading white space. Upstream's
     /// `Evaluator::evaluate_line`.
     ///
     /// # Errors
     ///
-    /// As `evaluate_value`, of the interpolations in their order; `OutOfMemory` also where there is no memory for the text. A
-    /// refusal leaves the evaluator as it was, and what the host was asked before it stays asked.
+    /// Those of `evaluate_value`, for the interpolations in order. `OutOfMemory` also if the text cannot be allocated.
+    /// A refusal leaves the evaluator unchanged. Questions already asked are not undone.
     pub fn evaluate_line<H: Host>(
         &self,
         alloc: Global,
@@ -93,21 +93,21 @@ impl<'src, 'run> Evaluator<'src, 'run> {
     ) -> Result<String, Error<'src>>
         requires room { HasRoom self.now }
 
-        // In a run, where all that is reached is resolved, the lexical rules give the text or the refusal, by the questions
-        // that they ask.
+        // In a run, if everything reached is resolved, the text or the refusal, and the questions asked, are those of
+        // lexical scope.
         ensures headline { Resolves self.now (line_expressions (line_view line.now)) → Runs freely H.step host.old (line_text (lexical_meaning self.now) continued (line_view line.now)) (ended string_bytes result) host.new }
         ensures never_internal { Resolves self.now (line_expressions (line_view line.now)) → IsNotInternal (ended string_bytes result) }
 
-        // Resolved or not, dynamic scoping gives the text or the refusal, by the questions that it asks.
+        // Resolved or not, they are those of dynamic scope.
         ensures dynamic { Runs (rules_of self.now) H.step host.old
             (line_text (meaning self.now) continued (line_view line.now)) (ended string_bytes result) host.new }
 
-        // Resolved or not, a run is not refused as constant evaluation is, and only answered questions change the host.
+        // Resolved or not, the refusal in a run is never `Const`, and only answered questions change the host's state.
         ensures never_const { IsInRun self.now → IfRefused IsFinal (ended string_bytes result) }
         ensures answered { GoesByAnswers H.step host.old host.new }
 
-        // Before any run the const rules give it, and nothing is asked. Where each variable is bound or open, it is not
-        // refused as `Internal`.
+        // Before any run the result is that of the const rules, and nothing is asked. If each variable is bound or
+        // open, the refusal is not `Internal`.
         ensures constants { IsConst self.now → UnlessStopped (ended string_bytes result) (constant (standing_of self.now).is_open (line_text (const_meaning (standing_of self.now)) continued (line_view line.now))) }
         ensures still { IsConst self.now → host.new ≡ host.old }
         ensures resolved_constants { IsConst self.now → AllResolvedOn (standing_of self.now) (line_expressions (line_view line.now))
@@ -116,7 +116,7 @@ impl<'src, 'run> Evaluator<'src, 'run> {
         self.evaluated_line(alloc, host, line, continued)
     }
 
-    // The same by dynamic scoping.
+    // The same under dynamic scope.
     fn evaluated_line<H: Host>(
         &self,
         alloc: Global,

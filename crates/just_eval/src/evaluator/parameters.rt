@@ -34,12 +34,13 @@ use std::alloc::Global;
 use std::collections::{BTreeMap, HashSet};
 
 impl<'src, 'run> Evaluator<'src, 'run> {
-    /// An evaluator for a recipe, or for none, in a new child of `scope`; commands are run with the variables of `env` beside
-    /// it. A called body's scope is put on that of `context`, whose recursion limit is at least 1. Upstream's `Evaluator::new`.
+    /// An evaluator for a recipe, or for none, in a new child of `scope`. Commands are run with the variables of `env`
+    /// as well as those of the scope. A called body's scope is put on that of `context`, whose recursion limit is at
+    /// least 1. Upstream's `Evaluator::new`.
     ///
     /// # Errors
     ///
-    /// `OutOfMemory`, where memory was asked for and refused: nothing is made, and `env` is dropped.
+    /// `OutOfMemory` if an allocation fails: no evaluator is returned, and `env` is dropped.
     pub fn new(
         alloc: Global,
         context: &ExecutionContext<'src, 'run>,
@@ -58,7 +59,7 @@ impl<'src, 'run> Evaluator<'src, 'run> {
         Evaluator::of_recipe(alloc, context, env, is_dependency, recipe, scope)
     }
 
-    // The same, by where it stands.
+    // The same, with a clause about its situation.
     fn of_recipe(
         alloc: Global,
         context: &ExecutionContext<'src, 'run>,
@@ -84,22 +85,24 @@ impl<'src, 'run> Evaluator<'src, 'run> {
         })
     }
 
-    /// Evaluates the attributes and the parameters of a recipe, and gives a child of `scope` in which the parameters are bound,
-    /// the positional words, and the environment that `[env]` attributes give. Upstream's `Evaluator::evaluate_parameters`,
-    /// whose own checks `check` stands for.
+    /// Evaluates the attributes and the parameters of a recipe. Returns a child of `scope` in which the parameters are
+    /// bound, the positional words, and the environment that `[env]` attributes give. Upstream's
+    /// `Evaluator::evaluate_parameters`; `check` takes the place of its own checks.
     ///
-    /// The attributes come first, each seeing the environment so far; then the number of arguments; then the parameters in
-    /// their order, of which a default sees the earlier ones. An empty argument stands for the default, or for no element where
-    /// the parameter may have none. In place of another argument `value` stands, once for each of its elements, unless the
-    /// recipe runs as a dependency. `check` is called once for each parameter, with its value. A parameter that may have many
-    /// elements gives each as a word, another its join. Without lists the bound value has one element.
+    /// The attributes come first, each with the environment so far; then the number of arguments is checked; then come
+    /// the parameters in order, and a default can read the earlier ones. An empty argument is replaced by the default,
+    /// or by no element if the parameter may have none. Any other argument is replaced by `value`, repeated once for
+    /// each of the argument's elements, unless the recipe runs as a dependency. `check` is called once for each
+    /// parameter, with its value. A parameter that may have many elements gives each as a word; any other gives its
+    /// join. Without lists the bound value has one element.
     ///
     /// # Errors
     ///
-    /// The first refusal: as `evaluate_value`; `ListInStringContext` for the key of an attribute that has not one element;
-    /// `Internal` where the arguments are not as many as the parameters; `EmptyListArgument` for an empty argument with nothing
-    /// in its place; `Check` where the check refuses a value. `OutOfMemory` also where the check says so. A refusal gives none
-    /// of the three: what was bound is dropped, and what the host was asked before it stays asked.
+    /// The first refusal: those of `evaluate_value`; `ListInStringContext` if the key of an attribute does not have
+    /// exactly one element; `Internal` if the numbers of arguments and parameters differ; `EmptyListArgument` for an
+    /// empty argument that nothing replaces; `Check` if the check refuses a value. `OutOfMemory` also if the check
+    /// reports it. A refusal returns none of the three: the bindings are dropped. Questions already asked are not
+    /// undone.
     pub fn evaluate_parameters<H: Host, C>(
         alloc: Global,
         host: &mut H,
@@ -116,20 +119,19 @@ impl<'src, 'run> Evaluator<'src, 'run> {
         requires room { 0 < context.now.recursion_limit }
         requires callable { C.IsAlwaysCallable check.now }
 
-        // Where all that is reached is resolved, the lexical rules give the scope, the words and the environment, or the
-        // refusal, by the questions that they ask and the verdicts of the check.
+        // If everything reached is resolved, the scope, the words and the environment, or the refusal, are those of
+        // lexical scope, as are the questions asked; the verdicts are those of the check.
         ensures headline { let h = recipe_in context.entry.now [] is_dependency (Some (recipe_view recipe.entry.now).name.lexeme) ([] ∷ frames_view scope.entry.now) in
             IsResolvedWith context.entry.now h.situation.shown (recipe_view recipe.entry.now).attributes (map recipe_parameter_view parameters.entry.now) []
             → RunsChecked freely H.step (Gives C.Fn check.entry.now recipe.entry.now) host.old (meant.parameters (meanings h) h.situation (recipe_view recipe.entry.now) (map recipe_parameter_view parameters.entry.now) arguments.entry.now) (ended arguments_view result) host.new }
         ensures never_internal { IsResolvedWith context.entry.now ([] ∷ frames_view scope.entry.now) (recipe_view recipe.entry.now).attributes (map recipe_parameter_view parameters.entry.now) []
             → length arguments.entry.now ≡ length parameters.entry.now → IsNotInternal (ended arguments_view result) }
 
-        // Resolved or not, dynamic scoping gives the scope, the words and the environment, or the refusal, by the questions
-        // that it asks and the verdicts of the check.
+        // Resolved or not, they are those of dynamic scope.
         ensures dynamic { let h = recipe_in context.entry.now [] is_dependency (Some (recipe_view recipe.entry.now).name.lexeme) ([] ∷ frames_view scope.entry.now) in
             RunsChecked freely H.step (Gives C.Fn check.entry.now recipe.entry.now) host.old (meant.parameters (dynamic_meanings (Some context.entry.now)) h.situation (recipe_view recipe.entry.now) (map recipe_parameter_view parameters.entry.now) arguments.entry.now) (ended arguments_view result) host.new }
 
-        // Resolved or not, it is not refused as constant evaluation is, and only answered questions change the host.
+        // Resolved or not, the refusal is never `Const`, and only answered questions change the host's state.
         ensures never_const { IfRefused IsFinal (ended arguments_view result) }
         ensures answered { GoesByAnswers H.step host.old host.new }
 
@@ -149,7 +151,7 @@ impl<'src, 'run> Evaluator<'src, 'run> {
         )
     }
 
-    // The same by dynamic scoping.
+    // The same under dynamic scope.
     fn evaluated_parameters<H: Host, C>(
         alloc: Global,
         host: &mut H,
@@ -202,7 +204,7 @@ impl<'src, 'run> Evaluator<'src, 'run> {
         Ok(())
     }
 
-    // Sets a variable to a value joined, if it has an element.
+    // Sets a variable to a joined value, if the value has an element.
     fn set_variable(&mut self, alloc: Global, key: String, value: Value) -> Result<(), OutOfMemory>
         ensures same { IsSameBut self.old self.new × (self.new.scope ≡ self.old.scope) }
         ensures set { OnOk result (pairs_view self.new.env ≡ with_variable (pairs_view self.old.env) (string_bytes key) value) }
@@ -213,7 +215,7 @@ impl<'src, 'run> Evaluator<'src, 'run> {
         Ok(())
     }
 
-    // Binds as many parameters to their values, and gives the positional words.
+    // Binds the parameters to their values, and returns the positional words.
     fn bind_parameters<H: Host, C>(
         &mut self,
         alloc: Global,
@@ -267,7 +269,7 @@ impl<'src, 'run> Evaluator<'src, 'run> {
         }
     }
 
-    // Binds a parameter to its value, and puts its words behind the others.
+    // Binds a parameter to its value, and adds its words after the others.
     fn bind_parameter(
         &mut self,
         alloc: Global,

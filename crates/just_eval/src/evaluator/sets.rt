@@ -28,14 +28,15 @@ use just_value::value::Value;
 use std::alloc::Global;
 
 impl<'src, 'run> Evaluator<'src, 'run> {
-    /// The settings that a module sets, one after another by the bytes of their names. It asks nothing. What is not set is as
-    /// in `Settings::new`. The sets are used up. Upstream's `Evaluator::evaluate_sets`.
+    /// The settings that a module sets, evaluated in the byte order of their names. It asks nothing. Any other setting
+    /// is as in `Settings::new`. The sets are consumed. Upstream's `Evaluator::evaluate_sets`.
     ///
     /// # Errors
     ///
-    /// The first refusal, as `evaluate_value_const`; `ListInStringContext` where one text is wanted; `EmptyInterpreter` where a
-    /// command and its arguments have no element. `OutOfMemory` where memory was asked for and refused, or where forms nest
-    /// deeper than the stack has room for. Then nothing is made, and the evaluator stays as it was.
+    /// The first refusal: those of `evaluate_value_const`; `ListInStringContext` if a single text is required;
+    /// `EmptyInterpreter` if a command and its arguments have no element. `OutOfMemory` if an allocation fails, or if
+    /// forms nest too deeply for the stack budget. In each case no settings are returned, and the evaluator is
+    /// unchanged.
     pub fn evaluate_sets(
         &self,
         alloc: Global,
@@ -53,7 +54,7 @@ impl<'src, 'run> Evaluator<'src, 'run> {
         Ok(settings)
     }
 
-    // Puts one setting in its place.
+    // Evaluates one setting and stores it.
     fn evaluate_set(
         &self,
         alloc: Global,
@@ -98,14 +99,14 @@ impl<'src, 'run> Evaluator<'src, 'run> {
         Ok(())
     }
 
-    /// A command and its first arguments before any run: the elements of all its expressions in their order, the first of which
-    /// is the command. It asks nothing. Upstream's `Evaluator::evaluate_interpreter`.
+    /// A command and its first arguments, before any run: the elements of all its expressions in order, the first of
+    /// which is the command. It asks nothing. Upstream's `Evaluator::evaluate_interpreter`.
     ///
     /// # Errors
     ///
-    /// The first refusal, as `evaluate_value_const`; `EmptyInterpreter` where there is no element at all. `OutOfMemory` where
-    /// memory was asked for and refused, or where forms nest deeper than the stack has room for. Then nothing is made, and the
-    /// evaluator stays as it was.
+    /// The first refusal: those of `evaluate_value_const`; `EmptyInterpreter` if there is no element at all.
+    /// `OutOfMemory` if an allocation fails, or if forms nest too deeply for the stack budget. In each case nothing is
+    /// returned, and the evaluator is unchanged.
     pub fn evaluate_interpreter(
         &self,
         alloc: Global,
@@ -128,7 +129,7 @@ impl<'src, 'run> Evaluator<'src, 'run> {
     }
 }
 
-// Puts a setting that needs no evaluation in its place.
+// Stores a setting that needs no evaluation.
 fn keep(settings: &mut Settings, setting: &Setting)
     ensures { settings_view settings.new ≡ kept (settings_view settings.old) (setting_view setting.now) }
 {
@@ -153,7 +154,7 @@ fn keep(settings: &mut Settings, setting: &Setting)
         Setting::Quiet(value) => settings.quiet = *value,
         Setting::Unstable(value) => settings.unstable = *value,
         Setting::WindowsPowerShell(value) => settings.windows_powershell = *value,
-        // The least version is for the reader of the file.
+        // The minimum version concerns the reader of the file.
         Setting::MinimumVersion(_) => {}
         // These are evaluated.
         Setting::DotenvCommand(_) | Setting::DotenvFilename(_) | Setting::DotenvPath(_) => {}
@@ -162,7 +163,7 @@ fn keep(settings: &mut Settings, setting: &Setting)
     }
 }
 
-// A command and its arguments. It takes no memory.
+// A command and its arguments. It does not allocate.
 fn command_of<'src>(
     elements: Value,
     setting: Name<'src>,

@@ -1,4 +1,4 @@
-// What recipes are evaluated in, and what a case describes of it.
+// What recipes are evaluated in, and the parts of it that a case describes.
 
 ghost use Rattle.std.specs.Prelude.{◌≡◌};
 
@@ -25,25 +25,25 @@ use std::alloc::Global;
 use std::collections::{BTreeMap, HashMap};
 use std::process::Abort;
 
-// The file that each module is read from, and the directory that it lies in.
+// The file that each module is read from, and its directory.
 const JUSTFILE: &str = "/work/justfile";
 
 pub(crate) const DIRECTORY: &str = "/work";
 
-/// What a context lends.
+/// What a context borrows.
 #[derive(Drop)]
 pub(crate) struct Around<'src> {
     config: Config,
     dotenv: BTreeMap<String, String>,
     module: Justfile<'src>,
     overrides: HashMap<Number, String>,
-    /// Where nothing is bound.
+    /// A scope with no bindings.
     pub(crate) scope: Scope<'src, 'src>,
     search: Search,
 }
 
 impl<'src> Around<'src> {
-    /// The module that the lines of a case describe, no override, no dotenv file, and no option.
+    /// The module that the lines of a case describe, with no override, no dotenv file and no option.
     pub(crate) fn of_lines(
         rt: &impl Abort,
         alloc: Global,
@@ -52,14 +52,14 @@ impl<'src> Around<'src> {
         Around::new(rt, alloc, module_of(rt, alloc, case_of(rt, alloc, lines)))
     }
 
-    /// The same with a module of this source that has no function and no assignment.
+    /// The same with a module of this source, without functions and assignments.
     pub(crate) fn of_nothing(rt: &impl Abort, alloc: Global, source: &'src str) -> Around<'src> {
         let module = Justfile::new(alloc, source, DIRECTORY).expect(rt, "no memory");
         Around::new(rt, alloc, module)
     }
 
-    /// The same with a submodule of this source in `/work/sub`, which sets the working directory `dir` and does not export `U` and
-    /// `V`, and with a variable `D` of a dotenv file.
+    /// The same with a submodule of this source in `/work/sub`, and with a variable `D` of a dotenv file. The submodule
+    /// sets the working directory `dir` and does not export `U` and `V`.
     pub(crate) fn of_submodule(rt: &impl Abort, alloc: Global, source: &'src str) -> Around<'src> {
         let mut module = Justfile::new(alloc, source, "/work/sub").expect(rt, "no memory");
         module.submodule = true;
@@ -74,7 +74,7 @@ impl<'src> Around<'src> {
         around
     }
 
-    /// Each variable of the module is exported.
+    /// Exports each variable of the module.
     pub(crate) fn export_all(&mut self) {
         self.module.settings.export = true;
     }
@@ -90,7 +90,7 @@ impl<'src> Around<'src> {
         }
     }
 
-    /// The context of it.
+    /// The context that borrows these parts.
     pub(crate) fn context(&self) -> ExecutionContext<'src, '_>
         ensures { result.recursion_limit ≡ 100 }
     {
@@ -126,7 +126,7 @@ impl<'src> Around<'src> {
     }
 }
 
-// Settings of a working directory alone.
+// Settings with only a working directory.
 fn set_below(rt: &impl Abort, alloc: Global, directory: &str) -> Settings {
     let mut settings = Settings::new(alloc);
     settings.working_directory = Some(owned(rt, alloc, directory));
@@ -150,7 +150,8 @@ fn module_of<'src>(rt: &impl Abort, alloc: Global, case: Case<'src>) -> Justfile
     module_with(rt, alloc, assignments, evaluation_order, functions, lists)
 }
 
-// A module with these assignments, of which each has the flags that its name says, in this order, and these functions.
+// A module with these assignments, in this order, and these functions. Each assignment has the flags that its name
+// gives.
 fn module_with<'src>(
     rt: &impl Abort,
     alloc: Global,
@@ -183,7 +184,7 @@ fn assignments_of<'src>(
     case_of(rt, alloc, lines).assignments
 }
 
-// The expressions of assignments, by the bytes of their names.
+// The expressions of assignments, in the byte order of their names.
 fn values_of<'src>(
     rt: &impl Abort,
     alloc: Global,
@@ -196,7 +197,7 @@ fn values_of<'src>(
     expressions
 }
 
-/// The expressions of the assignments that lines describe, by the bytes of their names.
+/// The expressions of the assignments that lines describe, in the byte order of their names.
 pub(crate) fn expressions_of<'src>(
     rt: &impl Abort,
     alloc: Global,
@@ -205,7 +206,7 @@ pub(crate) fn expressions_of<'src>(
     values_of(rt, alloc, assignments_of(rt, alloc, lines))
 }
 
-/// The expression of the one whose name is a front and a back.
+/// The expression of the assignment whose name is `front` followed by `back`.
 pub(crate) fn expression_of<'src>(
     rt: &impl Abort,
     alloc: Global,
@@ -218,7 +219,7 @@ pub(crate) fn expression_of<'src>(
     item_at(values_of(rt, alloc, assignments), place)
 }
 
-// The place of that one.
+// The index of that assignment.
 fn place_of(assignments: &Table<Assignment>, front: &str, back: &str) -> Option<usize> {
     for (place, assignment) in assignments.iter().enumerate() {
         if assignment.name.lexeme().strip_prefix(front) == Some(back) {
@@ -228,7 +229,7 @@ fn place_of(assignments: &Table<Assignment>, front: &str, back: &str) -> Option<
     None
 }
 
-// The item at a place, if there is one.
+// The item at an index, if there is one.
 fn item_at<T: Drop>(items: Vec<T>, place: Option<usize>) -> Option<T> {
     let mut left = items.into_iter();
     match place {

@@ -1,4 +1,4 @@
-// Assignments of a module in a run: in which environment their commands are run, and which flags their bindings have.
+// Assignments of a module in a run: the environment of their commands, and the flags of their bindings.
 
 use crate::bindings::tell_frame;
 use crate::compared::same;
@@ -13,13 +13,13 @@ use std::process::Abort;
 // A case, whether the module's setting exports all its variables, and what its assignments ask and bind.
 const ASSIGNMENTS: &[(&str, bool, &str)] = &[
     ("run", false, " ()"),
-    // Assignments have no environment, and so none has a body that they call.
+    // Assignments have no environment, and neither do the bodies that they call.
     (
         "cmd who\nfun g\ncall g 0\nassign a\nrun",
         false,
         "? who () () (); (a = \"<who>\")",
     ),
-    // An assignment gives its binding its flags, and commands are shown them. The setting exports each.
+    // An assignment's flags are those of its binding, and commands are shown them. The setting exports each variable.
     (
         "str x\nassign a\nstr y\nexport b\nstr z\nassign eager-c\nstr z\nexport private-d\ncmd e\nassign e\nrun",
         false,
@@ -31,7 +31,7 @@ const ASSIGNMENTS: &[(&str, bool, &str)] = &[
         true,
         " (export a = \"x\"export b = \"y\"export eager eager-c = \"z\"export private private-d = \"z\")",
     ),
-    // A parameter of a function has none, though the setting exports all variables of the module.
+    // A parameter of a function has no flags, even if the setting exports all variables of the module.
     (
         "cmd who\nfun f n\nstr x\ncall f 1\nexport eager-a\nrun",
         true,
@@ -49,7 +49,7 @@ fn assignments_in_a_run(rt: HostRuntime) {
     }
 }
 
-// Tells what the assignments of a case ask and bind.
+// Reports what the assignments of a case ask and bind.
 fn tell_assignments(
     rt: &impl Abort,
     alloc: Global,
@@ -82,7 +82,7 @@ fn evaluate<'src>(
     drop(around);
 }
 
-// Tells what a scope binds itself.
+// Reports the own bindings of a scope.
 fn tell_own(scope: &Scope, rt: &impl Abort, host: &mut TellingHost) {
     tell_frame(scope.frame(), &mut host.told).expect(rt, "no memory");
 }

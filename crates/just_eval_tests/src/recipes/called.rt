@@ -1,4 +1,4 @@
-// A recipe with what it is called with.
+// A recipe and the arguments of its call.
 
 ghost use Rattle.std.specs.Prelude.{◌<◌};
 
@@ -22,12 +22,12 @@ use std::cell::RefCell;
 use std::collections::BTreeMap;
 use std::process::Abort;
 
-/// A recipe, its parameters and arguments, whether it runs as a dependency, and what values are checked by.
+/// A recipe, its parameters and arguments, whether it runs as a dependency, and the check of its values.
 #[derive(Drop)]
 pub(crate) struct Called<'src> {
     pub(crate) arguments: Vec<Value>,
     pub(crate) check: Check,
-    // What was checked: each parameter and its value, in their order.
+    // What was checked: each parameter and its value, in order.
     checked: RefCell<String>,
     pub(crate) is_dependency: bool,
     pub(crate) parameters: Vec<Parameter<'src>>,
@@ -59,7 +59,7 @@ impl<'src> Called<'src> {
         push(rt, &mut self.parameters, parameter);
     }
 
-    /// What was checked: each parameter and its value, in their order.
+    /// What was checked: each parameter and its value, in order.
     pub(crate) fn checked(&self, rt: &impl Abort, alloc: Global) -> String {
         match self.checked.try_borrow() {
             Ok(checked) => owned(rt, alloc, &checked),
@@ -96,7 +96,7 @@ impl<'src> Called<'src> {
     }
 }
 
-/// A parameter of this number, with a default or none.
+/// A parameter with this number, and a default if one is given.
 pub(crate) fn parameter<'src>(
     lexeme: &'src str,
     number: u64,
@@ -114,19 +114,19 @@ pub(crate) fn parameter<'src>(
     }
 }
 
-/// What values are checked by.
+/// A check of values.
 #[derive(Clone, Copy)]
 pub(crate) enum Check {
-    /// The one text `no` is refused.
+    /// It refuses the one text `no`.
     RefusesNo,
-    /// Each value is refused.
+    /// It refuses each value.
     RefusesAll,
-    /// There is no memory to check a value.
+    /// It runs out of memory.
     OutOfMemory,
 }
 
 impl Check {
-    // Checks a value. What is refused is told as `no`.
+    // Checks a value. The message of a refusal is `no`.
     fn check(self, alloc: Global, value: &Value) -> Result<(), CheckFault> {
         match self {
             Check::RefusesNo if !is_no(value) => Ok(()),
@@ -136,7 +136,7 @@ impl Check {
     }
 }
 
-// Tells what is checked: a parameter of the recipe, and its value.
+// Reports what is checked: a parameter of the recipe, and its value.
 fn tell_checked(
     checked: &RefCell<String>,
     recipe: &Recipe,

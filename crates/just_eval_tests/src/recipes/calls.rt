@@ -1,4 +1,4 @@
-// The calls that a runner makes beside lines and parameters: a command, a value and a text.
+// The other calls that a runner makes, besides lines and parameters: a command, a value and a text.
 
 ghost use Rattle.std.specs.Prelude.{◌<◌};
 
@@ -16,10 +16,11 @@ use std::alloc::Global;
 use std::collections::BTreeMap;
 use std::process::Abort;
 
-// What commands are asked with here, beside the frames.
+// What is the same in all commands here, besides the frames.
 const FIXED: &str = "dotenv D=d without U without V in /work/sub/dir";
 
-// Each call asks and answers. What is asked of a host that fails is refused, and what was asked before is not.
+// Each call asks its question and returns the answer. A question that the host fails is refused; the ones before are
+// not.
 #[test]
 fn calls_and_their_refusals(rt: HostRuntime) {
     for how in WAYS {
@@ -31,7 +32,7 @@ fn calls_and_their_refusals(rt: HostRuntime) {
     calls_fail(&rt, rt.alloc(), &long, NEVER);
 }
 
-// The calls are told so of a host that fails in some way.
+// With a host that fails in some way, the report on the calls is as expected.
 fn calls_fail(rt: &impl Abort, alloc: Global, command: &str, failing: Failing) {
     let mut host = TellingHost::new(alloc, failing);
     call(rt, alloc, command, &mut host);
@@ -41,8 +42,8 @@ fn calls_fail(rt: &impl Abort, alloc: Global, command: &str, failing: Failing) {
     drop(host);
 }
 
-// What is told of the calls where so many questions are passed on: a command that is run in the module's scope, and in the frame of
-// an evaluator a value and a text.
+// The expected report on the calls if the host passes this many questions on: a command that is run in the module's
+// scope, and in an evaluator's frame a value and a text.
 fn wanted(rt: &impl Abort, alloc: Global, command: &str, (passed, how): Failing) -> String {
     let mut wanted = String::new(alloc);
     let calls = [("()", ""), ("() ()", "\""), ("() ()", "")];
@@ -59,7 +60,7 @@ fn wanted(rt: &impl Abort, alloc: Global, command: &str, (passed, how): Failing)
     wanted
 }
 
-// Makes the calls, each of this command, in an environment of one variable.
+// Makes the calls, each with this command, in an environment of one variable.
 fn call<'src>(rt: &impl Abort, alloc: Global, text: &'src str, host: &mut TellingHost) {
     let command = command(rt, alloc, text);
     let around = Around::of_submodule(rt, alloc, text);
@@ -118,7 +119,7 @@ fn env(rt: &impl Abort, alloc: Global) -> BTreeMap<String, String> {
     env
 }
 
-// Runs a command, of which this is the expression. A dry run runs no command.
+// Runs the command of this expression. A dry run runs no command.
 fn run<'src>(
     context: &ExecutionContext<'src, '_>,
     rt: &impl Abort,
@@ -137,7 +138,7 @@ fn run<'src>(
     tell_run(rt, host, outcome);
 }
 
-// Tells what a command that was run wrote, or its fault.
+// Reports the output of a command that was run, or its fault.
 fn tell_run(rt: &impl Abort, host: &mut TellingHost, outcome: Result<String, CommandFault>) {
     match outcome {
         Ok(text) => host.tell(rt, &text),

@@ -1,4 +1,4 @@
-// What an evaluator is made for: a line, or a command.
+// What an evaluator evaluates: a line, or a command.
 
 ghost use Rattle.just_eval.specs.View.{HasRoom};
 ghost use Rattle.std.specs.Prelude.{◌<◌};
@@ -27,8 +27,8 @@ pub(crate) enum Evaluated<'run, 'src> {
     Command(&'run Expression<'src>),
 }
 
-/// Tells what is evaluated in a scope, for a recipe that may run as a dependency, where commands are run with the variables of an
-/// environment.
+/// Reports what is evaluated in a scope, for a recipe that may run as a dependency. Commands are run with the variables
+/// of an environment.
 pub(crate) fn tell_evaluated<'src>(
     context: &ExecutionContext<'src, '_>,
     rt: &impl Abort,
@@ -116,7 +116,7 @@ fn evaluate_value<'src>(
     drop(outcome);
 }
 
-// Tells a value that was evaluated, or its refusal.
+// Reports a value that was evaluated, or its refusal.
 fn tell_value(outcome: &Result<Value, Error>, rt: &impl Abort, told: &mut String) {
     match outcome {
         Ok(value) => write!(told, "{value};").expect(rt, "no memory"),

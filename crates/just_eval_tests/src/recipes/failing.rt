@@ -1,11 +1,11 @@
-// How a host fails, and what is told then.
+// How a host fails, and the expected reports then.
 
 use crate::recipes::texts::{add, owned};
 use just_script::fail_at::How;
 use std::alloc::Global;
 use std::process::Abort;
 
-/// How a host fails: behind how many questions, and in which way.
+/// How a host fails: after how many questions, and in which way.
 pub(crate) type Failing = (usize, How);
 
 /// No question fails.
@@ -14,7 +14,7 @@ pub(crate) const NEVER: Failing = (usize::MAX, How::Memory);
 /// The ways in which a question fails.
 pub(crate) const WAYS: &[How] = &[How::Fault, How::Memory];
 
-/// How many questions a text tells first.
+/// How many questions a report begins with.
 pub(crate) fn questions(told: &str) -> usize {
     let mut count = 0usize;
     for piece in told.split(";") {
@@ -26,8 +26,8 @@ pub(crate) fn questions(told: &str) -> usize {
     count
 }
 
-/// What is told in place of a text where its questions fail: those that are passed on, the first that is not, and a
-/// refusal.
+/// The report expected in place of another if its questions fail: the questions that are passed on, the first that is
+/// not, and a refusal.
 pub(crate) fn told_failing(
     rt: &impl Abort,
     alloc: Global,
@@ -51,7 +51,7 @@ pub(crate) fn told_failing(
     expected
 }
 
-/// How the refusal of a command that fails is told.
+/// How a report describes the refusal of a command that fails.
 pub(crate) fn refusal(how: How) -> &'static str {
     match how {
         How::Fault => "refused",

@@ -1,4 +1,4 @@
-// A host that tells what it is asked, and fails from a question on.
+// A host that reports what it is asked, and fails from some question on.
 
 use crate::bindings::tell_frame;
 use crate::recipes::around::DIRECTORY;
@@ -20,7 +20,7 @@ use std::alloc::Global;
 use std::collections::BTreeMap;
 use std::process::Abort;
 
-/// Answers each command with its own text in angle brackets, and knows nothing else.
+/// Answers each command with its own text in angle brackets, and nothing else.
 #[derive(Drop)]
 pub(crate) struct BracketHost {}
 
@@ -51,8 +51,8 @@ impl Host for BracketHost {
     }
 }
 
-/// Tells each command with its arguments, its environment and what the frames bind that it is shown, and what stays the same in
-/// a run where that is not what a plain module has; and asks a host that may fail.
+/// Asks another host, which may fail, and reports each command: its arguments, its environment, the bindings of the
+/// frames that it is shown, and what is fixed in a run, if that is not what a plain module has.
 #[derive(Drop)]
 pub(crate) struct TellingHost {
     pub(crate) told: String,
@@ -60,7 +60,7 @@ pub(crate) struct TellingHost {
 }
 
 impl TellingHost {
-    /// A host that passes so many questions on, and then fails.
+    /// A host that passes this many questions on, and then fails.
     pub(crate) fn new(alloc: Global, (passed, how): Failing) -> TellingHost {
         TellingHost {
             told: String::new(alloc),
@@ -68,12 +68,12 @@ impl TellingHost {
         }
     }
 
-    /// Tells a text.
+    /// Adds a text to the report.
     pub(crate) fn tell(&mut self, rt: &impl Abort, text: &str) {
         add(rt, &mut self.told, text);
     }
 
-    /// Tells a text that was evaluated, or its refusal.
+    /// Reports a text that was evaluated, or its refusal.
     pub(crate) fn tell_outcome(&mut self, rt: &impl Abort, outcome: &Result<String, Error>) {
         match outcome {
             Ok(text) => self.tell(rt, text),
@@ -109,7 +109,7 @@ impl Host for TellingHost {
     }
 }
 
-/// How a refusal is told that says no more.
+/// How a report describes a refusal in short.
 pub(crate) fn refusal(error: &Error) -> &'static str {
     match error {
         Error::OutOfMemory => "no memory",
@@ -117,7 +117,7 @@ pub(crate) fn refusal(error: &Error) -> &'static str {
     }
 }
 
-// Adds a command, its arguments, its environment, the frames, and what stays the same in a run.
+// Adds a command, its arguments, its environment, the frames, and what is fixed in a run.
 fn tell_command(told: &mut String, question: &CommandQuestion) -> Result<(), OutOfMemory> {
     let command = question.command;
     write!(told, "? {command}")?;
@@ -142,7 +142,7 @@ fn tell_arguments(told: &mut String, arguments: &[String]) -> Result<(), OutOfMe
     Ok(())
 }
 
-// Adds what stays the same in a run: the variables of dotenv files, the names that are not exported, and the directory that
+// Adds what is fixed in a run: the variables of dotenv files, the names that are not exported, and the directory that
 // commands are run in, unless that is the search's.
 fn tell_fixed(told: &mut String, question: &CommandQuestion) -> Result<(), OutOfMemory> {
     if !question.dotenv.is_empty() {
@@ -159,7 +159,7 @@ fn tell_fixed(told: &mut String, question: &CommandQuestion) -> Result<(), OutOf
     Ok(())
 }
 
-/// Adds the variables of an environment, each behind a space.
+/// Adds the variables of an environment, each after a space.
 pub(crate) fn tell_environment(
     told: &mut String,
     env: &BTreeMap<String, String>,

@@ -22,9 +22,10 @@ use std::alloc::Global;
 use std::process::Abort;
 use std::vec;
 
-// A line of a recipe with the parameter `p`, whose argument is `z`: what gives its interpolations, its pieces, each behind `~`,
-// whether it is continued, whether the recipe runs as a dependency, and what the line evaluates to, after what was asked. A
-// piece is a text, or `@` for the value of the case's next assignment, by the bytes of their names.
+// A line of a recipe with the parameter `p`, whose argument is `z`. The fields are: the case that gives its
+// interpolations; its pieces, each after `~`; whether it is continued; whether the recipe runs as a dependency; and
+// what the line evaluates to, after the questions asked. A piece is a text, or `@` for the value of the case's next
+// assignment, in the byte order of their names.
 type Row = (&'static str, &'static str, bool, bool, &'static str);
 
 const LINES: &[Row] = &[
@@ -35,7 +36,7 @@ const LINES: &[Row] = &[
     ("run", "~ \t\u{a0}x  ", true, false, "x  "),
     ("run", "~{{{{{{{{", false, false, "{{{{"),
     ("run", "~{{{~{{{{{", false, false, "{{{{{{"),
-    // Behind the first piece white space stays.
+    // White space stays after the first piece.
     ("str a\nassign a\nrun", "~@~  x", true, false, "a  x"),
     ("str \nassign a\nrun", "~@~ x", true, false, " x"),
     ("str  a\nassign a\nrun", "~@", true, false, " a"),
@@ -47,7 +48,7 @@ const LINES: &[Row] = &[
         "<a b|c>",
     ),
     ("list 0\nassign a\nrun", "~<~@~>", false, false, "<>"),
-    // The interpolations are evaluated in their order, and the first refusal ends the line.
+    // The interpolations are evaluated in order, and the first refusal ends the line.
     (
         "cmd a\nassign a\ncmd b\nassign b\nrun",
         "~@~@",
@@ -62,8 +63,9 @@ const LINES: &[Row] = &[
         false,
         "? a () (p = \"z\") ();refused",
     ),
-    // A body that a line calls stands on the context's scope: it is shown its callers' frames and no recipe's, and knows the
-    // recipe's name. `g` runs a command, `f` puts what it gives behind a parameter, and `r` tells the recipe's name.
+    // A body that a line calls has the context's scope below it: it is shown its callers' frames and no recipe's, and
+    // can read the recipe's name. `g` runs a command, `f` appends the output of one to a parameter, and `r` evaluates
+    // to the recipe's name.
     (
         "cmd who\nfun g\nvar n\ncall g 0\nadd\nfun f n\ncall recipe_name 0\nfun r\nstr z\ncall f 1\nassign a\nrun",
         "~@",
@@ -78,7 +80,7 @@ const LINES: &[Row] = &[
         false,
         "build",
     ),
-    // The recipe's attribute sets `K` to `v`, which the commands of such a body see.
+    // The recipe's attribute sets `K` to `v`, which the commands of such a body can read.
     (
         "str v\nassign e-1\nstr K\nassign k-1\ncmd who\nfun g\ncall g 0\nassign c\nrun",
         "~@",
@@ -107,7 +109,7 @@ const LINES: &[Row] = &[
         false,
         "? echo [\"a b\"\"c\"] () (p = \"z\") ();<echo>",
     ),
-    // Whether the recipe runs as a dependency is known in a line, and in a body that it calls.
+    // A line, and a body that it calls, can read whether the recipe runs as a dependency.
     (
         "call is_dependency 0\nassign a\ncall is_dependency 0\nfun f\ncall f 0\nassign b\nrun",
         "~@~ ~@",
@@ -124,7 +126,7 @@ const LINES: &[Row] = &[
     ),
 ];
 
-// Each line comes to what is wanted, also where its questions fail.
+// Each line evaluates to what is expected, also if its questions fail.
 #[test]
 fn lines_of_fragments(rt: HostRuntime) {
     for row in LINES {
@@ -141,7 +143,7 @@ fn row_fails_each_way(rt: &impl Abort, alloc: Global, row: &Row) {
     }
 }
 
-// A line is told so where its questions fail in some way.
+// With a host that fails in some way, the report on a line is as expected.
 fn row_fails(rt: &impl Abort, alloc: Global, row: &Row, failing: Failing) {
     let (case, _, _, _, whole) = *row;
     let mut host = TellingHost::new(alloc, failing);
@@ -152,7 +154,7 @@ fn row_fails(rt: &impl Abort, alloc: Global, row: &Row, failing: Failing) {
     drop(host);
 }
 
-// Tells a line of pieces, behind what is asked.
+// Reports a line of pieces, after the questions asked.
 fn tell_case(rt: &impl Abort, alloc: Global, host: &mut TellingHost, row: &Row) {
     let (case, _, _, _, _) = *row;
     let lines = parse_lines(alloc, case.as_bytes()).expect(rt, "no memory");
@@ -179,7 +181,7 @@ fn tell_pieces<'src>(
     drop(around);
 }
 
-/// Tells a line that calls no function of a file, behind what is asked.
+/// Reports a line that calls no function of a file, after the questions asked.
 pub(crate) fn tell<'src>(
     line: &Line<'src>,
     rt: &impl Abort,
@@ -194,7 +196,7 @@ pub(crate) fn tell<'src>(
     drop(around);
 }
 
-// The recipe. Its parameter `p` has a number that no name of a case has.
+// The recipe. No name of a case has the number of its parameter `p`.
 fn called<'src>(rt: &impl Abort, alloc: Global) -> Called<'src> {
     let mut called = Called::new(alloc);
     let argument = Value::from_text(alloc, "z").expect(rt, "no memory");
@@ -215,7 +217,7 @@ fn tell_around<'src>(
     tell_in(&context, rt, alloc, host, called, line, continued);
 }
 
-// Tells a line where the recipe's attributes and parameters are evaluated.
+// Evaluates the recipe's attributes and parameters, and reports a line there.
 fn tell_in<'src>(
     context: &ExecutionContext<'src, '_>,
     rt: &impl Abort,
@@ -243,7 +245,7 @@ fn tell_in<'src>(
     }
 }
 
-// Tells that a line is not resolved in a scope, where it is not.
+// Reports it if a line is not resolved in a scope.
 fn is_resolved<'src>(
     context: &ExecutionContext<'src, '_>,
     rt: &impl Abort,
@@ -258,7 +260,7 @@ fn is_resolved<'src>(
     }
 }
 
-/// A line of pieces, of which each interpolated one takes the next expression, and `?` is a variable without a number.
+/// A line of pieces. Each interpolated piece takes the next expression, and `?` is a variable without a number.
 pub(crate) fn line_of<'src>(
     rt: &impl Abort,
     alloc: Global,

@@ -1,15 +1,15 @@
 // The table of parameters and attributes of recipes.
 
-/// A case, parameters, arguments, whether the recipe may run as a dependency, what is asked before the first value is checked,
-/// what is checked, and the result, after what was asked.
+/// A case, parameters, arguments, whether the recipe may run as a dependency, the questions asked before the first
+/// value is checked, what is checked, and the result, after the questions asked.
 ///
-/// The case begins with the names of the parameters, so that their numbers are their places. The assignments `d-N`
-/// and `v-N` are the default and the value of the parameter N; `k-1` and `e-1` the key and the value of an `[env]` attribute,
-/// `k-2` and `e-2` those of a second.
+/// The case begins with the names of the parameters, so that their numbers are their indices. The assignments `d-N` and
+/// `v-N` are the default and the value of parameter N; `k-1` and `e-1` are the key and the value of an `[env]`
+/// attribute, `k-2` and `e-2` those of a second.
 ///
-/// Parameters are written as words: `+` or `*` before the name for the kind, and after a slash `f` for a flag, `m` for one
-/// that may be given more than once, `x` for an exported one. Arguments are written each after `;`, with `|` between their
-/// elements, `[]` being the one of no element.
+/// Parameters are written as words: `+` or `*` before the name for the kind, and after a slash `f` for a flag, `m` for
+/// one that may be given more than once, and `x` for an exported one. Each argument is written after `;`, with `|`
+/// between its elements; `[]` is the argument with no element.
 pub(crate) type Row = (
     &'static str,
     &'static str,
@@ -34,7 +34,7 @@ pub(crate) const ROWS: &[Row] = &[
         "p = \"x\";q = \"x\";",
         "words \"x\" \"x\"; (p = \"x\"q = \"x\") env;",
     ),
-    // A default is not evaluated where an argument is given.
+    // A default is not evaluated if an argument is given.
     (
         "only p\ncmd d\nassign d-p\nrun",
         "p",
@@ -44,7 +44,8 @@ pub(crate) const ROWS: &[Row] = &[
         "p = \"a\";",
         "words \"a\"; (p = \"a\") env;",
     ),
-    // The value is repeated for each element, and evaluated once; not for a dependency. It can read the earlier parameters.
+    // The value is evaluated once and repeated for each element; not for a dependency. It can read the earlier
+    // parameters.
     (
         "only p\nstr v\nassign v-p\nlists\nrun",
         "p/m",
@@ -81,8 +82,8 @@ pub(crate) const ROWS: &[Row] = &[
         "p = [\"v\", \"w\", \"v\", \"w\"];q = [\"v\", \"w\", \"v\", \"w\"];",
         "words \"v\" \"w\" \"v\" \"w\" \"v w v w\"; (p = [\"v\", \"w\", \"v\", \"w\"]q = [\"v\", \"w\", \"v\", \"w\"]) env;",
     ),
-    // A parameter that may have many elements, by its kind or as one that is given more than once, gives each as a word,
-    // another their join as one word. Without lists the bound value is the join.
+    // A parameter that may have many elements, by its kind or because it may be given more than once, gives each as a
+    // word; any other gives their join as one word. Without lists the bound value is the join.
     (
         "only p\nrun",
         "p",
@@ -137,7 +138,7 @@ pub(crate) const ROWS: &[Row] = &[
         "p = [\"a b\", \"c\"];",
         "words \"a b\" \"c\"; (p = [\"a b\", \"c\"]) env;",
     ),
-    // A default of two elements, and one that reads what is bound of them.
+    // A default of two elements, and one that reads their binding.
     (
         "only p q\nstr x\nstr y\nlist 2\nassign d-p\nvar p\nassign d-q\nlists\nrun",
         "p *q",
@@ -211,7 +212,7 @@ pub(crate) const ROWS: &[Row] = &[
         "",
         "parameter `p` of recipe `build` requires at least one element",
     ),
-    // Parameters are exported each by itself, and commands are shown that they are.
+    // Each parameter is exported by itself, and commands are shown that it is.
     (
         "only p q\nrun",
         "p/x q",
@@ -230,7 +231,7 @@ pub(crate) const ROWS: &[Row] = &[
         "p = [\"a\", \"b\"];q = \"<d>\";",
         "? d (export p = \"a b\") ();words \"a\" \"b\" \"<d>\"; (export p = \"a b\"export q = \"<d>\") env;",
     ),
-    // The number of arguments is looked at after the attributes.
+    // The number of arguments is compared after the attributes.
     (
         "only p\nrun",
         "p",
@@ -249,7 +250,7 @@ pub(crate) const ROWS: &[Row] = &[
         "",
         "? e () ();internal error: arguments do not match parameter count",
     ),
-    // Each attribute sees the environment so far; a value of no element sets nothing.
+    // Each attribute can read the environment so far; a value of no element sets nothing.
     (
         "str A\nassign k-1\nstr x\nassign e-1\nstr B\nassign k-2\ncmd e\nassign e-2\nrun",
         "",
@@ -295,7 +296,7 @@ pub(crate) const ROWS: &[Row] = &[
         "",
         "list value [] in key of `env` attribute",
     ),
-    // The check refuses `no`, and what comes after it is not evaluated.
+    // The check refuses `no`, and what follows is not evaluated.
     (
         "only p q\ncmd d\nassign d-q\nrun",
         "p q",
@@ -305,8 +306,8 @@ pub(crate) const ROWS: &[Row] = &[
         "p = \"no\";",
         "argument of parameter `p` was refused: no",
     ),
-    // A default's command sees the environment and the earlier parameters; the body of a function that an attribute or a
-    // default calls sees the environment so far, and no parameter.
+    // A default's command can read the environment and the earlier parameters. The body of a function that an attribute
+    // or a default calls can read the environment so far, and no parameter.
     (
         "only p q\nstr A\nassign k-1\nstr x\nassign e-1\ncmd d\nassign d-q\nrun",
         "p q",
@@ -344,8 +345,8 @@ pub(crate) const ROWS: &[Row] = &[
         "p = \"<c>\";q = \"<d>\";",
         "? e () ();? c A=<e> () ();? d A=<e> (p = \"<c>\") ();words \"<c>\" \"<d>\"; (p = \"<c>\"q = \"<d>\") env A=<e>;",
     ),
-    // An attribute, a default and a value know the recipe's name, and whether it runs as a dependency, as does a body that
-    // they call.
+    // An attribute, a default and a value can read the recipe's name and whether it runs as a dependency, and so can a
+    // body that they call.
     (
         "only p\nstr A\nassign k-1\ncall is_dependency 0\nassign e-1\ncall is_dependency 0\nassign d-p\nrun",
         "p",

@@ -28,11 +28,12 @@ use std::alloc::Global;
 use std::collections::BTreeMap;
 use std::process::Abort;
 
-// What is told where a check refuses the first parameter.
+// The report if a check refuses the first parameter.
 const REFUSED: &str = "argument of parameter `p` was refused: no";
 
-// Defaults and values evaluate to what is wanted, also where questions fail and where the module exports all its variables, and a
-// check that refuses all, or has no memory, ends each recipe at its first parameter, which is `p`. Each value is checked once.
+// Defaults and values evaluate to what is expected, also if questions fail and if the module exports all its variables.
+// A check that refuses all, or runs out of memory, ends each recipe at its first parameter, which is `p`. Each value is
+// checked once.
 #[test]
 fn defaults_and_values(rt: HostRuntime) {
     for row in ROWS {
@@ -43,7 +44,7 @@ fn defaults_and_values(rt: HostRuntime) {
     }
 }
 
-// Compares what is told of a recipe with what is wanted, also where its questions fail.
+// Compares the report on a recipe with the expected one, also if its questions fail.
 fn row_fails_each_way(rt: &impl Abort, alloc: Global, row: &Row) {
     let (_, _, _, _, _, _, whole) = *row;
     for passed in 0..=questions(whole) {
@@ -53,7 +54,7 @@ fn row_fails_each_way(rt: &impl Abort, alloc: Global, row: &Row) {
     }
 }
 
-// A recipe is told so where its questions fail in some way.
+// With a host that fails in some way, the report on a recipe is as expected.
 fn row_fails(rt: &impl Abort, alloc: Global, row: &Row, failing: Failing) {
     let (case, _, _, _, _, checks, whole) = *row;
     let mut host = TellingHost::new(alloc, failing);
@@ -69,8 +70,8 @@ fn row_fails(rt: &impl Abort, alloc: Global, row: &Row, failing: Failing) {
     drop(host);
 }
 
-// A recipe whose parameters are checked in some way ends so at its first check, after what is asked before that. Where no
-// parameter is checked it is told as ever.
+// With a check that refuses, a recipe ends at its first check with this end, after the questions before it. If no
+// parameter is checked, the report is the usual one.
 fn ends_at_first(rt: &impl Abort, alloc: Global, row: &Row, check: Check, end: &str) {
     let (case, _, _, _, before, checks, whole) = *row;
     let mut host = TellingHost::new(alloc, NEVER);
@@ -85,7 +86,8 @@ fn ends_at_first(rt: &impl Abort, alloc: Global, row: &Row, check: Check, end: &
     drop(host);
 }
 
-// A recipe is told as ever where the module's setting exports each variable: a parameter is exported by itself alone.
+// If the module's setting exports each variable, the report on a recipe is the usual one: only its own mark exports a
+// parameter.
 fn exports_by_itself(rt: &impl Abort, alloc: Global, row: &Row) {
     let (case, _, _, _, _, _, whole) = *row;
     let mut host = TellingHost::new(alloc, NEVER);
@@ -94,7 +96,7 @@ fn exports_by_itself(rt: &impl Abort, alloc: Global, row: &Row) {
     drop(host);
 }
 
-// What is told after what is asked.
+// The report after the questions asked.
 fn behind<'told>(told: &'told str, asked: &str) -> &'told str {
     match told.strip_prefix(asked) {
         Some(rest) => rest,
@@ -102,7 +104,8 @@ fn behind<'told>(told: &'told str, asked: &str) -> &'told str {
     }
 }
 
-// Tells what a recipe's parameters evaluate to where they are checked so, after what is asked, and gives what was checked.
+// Reports what a recipe's parameters evaluate to with this check, after the questions asked, and returns what was
+// checked.
 fn tell_row(
     rt: &impl Abort,
     alloc: Global,
@@ -139,7 +142,7 @@ fn tell_lines<'src>(
     checked
 }
 
-/// Tells what a recipe's parameters come to that calls no function of a file.
+/// Reports what the parameters of a recipe that calls no function of a file evaluate to.
 pub(crate) fn tell<'src>(
     called: &Called<'src>,
     rt: &impl Abort,
@@ -170,7 +173,7 @@ fn called_of<'src>(
     called
 }
 
-// Adds an argument for each text behind a `;`.
+// Adds an argument for each text after a `;`.
 fn add_arguments(called: &mut Called, rt: &impl Abort, alloc: Global, arguments: &str) {
     let mut texts = arguments.split(';');
     texts.next();
@@ -191,7 +194,7 @@ fn argument_of(rt: &impl Abort, alloc: Global, text: &str) -> Value {
     argument
 }
 
-/// Adds the parameters that words describe. Their numbers are their places.
+/// Adds the parameters that words describe. Their numbers are their indices.
 pub(crate) fn add_parameters<'src>(
     called: &mut Called<'src>,
     rt: &impl Abort,
@@ -273,7 +276,7 @@ fn tell_around<'src>(
     tell_in(&context, rt, alloc, host, called);
 }
 
-// The recipe is resolved.
+// The recipe must be resolved.
 fn is_resolved<'src>(
     alloc: Global,
     context: &ExecutionContext<'src, '_>,
@@ -290,7 +293,7 @@ fn is_resolved<'src>(
     )
 }
 
-// The same in a context. The recipe is resolved.
+// The same in a context. The recipe must be resolved.
 fn tell_in<'src>(
     context: &ExecutionContext<'src, '_>,
     rt: &impl Abort,
@@ -334,7 +337,7 @@ fn tell_given(
     Ok(())
 }
 
-// Adds what a refusal says. Of a command that fails it is told as everywhere.
+// Adds the message of a refusal. A command that fails is reported as everywhere.
 fn tell_refusal(told: &mut String, error: &Error) -> Result<(), OutOfMemory> {
     match error {
         Error::Backtick { .. } | Error::OutOfMemory => told.push_str(refusal(error))?,

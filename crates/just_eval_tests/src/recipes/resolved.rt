@@ -1,4 +1,4 @@
-// Whether recipes and lines are resolved where they stand.
+// Whether recipes and lines are resolved in their frames.
 
 use crate::compared::equal;
 use crate::recipes::around::{Around, expressions_of};
@@ -18,9 +18,9 @@ use just_value::value::Value;
 use std::alloc::Global;
 use std::process::Abort;
 
-// A case and parameters, as in the table of parameters; the pieces of a line, as in the table of lines; the numbers that the
-// module's scope binds, and those that the recipe's own frame binds, each a digit; and whether all is resolved. The recipe's frame
-// is put on the module's scope, or after `/` on nothing.
+// A case and parameters, as in the table of parameters; the pieces of a line, as in the table of lines; the numbers
+// that the module's scope binds, and those that the recipe's own frame binds, each a digit; and whether all is
+// resolved. The recipe's frame is put on the module's scope or, after `/`, on nothing.
 type Row = (
     &'static str,
     &'static str,
@@ -32,8 +32,8 @@ type Row = (
 
 const ROWS: &[Row] = &[
     ("run", "p", "", "", "", true),
-    // Two variables have one number: a parameter of the recipe and an assignment, or a parameter of a function; parameters of two
-    // functions; a parameter of a function and an assignment.
+    // Two variables have the same number: a parameter of the recipe and an assignment, or a parameter of a function;
+    // parameters of two functions; a parameter of a function and an assignment.
     ("str x\nassign a\nrun", "p", "", "", "", false),
     ("only p\nstr x\nassign a\nrun", "p", "", "", "", true),
     ("var n\nfun f n\nrun", "p", "", "", "", false),
@@ -54,7 +54,7 @@ const ROWS: &[Row] = &[
         "",
         false,
     ),
-    // A parameter is bound outside, in the module's scope or in the recipe's frame: one of the recipe, or of a function.
+    // A parameter of the recipe or of a function is bound outside: in the module's scope or in the recipe's frame.
     ("run", "p", "", "0", "", false),
     ("run", "p", "", "", "0", false),
     ("run", "p", "", "0", "/", false),
@@ -97,7 +97,7 @@ const ROWS: &[Row] = &[
         true,
     ),
     ("call shell 0\nassign a\nrun", "", "~@", "", "", false),
-    // A name that is called is unknown. One that is left out is known.
+    // A called name is unknown. One that is left out is known.
     (
         "only p\ncall nope 0\nassign v-p\nrun",
         "p",
@@ -115,11 +115,11 @@ const ROWS: &[Row] = &[
         true,
     ),
     ("call nope 0\nassign a\nrun", "", "~@", "", "", false),
-    // A body is not known, also where nothing calls it.
+    // A body is not known, even if nothing calls it.
     ("only p\ncall nope 0\nfun f\nrun", "p", "", "", "", false),
     ("only p\ncall trim 0\nfun f\nrun", "p", "", "", "", false),
-    // What is read is bound nowhere: by a line, also in an argument, where an assignment that is not bound does not count, nor
-    // does a parameter; and by the key or the value of an attribute.
+    // What is read is bound nowhere: by a line, also in an argument, and by the key or the value of an attribute. An
+    // assignment that is not bound does not count, nor does a parameter.
     ("only p z\nvar z\nassign a\nrun", "p", "~@", "", "", false),
     ("only p z\nvar z\nassign a\nrun", "p", "~@", "1", "", true),
     ("only p z\nvar z\nassign a\nrun", "p", "~@", "", "1", true),
@@ -159,14 +159,14 @@ const ROWS: &[Row] = &[
         "",
         false,
     ),
-    // A default or a value reads the parameter itself, or a later one.
+    // A default or a value reads its own parameter, or a later one.
     ("only p\nvar p\nassign d-p\nrun", "p", "", "", "", false),
     ("only p\nvar p\nassign v-p\nrun", "p", "", "", "", false),
     ("only p q\nvar q\nassign d-p\nrun", "p q", "", "", "", false),
     ("only p q\nvar q\nassign v-p\nrun", "p q", "", "", "", false),
     ("only p q\nvar p\nassign d-q\nrun", "p q", "", "", "", true),
     ("only p q\nvar p\nassign v-q\nrun", "p q", "", "", "", true),
-    // A body that is called reads what the module's scope does not bind, though the recipe's frame does, or a parameter is
+    // A called body reads what the module's scope does not bind, though the recipe's frame does or a parameter is
     // earlier; or it reads another function's parameter.
     (
         "only p z\nvar z\nfun g\ncall g 0\nassign d-p\nrun",
@@ -232,7 +232,7 @@ const ROWS: &[Row] = &[
         "",
         true,
     ),
-    // What a body reads does not count where nothing calls it.
+    // What a body reads does not count if nothing calls it.
     ("only p z\nvar z\nfun g\nrun", "p", "", "", "", true),
 ];
 
@@ -272,7 +272,7 @@ fn is_so_around<'src>(
     is_so_in(&context, rt, alloc, called, line, row);
 }
 
-// Whether a recipe and a line are resolved, or not, in a frame of its own that binds what the row says.
+// Whether a recipe and a line are resolved, as expected, in a frame of their own that binds the row's numbers.
 fn is_so_in<'src>(
     context: &ExecutionContext<'src, '_>,
     rt: &impl Abort,
@@ -296,7 +296,7 @@ fn is_so_in<'src>(
     equal(rt, case, given.expect(rt, "no memory"), wanted);
 }
 
-// A frame on the module's scope, or where what it binds begins with `/` on nothing.
+// A frame on the module's scope or, if its bindings begin with `/`, on nothing.
 fn frame_on<'src, 'run>(
     context: &ExecutionContext<'src, 'run>,
     rt: &impl Abort,

@@ -1,4 +1,5 @@
-// Recipes with a thousand attributes and parameters, and lines of a thousand fragments. Twice as many take about twice as long.
+// Recipes with a thousand attributes and parameters, and lines of a thousand fragments. Twice as many take about twice
+// as long.
 
 use crate::compared::same;
 use crate::recipes::called::{Called, parameter};
@@ -25,8 +26,8 @@ fn variable<'src>(lexeme: &'src str, number: u64) -> Expression<'src> {
     }
 }
 
-// So many parameters of one name, of which each but the first reads the one before where no argument is given, and an argument
-// for the first alone; and as many attributes, each of which sets a variable of its own.
+// This many parameters of one name, and as many attributes, each of which sets a variable of its own. Only the first
+// parameter has an argument; the default of each other one reads the one before.
 fn in_a_row<'src>(rt: &impl Abort, alloc: Global, lexeme: &'src str, count: u64) -> Called<'src> {
     let mut called = Called::new(alloc);
     let argument = Value::from_text(alloc, "a").expect(rt, "no memory");
@@ -60,7 +61,7 @@ fn literal<'src>(cooked: String) -> Expression<'src> {
     }
 }
 
-// Adds a piece so often.
+// Adds a piece this many times.
 fn repeat(rt: &impl Abort, text: &mut String, piece: &str, count: u64) {
     for _ in 0..count {
         add(rt, text, piece);
@@ -81,7 +82,7 @@ fn wanted_in_a_row(rt: &impl Abort, alloc: Global, count: u64) -> String {
     wanted
 }
 
-// The argument of the first parameter comes to be the value of each.
+// The argument of the first parameter becomes the value of each.
 fn reads_the_one_before<'src>(rt: &impl Abort, alloc: Global, lexeme: &'src str, count: u64) {
     let mut host = TellingHost::new(alloc, NEVER);
     let called = in_a_row(rt, alloc, lexeme, count);
@@ -93,7 +94,7 @@ fn reads_the_one_before<'src>(rt: &impl Abort, alloc: Global, lexeme: &'src str,
     drop(host);
 }
 
-// So many texts and interpolations, of what is bound to 1000.
+// This many texts and interpolations of number 1000.
 fn line_of<'src>(rt: &impl Abort, alloc: Global, text: &'src str, count: u64) -> Line<'src> {
     let mut line = Line {
         fragments: Vec::new(alloc),
@@ -116,7 +117,7 @@ fn push_pair<'src>(line: &mut Line<'src>, rt: &impl Abort, text: &'src str) {
     );
 }
 
-// A line of so many texts and interpolations is all of them.
+// A line of this many texts and interpolations consists of all of them.
 fn line_of_many<'src>(rt: &impl Abort, alloc: Global, text: &'src str, count: u64) {
     let mut host = TellingHost::new(alloc, NEVER);
     let line = line_of(rt, alloc, text, count);

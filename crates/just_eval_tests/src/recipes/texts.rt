@@ -1,10 +1,10 @@
-// Texts, and how what is told of a host that fails is compared with what is wanted. A test ends where there is no memory for what it makes.
+// Texts, and comparisons of reports on a failing host with what is expected. A test ends if memory runs out.
 
 use crate::recipes::failing::Failing;
 use std::alloc::Global;
 use std::process::Abort;
 
-/// What is told of something is the text that is wanted, where a host fails in some way.
+/// The report on something is as expected, with a host that fails in some way.
 pub(crate) fn same_failing(
     rt: &impl Abort,
     of: &str,
@@ -15,17 +15,17 @@ pub(crate) fn same_failing(
     assert_eq!(rt; told, wanted, "{of} {passed} {how:?}");
 }
 
-/// A text once more.
+/// A copy of a text.
 pub(crate) fn owned(rt: &impl Abort, alloc: Global, text: &str) -> String {
     String::from_str(alloc, text).expect(rt, "no memory")
 }
 
-/// Puts an item behind others.
+/// Adds an item after others.
 pub(crate) fn push<T: Drop>(rt: &impl Abort, items: &mut Vec<T>, item: T) {
     items.push(item).expect(rt, "no memory");
 }
 
-/// Puts a piece behind a text.
+/// Adds a piece to the end of a text.
 pub(crate) fn add(rt: &impl Abort, text: &mut String, piece: &str) {
     text.push_str(piece).expect(rt, "no memory");
 }

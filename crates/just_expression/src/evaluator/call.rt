@@ -30,7 +30,7 @@ use just_value::value::Value;
 use std::alloc::Global;
 
 impl<'src, 'run, 'here> ExpressionEvaluator<'src, 'run, 'here> {
-    // The value of a call: of its arguments, and then of what it reaches.
+    // The value of a call. The arguments are evaluated first, and then the callee.
     #[cycle(evaluate)]
     #[inline(never)]
     pub(crate) fn evaluate_call<H: Host>(
@@ -66,8 +66,8 @@ impl<'src, 'run, 'here> ExpressionEvaluator<'src, 'run, 'here> {
         }
     }
 
-    // The value of a function's body, one call deeper, its parameters bound to as many values. It is entered after the
-    // arguments, so that they nest without the room of its scope.
+    // The value of a function's body, one call deeper, with its parameters bound to as many values. It is entered after
+    // the arguments, so that they nest without its frame.
     #[cycle(evaluate)]
     #[inline(never)]
     fn evaluate_body<H: Host>(
@@ -92,8 +92,7 @@ impl<'src, 'run, 'here> ExpressionEvaluator<'src, 'run, 'here> {
         evaluator.evaluate_value(alloc, host, &function.body, room)
     }
 
-    // What evaluates a body in a scope, with so many further calls. It is made apart from where it is lent: the prover
-    // takes longer over a function that makes a struct of references and lends it than over two functions.
+    // An evaluator of a body in a scope, with this many further calls.
     fn in_body<'body>(
         &'body self,
         calls_left: usize,
@@ -114,7 +113,7 @@ impl<'src, 'run, 'here> ExpressionEvaluator<'src, 'run, 'here> {
         }
     }
 
-    // What a built-in function answers here.
+    // What a built-in function returns here.
     #[inline(never)]
     fn call_builtin_function<H: Host>(
         &self,
@@ -135,7 +134,7 @@ impl<'src, 'run, 'here> ExpressionEvaluator<'src, 'run, 'here> {
         builtin::call(alloc, host, &context, function, &values)
     }
 
-    // What a built-in function of this name is called in here.
+    // The context in which a built-in function of this name is called here.
     fn called_in<'call>(
         &'call self,
         context: &'call ExecutionContext<'src, 'run>,

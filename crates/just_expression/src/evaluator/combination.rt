@@ -14,7 +14,7 @@ use just_value::value::Value;
 use std::alloc::Global;
 
 impl<'src, 'run, 'here> ExpressionEvaluator<'src, 'run, 'here> {
-    // The value of two operands, combined by what their token stands for.
+    // The value of two operands, combined by a list operator.
     #[cycle(evaluate)]
     #[inline(never)]
     pub(crate) fn evaluate_combination<H: Host>(

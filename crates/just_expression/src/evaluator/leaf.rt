@@ -37,7 +37,7 @@ impl<'src, 'run, 'here> ExpressionEvaluator<'src, 'run, 'here> {
         variable::value_of(alloc, self.scope, name, number)
     }
 
-    // Whether a variable is open: the const rules hold, and it has no constant value.
+    // Whether a variable is open: the const rules apply, and it has no constant value.
     fn is_open(&self, number: Number) -> bool
         ensures { result ≡ open_in (context_of self.now) (is_non_const self.now) number }
     {

@@ -16,7 +16,7 @@ use just_value::value::Value;
 use std::alloc::Global;
 
 impl<'src, 'run, 'here> ExpressionEvaluator<'src, 'run, 'here> {
-    // The value of a list: the elements of all.
+    // The value of a list: the elements of all its parts.
     #[cycle(evaluate)]
     #[inline(never)]
     pub(crate) fn evaluate_list<H: Host>(

@@ -1,7 +1,7 @@
-// What functions that ask for a text make of each kind of answer.
+// The results of functions that ask for a text, for each kind of answer.
 
-/// A call, what it asks, and what becomes of `Absent`, `NotText("x")` and `Fault("m")`, written as in [`Row`]. Each answers
-/// `Text("/t")` by that text, and want of memory by the same.
+/// A call, its question, and its results for `Absent`, `NotText("x")` and `Fault("m")`, written as in [`Row`]. For
+/// `Text("/t")` each call returns that text, and for `OutOfMemory` it reports the same.
 ///
 /// [`Row`]: crate::builtins::rows::Row
 pub type Answers = (&'static str, &'static str, [&'static str; 3]);

@@ -1,4 +1,4 @@
-// What a built-in function is called in.
+// The contexts of built-in functions.
 
 ghost use Rattle.std.specs.Prelude.{◌≡◌, true, IfSome, length};
 ghost use Rattle.just_builtins.specs.Argument.{HasTexts, IsExpected};
@@ -17,24 +17,24 @@ use std::alloc::{AllocError, Global};
 use std::collections::BTreeMap;
 use std::process::Abort;
 
-/// Where calls stand: in a submodule in the directory `/work/sub`, which is called in `/called/here`.
+/// Where calls occur: in a submodule in the directory `/work/sub`, in a program called in `/called/here`.
 pub struct Place {
-    /// The path of the file that calls.
+    /// The path of the calling file.
     pub caller: &'static str,
     pub dry_run: bool,
     pub jobs: Option<u64>,
     pub justfile: &'static str,
     pub lists: bool,
     pub module_path: &'static str,
-    /// The recipe, which runs as a dependency, if they stand in one.
+    /// The recipe of the calls, which runs as a dependency, if there is one.
     pub recipe: Option<&'static str>,
-    /// What a dotenv file sets the variable `set` to, if it does.
+    /// The value of the variable `set` in a dotenv file, if there is one.
     pub set: Option<&'static str>,
     /// The path of the module's own file.
     pub source: &'static str,
 }
 
-/// What the context of a place lends.
+/// What the context of a place borrows.
 pub fn around_at<'src>(rt: &impl Abort, alloc: Global, place: &'src Place) -> Around<'src> {
     let mut config = called_here(rt, alloc);
     config.dry_run = place.dry_run;
@@ -62,7 +62,7 @@ fn name<'src>(lexeme: &'src str, path: &'src str) -> Name<'src> {
     }
 }
 
-/// What a call answers, which is written as in [`Row`]: its value, or its message behind `! `.
+/// The result of a call that is written as in [`Row`]: its value, or its message after `! `.
 ///
 /// [`Row`]: crate::builtins::rows::Row
 pub fn answer<'src>(
@@ -80,7 +80,7 @@ pub fn answer<'src>(
     answer.expect(rt, "no memory")
 }
 
-// The arguments of a call, each behind `;`.
+// The arguments of a call, each after `;`.
 fn arguments(rt: &impl Abort, alloc: Global, call: &str) -> Vec<Value> {
     let mut arguments = Vec::new(alloc);
     let mut pieces = call.split(';');
@@ -129,7 +129,7 @@ fn written(alloc: Global, answer: &Result<Value, CallFault>) -> Result<String, A
     }
 }
 
-// A call of a function by a name.
+// Calls a function by name.
 fn called<'src>(
     context: &ExecutionContext<'src, '_>,
     alloc: Global,
@@ -147,7 +147,7 @@ fn called<'src>(
     call(alloc, host, &context, function, arguments)
 }
 
-// What a function of this name is called in.
+// The context of a call of a function with this name.
 fn called_in<'src, 'call>(
     context: &'call ExecutionContext<'src, '_>,
     env: &'call BTreeMap<String, String>,
@@ -168,7 +168,7 @@ fn called_in<'src, 'call>(
     }
 }
 
-// The same, where each lifetime has the number that it has in `Function::call`.
+// Calls a function, with the lifetimes in the order of `Function::call`.
 fn call<'call>(
     alloc: Global,
     host: &'call mut Scripted,
@@ -182,7 +182,7 @@ fn call<'call>(
     function.call(alloc, host, context, arguments)
 }
 
-// What a name stands for, if it may be called with these arguments.
+// The function that a name stands for, if it can be called with these arguments.
 fn callable(name: &str, arguments: &[Value]) -> Option<Function>
     ensures count { IfSome result (λ function. IsExpected function (length arguments.now)) }
     ensures texts { IfSome result (λ function. HasTexts function arguments.now) }

@@ -1,6 +1,6 @@
 // What each name stands for.
 
-/// Each function, and behind it its names, of which a shorter one stands behind the whole one.
+/// Each function, followed by its names; a shorter name follows the whole one.
 pub const NAMES: &[&str] = &[
     "BinaryStrValue(Append) append",
     "Nullary(Arch) arch",
@@ -67,7 +67,7 @@ pub const NAMES: &[&str] = &[
     "Unary(WithoutExtension) without_extension",
 ];
 
-/// The names of what is left out.
+/// The names that are left out.
 pub const LEFT_OUT: &str =
     "absolute_path blake3 blake3_file choose clean datetime datetime_utc kebabcase lowercamelcase \
     replace_regex semver_matches sha256 sha256_file shoutykebabcase shoutysnakecase snakecase style \

@@ -1,8 +1,8 @@
-// Tables of what calls ask, and what they answer.
+// Tables of the questions of calls, and of their results.
 
 use crate::builtins::scripted::Given;
 
-/// What the host gives, and a call, what it asks and its answer, written as in [`Row`].
+/// The host's answer; and a call, its question and its result, written as in [`Row`].
 ///
 /// [`Row`]: crate::builtins::rows::Row
 pub type Question = (Given, &'static str);
@@ -46,7 +46,7 @@ pub const FILES_WITH_LISTS: &[Question] = &[
     (Given::Found(true), "path_exists; => []"),
 ];
 
-/// The dotenv map has `dot` behind `set`.
+/// The dotenv map has `dot` at `set`.
 pub const VARIABLES: &[Question] = &[
     (Given::Text("x"), "env;set => dot"),
     (Given::Text("x"), "env_var;set => dot"),

@@ -1,9 +1,9 @@
-// Tables of shapes, and of what calls answer.
+// Tables of shapes, and of the results of calls.
 
 use just_builtins::builtin::Builtin;
 use just_builtins::function::Function;
 
-/// Functions, how few and how many arguments they take, and whether those at 0, 1 and 2 are texts.
+/// Functions, their smallest and largest number of arguments, and whether those at 0, 1 and 2 are texts.
 pub const SHAPES: &[(Function, &str)] = &[
     (
         Function::Nullary(Builtin::Justfile),
@@ -75,13 +75,13 @@ pub const SHAPES: &[(Function, &str)] = &[
     ),
 ];
 
-/// A call, and behind ` => ` what it asks, each question with `;` behind it, and its answer. A call is a function's name and its
-/// arguments, each behind `;`. A list is written with `|` between its elements, `[]` being the list of none; a message is
-/// written behind `! `.
+/// A call, then ` => `, its questions, each followed by `;`, and its result. A call is a function's name and its
+/// arguments, each after `;`. A list is written with `|` between its elements; `[]` is the empty list. A message is
+/// written after `! `.
 pub type Row = &'static str;
 
-/// Calls with lists. Here or in the next table stands a call of each function that answers from its arguments alone,
-/// and what no stored case can say: texts with a line break.
+/// Calls with lists. This and the next table have a call of each function whose result depends only on its arguments,
+/// and what no stored case can express: texts with a line break.
 pub const CALLS: &[Row] = &[
     "append;!;a|b => a!|b!",
     "bool;1 => true",
@@ -152,13 +152,13 @@ pub const OTHER_SURROUNDINGS: &[Row] = &[
     "source_directory => ! path `/` has no parent",
 ];
 
-/// Calls where the justfile's path is the empty text, and the module's source is the root.
+/// Calls with the empty text as the justfile's path, and the root as the module's source.
 pub const WITHOUT_A_PARENT: &[Row] = &[
     "justfile_directory => ! could not resolve justfile directory, justfile `` had no parent",
     "module_directory => ! path `/` has no parent",
 ];
 
-/// Calls in a file of the empty path, where the justfile is `/j`.
+/// Calls in a file with the empty path; the justfile is `/j`.
 pub const IN_NO_FILE: &[Row] = &[
     "source_file => /",
     "source_directory => ! path `/` has no parent",

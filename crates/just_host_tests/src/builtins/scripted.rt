@@ -9,7 +9,7 @@ use just_syntax::out_of_memory::OutOfMemory;
 use just_value::error::CommandFault;
 use std::alloc::{AllocError, Global};
 
-/// What it answers; a question of another kind it answers with want of memory.
+/// Its answer. A question of another kind gets `OutOfMemory`.
 #[derive(Clone, Copy)]
 pub enum Given {
     Text(&'static str),
@@ -22,7 +22,7 @@ pub enum Given {
     OutOfMemory,
 }
 
-/// Gives one answer, and tells what it was asked, each question with `;` behind it.
+/// Gives one answer, and reports its questions, each followed by `;`.
 #[derive(Drop)]
 pub struct Scripted {
     pub given: Given,
@@ -38,7 +38,7 @@ impl Scripted {
     }
 }
 
-// What a command is answered.
+// The answer to a command.
 fn command_answer(alloc: Global, given: Given) -> Result<String, CommandFault> {
     match given {
         Given::Text(text) => Ok(String::from_str(alloc, text)?),
@@ -48,7 +48,7 @@ fn command_answer(alloc: Global, given: Given) -> Result<String, CommandFault> {
     }
 }
 
-// What a question for a text is answered.
+// The answer to a question for a text.
 fn text_answer(alloc: Global, given: Given) -> Result<TextAnswer, AllocError> {
     Ok(match given {
         Given::Text(text) => TextAnswer::Text(String::from_str(alloc, text)?),
@@ -62,7 +62,7 @@ fn text_answer(alloc: Global, given: Given) -> Result<TextAnswer, AllocError> {
 impl Host for Scripted {
     ghost use Rattle.std.specs.Prelude.{⊤};
 
-    // Nothing is said of it.
+    // Nothing is promised.
     ghost step = { λ old question answer new. ⊤ };
 
     fn command(

@@ -1,12 +1,12 @@
-// Calls with a thousand elements, and with texts of a thousand pieces. Where memory is there each must succeed: no clause forbids
-// one that gives up.
+// Calls with a thousand elements, and with texts of a thousand pieces. If there is memory each must succeed; no clause
+// forbids a call to give up.
 
 use crate::builtins::questions::Question;
 use crate::builtins::scripted::Given;
 
 const NOTHING: Given = Given::OutOfMemory;
 
-/// Calls with lists, written as in [`Row`], in which each piece between two `~` is repeated a thousand times.
+/// Calls with lists, written as in [`Row`]. Each piece between two `~` is repeated a thousand times.
 ///
 /// [`Row`]: crate::builtins::rows::Row
 pub const LONG: &[Question] = &[

@@ -1,5 +1,5 @@
-// Which shell commands are given to, and how settings are compared. Where memory is there each call must succeed, also where
-// what is set is large: no clause forbids one that gives up.
+// The choice of the shell of commands, and the comparison of settings. If there is memory each call must succeed, even
+// with large settings; no clause forbids a call to give up.
 
 use crate::around::compares;
 use crate::texts::{all_owned, owned, same};
@@ -10,8 +10,8 @@ use just_value::value::Value;
 use std::alloc::Global;
 use std::process::Abort;
 
-// What the program was called with, what the module sets, and the shell that comes of it: a text, and an argument. Each text
-// stands so often in a shell, and each argument so often behind it.
+// The options of the program, the settings of the module, and the resulting shell: a text, and an argument. Each text
+// is repeated `times` times in a shell, and so is each argument after it.
 struct Choice {
     times: usize,
     shell: Option<&'static str>,
@@ -103,7 +103,7 @@ fn chooses(rt: &impl Abort, alloc: Global, choice: &Choice) {
     drop(config);
 }
 
-// These settings have the chosen shell, where the program is called so.
+// With these options, these settings have the chosen shell.
 fn has_shell(
     rt: &impl Abort,
     alloc: Global,
@@ -118,7 +118,7 @@ fn has_shell(
     are_all(rt, &arguments, argument, choice.times);
 }
 
-// So many arguments are all this one.
+// There are this many arguments, and each is this one.
 fn are_all(rt: &impl Abort, arguments: &[&str], wanted: &str, times: usize) {
     assert_eq!(rt; arguments.len(), times);
     for argument in arguments {
@@ -187,14 +187,14 @@ fn settings_are_compared(rt: HostRuntime) {
     drop(settings);
 }
 
-// Sets a thousand elements and texts of some thousand bytes.
+// Sets a thousand elements and texts of several thousand bytes.
 fn enlarge(rt: &impl Abort, alloc: Global, settings: &mut Settings) {
     settings.dotenv_command = Value::from_elements(copies(rt, alloc, "env", 1000));
     settings.shell = Some(interpreter(rt, alloc, ("sh", "-c"), 1000));
     settings.tempdir = Some(repeated(rt, alloc, "/ab", 1000));
 }
 
-// One more element.
+// Adds one element.
 fn lengthen(rt: &impl Abort, value: &mut Value) {
     value.push("").expect(rt, "no memory");
 }

@@ -1,4 +1,4 @@
-// A host round another.
+// A host around another.
 
 use just_host::command_question::CommandQuestion;
 use just_host::host::Host;

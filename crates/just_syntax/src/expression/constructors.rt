@@ -1,4 +1,4 @@
-// Expressions made of their parts.
+// Constructors of expressions.
 
 ghost use Rattle.std.specs.Prelude.{◌≡◌, Some, IfOk, false};
 ghost use Rattle.std.specs.Option.{option_map};
@@ -14,13 +14,13 @@ use crate::string_literal::StringLiteral;
 use crate::token::Token;
 use std::alloc::Global;
 
-/// One constructor a form. Those that answer a `Result` put the parts into boxes.
+/// One constructor per form. Those that return a `Result` box the parts.
 impl<'src> Expression<'src> {
     /// `lhs && rhs`
     ///
     /// # Errors
     ///
-    /// `OutOfMemory`, where memory was asked for and refused: both sides are dropped.
+    /// `OutOfMemory`, if an allocation fails: both sides are dropped.
     pub fn and(
         alloc: Global,
         lhs: Expression<'src>,
@@ -32,12 +32,12 @@ impl<'src> Expression<'src> {
         Ok(Expression::And { lhs, rhs })
     }
 
-    /// `assert(condition)`, or `assert(condition, message)`. The name is that which the assertion is called by, and a refusal
-    /// stands there.
+    /// `assert(condition)`, or `assert(condition, message)`. The name is that of the call, and it is the place that a
+    /// refusal reports.
     ///
     /// # Errors
     ///
-    /// `OutOfMemory`, where memory was asked for and refused: the parts are dropped.
+    /// `OutOfMemory`, if an allocation fails: the parts are dropped.
     pub fn assert(
         alloc: Global,
         name: Name<'src>,
@@ -58,7 +58,7 @@ impl<'src> Expression<'src> {
     ///
     /// # Errors
     ///
-    /// `OutOfMemory`, where the text cannot be copied: nothing is made.
+    /// `OutOfMemory`, if the text cannot be copied: nothing is created.
     pub fn backtick(
         alloc: Global,
         contents: &str,
@@ -72,18 +72,18 @@ impl<'src> Expression<'src> {
         })
     }
 
-    /// `name(arguments)`. It takes no memory.
+    /// `name(arguments)`. It allocates nothing.
     pub fn call(name: Name<'src>, arguments: Vec<Expression<'src>>) -> Expression<'src>
         ensures { view result ≡ plain.Call (name_view name.entry) (views arguments.entry.items) }
     {
         Expression::Call { arguments, name }
     }
 
-    /// `lhs == rhs`, `lhs != rhs`, `lhs =~ rhs` or `lhs !~ rhs`. The token is that of the operator.
+    /// `lhs == rhs`, `lhs != rhs`, `lhs =~ rhs` or `lhs !~ rhs`. The token is the operator.
     ///
     /// # Errors
     ///
-    /// `OutOfMemory`, where memory was asked for and refused: both sides are dropped.
+    /// `OutOfMemory`, if an allocation fails: both sides are dropped.
     pub fn comparison(
         alloc: Global,
         lhs: Expression<'src>,
@@ -106,7 +106,7 @@ impl<'src> Expression<'src> {
     ///
     /// # Errors
     ///
-    /// `OutOfMemory`, where memory was asked for and refused: both sides are dropped.
+    /// `OutOfMemory`, if an allocation fails: both sides are dropped.
     pub fn concatenation(
         alloc: Global,
         lhs: Expression<'src>,
@@ -123,7 +123,7 @@ impl<'src> Expression<'src> {
     ///
     /// # Errors
     ///
-    /// `OutOfMemory`, where memory was asked for and refused: the parts are dropped.
+    /// `OutOfMemory`, if an allocation fails: the parts are dropped.
     pub fn conditional(
         alloc: Global,
         condition: Expression<'src>,
@@ -141,7 +141,7 @@ impl<'src> Expression<'src> {
         })
     }
 
-    /// A format string: its start, and then interpolations, each with the text behind it. It takes no memory.
+    /// A format string: its start, and then interpolations, each with the text after it. It allocates nothing.
     pub fn format_string(
         start: StringLiteral<'src>,
         expressions: Vec<(Expression<'src>, StringLiteral<'src>)>,
@@ -155,7 +155,7 @@ impl<'src> Expression<'src> {
     ///
     /// # Errors
     ///
-    /// `OutOfMemory`, where memory was asked for and refused: the contents are dropped.
+    /// `OutOfMemory`, if an allocation fails: the contents are dropped.
     pub fn group(alloc: Global, contents: Expression<'src>) -> Result<Expression<'src>, OutOfMemory>
         ensures { IfOk result (λ e. view e ≡ plain.Group (view contents.entry)) }
     {
@@ -168,7 +168,7 @@ impl<'src> Expression<'src> {
     ///
     /// # Errors
     ///
-    /// `OutOfMemory`, where memory was asked for and refused: both sides are dropped.
+    /// `OutOfMemory`, if an allocation fails: both sides are dropped.
     pub fn join(
         alloc: Global,
         lhs: Option<Expression<'src>>,
@@ -181,7 +181,7 @@ impl<'src> Expression<'src> {
         Ok(Expression::Join { lhs, operator, rhs })
     }
 
-    /// `[elements]`. The token is the bracket. It takes no memory.
+    /// `[elements]`. The token is the bracket. It allocates nothing.
     pub fn list(elements: Vec<Expression<'src>>, token: Token<'src>) -> Expression<'src>
         ensures { view result ≡ plain.ListOf (views elements.entry.items) (token_view token.entry) }
     {
@@ -192,7 +192,7 @@ impl<'src> Expression<'src> {
     ///
     /// # Errors
     ///
-    /// `OutOfMemory`, where memory was asked for and refused: both sides are dropped.
+    /// `OutOfMemory`, if an allocation fails: both sides are dropped.
     pub fn list_concatenation(
         alloc: Global,
         lhs: Expression<'src>,
@@ -205,11 +205,11 @@ impl<'src> Expression<'src> {
         Ok(Expression::ListConcatenation { lhs, operator, rhs })
     }
 
-    /// The literal that [`StringLiteral::new`] makes of a text and of how it was written.
+    /// The literal that [`StringLiteral::new`] creates from a text and its written form.
     ///
     /// # Errors
     ///
-    /// `OutOfMemory`, where the text cannot be copied: nothing is made.
+    /// `OutOfMemory`, if the text cannot be copied: nothing is created.
     pub fn literal(
         alloc: Global,
         text: &str,
@@ -225,7 +225,7 @@ impl<'src> Expression<'src> {
     ///
     /// # Errors
     ///
-    /// `OutOfMemory`, where memory was asked for and refused: the operand is dropped.
+    /// `OutOfMemory`, if an allocation fails: the operand is dropped.
     pub fn not(alloc: Global, operand: Expression<'src>) -> Result<Expression<'src>, OutOfMemory>
         ensures { IfOk result (λ e. view e ≡ plain.Not (view operand.entry)) }
     {
@@ -238,7 +238,7 @@ impl<'src> Expression<'src> {
     ///
     /// # Errors
     ///
-    /// `OutOfMemory`, where memory was asked for and refused: both sides are dropped.
+    /// `OutOfMemory`, if an allocation fails: both sides are dropped.
     pub fn or(
         alloc: Global,
         lhs: Expression<'src>,
@@ -261,7 +261,7 @@ impl<'src> Expression<'src> {
     }
 }
 
-// Two parts, each in its box. What is boxed here is of any type, so that no expression has to be dropped where a box is refused.
+// Boxes two parts. They are generic, so that a failing allocation needs no code that drops an expression.
 fn boxed_pair<T: Drop>(alloc: Global, first: T, second: T) -> Result<(Box<T>, Box<T>), OutOfMemory>
     ensures first { IfOk result (λ boxed. boxed.0.value ≡ first) }
     ensures second { IfOk result (λ boxed. boxed.1.value ≡ second) }
@@ -270,7 +270,7 @@ fn boxed_pair<T: Drop>(alloc: Global, first: T, second: T) -> Result<(Box<T>, Bo
     Ok((first, Box::new(alloc, second)?))
 }
 
-// A part, and one that may be left out, each in its box.
+// Boxes a part, and one that may be left out.
 fn boxed_with<T: Drop>(
     alloc: Global,
     part: T,
@@ -286,7 +286,7 @@ fn boxed_with<T: Drop>(
     }
 }
 
-// A condition, and what it chooses between, each in its box.
+// Boxes a condition and its branches.
 fn boxed_branches<T: Drop>(
     alloc: Global,
     condition: T,

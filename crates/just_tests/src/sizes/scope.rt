@@ -14,7 +14,7 @@ fn a_thousand_bindings(rt: HostRuntime) {
     are_constants(&rt, rt.alloc(), &names);
 }
 
-// A scope binds each of a thousand names to itself, and frames stand within it.
+// A scope binds each of a thousand names to itself, and frames are nested in it.
 fn are_bound(rt: &impl Abort, alloc: Global, names: &[String]) {
     let mut scope = Scope::root(alloc, &[]).expect(rt, "no memory");
     bind_all(&mut scope, rt, alloc, names);
@@ -26,7 +26,7 @@ fn are_bound(rt: &impl Abort, alloc: Global, names: &[String]) {
     drop(scope);
 }
 
-// Binds each name to itself, by its place among them, the last first.
+// Binds each name to itself, with its index as number, the last first.
 fn bind_all<'src>(
     scope: &mut Scope<'src, '_>,
     rt: &impl Abort,
@@ -38,14 +38,14 @@ fn bind_all<'src>(
     }
 }
 
-// Whether each name is bound to itself, by its place among them.
+// Each name is bound to itself, with its index as number.
 fn holds_all(scope: &Scope, rt: &impl Abort, alloc: Global, names: &[String]) {
     for (place, lexeme) in names.iter().enumerate() {
         holds(scope, rt, alloc, place as u64, lexeme);
     }
 }
 
-// Whether the own bindings of a scope are each name bound to itself.
+// The own bindings of a scope are exactly each name bound to itself.
 fn binds_only(scope: &Scope, rt: &impl Abort, alloc: Global, names: &[String]) {
     let mut told = String::new(alloc);
     tell_own(scope, rt, alloc, &mut told);
@@ -61,7 +61,7 @@ fn themselves_twice(rt: &impl Abort, alloc: Global, names: &[String]) -> String 
     twice
 }
 
-// So many frames within a scope, of which each binds a number of its own and sees what the outermost binds.
+// This many frames within a scope, each of which binds a number of its own and can read what the outermost binds.
 fn descend(scope: &Scope, rt: &impl Abort, alloc: Global, levels: u64) {
     holds(scope, rt, alloc, 0, "outermost");
     if levels == 0 {
@@ -74,7 +74,7 @@ fn descend(scope: &Scope, rt: &impl Abort, alloc: Global, levels: u64) {
     drop(child);
 }
 
-// A root binds each name to itself, by its place among them.
+// A root binds each name to itself, with its index as number.
 fn are_constants(rt: &impl Abort, alloc: Global, names: &[String]) {
     let constants = beside_themselves(rt, alloc, names);
     let root = Scope::root(alloc, &constants).expect(rt, "no memory");

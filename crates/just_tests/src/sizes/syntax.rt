@@ -18,7 +18,7 @@ use std::alloc::Global;
 use std::collections::{HashMap, HashSet};
 use std::process::Abort;
 
-// Keys, and a table with a value behind each of them, the last first.
+// Keys, and a table with a value for each of them, the last first.
 fn backwards<'a>(rt: &impl Abort, alloc: Global, keys: &'a [String]) -> Table<Named<'a>> {
     let mut all = borrowed(rt, alloc, keys);
     all.reverse();
@@ -35,7 +35,7 @@ fn table_of_a_thousand_keys(rt: HostRuntime) {
     tells(&rt, told, &twice(&rt, alloc, &keys));
 }
 
-// Whether a table has a value at each of a thousand keys, the last first.
+// A table has a value at each of a thousand keys, the last first.
 fn keeps_all(rt: &impl Abort, table: &Table<Named>, keys: &[String]) {
     has_length(rt, table, 1000);
     for (place, key) in keys.iter().rev().enumerate() {
@@ -43,7 +43,7 @@ fn keeps_all(rt: &impl Abort, table: &Table<Named>, keys: &[String]) {
     }
 }
 
-// Long texts, and what they are without their indentation.
+// Long texts, and the same without their indentation.
 const UNINDENTED: &[(Long, Long)] = &[
     (("", "    line\n", 300, ""), ("", "line\n", 300, "")),
     (("\n", "\t a\n\n", 300, "\t b"), ("", "a\n\n", 300, "b")),
@@ -68,7 +68,7 @@ fn a_thousand_variables(rt: HostRuntime) {
     are_in_a_set(&rt, alloc);
 }
 
-// Whether a set of a thousand numbers, each given twice, has them.
+// A set of a thousand numbers, each inserted twice, has them.
 fn are_in_a_set(rt: &impl Abort, alloc: Global) {
     let mut numbers = Vec::new(alloc);
     for place in 0..2000u64 {
@@ -79,7 +79,7 @@ fn are_in_a_set(rt: &impl Abort, alloc: Global) {
     is_so(rt, "the last", has(&set, 999) && !has(&set, 1000));
 }
 
-// A thousand attributes are kept in their order, and a literal and a command of a long text as they are.
+// A thousand attributes keep their order, and a literal and a command keep their long text.
 #[test]
 fn a_thousand_attributes_and_pieces(rt: HostRuntime) {
     let alloc = rt.alloc();
@@ -121,7 +121,7 @@ fn holds_text(expression: &Expression, text: &str) -> bool {
     }
 }
 
-// Whether each name overrides itself, by its place among them.
+// Each name overrides itself, with its index as number.
 fn are_overridden(rt: &impl Abort, alloc: Global, names: &[String]) {
     let pairs = pairs(rt, alloc, &beside_themselves(rt, alloc, names));
     let assignments = assignments(rt, alloc, &variables(rt, alloc, names));
@@ -138,7 +138,7 @@ fn override_themselves(rt: &impl Abort, overrides: &HashMap<Number, String>, nam
     }
 }
 
-// Whether each name is referenced, by its place among them.
+// Each name is referenced, with its index as number.
 fn are_referenced(rt: &impl Abort, alloc: Global, names: &[String]) {
     let lexemes = borrowed(rt, alloc, names);
     let assignments = assignments(rt, alloc, &variables(rt, alloc, names));

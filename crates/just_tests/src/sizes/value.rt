@@ -10,7 +10,7 @@ use just_value::value::Value;
 use std::alloc::Global;
 use std::process::Abort;
 
-// Whether a value has these elements, in this order.
+// A value has these elements, in this order.
 fn holds(rt: &impl Abort, alloc: Global, value: Value, wanted: &[String]) {
     let is_long = value.len() == wanted.len() && value.is_truthy() && !value.is_empty();
     is_so(rt, "a thousand", is_long);
@@ -29,7 +29,7 @@ fn pushed(rt: &impl Abort, alloc: Global, elements: &[String]) -> Value {
     value
 }
 
-// A value once more.
+// A copy of a value.
 fn copied(rt: &impl Abort, alloc: Global, value: &Value) -> Value {
     value.try_clone(alloc).expect(rt, "no memory")
 }
@@ -46,12 +46,12 @@ fn made_of_a_thousand_elements(rt: HostRuntime) {
     holds(&rt, alloc, value, &elements);
 }
 
-// Whether a text is `ab.` so many times.
+// A text is `ab.`, this many times.
 fn repeats(rt: &impl Abort, alloc: Global, text: String, times: usize) {
     tells(rt, text, &long(rt, alloc, ("", "ab.", times, "")));
 }
 
-// Whether values joined, and made of one long text, are these texts.
+// Values, joined and built from one long text, are these texts.
 fn are_joined(rt: &impl Abort, alloc: Global, elements: &[String]) {
     let value = Value::from_elements(texts(rt, alloc, "ab", 1000));
     let joined = value.join(alloc).expect(rt, "no memory");
@@ -76,7 +76,7 @@ fn is_one(value: &Value, text: &str) -> bool {
     }
 }
 
-// Whether an operator between a thousand elements and as many, one, or one less, gives what it should.
+// An operator between a thousand elements and as many, one, or one less, gives the expected value.
 fn are_applied(rt: &impl Abort, alloc: Global) {
     let many = Value::from_elements(texts(rt, alloc, "ab", 1000));
     let one = Value::from_text(alloc, "c").expect(rt, "no memory");
@@ -93,7 +93,7 @@ fn are_applied(rt: &impl Abort, alloc: Global) {
     }
 }
 
-// Whether `+` between two values gives a thousand times this element.
+// `+` between two values gives this element a thousand times.
 fn gives(rt: &impl Abort, alloc: Global, left: &Value, right: &Value, element: &str) {
     let given = left.apply(alloc, right, ListOperator::Concatenate, token("+"));
     match given {

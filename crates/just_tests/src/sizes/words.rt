@@ -13,7 +13,7 @@ use std::alloc::Global;
 use std::fmt::Display;
 use std::process::Abort;
 
-// Whether what may have been made is written as a long text.
+// An item whose construction may fail is written as a long text.
 fn made_prints_long<T: Display + Drop>(
     rt: &impl Abort,
     alloc: Global,
@@ -64,13 +64,13 @@ fn a_thousand_names(rt: HostRuntime) {
     give_places(&rt, alloc, &variables(&rt, alloc, &names));
 }
 
-// Whether a context of pairs gives each of a thousand names its number, and a context of parameters does.
+// A context of pairs and a context of parameters give each of a thousand names its number.
 fn give_places(rt: &impl Abort, alloc: Global, names: &[Variable]) {
     gives_all(rt, &from_pairs(rt, alloc, names), names);
     gives_all(rt, &from_parameters(rt, alloc, names), names);
 }
 
-// Whether a context gives each name its number, and a name that is not among them none.
+// A context gives each name its number, and no number to other names.
 fn gives_all(rt: &impl Abort, context: &ExpressionContext, names: &[Variable]) {
     for (lexeme, number, _) in names {
         gives(rt, context, lexeme, Some(*number));

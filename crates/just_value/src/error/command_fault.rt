@@ -1,4 +1,4 @@
-// Want of memory is a command's fault, so that `?` serves in a host.
+// Conversions of allocation errors into `CommandFault`, so that a host can use `?`.
 
 ghost use Rattle.std.specs.Prelude.{◌≡◌};
 ghost use Rattle.just_value.specs.declared.error.CommandFault.TheVariants.{OutOfMemory as Wanted};

@@ -1,4 +1,4 @@
-// What errors say.
+// The messages of errors.
 
 use crate::error::{CommandFault, Error};
 use crate::said::{
@@ -29,8 +29,8 @@ impl fmt::Display for CommandFault {
     }
 }
 
-/// Writes what a refusal says, or `out of memory`. It is one line, but for the line breaks of the texts that it holds, and for
-/// the two lines on lists behind one that is an argument of a function.
+/// Writes the message of a refusal, or `out of memory`. It is one line, apart from line breaks in the texts that it
+/// contains, and from the two lines on lists that follow the refusal of an argument of a function.
 impl fmt::Display for Error<'_> {
     ghost use Rattle.std.specs.Prelude.{Some};
     ghost use Rattle.just_value.specs.Said.{error_text};

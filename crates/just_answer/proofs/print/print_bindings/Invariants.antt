@@ -5,6 +5,6 @@ use Rattle.just_value.specs.View.{bindings_left, bound_view, frames_view}
 use Rattle.just_answer.specs.Answer.{binding_lines}
 use Rattle.just_answer.proofs.print.print_bindings.Given as goal
 
--- what is printed so far, and the lines of the bindings to come
+-- the output so far, and the lines of the remaining bindings
 abbrev pub invariant-loop-binding : goal.invariant-loop-binding
 invariant-loop-binding l = string_bytes l.text ++ binding_lines (map bound_view (bindings_left l.binding-iterator)) ≡ string_bytes l.fn.text ++ binding_lines (values_of (own_frame (frames_view l.scope)))

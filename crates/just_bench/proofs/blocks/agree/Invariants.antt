@@ -6,6 +6,6 @@ use Rattle.just_bench.specs.Blocks.{agree, is_alike}
 use Rattle.just_bench.specs.View.{found_view}
 use Rattle.just_bench.proofs.blocks.agree.Given as goal
 
--- it is told by the bindings to come
+-- the remaining bindings decide the result
 abbrev pub invariant-loop-binding : goal.invariant-loop-binding
 invariant-loop-binding l = list_all (λ (b : Bound). is_alike ((found_view l.one).asked b.number) ((found_view l.other).asked b.number) b (bound_at b.number (own_frame (frames_view l.other.scope)))) (map bound_view (bindings_left l.binding-iterator)) ≡ agree (found_view l.one) (found_view l.other)

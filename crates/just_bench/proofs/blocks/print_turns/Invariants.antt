@@ -8,7 +8,7 @@ use Rattle.just_bench.specs.Taken.{taken_view}
 use Rattle.just_bench.specs.View.{run_view, seen}
 use Rattle.just_bench.proofs.blocks.print_turns.Given as goal
 
--- what is printed so far, and what is printed of a walk from here, is printed of the whole walk
+-- the output so far, followed by that of a walk from here, is that of the whole walk
 abbrev pub invariant-loop-name : goal.invariant-loop-name
 invariant-loop-name g l =
     let m = in_order (run_view l.fn.run) (map name_view l.order) in

@@ -4,6 +4,6 @@ use Rattle.just_case_reader.specs.View.{set_view}
 use Rattle.just_bench.specs.Settled.{assigned_in}
 use Rattle.just_bench.proofs.settled.assigned_numbers.Given as goal
 
--- the numbers so far, and those of the assignments that are left
+-- the numbers so far, and those of the remaining assignments
 abbrev pub invariant-loop-assignment : goal.invariant-loop-assignment
 invariant-loop-assignment l = (n : ℕ) → (set_view l.numbers n || assigned_in (map assignment_view l.assignment-iterator) n) ≡ assigned_in (map assignment_view l.assignments) n

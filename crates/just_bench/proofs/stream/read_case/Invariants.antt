@@ -3,7 +3,7 @@ use Rattle.std.specs.Io.KnownBytes.{Consumes}
 use Rattle.just_bench.specs.declared.stream.TheConstants.{LIMIT}
 use Rattle.just_bench.proofs.stream.read_case.Given as goal
 
--- the bytes so far are those that the reader no longer has
+-- the bytes so far are those already taken from the reader
 abbrev pub invariant-loop-buffer : goal.invariant-loop-buffer
 invariant-loop-buffer g l = Consumes (g.R.Read.remaining l.fn.reader) (g.R.Read.remaining l.reader) l.bytes.items
 

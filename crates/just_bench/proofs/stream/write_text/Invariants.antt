@@ -2,7 +2,7 @@ use Rattle.std.proofs.Common.{ℕ, List, ◌++◌, ◌≡◌, length}
 use Rattle.std.specs.Io.KnownBytes.{Appends}
 use Rattle.just_bench.proofs.stream.write_text.Given as goal
 
--- what is in front of the rest was added
+-- the text before the rest was added
 abbrev pub invariant-loop-rest : goal.invariant-loop-rest
 invariant-loop-rest g l = (front : List ℕ) × (l.text ≡ front ++ l.rest) × Appends (g.W.Write.contents l.fn.writer) (g.W.Write.contents l.writer) front
 

@@ -4,7 +4,7 @@ use Rattle.just_meaning.specs.View.{ordered_view}
 use Rattle.just_bench.specs.Taken.{first_places, referenced_names, taken_in, taken_view}
 use Rattle.just_bench.proofs.taken.taken_variables.Given as goal
 
--- what was taken, and what is taken of the names that are left
+-- the variables taken so far, and those taken of the remaining names
 abbrev pub invariant-loop-name : goal.invariant-loop-name
 invariant-loop-name l =
     let m = ordered_view l.assignments l.order l.references in

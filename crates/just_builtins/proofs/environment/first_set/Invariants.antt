@@ -8,7 +8,7 @@ use Rattle.just_builtins.specs.Called.{Called, tree}
 use Rattle.just_builtins.specs.Reply.{Reply}
 use Rattle.just_builtins.proofs.environment.first_set.Given as goal
 
--- whatever the keys that are left come to from here is what all come to from the start
+-- a run of the remaining keys from here is a run of all keys from the start
 abbrev pub invariant-loop-key : goal.invariant-loop-key
 invariant-loop-key g l = (shown : Frames) (rest : Reply) (o : Outcome Called) (last : g.row.H.Denot)
     → Runs freely g.H.Host.step l.host (tree shown (first_set (pairs_view l.dotenv) rest (map string_bytes (drop l.key-index l.keys)))) o last

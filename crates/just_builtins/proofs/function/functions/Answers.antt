@@ -4,7 +4,7 @@ use Rattle.just_builtins.specs.Table.{table, function_named}
 use Rattle.just_builtins.proofs.Spelled.{same_found}
 use Rattle.just_builtins.proofs.function.functions.Goals as goal
 
--- computed of the table, as `get` is
+-- by computation on the table, as for `get`
 pub returns-clause-named : goal.returns-clause-named
 unfolding function_named
 returns-clause-named c = same_found (map (λ entry. (entry.0.now, entry.1)) TABLE) table refl refl

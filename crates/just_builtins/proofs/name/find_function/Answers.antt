@@ -16,7 +16,7 @@ key entry = entry.0.now
 abbrev function : Entry → Function
 function entry = entry.1
 
--- what is found among the entries is found among what they are
+-- a look-up among the entries is the look-up among their views
 viewed : (entries : List Entry) (name : Text) → option_map function (find (λ entry. bytes_eq (key entry) name) entries) ≡ find_in (map entry_view entries) name
 viewed [] name = refl
 viewed (e ∷ es) name =

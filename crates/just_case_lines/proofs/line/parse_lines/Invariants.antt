@@ -3,7 +3,7 @@ use Rattle.just_case_lines.specs.Line.{line_of, lines_of}
 use Rattle.just_case_lines.specs.View.{line_view}
 use Rattle.just_case_lines.proofs.line.parse_lines.Given as goal
 
--- the lines so far, and those that are left
+-- the lines so far, and the remaining ones
 abbrev pub invariant-loop-rest : goal.invariant-loop-rest
 invariant-loop-rest l = map line_view l.lines.items ++ map line_of (lines_of l.rest) ≡ map line_of (lines_of l.case)
 

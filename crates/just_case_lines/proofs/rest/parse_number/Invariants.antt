@@ -2,7 +2,7 @@ use Rattle.std.proofs.Common.{◌≡◌, ◌+◌, ◌^◌, ◌≤◌, drop}
 use Rattle.just_case_lines.specs.Rest.{decimal_after}
 use Rattle.just_case_lines.proofs.rest.parse_number.Given as goal
 
--- what the digits left write behind those read is what all of them write
+-- the remaining digits after the number so far give the number of all digits
 abbrev pub invariant-loop-digit : goal.invariant-loop-digit
 invariant-loop-digit l = record {
   small : l.number + 1 ≤ 10 ^ l.digit-index;

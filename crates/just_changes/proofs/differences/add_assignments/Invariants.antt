@@ -4,7 +4,7 @@ use Rattle.just_changes.specs.Nodes.{OfVariable}
 use Rattle.just_changes.specs.View.{nodes_view}
 use Rattle.just_changes.proofs.differences.add_assignments.Given as goal
 
--- the nodes so far and those that are left are all
+-- the nodes so far and the remaining ones are all
 abbrev pub invariant-loop-assignment : goal.invariant-loop-assignment
 invariant-loop-assignment l =
     nodes_view l.nodes.items ++ map (λ a. OfVariable a.number) (map assignment_view l.assignment-iterator)

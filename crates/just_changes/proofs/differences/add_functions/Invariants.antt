@@ -4,7 +4,7 @@ use Rattle.just_changes.specs.Nodes.{OfFunction}
 use Rattle.just_changes.specs.View.{nodes_view}
 use Rattle.just_changes.proofs.differences.add_functions.Given as goal
 
--- the nodes so far and those that are left are all
+-- the nodes so far and the remaining ones are all
 abbrev pub invariant-loop-function : goal.invariant-loop-function
 invariant-loop-function l =
     nodes_view l.nodes.items ++ map (λ f. OfFunction f.name.lexeme) (map function_view l.function-iterator)

@@ -4,6 +4,6 @@ use Rattle.just_changes.specs.Nodes.{OfVariable}
 use Rattle.just_changes.specs.View.{nodes_view}
 use Rattle.just_changes.proofs.differences.add_overrides.Given as goal
 
--- the nodes so far and those that are left are all
+-- the nodes so far and the remaining ones are all
 abbrev pub invariant-loop-number : goal.invariant-loop-number
 invariant-loop-number l = nodes_view l.nodes.items ++ map OfVariable l.number-iterator ≡ nodes_view l.fn.nodes.items ++ map OfVariable (keys l.overrides)

@@ -3,7 +3,7 @@ use Rattle.just_changes.specs.Nodes.{IsListed, IsSame, PlainNode}
 use Rattle.just_changes.specs.View.{nodes_view, version_view}
 use Rattle.just_changes.proofs.differences.different.Given as goal
 
--- those so far that differ, and no other
+-- the differing ones so far, and no others
 abbrev pub invariant-loop-node : goal.invariant-loop-node
 invariant-loop-node l = record {
   differ : (x : PlainNode) → IsListed (nodes_view l.different.items) x → IsSame (version_view l.before) (version_view l.after) x → ⊥;

@@ -8,7 +8,7 @@ abbrev size_of : Option (Bor Expression) → ℕ
 size_of None = 0
 size_of (Some e) = size-Expression e.now
 
--- the size of what is left of the first expression, and more where there are several parts
+-- the size of the rest of the first expression, plus some for several parts
 abbrev pub decreases-is_same : goal.decreases-is_same
 decreases-is_same l = 4 * size-Expression l.one.now
 
@@ -63,10 +63,10 @@ decreases-are_all_same l = suc (4 * goal.size-are_all_same l)
 abbrev pub decreases-are_pieces_same : goal.decreases-are_pieces_same
 decreases-are_pieces_same l = suc (4 * goal.size-are_pieces_same l)
 
--- what is left of both decides
+-- the rest of both decides
 abbrev pub invariant-are_all_same-loop-one : goal.invariant-are_all_same-loop-one
 invariant-are_all_same-loop-one l = (views (drop l.one-index l.some) ≡ views (iter_rest l.left)) ↔ (views l.some ≡ views l.others)
 
--- the same of interpolations
+-- the same for interpolations
 abbrev pub invariant-are_pieces_same-loop-one : goal.invariant-are_pieces_same-loop-one
 invariant-are_pieces_same-loop-one l = (piece_views (drop l.one-index l.some) ≡ piece_views (iter_rest l.left)) ↔ (piece_views l.some ≡ piece_views l.others)

@@ -5,6 +5,6 @@ use Rattle.just_agreement.specs.Cone.{numbered}
 use Rattle.just_changes.specs.View.{assignment_in}
 use Rattle.just_changes.proofs.version.by_number.Given as goal
 
--- what is there, and else what is left, is all
+-- what is in the map, or else in the rest, is what is in all
 abbrev pub invariant-loop-assignment : goal.invariant-loop-assignment
 invariant-loop-assignment l = (n : ℕ) → option_or (assignment_in l.all n) (numbered (map assignment_view l.assignment-iterator) n) ≡ numbered (map assignment_view l.assignments) n

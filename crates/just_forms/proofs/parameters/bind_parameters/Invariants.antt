@@ -5,7 +5,7 @@ use Rattle.just_value.specs.View.{frames_view}
 use Rattle.just_forms.specs.Parameter.{parameters_in_front}
 use Rattle.just_forms.proofs.parameters.bind_parameters.Given as goal
 
--- what is bound so far, and what is left to be bound, is all that is to be bound
+-- the bindings so far and the remaining ones are all
 abbrev pub invariant-loop-value : goal.invariant-loop-value
 invariant-loop-value l = record {
   count : l.index + length (into_iter_items l.value-iterator) ≡ length l.parameters;

@@ -9,7 +9,7 @@ use Rattle.just_host.specs.View.{change_view}
 use Rattle.just_host.proofs.Changes.{frames_exports-last}
 use Rattle.just_host.proofs.exports.add_frames.Goals as goal
 
--- the last of the frames to come is the next one
+-- the next frame is the last of the remaining ones
 pub loop-frame-preserved : goal.loop-frame-preserved
 loop-frame-preserved c =
     let view = λ (frame : Bor Frame). frame_view frame.now in

@@ -6,7 +6,7 @@ use Rattle.just_host.specs.Exports.{frames_exports}
 use Rattle.just_host.specs.View.{change_view}
 use Rattle.just_host.proofs.exports.add_frames.Given as goal
 
--- what is added so far, and what the frames to come export, is what all export
+-- the changes added so far, and the exports of the remaining frames, are the exports of all frames
 abbrev pub invariant-loop-frame : goal.invariant-loop-frame
 invariant-loop-frame l =
     map change_view l.changes.items ++ frames_exports (map (λ frame. frame_view frame.now) (iter_rest (rev_source l.frame-iterator)))

@@ -6,7 +6,7 @@ use Rattle.just_value.specs.Shown.{quoted}
 use Rattle.just_host.specs.Printed.{spaced}
 use Rattle.just_host.proofs.printed.write_spaced.Goals as goal
 
--- one more text is written behind those so far
+-- one more text is written after those so far
 pub loop-text-preserved : goal.loop-text-preserved
 loop-text-preserved g c = λ flush.
     let took = g.W.Write.write_str_gives in

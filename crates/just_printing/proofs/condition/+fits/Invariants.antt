@@ -4,7 +4,7 @@ use Rattle.just_printing.specs.Levels.{levels_of_pieces, levels_of_row}
 use Rattle.just_printing.proofs.Levels.{FitAlike}
 use Rattle.just_printing.proofs.condition.+fits.Given as goal
 
--- each level takes some of the room
+-- each level reduces the budget
 abbrev pub decreases-fits : goal.decreases-fits
 decreases-fits l = 2 * l.room
 
@@ -20,7 +20,7 @@ decreases-row_fits l = suc (2 * l.room)
 abbrev pub decreases-pieces_fit : goal.decreases-pieces_fit
 decreases-pieces_fit l = suc (2 * l.room)
 
--- what is left fits exactly if all does
+-- the rest fits exactly if all do
 abbrev pub invariant-row_fits-loop-expression : goal.invariant-row_fits-loop-expression
 invariant-row_fits-loop-expression l = FitAlike (levels_of_row (views (drop l.expression-index l.expressions))) (levels_of_row (views l.expressions)) l.room
 

@@ -5,6 +5,6 @@ use Rattle.just_meaning.specs.Here.{attribute_expressions}
 use Rattle.just_resolution.specs.Seen.{expressions_view}
 use Rattle.just_resolution.proofs.expressions.attribute_expressions.Given as goal
 
--- the expressions so far and those that are left are all
+-- the expressions so far and the remaining ones are all
 abbrev pub invariant-loop-attribute : goal.invariant-loop-attribute
 invariant-loop-attribute l = expressions_view l.all.items ++ attribute_expressions (map named_attribute_view (iter_rest l.attribute-iterator)) ≡ attribute_expressions (attributes_view l.attributes)

@@ -32,7 +32,7 @@ numbers c = parameter_numbers (functions c) ++ map (λ p. p.number) (own c)
 abbrev slice : After-deref → List (Name × ℕ)
 slice c = take (length c.deref.result.now - c.len-first_parameter.result) (drop c.len-first_parameter.result c.deref.result.now)
 
--- what was put behind the numbers of assignments
+-- what was appended to the numbers of assignments
 of_parameters : (c : After-deref) → map parameter_view (slice c) ≡ parameters_of (functions c) ++ recipe_pairs (own c)
 of_parameters c =
     let size : c.len-first_parameter.result ≡ length c.in_ok-numbers.numbers.items = search rules in
@@ -42,7 +42,7 @@ of_parameters c =
     ∙ append_assoc first (parameters_of (functions c)) (recipe_pairs (own c)))
     (size ∙ sym (length-map c.in_ok-numbers.numbers.items parameter_view))
 
--- what is found among them decides whether one is bound
+-- a search among them decides whether one is bound
 unbound : (c : After-deref) (outer : Frames) (o : Option declared.Fault) → FindsBound outer (map parameter_view (slice c)) (option_map fault_view o) → (is_some o ≡ false) ↔ ((n : ℕ) → IsOneOf (numbers c) n → HasValue (value_in outer) n → ⊥)
 unbound c outer o found =
     subst (λ ns. (is_some o ≡ false) ↔ ((n : ℕ) → IsOneOf ns n → HasValue (value_in outer) n → ⊥)) (ap (map (λ (p : Token × ℕ). p.1)) (of_parameters c) ∙ parameters_with (functions c) (own c))

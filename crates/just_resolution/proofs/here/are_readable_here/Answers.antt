@@ -10,7 +10,7 @@ use Rattle.just_resolution.proofs.Readers.{bound_alone}
 use Rattle.just_resolution.proofs.Turns.{all_here}
 use Rattle.just_resolution.proofs.here.are_readable_here.Goals as goal
 
--- what bodies may read is what the context's scope binds, and what may be read here is what the scope binds
+-- bodies may read what the context's scope binds, and expressions here what the scope binds
 pub returns : goal.returns
 returns c = IfOk-weaker c.may_stand_and_follow.result _ _
     (λ answer all. all_here (functions_view c.args.context.now.«module».now) (value_in (frames_view c.args.context.now.scope.now)) (value_in (frames_view c.args.scope.now)) (is_readable c.new-2.result)

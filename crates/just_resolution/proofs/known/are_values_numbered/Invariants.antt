@@ -3,6 +3,6 @@ use Rattle.just_syntax.specs.View.{assignment_view}
 use Rattle.just_meaning.specs.Resolved.{AllNumbered}
 use Rattle.just_resolution.proofs.known.are_values_numbered.Given as goal
 
--- all values are numbered exactly if those that are left are
+-- all values are numbered exactly if the remaining ones are
 abbrev pub invariant-loop-assignment : goal.invariant-loop-assignment
 invariant-loop-assignment l = AllNumbered (map (λ a. a.value) (map assignment_view l.assignment-iterator)) ↔ AllNumbered (map (λ a. a.value) (map assignment_view l.assignments))

@@ -10,7 +10,7 @@ use Rattle.just_resolution.proofs.Finding.{some_seen}
 use Rattle.just_resolution.proofs.known.bodies_fault.Goals.{In-Some}
 use Rattle.just_resolution.proofs.known.bodies_fault.Goals as goal
 
--- what is left begins with the sites of the next one
+-- the rest begins with the sites of the next body
 left : (c : In-Some) → all_sites (map (λ x. x.body) (map function_view c.loop-function.function-iterator)) ≡ sites_in (view c.in-Some.function.now.body) ++ all_sites (map (λ x. x.body) (map function_view c.next.new.self))
 left c =
     ap (λ (rest : List FunctionDefinition). all_sites (map (λ x. x.body) (map function_view rest)))

@@ -4,7 +4,7 @@ use Rattle.just_resolution.specs.Sites.{all_sites}
 use Rattle.just_resolution.proofs.Faults.{LeadsUnknown}
 use Rattle.just_resolution.proofs.known.bodies_fault.Given as goal
 
--- what is found in the bodies that are left is found in all
+-- what is found in the remaining bodies is found in all
 abbrev pub invariant-loop-function : goal.invariant-loop-function
 invariant-loop-function l =
     let functions = map function_view l.functions in

@@ -10,7 +10,7 @@ use Rattle.just_resolution.proofs.Finding.{some_seen}
 use Rattle.just_resolution.proofs.known.values_fault.Goals.{In-Some}
 use Rattle.just_resolution.proofs.known.values_fault.Goals as goal
 
--- what is left begins with the sites of the next one
+-- the rest begins with the sites of the next value
 left : (c : In-Some) → all_sites (map (λ x. x.value) (map assignment_view c.loop-assignment.assignment-iterator)) ≡ sites_in (view c.in-Some.assignment.now.value) ++ all_sites (map (λ x. x.value) (map assignment_view c.next.new.self))
 left c =
     ap (λ (rest : List Assignment). all_sites (map (λ x. x.value) (map assignment_view rest)))

@@ -21,11 +21,11 @@ parameters c = parameters_of (functions_view c.args.«module».now)
 abbrev all : After-is_some → List (Token × ℕ)
 all c = numbered (map assignment_view c.args.«module».now.assignments) ++ parameters c
 
--- what was gathered is all
+-- everything was collected
 gathered : (c : After-is_some) → map parameter_view c.deref.result.now ≡ all c
 gathered c = ap (map parameter_view) c.deref.ensures.value ∙ c.in_ok-add_parameter_numbers.ensures ∙ ap (λ (ps : List (Token × ℕ)). ps ++ parameters c) c.in_ok-numbers.ensures
 
--- what is found among all
+-- the result of the search among all
 found : (c : After-is_some) (functions : List Function) (assignments : Assignments) →
     let outer = frames_view c.args.parent.now in
     Finds (IsSound functions assignments outer) (IsFaulty functions assignments outer) (number_places [] (all c)) (option_map fault_view c.in_ok-duplicate.duplicate)

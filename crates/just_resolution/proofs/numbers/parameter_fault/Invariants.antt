@@ -4,6 +4,6 @@ use Rattle.just_value.specs.View.{frames_view}
 use Rattle.just_resolution.proofs.Faults.{LeadsBound}
 use Rattle.just_resolution.proofs.numbers.parameter_fault.Given as goal
 
--- what is found among the parameters that are left is found among all
+-- what is found among the remaining parameters is found among all
 abbrev pub invariant-loop-name : goal.invariant-loop-name
 invariant-loop-name l = LeadsBound (frames_view l.scope) (map parameter_view (drop l.name-index l.parameters)) (map parameter_view l.parameters)

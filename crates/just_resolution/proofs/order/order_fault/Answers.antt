@@ -20,7 +20,7 @@ blank = record { ref_ptr = (0, 0); now = [] }
 abbrev next_name : After-take_next → Name
 next_name c = get_or c.args.evaluation_order.now c.loop-name.name-index (record { token = record { column = 0; line = 0; offset = 0; lexeme = blank; path = blank } })
 
--- what is left of the order begins with it
+-- the rest of the order begins with it
 left : (c : After-take_next) → map name_view (drop c.loop-name.name-index c.args.evaluation_order.now) ≡ name_view (next_name c) ∷ map name_view (drop (c.loop-name.name-index + 1) c.args.evaluation_order.now)
 left c = ap (map name_view) (front_at c.args.evaluation_order.now c.loop-name.name-index _ c.loop-name-test.true)
 

@@ -6,7 +6,7 @@ use Rattle.just_meaning.specs.View.{ordered_view}
 use Rattle.just_resolution.proofs.Ordering.{IsWalkedTo}
 use Rattle.just_resolution.proofs.order.order_fault.Given as goal
 
--- what is found in what is left of the order is found in all of it
+-- what is found in the rest of the order is found in all of it
 abbrev pub invariant-loop-name : goal.invariant-loop-name
 invariant-loop-name l = record {
   outer : frames_view l.readable.outer.now ≡ frames_view l.outer;

@@ -9,7 +9,7 @@ use Rattle.just_resolution.proofs.Faults.{numbers_alone}
 use Rattle.just_resolution.proofs.resolved_const.are_numbered.Goals.{After-is_some}
 use Rattle.just_resolution.proofs.resolved_const.are_numbered.Goals as goal
 
--- whether a number stands there twice decides whether they are distinct
+-- whether a number occurs twice decides whether they are distinct
 distinct : (c : After-is_some) → (is_some c.in_ok-number_fault.field-0 ≡ false) ↔ AreDistinct (map (λ a. a.number) (map assignment_view c.args.assignments.now))
 distinct c =
     let assignments = map assignment_view c.args.assignments.now in

@@ -9,7 +9,7 @@ abbrev size_of : Option (Bor Expression) → ℕ
 size_of None = 0
 size_of (Some e) = size-Expression e.now
 
--- the size of what is left, and one more where there are several parts, or two
+-- the size of the rest, plus one for several parts, or two
 abbrev pub decreases-add : goal.decreases-add
 decreases-add l = 3 * size-Expression l.expression.now
 
@@ -37,12 +37,12 @@ decreases-add_call l = suc (suc (3 * goal.size-add_call l))
 abbrev pub decreases-add_pieces : goal.decreases-add_pieces
 decreases-add_pieces l = suc (3 * goal.size-add_pieces l)
 
--- what is left, put behind what is there, is all of the row
+-- the sites of the rest, appended to those so far, are those of the row
 abbrev pub invariant-add_row-loop-expression : goal.invariant-add_row-loop-expression
 invariant-add_row-loop-expression l =
     sites_of_row (sites_view l.all.items) (views (drop l.expression-index l.expressions)) ≡ sites_of_row (sites_view l.fn.all.items) (views l.expressions)
 
--- the same of interpolations
+-- the same for interpolations
 abbrev pub invariant-add_pieces-loop-expression : goal.invariant-add_pieces-loop-expression
 invariant-add_pieces-loop-expression l =
     sites_of_pieces (sites_view l.all.items) (piece_views (drop l.expression-index l.expressions)) ≡ sites_of_pieces (sites_view l.fn.all.items) (piece_views l.expressions)

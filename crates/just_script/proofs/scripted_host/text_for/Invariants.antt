@@ -4,6 +4,6 @@ use Rattle.just_script.specs.Script.{text_after, text_for}
 use Rattle.just_syntax.specs.View.{pair_view}
 use Rattle.just_script.proofs.scripted_host.text_for.Given as goal
 
--- what is found so far, and then behind it, is what is found in all
+-- the text found so far, or a later one in the rest, is the text found in all pairs
 abbrev pub invariant-loop-other : goal.invariant-loop-other
 invariant-loop-other l = text_after (option_map (λ text. text.now) l.found) l.command (map pair_view (drop l.other-index l.always)) ≡ text_for l.command (map pair_view l.always)

@@ -11,7 +11,7 @@ abbrev size_of : Option (Bor Expression) → ℕ
 size_of None = 0
 size_of (Some e) = size-Expression e.now
 
--- the size of what is left, and one more where there are several parts
+-- the size of the rest, plus one if there are several parts
 abbrev pub decreases-print : goal.decreases-print
 decreases-print g l = 3 * size-Expression l.expression.now
 
@@ -45,14 +45,14 @@ decreases-print_row g l = suc (3 * goal.size-print_row g l)
 abbrev pub decreases-print_format_string : goal.decreases-print_format_string
 decreases-print_format_string g l = suc (3 * goal.size-print_format_string g l)
 
--- what is written since the loop began, and what is left, is the whole row
+-- what was written since the loop began, followed by the rest, is the whole row
 abbrev pub invariant-print_row-loop-expression : goal.invariant-print_row-loop-expression
 invariant-print_row-loop-expression g l = record {
   separator : shadow (Utf8 l.separator);
   written : IsFlush l.initial.f → (text : List ℕ) × (text ++ printed_row l.separator (views (drop l.expression-index l.expressions)) ≡ printed_row [] (views l.expressions)) × HasWrittenStyled g.W.Write.write_str_gives l.initial.f text l.f;
 }
 
--- what is written since the loop began, and what is left, is all of the interpolations
+-- what was written since the loop began, followed by the rest, is all of the interpolations
 abbrev pub invariant-print_format_string-loop-expression : goal.invariant-print_format_string-loop-expression
 invariant-print_format_string-loop-expression g l =
     IsFlush l.initial.f → (text : List ℕ) × (text ++ printed_pieces (piece_views (drop l.expression-index l.expressions)) ≡ printed_pieces (piece_views l.expressions)) × HasWrittenStyled g.W.Write.write_str_gives l.initial.f text l.f

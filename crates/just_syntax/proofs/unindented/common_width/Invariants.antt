@@ -4,7 +4,7 @@ use denote.Shadow.{shadow}
 use Rattle.just_syntax.specs.Unindented.{common_indentation, lines}
 use Rattle.just_syntax.proofs.unindented.common_width.Given as goal
 
--- what is common so far, with the lines that are left, is common to all
+-- the common indentation so far, combined with the remaining lines, is that of all lines
 abbrev pub invariant-loop-line : goal.invariant-loop-line
 invariant-loop-line l = record {
   utf8 : shadow (Utf8 l.rest);

@@ -5,7 +5,7 @@ use Rattle.just_syntax.specs.Unindented.{lines, unindented_lines}
 use Rattle.just_syntax.proofs.Unindenting.{EachLoses}
 use Rattle.just_syntax.proofs.unindented.unindent.Given as goal
 
--- what is written, with the lines that are left, is the whole
+-- what was written, followed by the remaining lines, is the whole
 abbrev pub invariant-loop-line : goal.invariant-loop-line
 invariant-loop-line l = record {
   utf8 : shadow (Utf8 l.rest);

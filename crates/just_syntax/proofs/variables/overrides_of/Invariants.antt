@@ -4,7 +4,7 @@ use Rattle.just_syntax.specs.Variables.{first_unknown, given}
 use Rattle.just_syntax.specs.View.{assignment_view, pair_view}
 use Rattle.just_syntax.proofs.variables.overrides_of.Given as goal
 
--- what the pairs so far give
+-- the values that the pairs so far give
 abbrev pub invariant-loop-name : goal.invariant-loop-name
 invariant-loop-name l = record {
   given : (n : ℕ) → option_map string_bytes (lookup (nat_eq n) l.overrides.entries) ≡ given (map assignment_view l.assignments) (map pair_view (take l.name-index l.pairs)) n;

@@ -1,4 +1,4 @@
--- Each byte that is taken out joins the marks.
+-- Each removed byte is added to the marks.
 use Rattle.std.proofs.Common.{false, eqb, ◌||◌}
 use Rattle.just_text.proofs.Escapes.{at_first, removed}
 use Rattle.just_text.proofs.uri.reserved.Goals as goal

@@ -3,6 +3,6 @@ use Rattle.just_value.specs.Frames.{innermost}
 use Rattle.just_value.specs.View.{frame_view}
 use Rattle.just_value.proofs.scope.binding_in.Given as goal
 
--- the frames so far have none
+-- the frames so far do not bind the number
 abbrev pub invariant-loop-frame : goal.invariant-loop-frame
 invariant-loop-frame l = innermost l.number (map (λ f. frame_view f.now) l.frames) ≡ innermost l.number (map (λ f. frame_view f.now) (drop l.frame-index l.frames))

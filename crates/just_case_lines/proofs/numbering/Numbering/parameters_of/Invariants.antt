@@ -4,7 +4,7 @@ use Rattle.just_case_lines.specs.Numbering.{parameters_of, with_names}
 use Rattle.just_case_lines.specs.View.{numbering_view}
 use Rattle.just_case_lines.proofs.numbering.Numbering.parameters_of.Given as goal
 
--- the parameters so far, and the names with theirs
+-- the parameters of the names so far, and the numbering after these names
 abbrev pub invariant-loop-name : goal.invariant-loop-name
 invariant-loop-name l =
     let so_far = map (λ name. name.now) (take l.name-index l.names) in

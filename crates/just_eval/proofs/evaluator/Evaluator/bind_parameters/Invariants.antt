@@ -6,7 +6,7 @@ use Rattle.just_eval.specs.View.{IsSameBut}
 use Rattle.just_eval.proofs.Bindings.{ParametersLeft}
 use Rattle.just_eval.proofs.evaluator.Evaluator.bind_parameters.Given as goal
 
--- the parameters that are left, and what was bound so far
+-- the parameters that are left, and the bindings so far
 abbrev pub invariant-loop-parameter : goal.invariant-loop-parameter
 invariant-loop-parameter g l = record {
   same : IsSameBut l.fn.self l.self;

@@ -5,7 +5,7 @@ use Rattle.just_eval.specs.View.{IsSameBut}
 use Rattle.just_eval.proofs.Attributes.{AttributesLeft}
 use Rattle.just_eval.proofs.evaluator.Evaluator.evaluate_attributes.Given as goal
 
--- the attributes that are left, and what was set so far
+-- the attributes that are left, and the variables so far
 abbrev pub invariant-loop-attribute : goal.invariant-loop-attribute
 invariant-loop-attribute g l = record {
   same : IsSameBut l.fn.self l.self;

@@ -7,7 +7,7 @@ use Rattle.just_meaning.specs.View.{constants_of}
 use Rattle.just_eval.specs.View.{IsConst, standing_of}
 use Rattle.just_eval.proofs.evaluator.Evaluator.evaluate_const_assignments.Given as goal
 
--- whatever the names that are left come to from here is what all come to from the start
+-- the result of the names that are left, from here, is the result of all from the start
 abbrev pub invariant-loop-name : goal.invariant-loop-name
 invariant-loop-name l =
     let m = constants_of l.assignments l.evaluation_order l.overrides l.variable_references in

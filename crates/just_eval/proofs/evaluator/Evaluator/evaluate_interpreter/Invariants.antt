@@ -7,7 +7,7 @@ use Rattle.just_meaning.specs.Stage.{const_value}
 use Rattle.just_eval.specs.View.{standing_of}
 use Rattle.just_eval.proofs.evaluator.Evaluator.evaluate_interpreter.Given as goal
 
--- whatever the elements so far and those that are left come to is what all come to
+-- the elements so far and those of the rest are those of all
 abbrev pub invariant-loop-argument : goal.invariant-loop-argument
 invariant-loop-argument l =
     let evaluates = const_value (standing_of l.self) in

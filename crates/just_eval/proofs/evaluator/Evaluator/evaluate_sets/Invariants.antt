@@ -8,7 +8,7 @@ use Rattle.just_meaning.specs.Stage.{const_value}
 use Rattle.just_eval.specs.View.{standing_of}
 use Rattle.just_eval.proofs.evaluator.Evaluator.evaluate_sets.Given as goal
 
--- whatever the sets that are left come to from here is what all come to
+-- the result of the sets that are left, from here, is the result of all
 abbrev pub invariant-loop-set : goal.invariant-loop-set
 invariant-loop-set l =
     let evaluates = const_value (standing_of l.self) in

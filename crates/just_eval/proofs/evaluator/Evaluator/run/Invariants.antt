@@ -8,7 +8,7 @@ use Rattle.just_meaning.specs.View.{module_view}
 use Rattle.just_eval.specs.View.{IsAtStart}
 use Rattle.just_eval.proofs.evaluator.Evaluator.run.Given as goal
 
--- whatever the names that are left come to from here is what all come to from the start
+-- the result of the names that are left, from here, is the result of all from the start
 abbrev pub invariant-loop-name : goal.invariant-loop-name
 invariant-loop-name g l =
     let m = module_view l.context l.references in

@@ -128,7 +128,7 @@ evaluate_conditional-returns g t c = elim c.if-is_truthy.branch [
       rw (same, c.new.ensures) (runs_on _ _ c.in_ok-value.ensures (runs_else _ _ _ none (runs_gives _)))
 ]
 
--- ---- two values put together
+-- ---- two values combined
 
 pub evaluate_combination-returns-in_err-left : goal.evaluate_combination-returns-in_err-left
 evaluate_combination-returns-in_err-left g t c =

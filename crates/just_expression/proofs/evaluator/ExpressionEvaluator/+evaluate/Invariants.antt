@@ -8,7 +8,8 @@ use Rattle.just_expression.proofs.Rows.{PiecesLeft, RowLeft}
 use Rattle.just_expression.proofs.Texts.{AreTexts}
 use Rattle.just_expression.proofs.evaluator.ExpressionEvaluator.+evaluate.Given as goal
 
--- Each level takes some of the room that it is handed. Within one the form comes after the entry, and a body after both.
+-- The measure of the recursion. Each level uses up some of its stack budget. Within a level the form comes after the
+-- entry, and a body after both.
 abbrev pub decreases-evaluate_value : goal.decreases-evaluate_value
 decreases-evaluate_value g l = 3 * l.room
 
@@ -58,7 +59,7 @@ decreases-evaluate_or g l = suc (suc (3 * l.room))
 abbrev pub invariant-evaluate_list-loop-element : goal.invariant-evaluate_list-loop-element
 invariant-evaluate_list-loop-element g l = (made : List Value) × (l.all ≡ flatten made) × RowLeft g.H.Host.step l.self l.fn.host as_it_is l.elements l.element-index l.host made
 
--- the values of the arguments so far, of which each is a text where one is wanted
+-- the values of the arguments so far, each a text where one is required
 abbrev pub invariant-evaluate_call-loop-argument : goal.invariant-evaluate_call-loop-argument
 invariant-evaluate_call-loop-argument g l = record {
   count : length l.values.items ≡ l.argument-index;
@@ -66,7 +67,7 @@ invariant-evaluate_call-loop-argument g l = record {
   rest : RowLeft g.H.Host.step l.self l.fn.host (look (reached_view l.callee) (name_view l.name)) l.arguments l.argument-index l.host l.values.items;
 }
 
--- the text behind the start so far
+-- the text after the start so far
 abbrev pub invariant-evaluate_format_string-loop-expression : goal.invariant-evaluate_format_string-loop-expression
 invariant-evaluate_format_string-loop-expression g l =
     (made : Text) × (string_bytes l.text ≡ string_bytes l.start.cooked ++ made) × PiecesLeft g.H.Host.step l.self l.fn.host l.expressions l.expression-index l.host made

@@ -4,7 +4,7 @@ use Rattle.just_resolution.specs.Admitted.{IsAdmitted, MayAllStand}
 use Rattle.just_resolution.specs.Seen.{IsSameReader, expressions_view, is_name_in, is_readable}
 use Rattle.just_resolution.proofs.here.Reader.may_all_stand.Given as goal
 
--- all may stand exactly if those that are left may
+-- all may occur exactly if the remaining ones may
 abbrev pub invariant-loop-expression : goal.invariant-loop-expression
 invariant-loop-expression l =
     let functions = map function_view l.fn.self.functions.now in

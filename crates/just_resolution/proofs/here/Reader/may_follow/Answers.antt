@@ -12,7 +12,7 @@ use Rattle.just_resolution.proofs.Turns.{follow_next, follow_off}
 use Rattle.just_resolution.proofs.here.Reader.may_follow.Goals.{After-may_all_stand}
 use Rattle.just_resolution.proofs.here.Reader.may_follow.Goals as goal
 
--- the reader as it was at the start, but for the parameters that were taken
+-- the reader at the start, except for the parameters that were taken
 abbrev taking : After-may_all_stand → Reader
 taking c = record { functions = c.args.self.now.functions; here = c.loop-parameter.self.here; bodies = c.args.self.now.bodies; admitted = c.loop-parameter.self.admitted }
 
@@ -22,11 +22,11 @@ same c = record { functions = c.loop-parameter.invariant.same_functions; here = 
 abbrev next : After-may_all_stand → Parameter
 next c = recipe_parameter_view c.parameter-item.result
 
--- what is left begins with the next parameter
+-- the rest begins with the next parameter
 left : (c : After-may_all_stand) → map recipe_parameter_view (drop c.loop-parameter.parameter-index c.args.parameters.now) ≡ next c ∷ map recipe_parameter_view (drop (c.loop-parameter.parameter-index + 1) c.args.parameters.now)
 left c = ap (map recipe_parameter_view) (front c.args.parameters.now c.loop-parameter.parameter-index c.parameter-item.result c.loop-parameter-test.true c.parameter-item.is)
 
--- what was asked of the next parameter
+-- the answer for the next parameter
 asked : (c : After-may_all_stand) (answer : Bool) →
     (answer ≡ true) ↔ MayAllStand (map function_view c.loop-parameter.self.functions.now) (is_readable c.loop-parameter.self.here) (is_readable c.loop-parameter.self.bodies) (expressions_view c.in_ok-own.own.items) →
     (answer ≡ true) ↔ MayAllStand (map function_view c.args.self.now.functions.now) (is_readable c.loop-parameter.self.here) (is_readable c.args.self.now.bodies) (expressions_of (next c))
@@ -34,7 +34,7 @@ asked c answer decides =
     alike_back (λ fs here bodies. (answer ≡ true) ↔ MayAllStand fs here bodies (expressions_of (next c))) (taking c) c.loop-parameter.self (same c)
     (subst (λ es. (answer ≡ true) ↔ MayAllStand (map function_view c.loop-parameter.self.functions.now) (is_readable c.loop-parameter.self.here) (is_readable c.loop-parameter.self.bodies) es) c.in_ok-own.ensures decides)
 
--- what is left decides, the next parameter apart from the others
+-- the rest decides, with the next parameter separated from the others
 turn : (c : After-may_all_stand) →
     MayFollowInTurn (map function_view c.args.self.now.functions.now) (λ n. IsTrue (is_readable c.loop-parameter.self.here n)) (is_readable c.args.self.now.bodies) (next c ∷ map recipe_parameter_view (drop (c.loop-parameter.parameter-index + 1) c.args.parameters.now))
     ↔ MayFollowInTurn (map function_view c.args.self.now.functions.now) (λ n. IsTrue (is_readable c.args.self.now.here n)) (is_readable c.args.self.now.bodies) (map recipe_parameter_view c.args.parameters.now)

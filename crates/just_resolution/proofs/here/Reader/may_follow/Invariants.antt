@@ -4,7 +4,7 @@ use Rattle.just_resolution.specs.Admitted.{IsAdmitted, MayFollowInTurn}
 use Rattle.just_resolution.specs.Seen.{is_name_in, is_readable}
 use Rattle.just_resolution.proofs.here.Reader.may_follow.Given as goal
 
--- all may follow exactly if those that are left may, where the earlier ones are readable
+-- all may follow exactly if the remaining ones may, once the earlier ones are readable
 abbrev pub invariant-loop-parameter : goal.invariant-loop-parameter
 invariant-loop-parameter l =
     let functions = map function_view l.fn.self.functions.now in

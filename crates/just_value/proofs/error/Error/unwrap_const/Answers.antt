@@ -2,7 +2,7 @@ use Rattle.std.proofs.Common.{inl, inr, ap}
 use Rattle.just_value.specs.View.{refusal}
 use Rattle.just_value.proofs.error.Error.unwrap_const.Goals as goal
 
--- an arm that is left out would be a refusal that constant evaluation does not have
+-- the omitted arms are refusals that constant evaluation does not have
 pub unreachable-requires : goal.unreachable-requires
 unreachable-requires c =
     elim c.in-Backtick.is [
