@@ -2,12 +2,13 @@
 use Rattle.std.proofs.Common.{ℕ, IfSome, Option, Some, None, []}
 use Rattle.just_syntax.specs.Plain.{Text}
 use Rattle.just_value.specs.Frames.{Frames}
+use Rattle.just_host.specs.Interaction.{Step}
 use Rattle.just_meaning.specs.Module.{Module}
 use Rattle.just_case_reader.specs.Case.{Case, Evaluation, Run, Const, Blocks}
 use Rattle.just_case_reader.specs.Reading.{Described, Describes, BadLine}
 use Rattle.just_script.specs.Script.{Script}
 use Rattle.just_bench.specs.Answer.{AnswersLines, Evaluated}
-use Rattle.just_bench.specs.Run.{CaseRuns, RunPrints, Step, recording}
+use Rattle.just_bench.specs.Run.{CaseRuns, RunPrints, recording}
 use Rattle.just_bench.specs.Written.{Nothing, Part, Whole, Written}
 use Rattle.just_bench.proofs.BlocksSeen.{blocks_seen}
 use Rattle.just_bench.proofs.Seen.{Carries, beside, ran_seen, recording_carried}

@@ -7,9 +7,9 @@ use Rattle.std.specs.Map.{values_of}
 use Rattle.std.specs.Option.{option_map}
 use Rattle.std.specs.Ordering.{nat_cmp}
 use Rattle.just_syntax.specs.Plain.{Token}
-use Rattle.just_value.specs.Frames.{Bound, Frames, bound_in_front, own_frame}
+use Rattle.just_value.specs.Frames.{Bound, Frames, bound_innermost, own_frame}
 use Rattle.just_value.specs.Outcome.{Outcome, Gave, Refused, Stopped}
-use Rattle.just_meaning.specs.Module.{Block, Closing, Module, Run, Finished, Stops, Unknown, Passes, Skips, Binds, Breaks, Halts, bound_of}
+use Rattle.just_meaning.specs.Module.{Block, Closing, Module, Run, Finished, Stops, Unknown, Passes, Skips, Binds, Breaks, Halts, bound_in}
 use Rattle.just_bench.specs.FirstBinding.{first_bound, without_attributes}
 
 abbrev HasNone : Bound → Type 0
@@ -23,7 +23,7 @@ GivenNone (Gave frames) = HaveNone frames
 GivenNone (Refused r) = Unit {0}
 GivenNone Stopped = Unit {0}
 
-one_more : (frames : Frames) (b : Bound) → HasNone b → HaveNone frames → HaveNone (bound_in_front frames b)
+one_more : (frames : Frames) (b : Bound) → HasNone b → HaveNone frames → HaveNone (bound_innermost frames b)
 one_more [] b e h = h
 one_more (frame ∷ outer) b e h = All-values-insert_entry nat_cmp b.number b HasNone frame h e
 
@@ -33,7 +33,7 @@ given_none h Stops = tt
 given_none h (Unknown f) = tt
 given_none h (Passes a f e r) = given_none h r
 given_none h (Skips a b f e g r) = given_none h r
-given_none {m = m} {frames = frames} h (Binds a es v k p r) = given_none (one_more frames (bound_of m.program.fixed.settings.export a v) refl h) r
+given_none {m = m} {frames = frames} h (Binds a es v k p r) = given_none (one_more frames (bound_in m a v) refl h) r
 given_none h (Breaks a es r k p) = tt
 given_none h (Halts a es k p) = tt
 

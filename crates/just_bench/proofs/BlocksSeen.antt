@@ -4,11 +4,12 @@ use Rattle.just_syntax.specs.Plain.{Text, Token}
 use Rattle.just_value.specs.Frames.{Frames}
 use Rattle.just_value.specs.Outcome.{Outcome}
 use Rattle.just_host.specs.Recorded.{Kept}
+use Rattle.just_host.specs.Interaction.{Step}
 use Rattle.just_meaning.specs.Module.{Closing, Module}
 use Rattle.just_case_reader.specs.Case.{Case}
 use Rattle.just_script.specs.Script.{Script}
-use Rattle.just_bench.specs.Blocks.{BlocksPrints, BothPrint, FirstRefused, SecondRefused, Compared, Extends, Found, OrderPrints, Turn, Turns, Finished, Goes, Breaks}
-use Rattle.just_bench.specs.Run.{Step, recording}
+use Rattle.just_bench.specs.Blocks.{BlocksPrints, BothPrint, FirstRefused, SecondRefused, Compared, Extends, RunResult, OrderPrints, Turn, Turns, Finished, Goes, Breaks}
+use Rattle.just_bench.specs.Run.{recording}
 use Rattle.just_bench.proofs.Seen.{Carries, beside, extends_seen, recording_carried}
 
 module _ {S T : Type 0} (step : Step S) (other : Step T) (see : S → T) (carried : Carries step other see) where
@@ -20,7 +21,7 @@ module _ {S T : Type 0} (step : Step S) (other : Step T) (see : S → T) (carrie
   turns_seen (Goes e rest) = Goes (turn_seen _ _ e) (turns_seen rest)
   turns_seen (Breaks r e) = Breaks r (turn_seen _ _ e)
 
-  order_seen : {old : S} {m : Module} {outer : Frames} {printed : Text} {found : Option Found} → OrderPrints step old m outer printed found → OrderPrints other (see old) m outer printed found
+  order_seen : {old : S} {m : Module} {outer : Frames} {printed : Text} {found : Option RunResult} → OrderPrints step old m outer printed found → OrderPrints other (see old) m outer printed found
   order_seen p = record {
     lines = p.lines;
     walks = record {

@@ -6,7 +6,7 @@ use Rattle.just_host.specs.Interaction.{Event, Asked, Noted, Checked, Chain}
 use Rattle.just_host.specs.Question.{Question, Blind, CommandOf, TextOf, ExistsAt, NumberOf, Answer, Failed, UnlessNoMemory}
 use Rattle.just_host.specs.Recorded.{Kept}
 use Rattle.just_script.specs.Script.{Script, AnswersByScript, AnswersCommand, AnswersNext, text_for}
-use Rattle.just_agreement.specs.Decided.{AgreeUpToAnswers}
+use Rattle.just_laws.specs.Decided.{AgreeUpToAnswers}
 use Rattle.just_bench.proofs.Heeded.{AllAnswered}
 use Rattle.just_bench.specs.Run.{by_script, recording}
 

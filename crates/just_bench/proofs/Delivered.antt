@@ -11,7 +11,7 @@ one_of_error (Err e) is = refl
 -- a case is read, its answer is printed to an empty text, and the text is passed to a writer
 module _ (Is : Text → Text → ℕ → Type 0) (bytes case before text given : Text) (status : ℕ) (old new : Option Text) (read : case ≡ bytes) (first : before ≡ []) (added : Added before text (λ printed. Is case printed status)) (lent : given ≡ text) where
   answered : Is bytes given status
-  answered = subst (λ b. Is b given status) read (subst (λ t. Is case t status) (sym (lent ∙ added.behind ∙ ap (λ t. t ++ added.printed) first)) added.is)
+  answered = subst (λ b. Is b given status) read (subst (λ t. Is case t status) (sym (lent ∙ added.after ∙ ap (λ t. t ++ added.printed) first)) added.is)
 
   -- the whole text is written
   pub all_written : (remaining : Option Text) → IfSome remaining (λ rest. bytes ≡ rest) → Appends old new given → IfSome remaining (λ case. Written old new status (Is case))

@@ -12,8 +12,8 @@ use Rattle.just_host.specs.Interaction as interaction
 use Rattle.just_host.specs.Interaction.{Event, Tree, Verdict, done, ask, note, check, bind, Path, Ends, Asks, Notes, Checks, Shuts, freely}
 use Rattle.just_host.specs.Question.{Blind, Answer, Failed, Absent, Found, Numbered, Executable}
 use Rattle.just_host.specs.declared.number_question.NumberQuestion.TheVariants.{Cpus}
-use Rattle.just_builtins.specs.Argument.{value_at, text_at, first}
-use Rattle.just_builtins.specs.Asking.{asks_environment, asks_existence, asks_number, asks_shell, asks_text, command_answered, entry, existence_answered, first_set, number_answered, or_asks, text_answered, unset}
+use Rattle.just_builtins.specs.Argument.{argument_at, text_at, first}
+use Rattle.just_builtins.specs.Asking.{asks_environment, asks_existence, asks_number, asks_shell, asks_text, command_answered, entry, existence_answered, first_set, number_answered, or_asks, text_answered, none_set}
 use Rattle.just_builtins.specs.Called.{Called, Returned, Said, tree}
 use Rattle.just_builtins.specs.Meaning.{has_lists, or_fails, reply, says_truth, truth, value_truth}
 use Rattle.just_builtins.specs.Reply as replies
@@ -24,9 +24,9 @@ use Rattle.just_builtins.specs.declared.builtin.Builtin.TheVariants as builtin
 use Rattle.just_meaning.specs.Callee.{Callee, Defined, BuiltIn, LeftOut, Unknown, accepts, callee}
 use Rattle.just_meaning.specs.Closings.{dynamic, inside}
 use Rattle.just_meaning.specs.Meaning as reads
-use Rattle.just_meaning.specs.Meaning.{Program, Situation, Deeper, AtLimit, Room, Row, answered, argument, as_it_is, built_in_call, built_in_context, called, eval, eval_row, returned, texts_of}
+use Rattle.just_meaning.specs.Meaning.{Program, Situation, Deeper, AtLimit, WithinLimit, Row, answered, argument, as_it_is, built_in_call, built_in_context, called, eval, eval_row, returned, texts_of}
 use Rattle.just_meaning.specs.Module.{Module, Block, Run, Finished, Stops as StopsRun, Unknown as UnknownName, Passes, Skips, Binds, Breaks, Halts, assigned, dynamically, events_of, or_override, situation_at}
-use Rattle.just_laws.proofs.Forms.{holds_eval}
+use Rattle.just_soundness.proofs.Forms.{holds_eval}
 
 -- no question was answered by `NoMemory`
 abbrev pub AllAnswered : List Event → Type 0
@@ -113,7 +113,7 @@ existence_heeds c truth (b ∷ bs) = (refl, at)
     at (Found there) = tt
     at _ = tt
 
-unset_heeds : (keys : List Text) (default : Option Value) → HeedsReply (unset keys default)
+unset_heeds : (keys : List Text) (default : Option Value) → HeedsReply (none_set keys default)
 unset_heeds keys (Some v) = tt
 unset_heeds keys None = tt
 
@@ -126,7 +126,7 @@ first_set_heeds dotenv rest h [] = h
 first_set_heeds dotenv rest h (key ∷ keys) = or_asks_heeds (entry dotenv key) _ (text_heeds _ _ _ (first_set_heeds dotenv rest h keys))
 
 environment_heeds : (c : Context) (keys : List Text) (default : Option Value) → HeedsReply (asks_environment c keys default)
-environment_heeds c keys default = first_set_heeds c.fixed.dotenv (unset keys default) (unset_heeds keys default) keys
+environment_heeds c keys default = first_set_heeds c.fixed.dotenv (none_set keys default) (unset_heeds keys default) keys
 
 command_heeds : (a : Answer) → HeedsReply (command_answered a)
 command_heeds (Failed (Message text)) = tt
@@ -144,7 +144,7 @@ shell_heeds c (command ∷ arguments) = dry_heeds c.fixed.config.dry_run _ _
 
 reply_heeds : (b : Builtin) (c : Context) (vs : List Value) → HeedsReply (reply b c vs)
 reply_heeds builtin.Arch c vs = text_heeds _ _ _ tt
-reply_heeds builtin.Bool c vs = truth_heeds (has_lists c) (value_truth (value_at vs 0))
+reply_heeds builtin.Bool c vs = truth_heeds (has_lists c) (value_truth (argument_at vs 0))
 reply_heeds builtin.CacheDirectory c vs = text_heeds _ _ _ tt
 reply_heeds builtin.Canonicalize c vs = text_heeds _ _ _ tt
 reply_heeds builtin.Capitalize c vs = says_heeds (capitalize (text_at vs 0)) _
@@ -152,9 +152,9 @@ reply_heeds builtin.ConfigDirectory c vs = text_heeds _ _ _ tt
 reply_heeds builtin.ConfigLocalDirectory c vs = text_heeds _ _ _ tt
 reply_heeds builtin.DataDirectory c vs = text_heeds _ _ _ tt
 reply_heeds builtin.DataLocalDirectory c vs = text_heeds _ _ _ tt
-reply_heeds builtin.Env c vs = environment_heeds c (value_at vs 0) (slice_get vs 1)
-reply_heeds builtin.EnvVar c vs = environment_heeds c (value_at vs 0) None
-reply_heeds builtin.EnvVarOrDefault c vs = environment_heeds c (value_at vs 0) (Some (value_at vs 1))
+reply_heeds builtin.Env c vs = environment_heeds c (argument_at vs 0) (slice_get vs 1)
+reply_heeds builtin.EnvVar c vs = environment_heeds c (argument_at vs 0) None
+reply_heeds builtin.EnvVarOrDefault c vs = environment_heeds c (argument_at vs 0) (Some (argument_at vs 1))
 reply_heeds builtin.ExecutableDirectory c vs = text_heeds _ _ _ tt
 reply_heeds builtin.Extension c vs = says_heeds (path.extension (text_at vs 0)) _
 reply_heeds builtin.FileName c vs = says_heeds (path.file_name (text_at vs 0)) _
@@ -175,7 +175,7 @@ reply_heeds builtin.RecipeName c vs = says_heeds c.recipe _
 reply_heeds builtin.Require c vs = text_heeds _ _ _ tt
 reply_heeds builtin.RuntimeDirectory c vs = text_heeds _ _ _ tt
 reply_heeds builtin.Shell c vs = shell_heeds c (map first vs)
-reply_heeds builtin.SourceDirectory c vs = or_heeds (path.parent c.fixed.justfile) _ _ (λ directory. says_heeds (path.parent (path.joined directory c.name.path)) _)
+reply_heeds builtin.SourceDirectory c vs = or_heeds (path.parent c.fixed.justfile) _ _ (λ directory. says_heeds (path.parent (path.joined_paths directory c.name.path)) _)
 reply_heeds builtin.SourceFile c vs = or_heeds (path.parent c.fixed.justfile) _ _ (λ directory. tt)
 reply_heeds builtin.Uppercase c vs = says_heeds (uppercase (text_at vs 0)) _
 reply_heeds builtin.Which c vs = text_heeds _ _ _ tt
@@ -186,7 +186,7 @@ reply_heeds _ c vs = tt
 
 abbrev HeedsDeeper : Deeper → Type 0
 HeedsDeeper AtLimit = Unit {0}
-HeedsDeeper (Room run) = (f : Function) (s : Situation) (vs : List Value) → Heeds Value (run f s vs)
+HeedsDeeper (WithinLimit run) = (f : Function) (s : Situation) (vs : List Value) → Heeds Value (run f s vs)
 
 answer_heeds : (t : Token) (a : Answer) → Heeds Value (done (answered t a))
 answer_heeds t a = tt
@@ -211,7 +211,7 @@ if_heeds false x y h k = k
 
 called_heeds : (c : Program) (t : Token) (what : Callee) (d : Deeper) (s : Situation) (n : ℕ) (row : Row) → HeedsDeeper d → HeedsRow row → Heeds Value (called c t what d s n row)
 called_heeds c t (Defined f) AtLimit s n row h k = tt
-called_heeds c t (Defined f) (Room run) s n row h k = if_heeds (nat_eq n (length f.parameters)) _ _ (heeds_bind _ _ (row as_it_is) (run f s) (k as_it_is (λ i v. tt)) (h f s)) tt
+called_heeds c t (Defined f) (WithinLimit run) s n row h k = if_heeds (nat_eq n (length f.parameters)) _ _ (heeds_bind _ _ (row as_it_is) (run f s) (k as_it_is (λ i v. tt)) (h f s)) tt
 called_heeds c t (BuiltIn f) d s n row h k =
     if_heeds (accepts (BuiltIn f) n) _ _
     (heeds_bind _ _ (row (texts_of f t)) (built_in_call c s t f) (k (texts_of f t) (λ i v. argument_heeds (is_text f i) t v))

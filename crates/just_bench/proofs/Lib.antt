@@ -21,3 +21,4 @@ mod Scripted
 mod Seen
 mod Stages
 mod Walks
+mod Added

@@ -8,12 +8,12 @@ use Rattle.just_value.specs.Refusal.{Refusal}
 use Rattle.just_value.specs.Outcome.{Outcome, Gave, Refused, Stopped}
 use Rattle.just_host.specs.Printed.{kept_printed}
 use Rattle.just_host.specs.Recorded.{Kept}
-use Rattle.just_answer.specs.Answer.{line, name_words, order_line, question_line, question_lines, refusal_line, refused_text, words}
-use Rattle.just_bench.specs.Blocks.{Block, block_lines, end_line}
+use Rattle.just_bench.specs.Printed.{with_newline, name_words, order_line, question_line, question_lines, refusal_line, refused_text, words}
+use Rattle.just_bench.specs.Blocks.{PrintedBlock, block_lines, end_line}
 use Rattle.just_bench.specs.Laws.{AreLines}
 use Rattle.just_bench.specs.Run.{unresolved_line}
 
-are_line : (text : Text) → AreLines (line text)
+are_line : (text : Text) → AreLines (with_newline text)
 are_line text = inr (text, refl)
 
 pub is_order : (names : List Token) → AreLines (order_line names)
@@ -34,8 +34,8 @@ flat_lines f h (x ∷ xs) = lines_after (f x) (flat_map f xs) (h x) (flat_lines 
 pub are_questions : (kept : List Kept) → AreLines (question_lines kept)
 are_questions = flat_lines question_line (λ k. are_line (codes "? " ++ kept_printed k))
 
-pub are_blocks : (blocks : List Block) → AreLines (flat_map block_lines blocks)
-are_blocks = flat_lines block_lines (λ b. let name = codes "block " ++ b.name.lexeme in lines_after (line name) (question_lines b.asked) (are_line name) (are_questions b.asked))
+pub are_blocks : (blocks : List PrintedBlock) → AreLines (flat_map block_lines blocks)
+are_blocks = flat_lines block_lines (λ b. let name = codes "block " ++ b.name.lexeme in lines_after (with_newline name) (question_lines b.asked) (are_line name) (are_questions b.asked))
 
 pub are_unresolved : (resolved : Bool) → AreLines (unresolved_line resolved)
 are_unresolved true = inl refl

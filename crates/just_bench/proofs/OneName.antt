@@ -2,17 +2,17 @@
 use Rattle.std.proofs.Common.{◌≡◌, ◌⊎◌, inl, inr, List, [], ◌∷◌, Option, Some, None, refl, ap, ◌∙◌, sym, subst}
 use Rattle.std.specs.Map.{values_of}
 use Rattle.just_syntax.specs.Plain.{Token}
-use Rattle.just_value.specs.Frames.{Bound, Frames, bound_in_front, own_frame}
+use Rattle.just_value.specs.Frames.{Bound, Frames, bound_innermost, own_frame}
 use Rattle.just_value.specs.Outcome.{Outcome, Gave, Refused, Stopped, and_then}
-use Rattle.just_meaning.specs.Module.{Block, Closing, Module, Ran, Run, Finished, Passes, Skips, Binds, bound_of}
+use Rattle.just_host.specs.Interaction.{Step}
+use Rattle.just_meaning.specs.Module.{Block, Closing, Module, Ran, Run, Finished, Passes, Skips, Binds, bound_in}
 use Rattle.just_bench.specs.Blocks.{Extends, grown, in_order}
 use Rattle.just_bench.specs.FirstBinding.{first_bound, first_given}
-use Rattle.just_bench.specs.Run.{Step}
 
 -- frames with an optional binding added
 abbrev pub with_one : Frames → Option Bound → Frames
 with_one frames None = frames
-with_one frames (Some b) = bound_in_front frames b
+with_one frames (Some b) = bound_innermost frames b
 
 abbrev BindsOne : Frames → Type 0
 BindsOne own = (values_of (own_frame own) ≡ []) ⊎ ((b : Bound) × (values_of (own_frame own) ≡ b ∷ []))
@@ -24,7 +24,7 @@ module _ {closing : Closing} {m : Module} where
   binds_one : {frames own : Frames} {t : Token} {bs : List Block} → Run closing m ([] ∷ frames) (t ∷ []) bs (Gave own) → BindsOne own
   binds_one (Passes a f e r) = inl (rw (sym (at_end r)) refl)
   binds_one (Skips a b f e g r) = inl (rw (sym (at_end r)) refl)
-  binds_one (Binds a es v k p r) = inr (bound_of m.program.fixed.settings.export a v, rw (sym (at_end r)) refl)
+  binds_one (Binds a es v k p r) = inr (bound_in m a v, rw (sym (at_end r)) refl)
 
 first_is_all : (frames own : Frames) → BindsOne own → with_one frames (first_bound (values_of (own_frame own))) ≡ grown frames (values_of (own_frame own))
 first_is_all frames own (inl none) = rw none refl

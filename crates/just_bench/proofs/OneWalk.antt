@@ -9,10 +9,10 @@ use Rattle.just_value.specs.Refusal.{Refusal}
 use Rattle.just_host.specs.Recorded.{Kept}
 use Rattle.just_meaning.specs.Module.{Module, dynamically, events_of}
 use Rattle.just_script.specs.Script.{Script}
-use Rattle.just_agreement.proofs.Decide.{answers_decide}
-use Rattle.just_answer.specs.Answer.{const_refusal_line, order_line, refusal_line}
-use Rattle.just_bench.specs.Blocks.{BothPrint, FirstRefused, SecondRefused, Compared, Extends, Found, OrderPrints, Turn, Turns, Finished, Goes, Breaks, block_lines, blocks_in, end_line, found_by, grown, names_of, with_blocks}
-use Rattle.just_bench.specs.Laws.{AreLines, WantsNoMemory}
+use Rattle.just_laws.proofs.Decide.{answers_decide}
+use Rattle.just_bench.specs.Printed.{const_refusal_line, order_line, refusal_line}
+use Rattle.just_bench.specs.Blocks.{BothPrint, FirstRefused, SecondRefused, Compared, Extends, RunResult, OrderPrints, Turn, Turns, Finished, Goes, Breaks, block_lines, blocks_in, end_line, found_by, grown, names_of, with_blocks}
+use Rattle.just_bench.specs.Laws.{AreLines, HadMemory}
 use Rattle.just_bench.specs.Run.{by_script, recording}
 use Rattle.just_bench.specs.Taken.{taken_in}
 use Rattle.just_bench.proofs.Decided.{chains_one}
@@ -69,13 +69,13 @@ module _ (m : Module) where
       (rw ends refl, same, ends)
 
 -- the output and the result for an order
-order_here : (h : Script) (m : Module) (outer : Frames) (p q : Text) (f g : Option Found) (one : OrderPrints by_script h m outer p f) (other : OrderPrints by_script h m outer q g) → one.walks.outcome ≢ Stopped → other.walks.outcome ≢ Stopped → (p ≡ q) × (f ≡ g)
+order_here : (h : Script) (m : Module) (outer : Frames) (p q : Text) (f g : Option RunResult) (one : OrderPrints by_script h m outer p f) (other : OrderPrints by_script h m outer q g) → one.walks.outcome ≢ Stopped → other.walks.outcome ≢ Stopped → (p ≡ q) × (f ≡ g)
 order_here h m outer p q f g one other here there =
     let (turns, out, last) = turns_one m one.walks.walk other.walks.walk here there in
     let lines : one.lines ≡ other.lines = one.walks.text ∙ rw (turns, out) (sym other.walks.text) in
     (one.text ∙ rw lines (sym other.text), one.walks.finds ∙ rw (turns, out) (sym other.walks.finds))
 
-order_one : (h k : Script) (from : h ≡ k) (m : Module) (outer : Frames) (p q : Text) (f g : Option Found) (one : OrderPrints by_script h m outer p f) (other : OrderPrints by_script k m outer q g) → one.walks.outcome ≢ Stopped → other.walks.outcome ≢ Stopped → (p ≡ q) × (f ≡ g)
+order_one : (h k : Script) (from : h ≡ k) (m : Module) (outer : Frames) (p q : Text) (f g : Option RunResult) (one : OrderPrints by_script h m outer p f) (other : OrderPrints by_script k m outer q g) → one.walks.outcome ≢ Stopped → other.walks.outcome ≢ Stopped → (p ≡ q) × (f ≡ g)
 order_one h k from m outer p q f g one other here there =
     subst (λ x. (d : OrderPrints by_script x m outer q g) → d.walks.outcome ≢ Stopped → (p ≡ q) × (f ≡ g)) from (λ d whole. order_here h m outer p q f g one d here whole) other there
 
@@ -86,28 +86,28 @@ some_one : {A : Type 0} {f g : A} → Some f ≡ Some g → f ≡ g
 some_one e = cc
 
 -- a run with a result was not stopped
-found_whole : {h : Script} {m : Module} {outer : Frames} {p : Text} (f : Found) (one : OrderPrints by_script h m outer p (Some f)) → one.walks.outcome ≢ Stopped
+found_whole : {h : Script} {m : Module} {outer : Frames} {p : Text} (f : RunResult) (one : OrderPrints by_script h m outer p (Some f)) → one.walks.outcome ≢ Stopped
 found_whole {m = m} f one e = never_found (one.walks.finds ∙ ap (λ o. found_by o (with_blocks (λ n. None) (blocks_in one.walks.turns (taken_in m.assignments m.assignments.order)))) e)
 
 -- a run that does not report `OutOfMemory` was not stopped
-order_whole : {h : Script} {m : Module} {outer : Frames} {found : Option Found} (p : Text) (one : OrderPrints by_script h m outer p found) → WantsNoMemory p → one.walks.outcome ≢ Stopped
-order_whole {m = m} p one wants e =
+order_whole : {h : Script} {m : Module} {outer : Frames} {found : Option RunResult} (p : Text) (one : OrderPrints by_script h m outer p found) → HadMemory p → one.walks.outcome ≢ Stopped
+order_whole {m = m} p one had e =
     let taken = taken_in m.assignments m.assignments.order in
     let first = order_line (names_of taken) in
     let blocks = flat_map block_lines (blocks_in one.walks.turns taken) in
-    (wants (first ++ blocks) (lines_after first blocks (is_order (names_of taken)) (are_blocks (blocks_in one.walks.turns taken)))).0
+    (had (first ++ blocks) (lines_after first blocks (is_order (names_of taken)) (are_blocks (blocks_in one.walks.turns taken)))).0
     (one.text ∙ ap (λ lines. first ++ lines) (one.walks.text ∙ ap (λ o. blocks ++ end_line o) e) ∙ sym (append_assoc first blocks (refusal_line None)))
 
 -- the text after other lines does not report it either
-pub wants_behind : (before text : Text) → AreLines before → WantsNoMemory (before ++ text) → WantsNoMemory text
-wants_behind before text lines wants front are =
-    let both = wants (before ++ front) (lines_after before front lines are) in (
+pub had_after : (before text : Text) → AreLines before → HadMemory (before ++ text) → HadMemory text
+had_after before text lines had front are =
+    let both = had (before ++ front) (lines_after before front lines are) in (
       λ e. both.0 (ap (λ t. before ++ t) e ∙ sym (append_assoc before front (refusal_line None))),
       λ e. both.1 (ap (λ t. before ++ t) e ∙ sym (append_assoc before front (const_refusal_line None))),
     )
 
 -- the output for an order consists of lines
-order_lines : {h : Script} {m : Module} {outer : Frames} {p : Text} {f : Option Found} → OrderPrints by_script h m outer p f → AreLines p
+order_lines : {h : Script} {m : Module} {outer : Frames} {p : Text} {f : Option RunResult} → OrderPrints by_script h m outer p f → AreLines p
 order_lines {m = m} one =
     let blocks = blocks_in one.walks.turns (taken_in m.assignments m.assignments.order) in
     let names = names_of (taken_in m.assignments m.assignments.order) in
@@ -115,18 +115,18 @@ order_lines {m = m} one =
     subst AreLines (sym one.text) (lines_after (order_line names) one.lines (is_order names) lines)
 
 -- the output of two runs
-pub both_one : (h k i j : Script) (from : h ≡ k) (other_from : i ≡ j) (first second : Module) (outer : Frames) (p q : Text) (s t : ℕ) → BothPrint by_script h i first second outer p s → BothPrint by_script k j first second outer q t → WantsNoMemory p → WantsNoMemory q → (p ≡ q) × (s ≡ t)
+pub both_one : (h k i j : Script) (from : h ≡ k) (other_from : i ≡ j) (first second : Module) (outer : Frames) (p q : Text) (s t : ℕ) → BothPrint by_script h i first second outer p s → BothPrint by_script k j first second outer q t → HadMemory p → HadMemory q → (p ≡ q) × (s ≡ t)
 both_one h k i j from other_from first second outer p q s t (FirstRefused a) (FirstRefused b) here there = ((order_one h k from first outer p q None None a b (order_whole p a here) (order_whole q b there)).0, refl)
 both_one h k i j from other_from first second outer p q s t (FirstRefused a) (SecondRefused {one = f} b more) here there = never_found (sym (order_one h k from first outer p _ None (Some f) a b (order_whole p a here) (found_whole f b)).1)
 both_one h k i j from other_from first second outer p q s t (FirstRefused a) (Compared {one = f} b more) here there = never_found (sym (order_one h k from first outer p _ None (Some f) a b (order_whole p a here) (found_whole f b)).1)
 both_one h k i j from other_from first second outer p q s t (SecondRefused {one = f} a rest) (FirstRefused b) here there = never_found (order_one h k from first outer _ q (Some f) None a b (found_whole f a) (order_whole q b there)).1
 both_one h k i j from other_from first second outer p q s t (Compared {one = f} a rest) (FirstRefused b) here there = never_found (order_one h k from first outer _ q (Some f) None a b (found_whole f a) (order_whole q b there)).1
 both_one h k i j from other_from first second outer p q s t (SecondRefused {text = x} {more = y} {one = f} a rest) (SecondRefused {text = v} {more = w} {one = g} b more) here there =
-    (rw ((order_one h k from first outer x v (Some f) (Some g) a b (found_whole f a) (found_whole g b)).0, (order_one i j other_from second outer y w None None rest more (order_whole y rest (wants_behind x y (order_lines a) here)) (order_whole w more (wants_behind v w (order_lines b) there))).0) refl, refl)
+    (rw ((order_one h k from first outer x v (Some f) (Some g) a b (found_whole f a) (found_whole g b)).0, (order_one i j other_from second outer y w None None rest more (order_whole y rest (had_after x y (order_lines a) here)) (order_whole w more (had_after v w (order_lines b) there))).0) refl, refl)
 both_one h k i j from other_from first second outer p q s t (SecondRefused {text = x} {more = y} a rest) (Compared {more = w} {other = g} b more) here there =
-    never_found (sym (order_one i j other_from second outer y w None (Some g) rest more (order_whole y rest (wants_behind x y (order_lines a) here)) (found_whole g more)).1)
+    never_found (sym (order_one i j other_from second outer y w None (Some g) rest more (order_whole y rest (had_after x y (order_lines a) here)) (found_whole g more)).1)
 both_one h k i j from other_from first second outer p q s t (Compared {more = y} {other = g} a rest) (SecondRefused {text = v} {more = w} b more) here there =
-    never_found (order_one i j other_from second outer y w (Some g) None rest more (found_whole g rest) (order_whole w more (wants_behind v w (order_lines b) there))).1
+    never_found (order_one i j other_from second outer y w (Some g) None rest more (found_whole g rest) (order_whole w more (had_after v w (order_lines b) there))).1
 both_one h k i j from other_from first second outer p q s t (Compared {text = x} {more = y} {one = f} {other = g} a rest) (Compared {text = v} {more = w} {one = f'} {other = g'} b more) here there =
     let (text, found) = order_one h k from first outer x v (Some f) (Some f') a b (found_whole f a) (found_whole f' b) in
     let (lines, other) = order_one i j other_from second outer y w (Some g) (Some g') rest more (found_whole g rest) (found_whole g' more) in

@@ -4,14 +4,14 @@ use Rattle.just_syntax.specs.Plain.{Text}
 use Rattle.just_value.specs.Frames.{Frames}
 use Rattle.just_value.specs.Outcome.{Outcome}
 use Rattle.just_host.specs.Recorded.{Kept}
-use Rattle.just_meaning.specs.Module.{Module, Ran, dynamically, lexically}
-use Rattle.just_meaning.specs.Resolved.{IsResolved}
-use Rattle.just_answer.specs.Answer.{question_lines}
+use Rattle.just_host.specs.Interaction.{Step}
+use Rattle.just_meaning.specs.Module.{Module, Ran, dynamically, lexically, IsResolvedModule}
+use Rattle.just_bench.specs.Printed.{question_lines}
 use Rattle.just_case_reader.specs.Case.{Case}
 use Rattle.just_script.specs.View.{script_view}
 use Rattle.just_script.specs.declared.scripted_host.ScriptedHost.{ScriptedHost}
 use Rattle.just_bench.specs.Hosts.{MadeOf, case_script, without_answers}
-use Rattle.just_bench.specs.Run.{CaseRuns, RunPrints, Step, outcome_lines, recording, status_of, unresolved_line}
+use Rattle.just_bench.specs.Run.{CaseRuns, RunPrints, outcome_lines, recording, status_of, unresolved_line}
 use Rattle.just_bench.specs.Written.{Added}
 use Rattle.just_bench.specs.Module.{case_module}
 
@@ -21,15 +21,15 @@ three a b c d x y z p q r = r ∙ ap (λ t. t ++ z) (q ∙ ap (λ t. t ++ y) p) 
 
 -- the output of a run, by its parts
 pub run_printed : {E S : Type 0} (step : Step S) (old : S) (m : Module) (outer : Frames) (resolved : Bool) (kept : List Kept) (outcome : Outcome Frames) (new : S) (asked : List Kept) (a b c d : Text) (result : Result ℕ E)
-    → (IsTrue resolved ↔ IsResolved m.program.functions m.assignments outer)
-    → (IsResolved m.program.functions m.assignments outer → Ran (recording step) (old, []) lexically m ([] ∷ outer) m.assignments.order outcome (new, kept))
+    → (IsTrue resolved ↔ IsResolvedModule m outer)
+    → (IsResolvedModule m outer → Ran (recording step) (old, []) lexically m ([] ∷ outer) m.assignments.order outcome (new, kept))
     → Ran (recording step) (old, []) dynamically m ([] ∷ outer) m.assignments.order outcome (new, kept)
     → b ≡ a ++ unresolved_line resolved → c ≡ b ++ question_lines asked → asked ≡ kept → OnOk result (d ≡ c ++ outcome_lines outcome) → IfOk result (λ status. status ≡ status_of outcome)
     → IfOk result (λ status. Added a d (λ printed. RunPrints step old m outer printed status))
 run_printed step old m outer resolved kept outcome new asked a b c d (Err e) test lexical dynamic p q same r ends = tt
 run_printed step old m outer resolved kept outcome new asked a b c d (Ok status) test lexical dynamic p q same r ends = record {
   printed = unresolved_line resolved ++ (question_lines kept ++ outcome_lines outcome);
-  behind = three a b c d (unresolved_line resolved) (question_lines kept) (outcome_lines outcome) p (q ∙ ap (λ kept. b ++ question_lines kept) same) r;
+  after = three a b c d (unresolved_line resolved) (question_lines kept) (outcome_lines outcome) p (q ∙ ap (λ kept. b ++ question_lines kept) same) r;
   is = record {
     resolved = resolved;
     test = test;
@@ -50,7 +50,7 @@ pub case_printed : {E S : Type 0} (step : Step S) (gives : ScriptedHost → S �
 case_printed step gives c rest outer host made old m a b (Err e) says given same without is printed = tt
 case_printed step gives c rest outer host made old m a b (Ok status) says given same without is p = record {
   printed = p.printed;
-  behind = p.behind;
+  after = p.after;
   is = record {
     host = made;
     starts = (host, says, given);

@@ -3,6 +3,7 @@ use Rattle.std.proofs.Common.{◌≡◌, ℕ, zero, suc, ap, ◌∙◌, Option, 
 use Rattle.just_syntax.specs.Plain.{Text}
 use Rattle.just_value.specs.Frames.{Frames}
 use Rattle.just_host.specs.Question.{Question, Answer, Blind, CommandOf, TextOf, ExistsAt, NumberOf}
+use Rattle.just_host.specs.Interaction.{Step}
 use Rattle.just_case_reader.specs.Case.{Case}
 use Rattle.just_script.specs.Failing.{Failing, Fails, Faults, PassesOr, PassesOrFails}
 use Rattle.just_script.specs.Script.{Script, AnswersByScript}
@@ -11,9 +12,9 @@ use Rattle.just_script.specs.declared.fail_at.FailAt.{FailAt}
 use Rattle.just_script.specs.declared.fail_at.How.{How}
 use Rattle.just_script.specs.declared.fail_at.How.TheVariants.{Fault, Memory}
 use Rattle.just_script.specs.declared.scripted_host.ScriptedHost.{ScriptedHost}
-use Rattle.just_bench.specs.Answer.{Answers, Evaluated}
+use Rattle.just_bench.specs.Answer.{AnswersCase, Evaluated}
 use Rattle.just_bench.specs.Hosts.{MadeOf}
-use Rattle.just_bench.specs.Run.{Step, by_script}
+use Rattle.just_bench.specs.Run.{by_script}
 use Rattle.just_bench.specs.Written.{Added, Written}
 use Rattle.just_bench.proofs.AnswersSeen.{answer_seen, evaluated_seen, known_as}
 
@@ -23,9 +24,9 @@ scripted old question answer new = AnswersByScript (script_view old) question.bl
 
 -- the host of the case itself
 pub bare_known : (old new : Option Text) (status : ℕ) (remaining : Option Text)
-    → IfSome remaining (λ case. Written old new status (Answers scripted (MadeOf (λ host made. made ≡ host)) case))
-    → IfSome remaining (λ case. Written old new status (Answers by_script (λ script state. state ≡ script) case))
-bare_known old new status = known_as old new status (Answers scripted (MadeOf (λ host made. made ≡ host))) (Answers by_script (λ script state. state ≡ script))
+    → IfSome remaining (λ case. Written old new status (AnswersCase scripted (MadeOf (λ host made. made ≡ host)) case))
+    → IfSome remaining (λ case. Written old new status (AnswersCase by_script (λ script state. state ≡ script) case))
+bare_known old new status = known_as old new status (AnswersCase scripted (MadeOf (λ host made. made ≡ host))) (AnswersCase by_script (λ script state. state ≡ script))
     (λ case text status. answer_seen scripted by_script script_view (λ a q x b s. s) (MadeOf (λ host made. made ≡ host)) (λ script state. state ≡ script)
     (λ script made (host, says, given). ap script_view given ∙ says) _ text status)
 
@@ -35,7 +36,7 @@ pub bare_evaluated : {E : Type 0} (c : Case) (outer : Frames) (old new : Text) (
     → IfOk result (λ status. Added old new (λ printed. Evaluated by_script (λ script state. state ≡ script) c c.evaluation outer printed status))
 bare_evaluated c outer old new (Ok status) a = record {
   printed = a.printed;
-  behind = a.behind;
+  after = a.after;
   is = evaluated_seen scripted by_script script_view (λ a q x b s. s) (MadeOf (λ host made. made ≡ host)) (λ script state. state ≡ script)
       (λ script made (host, says, given). ap script_view given ∙ says) c c.evaluation outer a.printed status a.is;
 }
@@ -72,8 +73,8 @@ abbrev pub Around : ℕ → How → ScriptedHost → FailAt ScriptedHost → Typ
 Around passed how host made = failing_view made ≡ record { host = host; left = passed; how = how }
 
 pub failing_known : (passed : ℕ) (how : How) (old new : Option Text) (status : ℕ) (remaining : Option Text)
-    → IfSome remaining (λ case. Written old new status (Answers failing (MadeOf (Around passed how)) case))
-    → IfSome remaining (λ case. Written old new status (Answers (PassesOrFails by_script) (λ script state. state ≡ record { host = script; left = passed; how = how }) case))
-failing_known passed how old new status = known_as old new status (Answers failing (MadeOf (Around passed how))) (Answers (PassesOrFails by_script) (λ script state. state ≡ record { host = script; left = passed; how = how }))
+    → IfSome remaining (λ case. Written old new status (AnswersCase failing (MadeOf (Around passed how)) case))
+    → IfSome remaining (λ case. Written old new status (AnswersCase (PassesOrFails by_script) (λ script state. state ≡ record { host = script; left = passed; how = how }) case))
+failing_known passed how old new status = known_as old new status (AnswersCase failing (MadeOf (Around passed how))) (AnswersCase (PassesOrFails by_script) (λ script state. state ≡ record { host = script; left = passed; how = how }))
     (λ case text status. answer_seen failing (PassesOrFails by_script) failing_script failing_carried (MadeOf (Around passed how)) (λ script state. state ≡ record { host = script; left = passed; how = how })
     (λ script made (host, says, given). ap (λ (f : Failing ScriptedHost). record { host = script_view f.host; left = f.left; how = f.how }) given ∙ ap (λ s. record { host = s; left = passed; how = how }) says) _ text status)

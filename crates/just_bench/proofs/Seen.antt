@@ -3,14 +3,14 @@ use Rattle.std.proofs.Common.{◌≡◌, inl, inr, List, [], ◌∷◌, ap, subs
 use Rattle.just_syntax.specs.Plain.{Token}
 use Rattle.just_value.specs.Frames.{Frames}
 use Rattle.just_value.specs.Outcome.{Outcome}
-use Rattle.just_host.specs.Interaction.{Event, Asked, Noted, Checked, Chain}
+use Rattle.just_host.specs.Interaction.{Event, Asked, Noted, Checked, Chain, Step}
 use Rattle.just_host.specs.Question.{Question, Answer}
 use Rattle.just_host.specs.Recorded.{Kept, RecordsAndAsks}
 use Rattle.just_host.specs.View.{inner_host, records_view}
 use Rattle.just_host.specs.declared.recorder.Recorder.{Recorder}
 use Rattle.just_meaning.specs.Module.{Closing, Module, Ran, events_of}
 use Rattle.just_bench.specs.Blocks.{Extends}
-use Rattle.just_bench.specs.Run.{Step, recording}
+use Rattle.just_bench.specs.Run.{recording}
 
 -- a transition of the first host is a transition of the second
 abbrev pub Carries : {S T : Type 0} → Step S → Step T → (S → T) → Type 0

@@ -5,17 +5,17 @@ use Rattle.just_value.specs.Frames.{Frames}
 use Rattle.just_value.specs.Outcome.{Outcome}
 use Rattle.just_case_reader.specs.Case.{Case}
 use Rattle.just_meaning.specs.Resolved.{IsResolvedConst}
-use Rattle.just_meaning.specs.Stage.{Constants, Standing, Staged, at_start}
+use Rattle.just_meaning.specs.Stage.{Constants, StageState, Staged, at_start}
 use Rattle.just_bench.specs.Run.{status_of, unresolved_line}
 use Rattle.just_bench.specs.Written.{Added}
 use Rattle.just_bench.specs.Settled.{ConstPrints, case_constants, stage_lines}
 
 -- the output for a case: whether its stage is resolved, followed by its outcome
-stage_printed : (c : Case) (outer : Frames) (m : Constants) (lists resolved : Bool) (o : Outcome Standing) (old between new : Text) (status : ℕ) → m ≡ case_constants c → lists ≡ c.lists → IsTrue resolved ↔ IsResolvedConst m.assignments outer →
+stage_printed : (c : Case) (outer : Frames) (m : Constants) (lists resolved : Bool) (o : Outcome StageState) (old between new : Text) (status : ℕ) → m ≡ case_constants c → lists ≡ c.lists → IsTrue resolved ↔ IsResolvedConst m.assignments outer →
     Staged m (at_start lists outer) m.assignments.order o → between ≡ old ++ unresolved_line resolved → new ≡ between ++ stage_lines m o → status ≡ status_of o → Added old new (λ printed. ConstPrints c outer printed status)
 stage_printed c outer m lists resolved o old between new status constants same test staged first second ends = record {
   printed = unresolved_line resolved ++ stage_lines (case_constants c) o;
-  behind = second ∙ ap (λ m. between ++ stage_lines m o) constants ∙ ap (λ t. t ++ stage_lines (case_constants c) o) first ∙ append_assoc old (unresolved_line resolved) (stage_lines (case_constants c) o);
+  after = second ∙ ap (λ m. between ++ stage_lines m o) constants ∙ ap (λ t. t ++ stage_lines (case_constants c) o) first ∙ append_assoc old (unresolved_line resolved) (stage_lines (case_constants c) o);
   is = record {
     resolved = resolved;
     test = subst (λ m. IsTrue resolved ↔ IsResolvedConst m.assignments outer) constants test;
@@ -27,7 +27,7 @@ stage_printed c outer m lists resolved o old between new status constants same t
 }
 
 -- the same, if there is a status
-pub status_printed : {E : Type 0} (r : Result ℕ E) (c : Case) (outer : Frames) (m : Constants) (lists resolved : Bool) (o : Outcome Standing) (old between new : Text) → m ≡ case_constants c → lists ≡ c.lists → IsTrue resolved ↔ IsResolvedConst m.assignments outer →
+pub status_printed : {E : Type 0} (r : Result ℕ E) (c : Case) (outer : Frames) (m : Constants) (lists resolved : Bool) (o : Outcome StageState) (old between new : Text) → m ≡ case_constants c → lists ≡ c.lists → IsTrue resolved ↔ IsResolvedConst m.assignments outer →
     Staged m (at_start lists outer) m.assignments.order o → between ≡ old ++ unresolved_line resolved → IfOk r (λ _. new ≡ between ++ stage_lines m o) → IfOk r (λ status. status ≡ status_of o) → IfOk r (λ status. Added old new (λ printed. ConstPrints c outer printed status))
 status_printed (Ok status) c outer m lists resolved o old between new constants same test staged first second ends = stage_printed c outer m lists resolved o old between new status constants same test staged first second ends
 status_printed (Err e) c outer m lists resolved o old between new constants same test staged first second ends = tt

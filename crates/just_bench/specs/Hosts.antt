@@ -2,18 +2,18 @@
 use Rattle.std.specs.Prelude.{◌≡◌, List, [], map}
 use Rattle.just_syntax.specs.Plain.{Text}
 use Rattle.just_host.specs.Question.{Answer, Replied, Failed}
-use Rattle.just_case_reader.specs.Case.{Case, Reply, Output, Broken}
+use Rattle.just_case_reader.specs.Case.{Case, CommandReply, Output, Broken}
 use Rattle.just_script.specs.Script.{Script}
 use Rattle.just_script.specs.View.{script_view}
 use Rattle.just_script.specs.declared.scripted_host.ScriptedHost.{ScriptedHost}
 
 -- the answer to a command
-abbrev pub answer_of : Reply → Answer
+abbrev pub answer_of : CommandReply → Answer
 answer_of (Output text) = Replied text
 answer_of (Broken fault) = Failed fault
 
 -- a host that answers commands and has no answer to any other question
-abbrev pub script_of : List (Text × Text) → List Reply → Script
+abbrev pub script_of : List (Text × Text) → List CommandReply → Script
 script_of always replies = record { always = always; replies = map answer_of replies; texts = []; exists = []; numbers = [] }
 
 -- the script of a case

@@ -10,3 +10,4 @@ pub mod Settled
 pub mod Taken
 pub mod View
 pub mod Written
+pub mod Printed

@@ -5,18 +5,13 @@ use Rattle.just_syntax.specs.Plain.{Text}
 use Rattle.just_value.specs.Frames.{Frames, own_frame}
 use Rattle.just_value.specs.Outcome.{Outcome, Gave, Refused, Stopped}
 use Rattle.just_case_reader.specs.Case.{Case}
-use Rattle.just_host.specs.Question.{Question, Answer}
 use Rattle.just_host.specs.Recorded.{Kept, RecordsAndAsks}
-use Rattle.just_meaning.specs.Module.{Module, Ran, dynamically, lexically}
-use Rattle.just_meaning.specs.Resolved.{IsResolved}
+use Rattle.just_host.specs.Interaction.{Step}
+use Rattle.just_meaning.specs.Module.{Module, Ran, dynamically, lexically, IsResolvedModule}
 use Rattle.just_script.specs.Script.{Script, AnswersByScript}
-use Rattle.just_answer.specs.Answer.{binding_lines, question_lines, refusal_line}
+use Rattle.just_bench.specs.Printed.{binding_lines, question_lines, refusal_line}
 use Rattle.just_bench.specs.Hosts.{case_script}
 use Rattle.just_bench.specs.Module.{case_module}
-
--- the transition relation of a host: its state, a question, the answer, and the new state
-abbrev pub Step : Type 0 → Type 1
-Step S = S → Question → Answer → S → Type 0
 
 -- a host that answers by a script
 abbrev pub by_script : Step Script
@@ -48,7 +43,7 @@ status_of Stopped = 2
 -- starts in the old state.
 pub record RunPrints {S : Type 0} (step : Step S) (old : S) (m : Module) (outer : Frames) (printed : Text) (status : ℕ) : Type 0 where
   pub resolved : Bool
-  pub test : IsTrue resolved ↔ IsResolved m.program.functions m.assignments outer
+  pub test : IsTrue resolved ↔ IsResolvedModule m outer
   pub kept : List Kept
   pub outcome : Outcome Frames
   pub new : S

@@ -7,8 +7,8 @@ use Rattle.just_value.specs.Outcome.{Outcome, Gave, Refused, Stopped}
 use Rattle.just_value.specs.Value.{Value}
 use Rattle.just_case_reader.specs.Case.{Case}
 use Rattle.just_meaning.specs.Resolved.{IsResolvedConst}
-use Rattle.just_meaning.specs.Stage.{Constants, Standing, Staged, at_start}
-use Rattle.just_answer.specs.Answer.{const_refusal_line, open_line, value_line}
+use Rattle.just_meaning.specs.Stage.{Constants, StageState, Staged, at_start}
+use Rattle.just_bench.specs.Printed.{const_refusal_line, open_line, value_line}
 use Rattle.just_bench.specs.Run.{status_of, unresolved_line}
 use Rattle.just_bench.specs.Taken.{taken_in}
 
@@ -33,12 +33,12 @@ settled_line t None = []
 settled_line t (Some v) = value_line t v
 
 -- the line of a variable: its value, or that it is open
-abbrev pub standing_line : Standing → Token × ℕ → Text
-standing_line s taken = if s.is_open taken.1 then open_line taken.0 else settled_line taken.0 (value_in s.frames taken.1)
+abbrev pub variable_line : StageState → Token × ℕ → Text
+variable_line s taken = if s.is_open taken.1 then open_line taken.0 else settled_line taken.0 (value_in s.frames taken.1)
 
 -- the lines of the taken variables, or that of the refusal
-abbrev pub stage_lines : Constants → Outcome Standing → Text
-stage_lines m (Gave s) = flat_map (standing_line s) (taken_in m.assignments m.assignments.order)
+abbrev pub stage_lines : Constants → Outcome StageState → Text
+stage_lines m (Gave s) = flat_map (variable_line s) (taken_in m.assignments m.assignments.order)
 stage_lines m (Refused r) = const_refusal_line (Some r)
 stage_lines m Stopped = const_refusal_line None
 
@@ -47,7 +47,7 @@ stage_lines m Stopped = const_refusal_line None
 pub record ConstPrints (c : Case) (outer : Frames) (printed : Text) (status : ℕ) : Type 0 where
   pub resolved : Bool
   pub test : IsTrue resolved ↔ IsResolvedConst (case_constants c).assignments outer
-  pub outcome : Outcome Standing
+  pub outcome : Outcome StageState
   pub staged : Staged (case_constants c) (at_start c.lists outer) c.evaluation_order outcome
   pub text : printed ≡ unresolved_line resolved ++ stage_lines (case_constants c) outcome
   pub ends : status ≡ status_of outcome

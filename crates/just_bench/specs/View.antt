@@ -3,13 +3,13 @@ use Rattle.std.specs.Prelude.{List, max, map, string_bytes}
 use Rattle.std.specs.Option.{option_map}
 use Rattle.just_syntax.specs.View.{assignment_view, function_view, name_view, pairs_view, text_numbered}
 use Rattle.just_value.specs.View.{frames_view}
-use Rattle.just_case_reader.specs.View.{set_view}
+use Rattle.just_case_reader.specs.View.{number_set_view}
 use Rattle.just_host.specs.Recorded.{Kept}
 use Rattle.just_host.specs.View.{config_view, inner_host, records_view, settings_view}
 use Rattle.just_host.specs.declared.recorder.Recorder.{Recorder}
 use Rattle.just_meaning.specs.Module.{Module}
 use Rattle.just_meaning.specs.Stage.{Constants}
-use Rattle.just_bench.specs.Blocks.{Found}
+use Rattle.just_bench.specs.Blocks.{RunResult}
 use Rattle.just_bench.specs.Module.{referenced_in}
 use Rattle.just_bench.specs.declared.blocks.Blocks.{Blocks}
 use Rattle.just_bench.specs.declared.module_run.ModuleRun.{ModuleRun}
@@ -32,7 +32,7 @@ run_view run = record {
     };
     functions = map function_view run.module.functions;
   };
-  assignments = record { all = map assignment_view run.module.assignments; order = map name_view run.module.evaluation_order.items; referenced = referenced_in (option_map set_view run.references) };
+  assignments = record { all = map assignment_view run.module.assignments; order = map name_view run.module.evaluation_order.items; referenced = referenced_in (option_map number_set_view run.references) };
   limit = max run.recursion_limit 1;
   overrides = text_numbered run.overrides;
 }
@@ -42,11 +42,11 @@ abbrev pub seen : {H : Type 0} → Recorder H → H × List Kept
 seen recorder = (inner_host recorder, records_view recorder)
 
 -- the result of a run
-abbrev pub found_view : Blocks → Found
+abbrev pub found_view : Blocks → RunResult
 found_view blocks = record { frames = frames_view blocks.scope; asked = text_numbered blocks.questions }
 
 abbrev pub stage_view : Stage → Constants
 stage_view stage = record {
-  assignments = record { all = map assignment_view stage.assignments; order = map name_view stage.evaluation_order.items; referenced = set_view stage.references };
+  assignments = record { all = map assignment_view stage.assignments; order = map name_view stage.evaluation_order.items; referenced = number_set_view stage.references };
   overrides = text_numbered stage.overrides;
 }

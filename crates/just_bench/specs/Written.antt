@@ -6,7 +6,7 @@ use Rattle.just_syntax.specs.Plain.{Text}
 -- a text with a property was added after the old text
 pub record Added (old new : Text) (Is : Text → Type 0) : Type 0 where
   pub printed : Text
-  pub behind : new ≡ old ++ printed
+  pub after : new ≡ old ++ printed
   pub is : Is printed
 
 -- a prefix of a text, possibly all of it, was added after known bytes

@@ -8,9 +8,8 @@ ghost use Rattle.just_value.specs.Frames.{bound_at, own_frame};
 ghost use Rattle.just_value.specs.View.{bound_view, ended, frames_view};
 ghost use Rattle.just_host.specs.View.{inner_host, recorded_view, records_view};
 ghost use Rattle.just_case_reader.specs.View.{case_view};
-ghost use Rattle.just_meaning.specs.Module.{dynamically};
-ghost use Rattle.just_meaning.specs.Resolved.{IsResolved};
-ghost use Rattle.just_answer.specs.Answer as answer;
+ghost use Rattle.just_meaning.specs.Module.{IsResolvedModule, dynamically};
+ghost use Rattle.just_bench.specs.Printed as answer;
 ghost use Rattle.just_bench.specs.Hosts.{MadeOf};
 ghost use Rattle.just_bench.specs.Run.{recording};
 ghost use Rattle.just_bench.specs.Written.{Added};
@@ -21,10 +20,10 @@ ghost use Rattle.just_bench.specs.View.{found_view, run_view, seen};
 
 use crate::around::Around;
 use crate::module_run::ModuleRun;
+use crate::print::{print_order, print_questions, print_refusal};
 use crate::run::print_resolved;
 use crate::script::{case_script, script_copy};
 use crate::taken::taken_variables;
-use just_answer::print::{print_order, print_questions, print_refusal};
 use just_case_reader::case::Case;
 use just_host::host::Host;
 use just_host::recorded::Recorded;
@@ -107,7 +106,7 @@ fn are_resolved<'src>(
     parent: &Scope<'src, '_>,
 ) -> Result<bool, OutOfMemory>
     ensures answer { let m = run_view run.old in let other = in_order m (map name_view second.old.items) in let outer = frames_view parent.now in
-        IfOk result (λ answer. IsTrue answer ↔ IsResolved m.program.functions m.assignments outer × IsResolved other.program.functions other.assignments outer) }
+        IfOk result (λ answer. IsTrue answer ↔ IsResolvedModule m outer × IsResolvedModule other outer) }
     ensures run { OnOk result (run_view run.new ≡ run_view run.old) }
     ensures order { OnOk result (map name_view second.new.items ≡ map name_view second.old.items) }
 {
@@ -223,7 +222,7 @@ fn print_turn<'call, 'src, H: Host>(
 {
     let before = count(host);
     let bound = run.extend(alloc, host, name, &mut blocks.scope)?;
-    let asked = asked_behind(host, before);
+    let asked = asked_since(host, before);
     let next = add_block(alloc, text, &name, asked, taken, at, &mut blocks.questions)?;
     match bound {
         Ok(()) => Ok(Ok(next)),
@@ -307,7 +306,7 @@ fn count<H>(host: &Recorder<H>) -> usize
 }
 
 // The questions that a host was asked after the first `before`.
-fn asked_behind<H>(host: &Recorder<H>, before: usize) -> &[Recorded]
+fn asked_since<H>(host: &Recorder<H>, before: usize) -> &[Recorded]
     ensures { map recorded_view result.now ≡ drop before (records_view host.now) }
 {
     let questions = host.questions();

@@ -1,6 +1,6 @@
 // A program over cases. It reads one, evaluates what it describes, with the answers that it lists, and prints the
-// questions and the result. It depends on the evaluator's public calls, the reader of cases, scripted hosts and the
-// lines of an answer, and for its law on that of `just_agreement` on answers.
+// questions and the result. It depends on the evaluator's public calls, the reader of cases and scripted hosts, and for
+// its law on the law of `just_laws` on answers.
 #![tactic(auto)]
 
 mod around;
@@ -8,6 +8,7 @@ mod blocks;
 mod context;
 pub mod laws;
 mod module_run;
+pub mod print;
 pub mod program;
 mod run;
 mod script;

@@ -7,7 +7,7 @@ ghost use Rattle.std.specs.Map.{values_of};
 ghost use Rattle.just_value.specs.Frames.{own_frame};
 ghost use Rattle.just_value.specs.Outcome.{Outcome};
 ghost use Rattle.just_value.specs.View.{bound_view, ended, frames_view};
-ghost use Rattle.just_meaning.specs.Module.{Ran, dynamically, lexically};
+ghost use Rattle.just_meaning.specs.Module.{IsResolvedModule, Ran, dynamically, lexically};
 ghost use Rattle.just_meaning.specs.Resolved.{IsResolved};
 ghost use Rattle.just_case_reader.specs.View.{case_view};
 ghost use Rattle.just_bench.specs.Blocks.{Extends, in_order};
@@ -85,7 +85,7 @@ impl<'src> ModuleRun<'src> {
         parent: &Scope<'src, '_>,
     ) -> Result<bool, OutOfMemory>
         ensures answer { let m = in_order (run_view self.old) (map name_view order.old.items) in
-            IfOk result (λ answer. IsTrue answer ↔ IsResolved m.program.functions m.assignments (frames_view parent.now)) }
+            IfOk result (λ answer. IsTrue answer ↔ IsResolvedModule m (frames_view parent.now)) }
         ensures run { OnOk result (run_view self.new ≡ run_view self.old) }
         ensures order { OnOk result (map name_view order.new.items ≡ map name_view order.old.items) }
     {
@@ -111,7 +111,7 @@ impl<'src> ModuleRun<'src> {
         parent: &'run Scope<'src, 'run>,
     ) -> Result<Scope<'src, 'run>, Error<'src>>
         ensures headline { let m = run_view self.entry.now in let outer = frames_view parent.entry.now in
-            IsResolved m.program.functions m.assignments outer → Ran H.step host.old lexically m ([] ∷ outer) m.assignments.order (ended frames_view result) host.new }
+            IsResolvedModule m outer → Ran H.step host.old lexically m ([] ∷ outer) m.assignments.order (ended frames_view result) host.new }
         ensures dynamic { let m = run_view self.entry.now in
             Ran H.step host.old dynamically m ([] ∷ frames_view parent.entry.now) m.assignments.order (ended frames_view result) host.new }
     {

@@ -4,7 +4,7 @@ ghost use Rattle.std.specs.Prelude.{◌≡◌, ◌∷◌, ◌<◌, ◌≤◌, []
 ghost use Rattle.just_value.specs.View.{frames_view};
 ghost use Rattle.just_case_reader.specs.View.{case_view};
 ghost use Rattle.just_script.specs.Failing.{PassesOrFails};
-ghost use Rattle.just_bench.specs.Answer.{Answers, Evaluated};
+ghost use Rattle.just_bench.specs.Answer.{AnswersCase, Evaluated};
 ghost use Rattle.just_bench.specs.Hosts.{MadeOf};
 ghost use Rattle.just_bench.specs.Run.{by_script};
 ghost use Rattle.just_bench.specs.Written.{Added, Written, or_one};
@@ -15,9 +15,9 @@ use crate::blocks::evaluate_blocks;
 use crate::run::evaluate_run;
 use crate::settled::evaluate_const;
 use crate::stream::{StreamError, read_case, write_text};
-use just_case_lines::line::parse_lines;
 use just_case_reader::case::{Case, CaseError, build};
 use just_case_reader::evaluation::Evaluation;
+use just_case_reader::line::parse_lines;
 use just_script::fail_at::How;
 use just_syntax::out_of_memory::OutOfMemory;
 use just_value::scope::Scope;
@@ -31,12 +31,12 @@ use std::mem;
 /// written if a read fails, the case is too long, or an allocation outside the evaluation fails.
 pub fn run<R: Read, W: Write>(alloc: Global, reader: &mut R, writer: &mut W) -> u8
     ensures answer { IfSome (R.remaining reader.old) (λ case. Written (W.contents writer.old) (W.contents writer.new) result (
-        Answers by_script (λ script state. state ≡ script) case)) }
+        AnswersCase by_script (λ script state. state ≡ script) case)) }
     ensures too_long { IfSome (R.remaining reader.old) (λ case. LIMIT < length case → result ≡ 1) }
     ensures unwritten { IfSome (R.remaining reader.old) (λ case. LIMIT < length case → writer.new ≡ writer.old) }
     ensures status { result ≤ 2 }
 {
-    exit_status(answer(alloc, reader, writer, &Bare {}))
+    exit_status(answer_case(alloc, reader, writer, &Bare {}))
 }
 
 /// As [`run`], but the host passes on only the first `passed` questions of a run, and fails at each later one in the
@@ -49,12 +49,12 @@ pub fn run_failing<R: Read, W: Write>(
     how: How,
 ) -> u8
     ensures answer { IfSome (R.remaining reader.old) (λ case. Written (W.contents writer.old) (W.contents writer.new) result (
-        Answers (PassesOrFails by_script) (λ script state. state ≡ record { host = script; left = passed; how = how }) case)) }
+        AnswersCase (PassesOrFails by_script) (λ script state. state ≡ record { host = script; left = passed; how = how }) case)) }
     ensures too_long { IfSome (R.remaining reader.old) (λ case. LIMIT < length case → result ≡ 1) }
     ensures unwritten { IfSome (R.remaining reader.old) (λ case. LIMIT < length case → writer.new ≡ writer.old) }
     ensures status { result ≤ 2 }
 {
-    exit_status(answer(alloc, reader, writer, &Failing { passed, how }))
+    exit_status(answer_case(alloc, reader, writer, &Failing { passed, how }))
 }
 
 /// Evaluates a case that is already built, in a scope whose bindings it can read. Adds what [`run`] would write for it,
@@ -87,7 +87,7 @@ fn exit_status(answered: Result<u8, StreamError>) -> u8
 }
 
 // The bytes and the lines, which the texts of a case's expressions borrow, outlive them here.
-fn answer<R: Read, W: Write, A: Around>(
+fn answer_case<R: Read, W: Write, A: Around>(
     alloc: Global,
     reader: &mut R,
     writer: &mut W,
@@ -95,7 +95,7 @@ fn answer<R: Read, W: Write, A: Around>(
 ) -> Result<u8, StreamError>
     ensures status { IfOk result (λ status. status ≤ 2) }
     ensures written { IfSome (R.remaining reader.old) (λ case. Written (W.contents writer.old) (W.contents writer.new) (or_one result) (
-        Answers A.Made.step (MadeOf (A.gives around.now)) case)) }
+        AnswersCase A.Made.step (MadeOf (A.gives around.now)) case)) }
     ensures too_long { IfSome (R.remaining reader.old) (λ case. LIMIT < length case → IsErr result) }
     ensures unwritten { IfSome (R.remaining reader.old) (λ case. LIMIT < length case → writer.new ≡ writer.old) }
 {
@@ -115,7 +115,7 @@ fn print_answer<A: Around>(
 ) -> Result<u8, OutOfMemory>
     ensures status { IfOk result (λ status. status ≤ 2) }
     ensures answer { IfOk result (λ status. Added (string_bytes text.old) (string_bytes text.new) (λ printed.
-        Answers A.Made.step (MadeOf (A.gives around.now)) bytes.now printed status)) }
+        AnswersCase A.Made.step (MadeOf (A.gives around.now)) bytes.now printed status)) }
 {
     let lines = parse_lines(alloc, bytes)?;
     match build(alloc, &lines) {

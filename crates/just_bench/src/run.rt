@@ -11,8 +11,8 @@ ghost use Rattle.just_bench.specs.View.{run_view};
 
 use crate::around::Around;
 use crate::module_run::ModuleRun;
+use crate::print::{print_bindings, print_questions, print_refusal};
 use crate::script::case_script;
-use just_answer::print::{print_bindings, print_questions, print_refusal};
 use just_case_reader::case::Case;
 use just_host::host::Host;
 use just_host::recorder::Recorder;

@@ -7,17 +7,17 @@ ghost use Rattle.just_syntax.specs.View.{assignment_view, name_view};
 ghost use Rattle.just_value.specs.View.{const_ended, frames_view};
 ghost use Rattle.just_meaning.specs.Resolved.{IsResolvedConst};
 ghost use Rattle.just_meaning.specs.Stage.{Staged, at_start};
-ghost use Rattle.just_eval.specs.View.{standing_of};
-ghost use Rattle.just_case_reader.specs.View.{case_view, set_view};
+ghost use Rattle.just_eval.specs.View.{stage_state_of};
+ghost use Rattle.just_case_reader.specs.View.{case_view, number_set_view};
 ghost use Rattle.just_bench.specs.Run.{status_of};
 ghost use Rattle.just_bench.specs.Written.{Added};
-ghost use Rattle.just_bench.specs.Settled.{ConstPrints, assigned_in, case_constants, const_references, stage_lines, standing_line};
+ghost use Rattle.just_bench.specs.Settled.{ConstPrints, assigned_in, case_constants, const_references, stage_lines, variable_line};
 ghost use Rattle.just_bench.specs.Taken.{taken_view};
 ghost use Rattle.just_bench.specs.View.{stage_view};
 
+use crate::print::{print_const_refusal, print_open, print_value};
 use crate::run::print_resolved;
 use crate::taken::taken_variables;
-use just_answer::print::{print_const_refusal, print_open, print_value};
 use just_case_reader::case::Case;
 use just_eval::evaluator::Evaluator;
 use just_eval::resolved_const;
@@ -96,7 +96,7 @@ impl<'src> Stage<'src> {
         parent: &'run Scope<'src, 'run>,
     ) -> Result<Evaluator<'src, 'run>, CompileError<'src>>
         ensures { let m = stage_view self.now in
-            Staged m (at_start self.now.lists (frames_view parent.entry.now)) m.assignments.order (const_ended standing_of result) }
+            Staged m (at_start self.now.lists (frames_view parent.entry.now)) m.assignments.order (const_ended stage_state_of result) }
     {
         Evaluator::evaluate_const_assignments(
             alloc,
@@ -116,9 +116,9 @@ impl<'src> Stage<'src> {
         text: &mut String,
         outcome: &Result<Evaluator<'src, '_>, CompileError<'src>>,
     ) -> Result<u8, OutOfMemory>
-        ensures printed { OnOk result (string_bytes text.new ≡ string_bytes text.old ++ stage_lines (stage_view self.now) (const_ended standing_of outcome.now)) }
+        ensures printed { OnOk result (string_bytes text.new ≡ string_bytes text.old ++ stage_lines (stage_view self.now) (const_ended stage_state_of outcome.now)) }
         ensures status { IfOk result (λ status. status ≤ 2) }
-        ensures ends { IfOk result (λ status. status ≡ status_of (const_ended standing_of outcome.now)) }
+        ensures ends { IfOk result (λ status. status ≡ status_of (const_ended stage_state_of outcome.now)) }
     {
         match outcome {
             Ok(evaluator) => {
@@ -139,12 +139,12 @@ impl<'src> Stage<'src> {
 // The variables that a case references: those that it lists, or else all that it assigns.
 fn case_references(
     alloc: Global,
-    told: Option<HashSet<Number>>,
+    determined: Option<HashSet<Number>>,
     assignments: &Table<Assignment>,
 ) -> Result<HashSet<Number>, OutOfMemory>
-    ensures { IfOk result (λ references. set_view references ≡ const_references (option_map set_view told) (map assignment_view assignments.now)) }
+    ensures { IfOk result (λ references. number_set_view references ≡ const_references (option_map number_set_view determined) (map assignment_view assignments.now)) }
 {
-    match told {
+    match determined {
         Some(references) => Ok(references),
         None => assigned_numbers(alloc, assignments),
     }
@@ -155,7 +155,7 @@ fn assigned_numbers(
     alloc: Global,
     assignments: &Table<Assignment>,
 ) -> Result<HashSet<Number>, OutOfMemory>
-    ensures { IfOk result (λ numbers. set_view numbers ≡ assigned_in (map assignment_view assignments.now)) }
+    ensures { IfOk result (λ numbers. number_set_view numbers ≡ assigned_in (map assignment_view assignments.now)) }
 {
     let mut numbers = HashSet::new(alloc);
     for assignment in assignments {
@@ -170,22 +170,22 @@ fn print_settled(
     text: &mut String,
     taken: &[(Name, Number)],
 ) -> Result<(), OutOfMemory>
-    ensures { OnOk result (string_bytes text.new ≡ string_bytes text.old ++ flat_map (standing_line (standing_of evaluator.now)) (map taken_view taken.now)) }
+    ensures { OnOk result (string_bytes text.new ≡ string_bytes text.old ++ flat_map (variable_line (stage_state_of evaluator.now)) (map taken_view taken.now)) }
 {
     for (name, number) in taken {
-        print_standing(evaluator, text, name, *number)?;
+        print_variable(evaluator, text, name, *number)?;
     }
     Ok(())
 }
 
 // Adds a line on a variable: its name, and its value or that it is open.
-fn print_standing(
+fn print_variable(
     evaluator: &Evaluator,
     text: &mut String,
     name: &Name,
     number: Number,
 ) -> Result<(), OutOfMemory>
-    ensures { OnOk result (string_bytes text.new ≡ string_bytes text.old ++ standing_line (standing_of evaluator.now) (name_view name.now, number)) }
+    ensures { OnOk result (string_bytes text.new ≡ string_bytes text.old ++ variable_line (stage_state_of evaluator.now) (name_view name.now, number)) }
 {
     if evaluator.is_open(number) {
         print_open(text, name)?;

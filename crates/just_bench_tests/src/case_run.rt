@@ -1,7 +1,7 @@
 // Runs of a case's module, with any host and in any scope.
 
 use crate::texts::owned;
-use just_answer::print::{print_bindings, print_refusal};
+use just_bench::print::{print_bindings, print_refusal};
 use just_case_reader::case::Case;
 use just_eval::evaluator::Evaluator;
 use just_eval::resolved;
@@ -116,7 +116,7 @@ fn print_outcome<'call>(
 }
 
 /// Whether a case is unresolved, and its bindings or its refusal.
-pub(crate) fn told_by_run<'call, 'src, H: Host>(
+pub(crate) fn reported_by_run<'call, 'src, H: Host>(
     rt: &'call impl Abort,
     alloc: Global,
     host: &'call mut H,

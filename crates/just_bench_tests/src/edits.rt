@@ -2,9 +2,9 @@
 
 mod sizes;
 
-use just_case_lines::line::{Line, parse_lines};
-use just_case_lines::token::name;
 use just_case_reader::case::{Case, build};
+use just_case_reader::line::{Line, parse_lines};
+use just_case_reader::token::name;
 use just_changes::changed::changed;
 use just_host::justfile::Justfile;
 use just_host::settings::Settings;
@@ -250,11 +250,11 @@ impl<'src> Module<'src> {
 }
 
 // The numbers that an edit changes, each followed by a space.
-fn told(alloc: Global, before: &str, after: &str, outer: &Scope) -> Result<String, Fail> {
+fn reported(alloc: Global, before: &str, after: &str, outer: &Scope) -> Result<String, Fail> {
     let before = case_text(alloc, before)?;
     let after = case_text(alloc, after)?;
     let numbers = changed_numbers(alloc, &before, &after, outer)?;
-    Ok(told_of(alloc, &numbers)?)
+    Ok(reported_of(alloc, &numbers)?)
 }
 
 // The text of a case with these lines in the middle.
@@ -262,34 +262,34 @@ fn case_text(alloc: Global, lines: &str) -> Result<String, OutOfMemory> {
     Ok(format!(in alloc; "{HEAD}{lines}{TAIL}")?)
 }
 
-fn told_of(alloc: Global, numbers: &BTreeSet<Number>) -> Result<String, OutOfMemory> {
-    let mut told = String::new(alloc);
+fn reported_of(alloc: Global, numbers: &BTreeSet<Number>) -> Result<String, OutOfMemory> {
+    let mut reported = String::new(alloc);
     for place in 0..5 {
         if numbers.contains(&Number::new(place)) {
-            write!(told, "{place} ")?;
+            write!(reported, "{place} ")?;
         }
     }
-    Ok(told)
+    Ok(reported)
 }
 
 #[test]
 fn edits(rt: HostRuntime) -> Result<(), Fail> {
     let outer = Scope::root(rt.alloc(), &[])?;
-    let told = each_tells(&rt, rt.alloc(), EDITS, &outer);
+    let reported = each_reports(&rt, rt.alloc(), EDITS, &outer);
     drop(outer);
-    told
+    reported
 }
 
 // Each edit changes these numbers.
-fn each_tells(
+fn each_reports(
     rt: &impl Abort,
     alloc: Global,
     edits: &[(&str, &str, &str)],
     outer: &Scope,
 ) -> Result<(), Fail> {
     for (before, after, expected) in edits {
-        let told = told(alloc, before, after, outer)?;
-        assert_eq!(rt; told.as_str(), *expected, "{before}to\n{after}");
+        let reported = reported(alloc, before, after, outer)?;
+        assert_eq!(rt; reported.as_str(), *expected, "{before}to\n{after}");
     }
     Ok(())
 }
@@ -299,9 +299,9 @@ fn bound_outside(rt: HostRuntime) -> Result<(), Fail> {
     let mut outer = Scope::root(rt.alloc(), &[])?;
     let bound = outer.bind(binding(rt.alloc()));
     bound.expect(&rt, "no memory");
-    let told = each_tells(&rt, rt.alloc(), BOUND_OUTSIDE, &outer);
+    let reported = each_reports(&rt, rt.alloc(), BOUND_OUTSIDE, &outer);
     drop(outer);
-    told
+    reported
 }
 
 // Binds `a` to no element.

@@ -3,10 +3,10 @@
 use crate::case_run::CaseRun;
 use crate::texts::{ends, is_so, owned, same};
 use just_bench::program::evaluate_in_scope;
-use just_case_lines::line::parse_lines;
-use just_case_lines::token::{name, token};
 use just_case_reader::case::{Case, build};
 use just_case_reader::evaluation::Evaluation;
+use just_case_reader::line::parse_lines;
+use just_case_reader::token::{name, token};
 use just_host::no_host::NoHost;
 use just_host::recorder::Recorder;
 use just_syntax::assignment::Assignment;

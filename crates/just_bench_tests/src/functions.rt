@@ -1,11 +1,11 @@
 // Functions that a case defines, with outer bindings, and the frames that their commands are shown.
 
-use crate::case_run::told_by_run;
+use crate::case_run::reported_by_run;
 use crate::evaluations::{answers_outside_nothing, outer};
 use crate::frame_host::FrameHost;
 use crate::texts::same;
-use just_case_lines::line::parse_lines;
 use just_case_reader::case::build;
+use just_case_reader::line::parse_lines;
 use just_value::value::Value;
 use std::alloc::Global;
 use std::process::Abort;
@@ -28,7 +28,7 @@ fn shows_frames(rt: &impl Abort, alloc: Global, case: &str, shown: &str) {
     let described = build(alloc, &lines).expect(rt, "no case");
     let parent = outer(rt, alloc, Value::new(alloc));
     let mut host = FrameHost::new(alloc);
-    told_by_run(rt, alloc, &mut host, described, &parent);
+    reported_by_run(rt, alloc, &mut host, described, &parent);
     drop(parent);
     same(rt, case, host.shown(), shown);
 }

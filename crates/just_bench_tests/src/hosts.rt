@@ -66,7 +66,7 @@ impl Asking {
     }
 
     // The same, with the answer as a text.
-    fn told<H: Host>(
+    fn reported<H: Host>(
         &self,
         rt: &impl Abort,
         alloc: Global,
@@ -131,8 +131,8 @@ fn script_in_order(rt: HostRuntime) {
     let asking = Asking::new(&rt, alloc);
     let mut host = script(&rt, alloc);
     for (command, expected) in COMMANDS {
-        let told = asking.told(&rt, alloc, &mut host, command, None);
-        same(&rt, command, &told, expected);
+        let reported = asking.reported(&rt, alloc, &mut host, command, None);
+        same(&rt, command, &reported, expected);
     }
     drop(asking);
     drop(host);
@@ -150,7 +150,7 @@ fn other_answers_in_order(rt: HostRuntime) {
     let alloc = rt.alloc();
     let mut host = script(&rt, alloc);
     for expected in TEXTS {
-        same(&rt, "os", &text_told(&rt, alloc, &mut host), expected);
+        same(&rt, "os", &text_reported(&rt, alloc, &mut host), expected);
     }
     for expected in EXISTS {
         exists(&rt, alloc, &mut host, *expected);
@@ -173,7 +173,7 @@ fn numbers(rt: &impl Abort, alloc: Global, host: &mut ScriptedHost, expected: u6
     assert_eq!(rt; answer.expect(rt, "no memory"), expected);
 }
 
-fn text_told<H: Host>(rt: &impl Abort, alloc: Global, host: &mut H) -> String {
+fn text_reported<H: Host>(rt: &impl Abort, alloc: Global, host: &mut H) -> String {
     let answer = host.text(alloc, TextQuestion::Os);
     format!(in alloc; "{answer:?}").expect(rt, "no memory")
 }
@@ -213,24 +213,24 @@ fn fails_from_a_question_on(rt: HostRuntime) {
 // A host that fails in this way after this many questions gives these answers.
 fn fails(rt: &impl Abort, alloc: Global, passed: usize, how: How, expected: &str) {
     let mut host = FailAt::new(script(rt, alloc), passed, how);
-    let told = all_kinds_told(rt, alloc, &mut host);
+    let reported = all_kinds_reported(rt, alloc, &mut host);
     drop(host);
-    assert_eq!(rt; told.as_str(), expected, "{passed}");
+    assert_eq!(rt; reported.as_str(), expected, "{passed}");
 }
 
 // The answers to two commands, a text, an existence check and a number.
-fn all_kinds_told<H: Host>(rt: &impl Abort, alloc: Global, host: &mut H) -> String {
-    let commands = two_commands_told(rt, alloc, host);
-    let text = text_told(rt, alloc, host);
+fn all_kinds_reported<H: Host>(rt: &impl Abort, alloc: Global, host: &mut H) -> String {
+    let commands = two_commands_reported(rt, alloc, host);
+    let text = text_reported(rt, alloc, host);
     let exists = host.exists(alloc, "p");
     let number = host.number(alloc, NumberQuestion::Cpus);
     format!(in alloc; "{commands} {text} {exists:?} {number:?}").expect(rt, "no memory")
 }
 
-fn two_commands_told<H: Host>(rt: &impl Abort, alloc: Global, host: &mut H) -> String {
+fn two_commands_reported<H: Host>(rt: &impl Abort, alloc: Global, host: &mut H) -> String {
     let asking = Asking::new(rt, alloc);
-    let one = asking.told(rt, alloc, host, "c", None);
-    let other = asking.told(rt, alloc, host, "c", None);
+    let one = asking.reported(rt, alloc, host, "c", None);
+    let other = asking.reported(rt, alloc, host, "c", None);
     drop(asking);
     format!(in alloc; "{one} {other}").expect(rt, "no memory")
 }
@@ -256,8 +256,8 @@ fn records_each_question(rt: HostRuntime) {
     let asking = Asking::new(&rt, alloc);
     let mut host = Recorder::new(alloc, script(&rt, alloc));
     for (arguments, kept, expected) in RECORDED {
-        let told = told_with(&rt, alloc, &asking, &mut host, *arguments);
-        same(&rt, "answer", &told, expected);
+        let reported = reported_with(&rt, alloc, &asking, &mut host, *arguments);
+        same(&rt, "answer", &reported, expected);
         same(&rt, "kept", &last_kept(&rt, alloc, host.questions()), kept);
     }
     same(
@@ -274,9 +274,9 @@ fn records_each_question(rt: HostRuntime) {
 // What a recorder asked a host is not asked again, and the host is as the recorder left it.
 fn asks_on(rt: &impl Abort, alloc: Global, asking: &Asking) {
     let mut recorder = Recorder::new(alloc, script(rt, alloc));
-    let first = asking.told(rt, alloc, &mut recorder, "c", None);
+    let first = asking.reported(rt, alloc, &mut recorder, "c", None);
     let mut host = recorder.into_inner();
-    let second = asking.told(rt, alloc, &mut host, "c", None);
+    let second = asking.reported(rt, alloc, &mut host, "c", None);
     drop(host);
     same(rt, "the recorder", &first, "Ok(\"x\")");
     same(rt, "the host in it", &second, "Err(Code(3))");
@@ -323,7 +323,7 @@ fn kept(
 }
 
 // A host's answer to a command with these arguments.
-fn told_with<H: Host>(
+fn reported_with<H: Host>(
     rt: &impl Abort,
     alloc: Global,
     asking: &Asking,
@@ -331,10 +331,10 @@ fn told_with<H: Host>(
     arguments: Option<&[&str]>,
 ) -> String {
     let Some(words) = arguments else {
-        return asking.told(rt, alloc, host, "c\t", None);
+        return asking.reported(rt, alloc, host, "c\t", None);
     };
     let words = all_owned(rt, alloc, words);
-    asking.told(rt, alloc, host, "c\t", Some(&words))
+    asking.reported(rt, alloc, host, "c\t", Some(&words))
 }
 
 // Copies of texts.

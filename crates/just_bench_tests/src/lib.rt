@@ -1,12 +1,14 @@
-// Tests of what no stored case can express: a case that is cut, streams that fail, hosts, evaluations in a scope that
-// binds something, and what an edit of a module changes. They are a separate crate because a crate with tests is proved
-// twice. They build on `just_bench` and what is below it, and on `just_changes`.
+// Tests of what no stored case can express: a case that is cut, streams that fail, hosts, evaluations in a scope with
+// bindings, how deep forms and calls may nest, and what an edit of a module changes. They test the crates up to
+// `just_bench`, and `just_changes`.
 #![tactic(auto)]
 
 #[cfg(test)]
 mod blocks;
 #[cfg(test)]
 mod case_run;
+#[cfg(test)]
+mod depth;
 #[cfg(test)]
 mod edits;
 #[cfg(test)]

@@ -1,10 +1,10 @@
 // Runs of one module in two orders.
 
-use crate::case_run::told_by_run;
+use crate::case_run::reported_by_run;
 use crate::frame_host::FrameHost;
 use crate::texts::{owned, questions_of, same};
-use just_case_lines::line::parse_lines;
 use just_case_reader::case::build;
+use just_case_reader::line::parse_lines;
 use just_host::host::Host;
 use just_host::recorder::Recorder;
 use just_script::scripted_host::ScriptedHost;
@@ -39,9 +39,9 @@ fn binds<H: Host>(rt: &impl Abort, alloc: Global, host: &mut H, case: &str, boun
     let lines = parse_lines(alloc, case.as_bytes()).expect(rt, "no memory");
     let described = build(alloc, &lines).expect(rt, "no case");
     let parent = Scope::root(alloc, &[]).expect(rt, "no memory");
-    let told = told_by_run(rt, alloc, host, described, &parent);
+    let reported = reported_by_run(rt, alloc, host, described, &parent);
     drop(parent);
-    same(rt, case, &told, bound);
+    same(rt, case, &reported, bound);
 }
 
 // The line before the last of a case, what it asks, and what it binds.

@@ -1,8 +1,8 @@
 // Refusals that no case meets, as printed.
 
 use crate::texts::same;
-use just_answer::print::print_refusal;
-use just_case_lines::token::{name, token};
+use just_bench::print::print_refusal;
+use just_case_reader::token::{name, token};
 use just_value::const_error::ConstError;
 use just_value::error::Error;
 use std::alloc::Global;

@@ -7,9 +7,9 @@ use std::process::Abort;
 
 // An error has this message, with format options too.
 fn says(rt: &impl Abort, alloc: Global, error: StreamError, text: &str) {
-    let told = format!(in alloc; "{error:>40}").expect(rt, "no memory");
-    same(rt, "error", &told, text);
-    drop(told);
+    let reported = format!(in alloc; "{error:>40}").expect(rt, "no memory");
+    same(rt, "error", &reported, text);
+    drop(reported);
     drop(error);
 }
 

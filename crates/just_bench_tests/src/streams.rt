@@ -60,7 +60,7 @@ fn streams_in_pieces(rt: HostRuntime) {
 }
 
 #[test]
-fn reads_no_further_behind_a_failed_read(rt: HostRuntime) {
+fn stops_reading_after_a_failed_read(rt: HostRuntime) {
     let reads = STORED_CASE.len() as u64 + 1;
     for good_reads in 0..reads + 3 {
         ends_at_a_failed_read(&rt, rt.alloc(), good_reads, reads);

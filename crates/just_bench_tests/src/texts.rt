@@ -1,6 +1,6 @@
 // Texts, and comparisons of results with what is expected. A test ends if memory runs out.
 
-use just_answer::print::print_questions;
+use just_bench::print::print_questions;
 use just_host::recorder::Recorder;
 use std::alloc::Global;
 use std::process::Abort;

@@ -2,7 +2,7 @@
 use Rattle.std.proofs.Common.{◌≡◌, ℕ, ◌<◌, ◌≤◌, List, [], ◌∷◌, refl, sym, ap, ◌∙◌, arith, length, drop, map, get_or, unwrap_or, Option, Some, None, Bor, option_map, slice_get}
 use Rattle.std.proofs.lemmas.Option.{slice_get-get_or}
 use Rattle.just_value.specs.Value.{Value}
-use Rattle.just_builtins.specs.Argument.{value_at, values_given}
+use Rattle.just_builtins.specs.Argument.{argument_at, values_given}
 
 -- a value with exactly one element is the view of that element
 pub only : {A : Type 0} (f : A → List ℕ) (xs : List A) (x : A) (v : Value) (t : List ℕ) → map f xs ≡ v → length v ≡ 1 → x ≡ get_or xs 0 x → t ≡ f x → v ≡ t ∷ []
@@ -11,11 +11,11 @@ only f (y ∷ []) x v t e n g h = sym e ∙ ap (λ u. u ∷ []) (ap f (sym g) �
 only f (y ∷ z ∷ zs) x v t e n g h = absurd (omega (arith, ap length e))
 
 -- the argument at a position
-pub read_at : (vs : List Value) (i : ℕ) (v : Value) → i < length vs → v ≡ get_or vs i v → value_at vs i ≡ v
+pub read_at : (vs : List Value) (i : ℕ) (v : Value) → i < length vs → v ≡ get_or vs i v → argument_at vs i ≡ v
 read_at vs i v within is = ap (λ found. unwrap_or found []) (slice_get-get_or vs i v within) ∙ sym is
 
 -- the second of two arguments
-pub second : (vs : List Value) (v : Value) → length vs ≤ 2 → 1 < length vs → value_at vs 1 ≡ v → v ∷ [] ≡ drop 1 vs
+pub second : (vs : List Value) (v : Value) → length vs ≤ 2 → 1 < length vs → argument_at vs 1 ≡ v → v ∷ [] ≡ drop 1 vs
 second [] v n m a = absurd (omega arith)
 second (x ∷ []) v n m a = absurd (omega arith)
 second (x ∷ y ∷ []) v n m a = ap (λ u. u ∷ []) (sym a)
@@ -27,7 +27,7 @@ given_second v None = refl
 given_second v (Some w) = refl
 
 -- the list of exactly one argument
-pub one : (vs : List Value) (v : Value) → length vs ≡ 1 → value_at vs 0 ≡ v → vs ≡ v ∷ []
+pub one : (vs : List Value) (v : Value) → length vs ≡ 1 → argument_at vs 0 ≡ v → vs ≡ v ∷ []
 one [] v n a = absurd (omega arith)
 one (x ∷ []) v n a = ap (λ y. y ∷ []) a
 one (x ∷ y ∷ ys) v n a = absurd (omega arith)
@@ -37,14 +37,14 @@ none [] n = refl
 none (x ∷ xs) n = absurd (omega arith)
 
 -- the first argument, and the others
-pub first_of : (vs : List Value) (v : Value) → 1 ≤ length vs → value_at vs 0 ≡ v → vs ≡ v ∷ drop 1 vs
+pub first_of : (vs : List Value) (v : Value) → 1 ≤ length vs → argument_at vs 0 ≡ v → vs ≡ v ∷ drop 1 vs
 first_of [] v n a = absurd (omega arith)
 first_of (x ∷ xs) v n a = ap (λ y. y ∷ xs) a
 
-pub two : (vs : List Value) (v w : Value) → length vs ≡ 2 → value_at vs 0 ≡ v → value_at vs 1 ≡ w → vs ≡ v ∷ w ∷ []
+pub two : (vs : List Value) (v w : Value) → length vs ≡ 2 → argument_at vs 0 ≡ v → argument_at vs 1 ≡ w → vs ≡ v ∷ w ∷ []
 two [] v w n a b = absurd (omega arith)
 two (x ∷ xs) v w n a b = ap (λ y. y ∷ xs) a ∙ ap (λ ys. v ∷ ys) (one xs w (omega arith) b)
 
-pub three : (vs : List Value) (v w u : Value) → length vs ≡ 3 → value_at vs 0 ≡ v → value_at vs 1 ≡ w → value_at vs 2 ≡ u → vs ≡ v ∷ w ∷ u ∷ []
+pub three : (vs : List Value) (v w u : Value) → length vs ≡ 3 → argument_at vs 0 ≡ v → argument_at vs 1 ≡ w → argument_at vs 2 ≡ u → vs ≡ v ∷ w ∷ u ∷ []
 three [] v w u n a b c = absurd (omega arith)
 three (x ∷ xs) v w u n a b c = ap (λ y. y ∷ xs) a ∙ ap (λ ys. v ∷ ys) (two xs w u (omega arith) b c)

@@ -5,8 +5,8 @@ use Rattle.just_value.specs.Value.{Value}
 use Rattle.just_value.specs.Frames.{Frames}
 use Rattle.just_value.specs.Outcome.{Gave}
 use Rattle.just_value.specs.Refusal.{NoMemory}
-use Rattle.just_host.specs.Question.{Question, Answer, Blind, Failed, TextOf, TextQuestion, frameless}
-use Rattle.just_host.specs.Interaction.{Asked as answered, Tree, Path, Ends, Stops, Asks as asks, Runs, AsksOnce, freely}
+use Rattle.just_host.specs.Question.{Answer, Blind, Failed, TextOf, TextQuestion, frameless}
+use Rattle.just_host.specs.Interaction.{Asked as answered, Tree, Path, Ends, Stops, Asks as asks, Runs, AsksOnce, freely, Step}
 use Rattle.just_builtins.specs.declared.builtin.Builtin.{Builtin}
 use Rattle.just_builtins.specs.declared.call_fault.CallFault.{CallFault}
 use Rattle.just_builtins.specs.declared.call_fault.CallFault.TheVariants.{Internal, Message, OutOfMemory}
@@ -17,25 +17,25 @@ use Rattle.just_builtins.specs.Asking.{asks_text, text_answered}
 use Rattle.just_builtins.specs.Meaning.{reply}
 use Rattle.just_builtins.specs.Reply.{Reply, Asks}
 use Rattle.just_builtins.specs.Shape.{builtin_of}
-use Rattle.just_builtins.specs.Called.{Called, Returned, Said, tree, frames_for, outcome, Asked, AskedBy, AskedOr, Gives, GivesOr, IsNoneOf, Replies, RepliesAmong}
+use Rattle.just_builtins.specs.Called.{Called, Returned, Said, tree, frames_for, outcome, Asked, AskedBy, AskedOr, IsReply, GivesOr, IsNoneOf, Replies, RepliesAmong}
 use Rattle.just_builtins.specs.Table.{IsUnnamed}
 
 -- a reply without a question has a path without events
-path : (shown : Frames) (reply : Reply) (result : Result Value CallFault) → Gives reply result → Path freely (tree shown reply) [] (outcome result)
+path : (shown : Frames) (reply : Reply) (result : Result Value CallFault) → IsReply reply result → Path freely (tree shown reply) [] (outcome result)
 path shown reply (Ok v) is = subst (λ r. Path freely (tree shown r) [] (Gave (Returned v))) (sym is) Ends
 path shown reply (Err (Message message)) is = subst (λ r. Path freely (tree shown r) [] (Gave (Said (string_bytes message)))) (sym is) Ends
 path shown reply (Err OutOfMemory) is = Stops
 path shown reply (Err Internal) is = absurd is
 
 -- a given result is not `Internal`
-named : (reply : Reply) (result : Result Value CallFault) → Gives reply result → result ≡ Err Internal → ⊥
+named : (reply : Reply) (result : Result Value CallFault) → IsReply reply result → result ≡ Err Internal → ⊥
 named reply (Ok v) is e = absurd (cc)
 named reply (Err (Message message)) is e = absurd (cc)
 named reply (Err OutOfMemory) is e = absurd (cc)
 named reply (Err Internal) is e = absurd is
 
 -- an error is the same, whatever the rest would be
-gives_err : (next : Reply → Reply) (e : CallFault) → GivesOr next (Err e) → (rest : Reply) → Gives (next rest) (Err e)
+gives_err : (next : Reply → Reply) (e : CallFault) → GivesOr next (Err e) → (rest : Reply) → IsReply (next rest) (Err e)
 gives_err next (Message message) is rest = is rest
 gives_err next OutOfMemory is rest = tt
 gives_err next Internal is rest = absurd is
@@ -48,42 +48,42 @@ same_call f g c vs ws result same alike is = rw (same, alike) is
 pub expected : (f g : Function) (n : ℕ) → f ≡ g → IsExpected f n → IsExpected g n
 expected f g n same is = subst (λ h. IsExpected h n) same is
 
-module _ {S : Type 0} {step : S → Question → Answer → S → Type 0} where
+module _ {S : Type 0} {step : Step S} where
   -- ---- functions that ask nothing: the host's state is unchanged
 
-  pub told : {h : S} (shown : Frames) (reply : Reply) (result : Result Value CallFault) → Gives reply result → Asked step h shown reply result h
-  told shown reply result is = (record { events = []; path = path shown reply result is; chain = refl }, named reply result is)
+  pub unasked : {h : S} (shown : Frames) (reply : Reply) (result : Result Value CallFault) → IsReply reply result → Asked step h shown reply result h
+  unasked shown reply result is = (record { events = []; path = path shown reply result is; chain = refl }, named reply result is)
 
   -- memory runs out before the first question
   pub at_once : {h : S} {t : Tree Called} (result : Result Value CallFault) → result ≡ Err OutOfMemory → Runs freely step h t (outcome result) h × (result ≢ Err Internal)
   at_once {h = h} {t = t} result is = (subst (λ r. Runs freely step h t (outcome r) h) (sym is) (record { events = []; path = Stops; chain = refl }), λ e. absurd (cc))
 
-  pub told_by : {h : S} (f : Function) (shown : Frames) (reply : Reply) (result : Result Value CallFault) → Replies f reply result → AskedBy f step h shown reply result h
-  told_by f shown reply (Ok v) is = (record { events = []; path = path shown reply (Ok v) is; chain = refl }, λ e. absurd (cc))
-  told_by f shown reply (Err (Message message)) is = (record { events = []; path = path shown reply (Err (Message message)) is; chain = refl }, λ e. absurd (cc))
-  told_by f shown reply (Err OutOfMemory) is = (record { events = []; path = Stops; chain = refl }, λ e. absurd (cc))
-  told_by f shown reply (Err Internal) is = (record { events = []; path = Stops; chain = refl }, λ e. (is, refl))
+  pub unasked_by : {h : S} (f : Function) (shown : Frames) (reply : Reply) (result : Result Value CallFault) → Replies f reply result → AskedBy f step h shown reply result h
+  unasked_by f shown reply (Ok v) is = (record { events = []; path = path shown reply (Ok v) is; chain = refl }, λ e. absurd (cc))
+  unasked_by f shown reply (Err (Message message)) is = (record { events = []; path = path shown reply (Err (Message message)) is; chain = refl }, λ e. absurd (cc))
+  unasked_by f shown reply (Err OutOfMemory) is = (record { events = []; path = Stops; chain = refl }, λ e. absurd (cc))
+  unasked_by f shown reply (Err Internal) is = (record { events = []; path = Stops; chain = refl }, λ e. (is, refl))
 
   -- the same for the functions of a shape that ask nothing
-  pub told_among : {h : S} (f : Function) (those : List Builtin) (b : Builtin) (shown : Frames) (reply : Reply) (result : Result Value CallFault) → RepliesAmong those b reply result → (IsNoneOf those b → IsUnnamed f) → AskedBy f step h shown reply result h
-  told_among f those b shown reply (Ok v) is unnamed = told_by f shown reply (Ok v) is
-  told_among f those b shown reply (Err (Message message)) is unnamed = told_by f shown reply (Err (Message message)) is
-  told_among f those b shown reply (Err OutOfMemory) is unnamed = told_by f shown reply (Err OutOfMemory) tt
-  told_among f those b shown reply (Err Internal) is unnamed = told_by f shown reply (Err Internal) (unnamed is)
+  pub unasked_among : {h : S} (f : Function) (those : List Builtin) (b : Builtin) (shown : Frames) (reply : Reply) (result : Result Value CallFault) → RepliesAmong those b reply result → (IsNoneOf those b → IsUnnamed f) → AskedBy f step h shown reply result h
+  unasked_among f those b shown reply (Ok v) is unnamed = unasked_by f shown reply (Ok v) is
+  unasked_among f those b shown reply (Err (Message message)) is unnamed = unasked_by f shown reply (Err (Message message)) is
+  unasked_among f those b shown reply (Err OutOfMemory) is unnamed = unasked_by f shown reply (Err OutOfMemory) tt
+  unasked_among f those b shown reply (Err Internal) is unnamed = unasked_by f shown reply (Err Internal) (unnamed is)
 
   -- ---- functions that ask
 
   -- a question, and the result for its answer
-  pub asked : {old new : S} (shown : Frames) (q : Blind) (next : Answer → Reply) (a : Answer) (result : Result Value CallFault) → step old (record { blind = q; shown = frames_for q shown }) a new → Gives (next a) result → Asked step old shown (Asks q next) result new
+  pub asked : {old new : S} (shown : Frames) (q : Blind) (next : Answer → Reply) (a : Answer) (result : Result Value CallFault) → step old (record { blind = q; shown = frames_for q shown }) a new → IsReply (next a) result → Asked step old shown (Asks q next) result new
   asked shown q next a result taken is = (record { events = answered _ a ∷ []; path = asks (path shown (next a) result is); chain = (_, taken, refl) }, named (next a) result is)
 
   -- the same for a text
-  pub asked_text : {old new : S} (shown : Frames) (q wanted : TextQuestion) (absent : Reply) (odd faulty : Text → Text) (a : Answer) (result : Result Value CallFault) → q ≡ wanted → step old (frameless (TextOf q)) a new → Gives (text_answered absent odd faulty a) result → Asked step old shown (asks_text wanted absent odd faulty) result new
+  pub asked_text : {old new : S} (shown : Frames) (q wanted : TextQuestion) (absent : Reply) (odd faulty : Text → Text) (a : Answer) (result : Result Value CallFault) → q ≡ wanted → step old (frameless (TextOf q)) a new → IsReply (text_answered absent odd faulty a) result → Asked step old shown (asks_text wanted absent odd faulty) result new
   asked_text {old = old} {new = new} shown q wanted absent odd faulty a result same taken is =
       asked shown (TextOf wanted) (text_answered absent odd faulty) a result (subst (λ x. step old (frameless (TextOf x)) a new) same taken) is
 
   -- the same, if memory may run out before the question is asked
-  pub asked_once : {old new : S} (shown : Frames) (q : Blind) (next : Answer → Reply) (a : Answer) (result : Result Value CallFault) → AsksOnce step old (record { blind = q; shown = frames_for q shown }) a new → Gives (next a) result → (a ≡ Failed NoMemory → result ≡ Err OutOfMemory) → Asked step old shown (Asks q next) result new
+  pub asked_once : {old new : S} (shown : Frames) (q : Blind) (next : Answer → Reply) (a : Answer) (result : Result Value CallFault) → AsksOnce step old (record { blind = q; shown = frames_for q shown }) a new → IsReply (next a) result → (a ≡ Failed NoMemory → result ≡ Err OutOfMemory) → Asked step old shown (Asks q next) result new
   asked_once shown q next a result (inl taken) is wanting = asked shown q next a result taken is
   asked_once {old = old} {new = new} shown q next a result (inr without) is wanting =
       subst (λ h. Asked step old shown (Asks q next) result h) without.1 (at_once result (wanting without.0))
@@ -96,17 +96,17 @@ module _ {S : Type 0} {step : S → Question → Answer → S → Type 0} where
 
   -- a function without a name
   pub internal : {h : S} (f : Function) (shown : Frames) (reply : Reply) → IsUnnamed f → AskedBy f step h shown reply (Err Internal) h
-  internal f shown reply unnamed = told_by f shown reply (Err Internal) unnamed
+  internal f shown reply unnamed = unasked_by f shown reply (Err Internal) unnamed
 
   -- a call of the same function with the same arguments
   pub same_asked : {old new : S} (f g : Function) (c : Context) (vs ws : List Value) (shown : Frames) (result : Result Value CallFault) → f ≡ g → vs ≡ ws → AskedBy g step old shown (reply (builtin_of g) c ws) result new → AskedBy f step old shown (reply (builtin_of f) c vs) result new
   same_asked f g c vs ws shown result same alike is = rw (same, alike) is
 
   -- the same, if it asks nothing
-  pub same_told : {h : S} (f g : Function) (c : Context) (vs ws : List Value) (shown : Frames) (result : Result Value CallFault) → f ≡ g → vs ≡ ws → Replies g (reply (builtin_of g) c ws) result → AskedBy f step h shown (reply (builtin_of f) c vs) result h
-  same_told f g c vs ws shown result same alike is = told_by f shown (reply (builtin_of f) c vs) result (same_call f g c vs ws result same alike is)
+  pub same_unasked : {h : S} (f g : Function) (c : Context) (vs ws : List Value) (shown : Frames) (result : Result Value CallFault) → f ≡ g → vs ≡ ws → Replies g (reply (builtin_of g) c ws) result → AskedBy f step h shown (reply (builtin_of f) c vs) result h
+  same_unasked f g c vs ws shown result same alike is = unasked_by f shown (reply (builtin_of f) c vs) result (same_call f g c vs ws result same alike is)
 
-module _ {S : Type 0} (step : S → Question → Answer → S → Type 0) where
+module _ {S : Type 0} (step : Step S) where
   -- a question whose answer gives a result, or leaves it to the rest
   pub asked_or : {old new : S} (shown : Frames) (q : Blind) (next : Reply → Answer → Reply) (a : Answer) (result : Result (Option Value) CallFault) → step old (record { blind = q; shown = frames_for q shown }) a new → GivesOr (λ rest. next rest a) result → AskedOr step old shown (λ rest. Asks q (next rest)) result new
   asked_or shown q next a (Ok (Some v)) taken is = λ rest. (asked shown q (next rest) a (Ok v) taken (is rest)).0

@@ -58,12 +58,12 @@ module _ {X : Type 0} (key : X → Text) where
 
   module _ (xs : List X) (name : Text) where
     -- the order of an element's key and the name decides the test
-    told : (k : ℕ) (d : X) {o : Ordering} → order (key (get_or xs k d)) name ≡ o → bytes_eq (key (get_or xs k d)) name ≡ is_eq o
-    told k d is = sym (is_eq-slice_cmp (key (get_or xs k d)) name) ∙ ap is_eq is
+    unasked : (k : ℕ) (d : X) {o : Ordering} → order (key (get_or xs k d)) name ≡ o → bytes_eq (key (get_or xs k d)) name ≡ is_eq o
+    unasked k d is = sym (is_eq-slice_cmp (key (get_or xs k d)) name) ∙ ap is_eq is
 
     -- `find` yields `None` if each key is below or above the name
     pub absent : (i : ℕ) → AllWithin (λ x. order (key x) name ≡ Less) xs 0 i → AllWithin (λ x. order (key x) name ≡ Greater) xs i (length xs) → find (λ x. bytes_eq (key x) name) xs ≡ None
-    absent i below above = none (λ x. bytes_eq (key x) name) xs (λ k d within. elim (cases_lt k i) [ inl lt ↦ told k d (below k d (omega arith) lt) | inr le ↦ told k d (above k d le within) ])
+    absent i below above = none (λ x. bytes_eq (key x) name) xs (λ k d within. elim (cases_lt k i) [ inl lt ↦ unasked k d (below k d (omega arith) lt) | inr le ↦ unasked k d (above k d le within) ])
 
     module _ (up : rises (map key xs) ≡ true) where
       earlier : (i j : ℕ) (d : X) → i < j → j < length xs → by_key (get_or xs i d) (get_or xs j d) ≡ Less
@@ -80,9 +80,9 @@ module _ {X : Type 0} (key : X → Text) where
       pub found : (i : ℕ) (d : X) → i < length xs → order (key (get_or xs i d)) name ≡ Equal → find (λ x. bytes_eq (key x) name) xs ≡ Some (get_or xs i d)
       found i d within same =
           let p = λ (x : X). bytes_eq (key x) name in
-          let at : p (get_or xs i d) ≡ true = told i d same in
+          let at : p (get_or xs i d) ≡ true = unasked i d same in
           let named : key (get_or xs i d) ≡ name = (bytes_eq-Decides (key (get_or xs i d)) name).0 at in
-          let before : (k : ℕ) → k < i → p (get_or xs k d) ≡ false = λ k lower. told k d (subst (λ t. order (key (get_or xs k d)) t ≡ Less) named (earlier k i d lower within)) in
+          let before : (k : ℕ) → k < i → p (get_or xs k d) ≡ false = λ k lower. unasked k d (subst (λ t. order (key (get_or xs k d)) t ≡ Less) named (earlier k i d lower within)) in
           find_at p xs ∙ ap (slice_get xs) (position_or_len_is p xs i d (omega arith) before (λ _. at)) ∙ slice_get-get_or xs i d within
 
       -- whether the search succeeds is whether the name is among the keys

@@ -10,12 +10,12 @@ use Rattle.just_builtins.specs.declared.function.Function.{Function}
 use Rattle.just_builtins.specs.Table.{find_in, is_among, whole_name, without_last}
 
 -- if the name ends with `long`, the table has the name with `short` instead
-abbrev stands : (long short : Text) → List Text → Text → Bool
-stands long short written name = cond (ends_with nat_eq name long) (is_among written (without_last name (length long) ++ short)) true
+abbrev occurs : (long short : Text) → List Text → Text → Bool
+occurs long short written name = cond (ends_with nat_eq name long) (is_among written (without_last name (length long) ++ short)) true
 
 -- the table has each name, and each short form of it
 abbrev pub spells_out : List Text → List Text → Bool
-spells_out written names = list_all (stands [] [] written) names && (list_all (stands (codes "_directory") (codes "_dir") written) names && list_all (stands (codes "_directory_native") (codes "_dir_native") written) names)
+spells_out written names = list_all (occurs [] [] written) names && (list_all (occurs (codes "_directory") (codes "_dir") written) names && list_all (occurs (codes "_directory_native") (codes "_dir_native") written) names)
 
 -- a text ends with its own suffix
 ends : (front back : Text) → ends_with nat_eq (front ++ back) back ≡ true
@@ -41,10 +41,10 @@ passes p (n ∷ names) name all among =
     ] refl among
 
 -- if a name that ends with `long` is among the names, the table has its short form
-shorter : (long short front : Text) (written names : List Text) → list_all (stands long short written) names ≡ true → is_among names (front ++ long) ≡ true → is_among written (front ++ short) ≡ true
+shorter : (long short front : Text) (written names : List Text) → list_all (occurs long short written) names ≡ true → is_among names (front ++ long) ≡ true → is_among written (front ++ short) ≡ true
 shorter long short front written names all among =
     let there = is_among written (without_last (front ++ long) (length long) ++ short) in
-    ap (λ t. is_among written (t ++ short)) (sym (front_of front long)) ∙ ap (λ b. cond b there true) (sym (ends front long)) ∙ passes (stands long short written) names (front ++ long) all among
+    ap (λ t. is_among written (t ++ short)) (sym (front_of front long)) ∙ ap (λ b. cond b there true) (sym (ends front long)) ∙ passes (occurs long short written) names (front ++ long) all among
 
 module _ (written names : List Text) (all : spells_out written names ≡ true) where
   -- the table has each name whose long form is among the names
@@ -52,9 +52,9 @@ module _ (written names : List Text) (all : spells_out written names ≡ true) w
   spelled name among =
       let short = codes "_dir" in
       let native = codes "_dir_native" in
-      let whole = list_all (stands [] [] written) names in
-      let first = list_all (stands (codes "_directory") short written) names in
-      let second = list_all (stands (codes "_directory_native") native written) names in
+      let whole = list_all (occurs [] [] written) names in
+      let first = list_all (occurs (codes "_directory") short written) names in
+      let second = list_all (occurs (codes "_directory_native") native written) names in
       let each = and_parts whole (first && second) all in
       let others = and_parts first second each.1 in
       let front = without_last name 4 in

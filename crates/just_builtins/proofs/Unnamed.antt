@@ -16,9 +16,9 @@ none_of_all q f g true gs own is none = none
 none_of_all q f g false gs own is none = ((λ e. let other : false ≡ true = sym is ∙ (ap q e ∙ own) in absurd (cc)), none)
 
 -- if the first entry has another function and the rest does not give f, the whole does not give f
-unnamed_at : (f : Function) (e : Text × Function) (b : Bool) (behind : Option (Text × Function)) → e.1 ≢ f → option_map (λ entry. entry.1) behind ≢ Some f → option_map (λ entry. entry.1) (cond b (Some e) behind) ≢ Some f
-unnamed_at f e true behind other none found = other (let same : e.1 ≡ f = cc in same)
-unnamed_at f e false behind other none found = none found
+unnamed_at : (f : Function) (e : Text × Function) (b : Bool) (after : Option (Text × Function)) → e.1 ≢ f → option_map (λ entry. entry.1) after ≢ Some f → option_map (λ entry. entry.1) (cond b (Some e) after) ≢ Some f
+unnamed_at f e true after other none found = other (let same : e.1 ≡ f = cc in same)
+unnamed_at f e false after other none found = none found
 
 -- if no entry has the function f, no look-up gives it
 unnamed_in : (q : Function → Bool) (f : Function) → q f ≡ true → (entries : List (Text × Function)) → NoneOf (filter q (map (λ entry. entry.1) entries)) f → (name : Text) → find_in entries name ≢ Some f

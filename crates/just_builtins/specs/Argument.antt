@@ -12,12 +12,12 @@ first [] = []
 first (text ∷ texts) = text
 
 -- the argument at a position, from 0
-abbrev pub value_at : List Value → ℕ → Value
-value_at vs i = unwrap_or (slice_get vs i) []
+abbrev pub argument_at : List Value → ℕ → Value
+argument_at vs i = unwrap_or (slice_get vs i) []
 
 -- the text at a position: its one element
 abbrev pub text_at : List Value → ℕ → Text
-text_at vs i = first (value_at vs i)
+text_at vs i = first (argument_at vs i)
 
 -- the text at a position, if there is one
 abbrev pub text_given : List Value → ℕ → Option Text
@@ -35,7 +35,7 @@ values_given None = []
 
 -- each argument has one element
 abbrev pub HasOneEach : List Value → Type 0
-HasOneEach vs = (i : ℕ) → i < length vs → length (value_at vs i) ≡ 1
+HasOneEach vs = (i : ℕ) → i < length vs → length (argument_at vs i) ≡ 1
 
 -- a function may have this many arguments
 abbrev pub IsExpected : Function → ℕ → Type 0
@@ -43,4 +43,4 @@ IsExpected f n = (fewest_arguments f ≤ n) × (n ≤ most_arguments f)
 
 -- each argument at the position of a text has one element
 abbrev pub HasTexts : Function → List Value → Type 0
-HasTexts f vs = (i : ℕ) → i < length vs → is_text f i ≡ true → length (value_at vs i) ≡ 1
+HasTexts f vs = (i : ℕ) → i < length vs → is_text f i ≡ true → length (argument_at vs i) ≡ 1

@@ -2,7 +2,7 @@
 use Rattle.std.specs.Prelude.{Bool, false, ◌++◌, List, [], ◌∷◌, Option, Some, None, option_map, if◌then◌else◌, bytes_eq, codes, decimal, find, map}
 use Rattle.std.specs.List.{join_by}
 use Rattle.just_syntax.specs.Plain.{Text}
-use Rattle.just_text.specs.Path.{joined}
+use Rattle.just_text.specs.Path.{joined_paths}
 use Rattle.just_value.specs.Refusal.{Fault, Code, Message, NoMemory}
 use Rattle.just_value.specs.Shown.{quoted}
 use Rattle.just_value.specs.Value.{Value}
@@ -54,7 +54,7 @@ asks_number q = Asks (NumberOf q) number_answered
 -- ---- files, by paths in the working directory
 
 abbrev pub in_working_directory : Context → Text → Text
-in_working_directory c path = joined (working_directory c.fixed) path
+in_working_directory c path = joined_paths (working_directory c.fixed) path
 
 -- the canonical path, free of links, of the file at a path
 abbrev pub asks_canonical : Context → Text → Reply
@@ -91,33 +91,33 @@ or_asks (Some text) other = says text
 or_asks None other = other
 
 -- the dotenv map's text for a key, otherwise the host's, and `rest` if there is none
-abbrev pub variable : List (Text × Text) → Text → Reply → Reply
-variable dotenv key rest = or_asks (entry dotenv key) (asks_text (Variable key) rest (variable_not_unicode key) (variable_unreadable key))
+abbrev pub variable_reply : List (Text × Text) → Text → Reply → Reply
+variable_reply dotenv key rest = or_asks (entry dotenv key) (asks_text (Variable key) rest (variable_not_unicode key) (variable_unreadable key))
 
 -- the value of the first of these variables that is set
 abbrev pub first_set : List (Text × Text) → Reply → List Text → Reply
-first_set dotenv unset [] = unset
-first_set dotenv unset (key ∷ keys) = variable dotenv key (first_set dotenv unset keys)
+first_set dotenv none_set [] = none_set
+first_set dotenv none_set (key ∷ keys) = variable_reply dotenv key (first_set dotenv none_set keys)
 
 -- the reply if none is set: the default, or a message
-abbrev pub unset : List Text → Option Value → Reply
-unset keys (Some default) = Answers default
-unset keys None = Fails (no_variable keys)
+abbrev pub none_set : List Text → Option Value → Reply
+none_set keys (Some default) = Answers default
+none_set keys None = Fails (no_variable keys)
 
 abbrev pub asks_environment : Context → List Text → Option Value → Reply
-asks_environment c keys default = first_set c.fixed.dotenv (unset keys default) keys
+asks_environment c keys default = first_set c.fixed.dotenv (none_set keys default) keys
 
 -- ---- commands
 
-abbrev pub faulted : Fault → Reply
-faulted (Code n) = Fails (fault_text (Code n))
-faulted (Message text) = Fails (fault_text (Message text))
-faulted NoMemory = Stops
+abbrev pub fault_reply : Fault → Reply
+fault_reply (Code n) = Fails (fault_text (Code n))
+fault_reply (Message text) = Fails (fault_text (Message text))
+fault_reply NoMemory = Stops
 
 -- the reply for an answer to a command
 abbrev pub command_answered : Answer → Reply
 command_answered (Replied text) = says text
-command_answered (Failed fault) = faulted fault
+command_answered (Failed fault) = fault_reply fault
 command_answered _ = Stops
 
 -- a call of `shell`, as it is written

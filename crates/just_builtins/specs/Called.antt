@@ -4,8 +4,8 @@ use Rattle.just_syntax.specs.Plain.{Text}
 use Rattle.just_value.specs.Value.{Value}
 use Rattle.just_value.specs.Frames.{Frames}
 use Rattle.just_value.specs.Outcome.{Outcome, Gave, Stopped}
-use Rattle.just_host.specs.Question.{Question, Answer, Blind, CommandOf}
-use Rattle.just_host.specs.Interaction.{Tree, done, ask, gives, Runs, freely}
+use Rattle.just_host.specs.Question.{Blind, CommandOf}
+use Rattle.just_host.specs.Interaction.{Tree, done, ask, gives, Runs, freely, Step}
 use Rattle.just_builtins.specs.declared.builtin.Builtin.{Builtin}
 use Rattle.just_builtins.specs.declared.call_fault.CallFault.{CallFault}
 use Rattle.just_builtins.specs.declared.call_fault.CallFault.TheVariants.{Internal, Message, OutOfMemory}
@@ -43,11 +43,11 @@ IsNoneOf [] builtin = ⊤
 IsNoneOf (other ∷ others) builtin = (other ≢ builtin) × IsNoneOf others builtin
 
 -- the result is the reply, which asks nothing, unless memory runs out
-abbrev pub Gives : Reply → Result Value CallFault → Type 0
-Gives reply (Ok v) = reply ≡ Answers v
-Gives reply (Err (Message message)) = reply ≡ Fails (string_bytes message)
-Gives reply (Err OutOfMemory) = ⊤
-Gives reply (Err Internal) = ⊥
+abbrev pub IsReply : Reply → Result Value CallFault → Type 0
+IsReply reply (Ok v) = reply ≡ Answers v
+IsReply reply (Err (Message message)) = reply ≡ Fails (string_bytes message)
+IsReply reply (Err OutOfMemory) = ⊤
+IsReply reply (Err Internal) = ⊥
 
 -- the same, but it is `Internal` if the function has no name
 abbrev pub Replies : Function → Reply → Result Value CallFault → Type 0
@@ -74,15 +74,15 @@ GivesOr reply (Err Internal) = ⊥
 -- ---- functions that ask: the questions to the host, and then their replies
 
 -- the call is a run of the reply's interaction tree, and its result is not `Internal`
-abbrev pub Asked : {S : Type 0} → (S → Question → Answer → S → Type 0) → S → Frames → Reply → Result Value CallFault → S → Type 0
+abbrev pub Asked : {S : Type 0} → Step S → S → Frames → Reply → Result Value CallFault → S → Type 0
 Asked step old shown reply result new = Runs freely step old (tree shown reply) (outcome result) new × (result ≢ Err Internal)
 
 -- the same, but it is `Internal` if the function has no name; then nothing is asked
-abbrev pub AskedBy : {S : Type 0} → Function → (S → Question → Answer → S → Type 0) → S → Frames → Reply → Result Value CallFault → S → Type 0
+abbrev pub AskedBy : {S : Type 0} → Function → Step S → S → Frames → Reply → Result Value CallFault → S → Type 0
 AskedBy f step old shown reply result new = Runs freely step old (tree shown reply) (outcome result) new × (result ≡ Err Internal → IsUnnamed f × (new ≡ old))
 
 -- If there is a result, it is the reply's. If there is none yet, any run of `rest` from here is a run of the reply.
-abbrev pub AskedOr : {S : Type 0} → (S → Question → Answer → S → Type 0) → S → Frames → (Reply → Reply) → Result (Option Value) CallFault → S → Type 0
+abbrev pub AskedOr : {S : Type 0} → Step S → S → Frames → (Reply → Reply) → Result (Option Value) CallFault → S → Type 0
 AskedOr step old shown reply (Ok (Some v)) new = (rest : Reply) → Runs freely step old (tree shown (reply rest)) (Gave (Returned v)) new
 AskedOr {S} step old shown reply (Ok None) new = (rest : Reply) (o : Outcome Called) (last : S) → Runs freely step new (tree shown rest) o last → Runs freely step old (tree shown (reply rest)) o last
 AskedOr step old shown reply (Err e) new = (rest : Reply) → Asked step old shown (reply rest) (Err e) new

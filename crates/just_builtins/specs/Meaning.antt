@@ -16,7 +16,7 @@ use Rattle.just_host.specs.Function.{Context}
 use Rattle.just_host.specs.Question.{Arch, Os, OsFamily}
 use Rattle.just_host.specs.declared.directory_kind.DirectoryKind.TheVariants as kinds
 use Rattle.just_host.specs.declared.number_question.NumberQuestion.TheVariants.{ProcessId, Cpus}
-use Rattle.just_builtins.specs.Argument.{value_at, text_at, text_given, first}
+use Rattle.just_builtins.specs.Argument.{argument_at, text_at, text_given, first}
 use Rattle.just_builtins.specs.Asking.{asks_canonical, asks_contents, asks_directory, asks_environment, asks_executable, asks_existence, asks_number, asks_shell, asks_system, asks_which}
 use Rattle.just_builtins.specs.Message.{not_extracted, no_parent, no_justfile_directory, not_boolean, many_for_boolean, past_ascii, outside_recipe, no_executable}
 use Rattle.just_builtins.specs.Reply.{Reply, Answers, Fails, says}
@@ -84,12 +84,12 @@ abbrev pub without_extension : Text → Reply
 without_extension p =
     or_fails (path.parent p) (not_extracted (codes "parent") p) (λ directory.
     or_fails (path.file_stem p) (not_extracted (codes "file stem") p) (λ stem.
-    says (path.joined directory stem)))
+    says (path.joined_paths directory stem)))
 
 -- paths joined from left to right
 abbrev pub all_joined : Text → List Value → Text
 all_joined base [] = base
-all_joined base (v ∷ vs) = all_joined (path.joined base (first v)) vs
+all_joined base (v ∷ vs) = all_joined (path.joined_paths base (first v)) vs
 
 -- the reply for the parent of a path, which must have one
 abbrev pub with_parent : Text → (Text → Reply) → Reply
@@ -97,7 +97,7 @@ with_parent p go = or_fails (path.parent p) (no_parent p) go
 
 -- the reply for the path of the file that contains the call
 abbrev pub with_source : Context → (Text → Reply) → Reply
-with_source c go = with_parent c.fixed.justfile (λ directory. go (path.joined directory c.name.path))
+with_source c go = with_parent c.fixed.justfile (λ directory. go (path.joined_paths directory c.name.path))
 
 abbrev pub justfile_directory : Text → Reply
 justfile_directory justfile = or_fails (path.parent justfile) (no_justfile_directory justfile) says
@@ -112,9 +112,9 @@ split_at text None = words text
 split_at text (Some separator) = split text separator
 
 abbrev pub reply : Builtin → Context → List Value → Reply
-reply builtin.Append c vs = Answers (each (has_lists c) (λ text. text ++ text_at vs 0) (value_at vs 1))
+reply builtin.Append c vs = Answers (each (has_lists c) (λ text. text ++ text_at vs 0) (argument_at vs 1))
 reply builtin.Arch c vs = asks_system (codes "arch") Arch
-reply builtin.Bool c vs = says_truth (has_lists c) (value_truth (value_at vs 0))
+reply builtin.Bool c vs = says_truth (has_lists c) (value_truth (argument_at vs 0))
 reply builtin.CacheDirectory c vs = asks_directory kinds.Cache
 reply builtin.Canonicalize c vs = asks_canonical c (text_at vs 0)
 reply builtin.Capitalize c vs = cased capitalize (text_at vs 0)
@@ -123,9 +123,9 @@ reply builtin.ConfigLocalDirectory c vs = asks_directory kinds.ConfigLocal
 reply builtin.DataDirectory c vs = asks_directory kinds.Data
 reply builtin.DataLocalDirectory c vs = asks_directory kinds.DataLocal
 reply builtin.EncodeUriComponent c vs = says (encoded (text_at vs 0))
-reply builtin.Env c vs = asks_environment c (value_at vs 0) (slice_get vs 1)
-reply builtin.EnvVar c vs = asks_environment c (value_at vs 0) None
-reply builtin.EnvVarOrDefault c vs = asks_environment c (value_at vs 0) (Some (value_at vs 1))
+reply builtin.Env c vs = asks_environment c (argument_at vs 0) (slice_get vs 1)
+reply builtin.EnvVar c vs = asks_environment c (argument_at vs 0) None
+reply builtin.EnvVarOrDefault c vs = asks_environment c (argument_at vs 0) (Some (argument_at vs 1))
 reply builtin.Error c vs = Fails (text_at vs 0)
 reply builtin.ExecutableDirectory c vs = asks_directory kinds.Executable
 reply builtin.Extension c vs = part (codes "extension") path.extension (text_at vs 0)
@@ -136,13 +136,13 @@ reply builtin.InvocationDirectory c vs = says c.fixed.config.invocation_director
 reply builtin.InvocationDirectoryNative c vs = says c.fixed.config.invocation_directory
 reply builtin.IsDependency c vs = Answers (truth (has_lists c) c.is_dependency)
 reply builtin.Join c vs = says (all_joined [] vs)
-reply builtin.JoinList c vs = says (join_by (λ text. text) (unwrap_or (text_given vs 1) (codes " ")) (value_at vs 0))
+reply builtin.JoinList c vs = says (join_by (λ text. text) (unwrap_or (text_given vs 1) (codes " ")) (argument_at vs 0))
 reply builtin.JustExecutable c vs = asks_executable
 reply builtin.JustPid c vs = asks_number ProcessId
 reply builtin.JustVersion c vs = says (codes "1.58.0")
 reply builtin.Justfile c vs = says c.fixed.justfile
 reply builtin.JustfileDirectory c vs = justfile_directory c.fixed.justfile
-reply builtin.Len c vs = says (decimal (length (value_at vs 0)))
+reply builtin.Len c vs = says (decimal (length (argument_at vs 0)))
 reply builtin.Lowercase c vs = cased lowercase (text_at vs 0)
 reply builtin.ModuleDirectory c vs = with_parent c.fixed.source says
 reply builtin.ModuleFile c vs = says c.fixed.source
@@ -153,15 +153,15 @@ reply builtin.Os c vs = asks_system (codes "os") Os
 reply builtin.OsFamily c vs = asks_system (codes "os_family") OsFamily
 reply builtin.ParentDirectory c vs = parent_directory (text_at vs 0)
 reply builtin.PathExists c vs = asks_existence c (truth (has_lists c)) (text_at vs 0)
-reply builtin.Prepend c vs = Answers (each (has_lists c) (λ text. text_at vs 0 ++ text) (value_at vs 1))
-reply builtin.Quote c vs = Answers (map single_quoted (value_at vs 0))
+reply builtin.Prepend c vs = Answers (each (has_lists c) (λ text. text_at vs 0 ++ text) (argument_at vs 1))
+reply builtin.Quote c vs = Answers (map single_quoted (argument_at vs 0))
 reply builtin.Read c vs = asks_contents c (text_at vs 0)
 reply builtin.RecipeName c vs = or_fails c.recipe outside_recipe says
 reply builtin.Replace c vs = says (replaced (text_at vs 0) (text_at vs 1) (text_at vs 2))
 reply builtin.Require c vs = asks_which c (text_at vs 0) (Fails (no_executable (text_at vs 0)))
 reply builtin.RuntimeDirectory c vs = asks_directory kinds.Runtime
 reply builtin.Shell c vs = asks_shell c (map first vs)
-reply builtin.Show c vs = says (shown (value_at vs 0))
+reply builtin.Show c vs = says (shown (argument_at vs 0))
 reply builtin.SourceDirectory c vs = with_source c (λ file. with_parent file says)
 reply builtin.SourceFile c vs = with_source c says
 reply builtin.Split c vs = Answers (split_at (text_at vs 0) (text_given vs 1))

@@ -1,15 +1,15 @@
 // The arguments of a call.
 
 ghost use Rattle.std.specs.Prelude.{◌≡◌, ◌<◌, ◌≤◌, ◌∷◌, [], drop, length};
-ghost use Rattle.just_builtins.specs.Argument.{texts_given, value_at, values_given};
+ghost use Rattle.just_builtins.specs.Argument.{texts_given, argument_at, values_given};
 
 use just_value::value::Value;
 
 /// The text at a position, counted from 0: the only element of the argument there.
 pub fn text_at(arguments: &[Value], position: usize) -> &str
     requires there { position < length arguments.now }
-    requires text { length (value_at arguments.now position) ≡ 1 }
-    ensures { value_at arguments.now position ≡ result.now ∷ [] }
+    requires text { length (argument_at arguments.now position) ≡ 1 }
+    ensures { argument_at arguments.now position ≡ result.now ∷ [] }
 {
     let elements = arguments[position].elements();
     &elements[0]
@@ -18,7 +18,7 @@ pub fn text_at(arguments: &[Value], position: usize) -> &str
 /// The second argument, which is a text, if there is one.
 pub fn second_text(arguments: &[Value]) -> Option<&str>
     requires few { length arguments.now ≤ 2 }
-    requires text { 1 < length arguments.now → length (value_at arguments.now 1) ≡ 1 }
+    requires text { 1 < length arguments.now → length (argument_at arguments.now 1) ≡ 1 }
     ensures { texts_given result ≡ drop 1 arguments.now }
 {
     if arguments.len() > 1 {

@@ -4,7 +4,7 @@ ghost use Rattle.std.specs.Prelude.{◌≡◌, ◌<◌, ◌∷◌, ◌++◌, [],
 ghost use Rattle.just_value.specs.Frames.{Frames};
 ghost use Rattle.just_host.specs.Function as function;
 ghost use Rattle.just_host.specs.View.{function_context_view};
-ghost use Rattle.just_builtins.specs.Argument.{HasOneEach, texts_given, value_at, values_given};
+ghost use Rattle.just_builtins.specs.Argument.{HasOneEach, texts_given, argument_at, values_given};
 ghost use Rattle.just_builtins.specs.Called.{AskedBy, Replies};
 ghost use Rattle.just_builtins.specs.Meaning.{all_joined, reply};
 ghost use Rattle.just_builtins.specs.declared.function.Function.TheVariants.{Binary, BinaryOptToValue, BinaryOptValueStrToValue, BinaryPlus, BinaryStrValue, ValueBinary, ValueBinaryOpt};
@@ -120,7 +120,7 @@ pub fn binary_str_value(
     arguments: &[Value],
 ) -> Result<Value, CallFault>
     requires count { length arguments.now ≡ 2 }
-    requires text { length (value_at arguments.now 0) ≡ 1 }
+    requires text { length (argument_at arguments.now 0) ≡ 1 }
     ensures { Replies (BinaryStrValue builtin) (reply builtin (function_context_view context.now) arguments.now) result }
 {
     let text = text_at(arguments, 0);

@@ -3,7 +3,7 @@
 ghost use Rattle.just_value.specs.Frames.{Frames};
 ghost use Rattle.just_host.specs.View.{text_replied};
 ghost use Rattle.just_builtins.specs.Asking.{asks_directory, text_answered};
-ghost use Rattle.just_builtins.specs.Called.{Asked, Gives};
+ghost use Rattle.just_builtins.specs.Called.{Asked, IsReply};
 ghost use Rattle.just_builtins.specs.Message.{directory_not_unicode, directory_unreadable, no_directory};
 ghost use Rattle.just_builtins.specs.Reply.{Fails};
 
@@ -35,7 +35,7 @@ pub(crate) fn directory<H: Host>(
 
 // The result for the host's answer.
 fn directory_answered(alloc: Global, word: &str, answer: TextAnswer) -> Result<Value, CallFault>
-    ensures { Gives (text_answered (Fails (no_directory word.now)) (directory_not_unicode word.now) (directory_unreadable word.now) (text_replied answer)) result }
+    ensures { IsReply (text_answered (Fails (no_directory word.now)) (directory_not_unicode word.now) (directory_unreadable word.now) (text_replied answer)) result }
 {
     match answer {
         TextAnswer::Text(text) => Ok(Value::from_string(alloc, text)?),

@@ -5,7 +5,7 @@ ghost use Rattle.just_value.specs.Frames.{Frames};
 ghost use Rattle.just_syntax.specs.View.{pairs_view};
 ghost use Rattle.just_host.specs.View.{function_context_view, text_replied};
 ghost use Rattle.just_builtins.specs.Asking as spec;
-ghost use Rattle.just_builtins.specs.Called.{Asked, AskedOr, Gives, GivesOr};
+ghost use Rattle.just_builtins.specs.Called.{Asked, AskedOr, IsReply, GivesOr};
 ghost use Rattle.just_builtins.specs.Message.{variable_not_unicode, variable_unreadable};
 
 use crate::call_fault::CallFault;
@@ -65,7 +65,7 @@ fn variable<H: Host>(
     dotenv: &BTreeMap<String, String>,
     key: &str,
 ) -> Result<Option<Value>, CallFault>
-    ensures { (shown : Frames) → AskedOr H.step host.old shown (spec.variable (pairs_view dotenv.now) key.now) result host.new }
+    ensures { (shown : Frames) → AskedOr H.step host.old shown (spec.variable_reply (pairs_view dotenv.now) key.now) result host.new }
 {
     match dotenv.get(key) {
         Some(text) => Ok(Some(Value::from_text(alloc, text)?)),
@@ -101,7 +101,7 @@ fn variable_answered(
 
 // The result if none of the variables is set.
 fn unset(alloc: Global, keys: &[String], default: Option<&Value>) -> Result<Value, CallFault>
-    ensures { Gives (spec.unset (map string_bytes keys.now) (option_map (λ value. value.now) default.entry)) result }
+    ensures { IsReply (spec.none_set (map string_bytes keys.now) (option_map (λ value. value.now) default.entry)) result }
 {
     match default {
         Some(value) => Ok(value.try_clone(alloc)?),

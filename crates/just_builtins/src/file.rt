@@ -2,9 +2,9 @@
 
 ghost use Rattle.std.specs.Prelude.{◌≡◌, IfOk, false, string_bytes};
 ghost use Rattle.just_value.specs.Frames.{Frames};
-ghost use Rattle.just_host.specs.View.{found, function_context_view, text_replied};
+ghost use Rattle.just_host.specs.View.{existence_answer, function_context_view, text_replied};
 ghost use Rattle.just_builtins.specs.Asking as spec;
-ghost use Rattle.just_builtins.specs.Called.{Asked, Gives};
+ghost use Rattle.just_builtins.specs.Called.{Asked, IsReply};
 ghost use Rattle.just_builtins.specs.Meaning.{has_lists, truth};
 ghost use Rattle.just_builtins.specs.Message.{canonical_not_unicode, not_canonicalized, not_found, not_read};
 ghost use Rattle.just_builtins.specs.Reply.{Answers, Fails};
@@ -49,7 +49,7 @@ pub fn canonicalize<'call, H: Host>(
 
 // The result for the host's answer.
 fn canonical_answered(alloc: Global, path: &str, answer: TextAnswer) -> Result<Value, CallFault>
-    ensures { Gives (spec.text_answered (Fails (not_canonicalized path.now not_found)) canonical_not_unicode (not_canonicalized path.now) (text_replied answer)) result }
+    ensures { IsReply (spec.text_answered (Fails (not_canonicalized path.now not_found)) canonical_not_unicode (not_canonicalized path.now) (text_replied answer)) result }
 {
     match answer {
         TextAnswer::Text(text) => Ok(Value::from_string(alloc, text)?),
@@ -88,7 +88,7 @@ pub fn read<'call, H: Host>(
 
 // The result for the host's answer.
 fn contents_answered(alloc: Global, path: &str, answer: TextAnswer) -> Result<Value, CallFault>
-    ensures { Gives (spec.text_answered (Fails (not_read path.now not_found)) (not_read path.now) (not_read path.now) (text_replied answer)) result }
+    ensures { IsReply (spec.text_answered (Fails (not_read path.now not_found)) (not_read path.now) (not_read path.now) (text_replied answer)) result }
 {
     match answer {
         TextAnswer::Text(text) => Ok(Value::from_string(alloc, text)?),
@@ -128,7 +128,7 @@ pub fn path_exists<'call, H: Host>(
 
 // The value for a path where nothing exists.
 fn nowhere(alloc: Global, lists: bool) -> Result<Value, CallFault>
-    ensures { Gives (Answers (truth lists false)) result }
+    ensures { IsReply (Answers (truth lists false)) result }
 {
     Ok(truth(alloc, lists, false)?)
 }
@@ -139,7 +139,7 @@ fn existence_answered(
     lists: bool,
     answer: Result<bool, OutOfMemory>,
 ) -> Result<Value, CallFault>
-    ensures { Gives (spec.existence_answered (truth lists) (found answer)) result }
+    ensures { IsReply (spec.existence_answered (truth lists) (existence_answer answer)) result }
 {
     Ok(truth(alloc, lists, answer?)?)
 }

@@ -4,7 +4,7 @@ ghost use Rattle.std.specs.Prelude.{[]};
 ghost use Rattle.just_value.specs.Frames.{Frames};
 ghost use Rattle.just_host.specs.View.{function_context_view, text_replied};
 ghost use Rattle.just_builtins.specs.Asking.{asks_which, text_answered};
-ghost use Rattle.just_builtins.specs.Called.{Asked, Gives};
+ghost use Rattle.just_builtins.specs.Called.{Asked, IsReply};
 ghost use Rattle.just_builtins.specs.Message.{no_executable};
 ghost use Rattle.just_builtins.specs.Reply.{Answers, Fails};
 
@@ -42,7 +42,7 @@ pub fn which<'call, H: Host>(
 
 // The result for the host's answer.
 fn which_answered(alloc: Global, answer: TextAnswer) -> Result<Value, CallFault>
-    ensures { Gives (text_answered (Answers []) (λ text. text) (λ text. text) (text_replied answer)) result }
+    ensures { IsReply (text_answered (Answers []) (λ text. text) (λ text. text) (text_replied answer)) result }
 {
     match answer {
         TextAnswer::Text(text) => Ok(Value::from_string(alloc, text)?),
@@ -77,7 +77,7 @@ pub fn require<'call, H: Host>(
 
 // The result for the host's answer.
 fn require_answered(alloc: Global, name: &str, answer: TextAnswer) -> Result<Value, CallFault>
-    ensures { Gives (text_answered (Fails (no_executable name.now)) (λ text. text) (λ text. text) (text_replied answer)) result }
+    ensures { IsReply (text_answered (Fails (no_executable name.now)) (λ text. text) (λ text. text) (text_replied answer)) result }
 {
     match answer {
         TextAnswer::Text(text) => Ok(Value::from_string(alloc, text)?),

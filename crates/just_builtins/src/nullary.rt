@@ -3,7 +3,7 @@
 ghost use Rattle.std.specs.Prelude.{◌≡◌, [], IfOk};
 ghost use Rattle.just_value.specs.Frames.{Frames};
 ghost use Rattle.just_host.specs.View.{function_context_view};
-ghost use Rattle.just_builtins.specs.Called.{AskedBy, Gives, Replies, RepliesAmong};
+ghost use Rattle.just_builtins.specs.Called.{AskedBy, IsReply, Replies, RepliesAmong};
 ghost use Rattle.just_builtins.specs.Meaning as spec;
 ghost use Rattle.just_builtins.specs.Message.{outside_recipe};
 ghost use Rattle.just_builtins.specs.Reply.{says};
@@ -109,7 +109,7 @@ fn jobs(alloc: Global, jobs: Option<u64>) -> Result<Value, OutOfMemory>
 
 // The name of the recipe that contains the call.
 fn recipe_name(alloc: Global, context: &Context) -> Result<Value, CallFault>
-    ensures { Gives (spec.or_fails (function_context_view context.now).recipe outside_recipe says) result }
+    ensures { IsReply (spec.or_fails (function_context_view context.now).recipe outside_recipe says) result }
 {
     match context.recipe {
         Some(name) => Ok(Value::from_text(alloc, name.lexeme())?),

@@ -1,7 +1,7 @@
 // Parts of paths, and joined paths.
 
 ghost use Rattle.std.specs.Prelude.{◌≡◌, IfOk, [], option_copied, string_bytes};
-ghost use Rattle.just_builtins.specs.Called.{Gives};
+ghost use Rattle.just_builtins.specs.Called.{IsReply};
 ghost use Rattle.just_builtins.specs.Meaning as spec;
 ghost use Rattle.just_builtins.specs.Message.{not_extracted};
 ghost use Rattle.just_builtins.specs.Reply.{says};
@@ -16,7 +16,7 @@ use std::path::PathBuf;
 
 /// A part of a path, or the message that it has no part of this kind.
 pub fn part(alloc: Global, kind: &str, found: Option<&str>, path: &str) -> Result<Value, CallFault>
-    ensures { Gives (spec.or_fails (option_copied found.entry) (not_extracted kind.now path.now) says) result }
+    ensures { IsReply (spec.or_fails (option_copied found.entry) (not_extracted kind.now path.now) says) result }
 {
     match found {
         Some(text) => Ok(Value::from_text(alloc, text)?),
@@ -26,7 +26,7 @@ pub fn part(alloc: Global, kind: &str, found: Option<&str>, path: &str) -> Resul
 
 /// The parent of a path; `.` instead of the empty one.
 pub fn parent_directory(alloc: Global, path: &str) -> Result<Value, CallFault>
-    ensures { Gives (spec.parent_directory path.now) result }
+    ensures { IsReply (spec.parent_directory path.now) result }
 {
     let parent = match path::parent(path) {
         Some("") => Some("."),
@@ -37,7 +37,7 @@ pub fn parent_directory(alloc: Global, path: &str) -> Result<Value, CallFault>
 
 /// A path without the extension of its file name.
 pub fn without_extension(alloc: Global, path: &str) -> Result<Value, CallFault>
-    ensures { Gives (spec.without_extension path.now) result }
+    ensures { IsReply (spec.without_extension path.now) result }
 {
     let Some(parent) = path::parent(path) else {
         return part(alloc, "parent", None, path);

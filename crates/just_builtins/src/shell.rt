@@ -6,7 +6,7 @@ ghost use Rattle.just_value.specs.View.{frames_view};
 ghost use Rattle.just_host.specs.View.{function_context_view, replied};
 ghost use Rattle.just_builtins.specs.Argument.{HasOneEach, first};
 ghost use Rattle.just_builtins.specs.Asking as spec;
-ghost use Rattle.just_builtins.specs.Called.{Asked, Gives};
+ghost use Rattle.just_builtins.specs.Called.{Asked, IsReply};
 ghost use Rattle.just_builtins.specs.Reply.{says};
 
 use crate::argument::text_at;
@@ -58,7 +58,7 @@ pub fn shell<'call, H: Host>(
 
 // The result for the host's answer.
 fn command_answered(alloc: Global, answer: Result<String, CommandFault>) -> Result<Value, CallFault>
-    ensures { Gives (spec.command_answered (replied answer)) result }
+    ensures { IsReply (spec.command_answered (replied answer)) result }
 {
     match answer {
         Ok(text) => Ok(Value::from_string(alloc, text)?),
@@ -82,7 +82,7 @@ fn further_texts(alloc: Global, arguments: &[Value]) -> Result<Vec<String>, OutO
 // The texts as a call of `shell`.
 fn shell_call(alloc: Global, arguments: &[Value]) -> Result<Value, CallFault>
     requires { HasOneEach arguments.now }
-    ensures { Gives (says (spec.shell_call (map first arguments.now))) result }
+    ensures { IsReply (says (spec.shell_call (map first arguments.now))) result }
 {
     let words = quoted_texts(alloc, arguments)?;
     let words = join_list::join_list(alloc, &words, ", ")?;

@@ -1,7 +1,7 @@
 // The files that contain calls, and their directories.
 
 ghost use Rattle.just_host.specs.View.{function_context_view};
-ghost use Rattle.just_builtins.specs.Called.{Gives};
+ghost use Rattle.just_builtins.specs.Called.{IsReply};
 ghost use Rattle.just_builtins.specs.Meaning as spec;
 ghost use Rattle.just_builtins.specs.Message.{no_parent};
 ghost use Rattle.just_builtins.specs.Reply.{Fails, says};
@@ -14,7 +14,7 @@ use std::alloc::Global;
 
 /// The directory of the root justfile.
 pub fn justfile_directory(alloc: Global, justfile: &str) -> Result<Value, CallFault>
-    ensures { Gives (spec.justfile_directory justfile.now) result }
+    ensures { IsReply (spec.justfile_directory justfile.now) result }
 {
     match path::parent(justfile) {
         Some(directory) => Ok(Value::from_text(alloc, directory)?),
@@ -24,7 +24,7 @@ pub fn justfile_directory(alloc: Global, justfile: &str) -> Result<Value, CallFa
 
 /// The directory of a path.
 pub fn directory_of(alloc: Global, path: &str) -> Result<Value, CallFault>
-    ensures { Gives (spec.with_parent path.now says) result }
+    ensures { IsReply (spec.with_parent path.now says) result }
 {
     match path::parent(path) {
         Some(directory) => Ok(Value::from_text(alloc, directory)?),
@@ -34,7 +34,7 @@ pub fn directory_of(alloc: Global, path: &str) -> Result<Value, CallFault>
 
 /// The path of the file that contains the call.
 pub fn source_file(alloc: Global, context: &Context) -> Result<Value, CallFault>
-    ensures { Gives (spec.with_source (function_context_view context.now) says) result }
+    ensures { IsReply (spec.with_source (function_context_view context.now) says) result }
 {
     let justfile = &context.execution_context.search.justfile;
     match path::parent(justfile) {
@@ -48,7 +48,7 @@ pub fn source_file(alloc: Global, context: &Context) -> Result<Value, CallFault>
 
 /// The directory of the file that contains the call.
 pub fn source_directory(alloc: Global, context: &Context) -> Result<Value, CallFault>
-    ensures { Gives (spec.with_source (function_context_view context.now) (λ file. spec.with_parent file says)) result }
+    ensures { IsReply (spec.with_source (function_context_view context.now) (λ file. spec.with_parent file says)) result }
 {
     let justfile = &context.execution_context.search.justfile;
     match path::parent(justfile) {
@@ -62,7 +62,7 @@ pub fn source_directory(alloc: Global, context: &Context) -> Result<Value, CallF
 
 // The message that a path has no directory.
 fn no_parent(alloc: Global, path: &str) -> Result<Value, CallFault>
-    ensures { Gives (Fails (no_parent path.now)) result }
+    ensures { IsReply (Fails (no_parent path.now)) result }
 {
     Err(CallFault::Message(message::no_parent(alloc, path)?))
 }

@@ -1,9 +1,9 @@
 // Questions about the system and the running program.
 
 ghost use Rattle.just_value.specs.Frames.{Frames};
-ghost use Rattle.just_host.specs.View.{numbered, text_question_view, text_replied};
+ghost use Rattle.just_host.specs.View.{number_answer, text_question_view, text_replied};
 ghost use Rattle.just_builtins.specs.Asking.{asks_executable, asks_number, asks_system, number_answered, text_answered};
-ghost use Rattle.just_builtins.specs.Called.{Asked, Gives};
+ghost use Rattle.just_builtins.specs.Called.{Asked, IsReply};
 ghost use Rattle.just_builtins.specs.Message.{executable_not_unicode, executable_unknown, no_answer, not_found};
 ghost use Rattle.just_builtins.specs.Reply.{Fails};
 
@@ -36,7 +36,7 @@ pub fn system<H: Host>(
 
 // The result for the host's answer.
 fn system_answered(alloc: Global, name: &str, answer: TextAnswer) -> Result<Value, CallFault>
-    ensures { Gives (text_answered (Fails (no_answer name.now)) (λ text. no_answer name.now) (λ text. no_answer name.now) (text_replied answer)) result }
+    ensures { IsReply (text_answered (Fails (no_answer name.now)) (λ text. no_answer name.now) (λ text. no_answer name.now) (text_replied answer)) result }
 {
     match answer {
         TextAnswer::Text(text) => Ok(Value::from_string(alloc, text)?),
@@ -62,7 +62,7 @@ pub fn executable<H: Host>(alloc: Global, host: &mut H) -> Result<Value, CallFau
 
 // The result for the host's answer.
 fn executable_answered(alloc: Global, answer: TextAnswer) -> Result<Value, CallFault>
-    ensures { Gives (text_answered (Fails (executable_unknown not_found)) executable_not_unicode executable_unknown (text_replied answer)) result }
+    ensures { IsReply (text_answered (Fails (executable_unknown not_found)) executable_not_unicode executable_unknown (text_replied answer)) result }
 {
     match answer {
         TextAnswer::Text(text) => Ok(Value::from_string(alloc, text)?),
@@ -98,7 +98,7 @@ pub fn number<H: Host>(
 
 // The result for the host's answer.
 fn number_answered(alloc: Global, answer: Result<u64, OutOfMemory>) -> Result<Value, CallFault>
-    ensures { Gives (number_answered (numbered answer)) result }
+    ensures { IsReply (number_answered (number_answer answer)) result }
 {
     let digits = answer?.to_string(alloc)?;
     Ok(Value::from_string(alloc, digits)?)

@@ -1,7 +1,7 @@
 // Booleans as values, and values as booleans.
 
 ghost use Rattle.std.specs.Prelude.{◌≡◌, IfOk};
-ghost use Rattle.just_builtins.specs.Called.{Gives};
+ghost use Rattle.just_builtins.specs.Called.{IsReply};
 ghost use Rattle.just_builtins.specs.Meaning as spec;
 
 use crate::call_fault::CallFault;
@@ -22,7 +22,7 @@ pub fn truth(alloc: Global, lists: bool, condition: bool) -> Result<Value, OutOf
 
 /// A value converted to a boolean, as a value.
 pub fn value_truth(alloc: Global, lists: bool, value: &Value) -> Result<Value, CallFault>
-    ensures { Gives (spec.says_truth lists (spec.value_truth value.now)) result }
+    ensures { IsReply (spec.says_truth lists (spec.value_truth value.now)) result }
 {
     match value.elements() {
         [] => Ok(truth(alloc, lists, false)?),
@@ -33,7 +33,7 @@ pub fn value_truth(alloc: Global, lists: bool, value: &Value) -> Result<Value, C
 
 // A text converted to a boolean, as a value.
 fn text_truth(alloc: Global, lists: bool, text: &str) -> Result<Value, CallFault>
-    ensures { Gives (spec.says_truth lists (spec.text_truth text.now)) result }
+    ensures { IsReply (spec.says_truth lists (spec.text_truth text.now)) result }
 {
     if text == "" || text == "0" || text == "false" {
         return Ok(truth(alloc, lists, false)?);

@@ -7,7 +7,7 @@ ghost use Rattle.just_value.specs.View.{frames_view};
 ghost use Rattle.just_host.specs.Function as function;
 ghost use Rattle.just_host.specs.View.{function_context_view};
 ghost use Rattle.just_builtins.specs.Argument.{HasOneEach};
-ghost use Rattle.just_builtins.specs.Called.{AskedBy, Gives, Replies, RepliesAmong};
+ghost use Rattle.just_builtins.specs.Called.{AskedBy, IsReply, Replies, RepliesAmong};
 ghost use Rattle.just_builtins.specs.Meaning.{or_fails, reply};
 ghost use Rattle.just_builtins.specs.Message.{past_ascii};
 ghost use Rattle.just_builtins.specs.Reply.{says};
@@ -75,7 +75,7 @@ fn unary_unasked(alloc: Global, builtin: Builtin, text: &str) -> Result<Value, C
 
 // A text in another case, or the message that it is not ASCII.
 fn cased(alloc: Global, changed: Option<String>, text: &str) -> Result<Value, CallFault>
-    ensures { Gives (or_fails (option_map string_bytes changed) (past_ascii text.now) says) result }
+    ensures { IsReply (or_fails (option_map string_bytes changed) (past_ascii text.now) says) result }
 {
     match changed {
         Some(changed) => Ok(Value::from_string(alloc, changed)?),

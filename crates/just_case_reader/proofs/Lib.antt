@@ -1,1 +1,7 @@
+mod Split
+pub mod Stacks
+pub mod Lines
+pub mod Texts
+pub mod Names
+pub mod Numbers
 mod Counts

@@ -4,9 +4,9 @@ use Rattle.just_syntax.specs.Plain.{Text, Token, Assignment, Function}
 use Rattle.just_value.specs.Refusal.{Fault}
 
 -- the answer to a command: its output, or a fault
-pub data Reply : Type 0 where
-  Output : Text → Reply
-  Broken : Fault → Reply
+pub data CommandReply : Type 0 where
+  Output : Text → CommandReply
+  Broken : Fault → CommandReply
 
 -- how a case is evaluated: in a run, before any run, or in two runs, the second in this order
 pub data Evaluation : Type 0 where
@@ -26,7 +26,7 @@ pub record Case : Type 0 where
   pub dotenv : List (Text × Text)
   -- commands, each with the text that always answers it
   pub always : List (Text × Text)
-  pub replies : List Reply
+  pub replies : List CommandReply
   pub lists : Bool
   pub dry_run : Bool
   pub recursion_limit : ℕ

@@ -1,3 +1,9 @@
+pub mod Done
+pub mod Line
+pub mod Numbering
+pub mod Rest
+pub mod Stack
+pub mod Token
 pub mod Case
 pub mod Reading
 pub mod Said

@@ -11,21 +11,21 @@ use Rattle.just_syntax.specs.Plain.{Text, Token, Expr}
 use Rattle.just_value.specs.Refusal.{Code}
 use Rattle.just_case_reader.specs.Case as cases
 use Rattle.just_case_reader.specs.Case.{Case}
-use Rattle.just_case_lines.specs.Line.{Line, Bad, Command, Variable, Assign, Function, Override, Dotenv, Order, Only, Reply, Fail, Always, Lists, Dry, Limit, Run, Const, Blocks, says_nothing}
-use Rattle.just_case_lines.specs.Numbering.{Names, no_names, number_of, numbers_of, parameters_of, with_name, with_names}
-use Rattle.just_case_lines.specs.Rest.{names}
-use Rattle.just_case_lines.specs.Stack.{stack_after}
-use Rattle.just_case_lines.specs.Token.{token_of}
+use Rattle.just_case_reader.specs.Line.{Line, Bad, Command, Variable, Assign, Function, Override, Dotenv, Order, Only, Reply, Fail, Always, Lists, Dry, Limit, Run, Const, Blocks, says_nothing}
+use Rattle.just_case_reader.specs.Numbering.{KnownNames, no_names, number_of, numbers_of, parameters_with_numbers, with_name, with_names}
+use Rattle.just_case_reader.specs.Rest.{names}
+use Rattle.just_case_reader.specs.Stack.{stack_after}
+use Rattle.just_case_reader.specs.Token.{token_of}
 
 -- The case so far, whether its end was read, the order given by a line, the expressions that are not yet assigned, the
 -- last command, and the names.
 pub record Reading : Type 0 where
   pub case : Case
   pub is_over : Bool
-  pub told_order : Option (List Token)
+  pub given_order : Option (List Token)
   pub stack : List Expr
   pub last_command : Option Text
-  pub names : Names
+  pub names : KnownNames
 
 -- the names in a text; empty if it is bad
 abbrev pub names_in : Text → List Text
@@ -63,7 +63,7 @@ fits _ r = true
 
 -- ---- the changes by a line, part by part
 
-abbrev pub names_after : Line → Names → Names
+abbrev pub names_after : Line → KnownNames → KnownNames
 names_after (Variable name) known = with_name known name
 names_after (Assign name export) known = with_name known name
 names_after (Override name text) known = with_name known name
@@ -85,9 +85,9 @@ abbrev pub order_after : Line → List Token → List Token
 order_after (Assign name export) order = order ++ token_of name ∷ []
 order_after _ order = order
 
-abbrev pub defines : List Text → Names → List Expr → List plain.Function → List plain.Function
+abbrev pub defines : List Text → KnownNames → List Expr → List plain.Function → List plain.Function
 defines (name ∷ parameters) known (e ∷ es) functions =
-    with_value defined_name functions (record { body = e; name = token_of name; parameters = parameters_of known parameters })
+    with_value defined_name functions (record { body = e; name = token_of name; parameters = parameters_with_numbers known parameters })
 defines _ known _ functions = functions
 
 -- the expression on top becomes the body of the function with the first name, whose parameters are the other names
@@ -116,7 +116,7 @@ abbrev pub always_after : Line → Reading → List (Text × Text)
 always_after (Always text) r = r.case.always ++ (unwrap_or r.last_command [], text) ∷ []
 always_after _ r = r.case.always
 
-abbrev pub replies_after : Line → List cases.Reply → List cases.Reply
+abbrev pub replies_after : Line → List cases.CommandReply → List cases.CommandReply
 replies_after (Reply text) replies = replies ++ cases.Output text ∷ []
 replies_after (Fail code) replies = replies ++ cases.Broken (Code (pos code)) ∷ []
 replies_after _ replies = replies
@@ -139,9 +139,9 @@ evaluation_after Const evaluation = cases.Const
 evaluation_after (Blocks text) evaluation = cases.Blocks (map token_of (names_in text))
 evaluation_after _ evaluation = evaluation
 
-abbrev pub told_order_after : Line → Option (List Token) → Option (List Token)
-told_order_after (Order text) told = Some (map token_of (names_in text))
-told_order_after _ told = told
+abbrev pub given_order_after : Line → Option (List Token) → Option (List Token)
+given_order_after (Order text) parts = Some (map token_of (names_in text))
+given_order_after _ parts = parts
 
 abbrev pub is_over_after : Line → Bool → Bool
 is_over_after Run over = true
@@ -170,7 +170,7 @@ abbrev pub with_stack : Line → Reading → List Expr → Reading
 with_stack line r stack = record {
   case = case_after line r;
   is_over = is_over_after line r.is_over;
-  told_order = told_order_after line r.told_order;
+  given_order = given_order_after line r.given_order;
   stack = stack;
   last_command = command_after line r.last_command;
   names = names_after line r.names;
@@ -204,19 +204,19 @@ nothing = record {
     evaluation = cases.Run;
   };
   is_over = false;
-  told_order = None;
+  given_order = None;
   stack = [];
   last_command = None;
   names = no_names;
 }
 
 -- the case after its end was read; an order given by a line replaces that of the assignments
-abbrev pub whole : Reading → Case
-whole r = record r.case { evaluation_order = unwrap_or r.told_order r.case.evaluation_order }
+abbrev pub whole_case : Reading → Case
+whole_case r = record r.case { evaluation_order = unwrap_or r.given_order r.case.evaluation_order }
 
 -- the case, if its end was read
 abbrev pub finished : Reading → Option Case
-finished r = if r.is_over then Some (whole r) else None
+finished r = if r.is_over then Some (whole_case r) else None
 
 -- a case, or the number of the first bad line, counted from 1
 pub data Described : Type 0 where
@@ -225,12 +225,12 @@ pub data Described : Type 0 where
 
 -- the result of the lines after a line, or that the line with number n is bad
 abbrev pub or_bad : ℕ → Option Reading → (Reading → Described) → Described
-or_bad n None behind = BadLine n
-or_bad n (Some r) behind = behind r
+or_bad n None after = BadLine n
+or_bad n (Some r) after = after r
 
 -- the result of lines, the first of which has number n; a case without an end is bad after its last line
 abbrev pub described_from : ℕ → Reading → List Line → Described
-described_from n r [] = if r.is_over then Describes (whole r) else BadLine n
+described_from n r [] = if r.is_over then Describes (whole_case r) else BadLine n
 described_from n r (line ∷ lines) = or_bad n (step line r) (λ next. described_from (suc n) next lines)
 
 -- the result of the lines of a case

@@ -5,22 +5,22 @@ ghost use Rattle.std.specs.Option.{is_some, option_map};
 ghost use Rattle.just_syntax.specs.Keyed.{value_at, with_value};
 ghost use Rattle.just_syntax.specs.Plain.{Text};
 ghost use Rattle.just_case_reader.specs.Case as cases;
-ghost use Rattle.just_case_lines.specs.Token.{token_of};
-ghost use Rattle.just_case_lines.specs.Done.{Done, IfBad};
-ghost use Rattle.just_case_lines.specs.Line as lines;
+ghost use Rattle.just_case_reader.specs.Token.{token_of};
+ghost use Rattle.just_case_reader.specs.Done.{Done, IfBad};
+ghost use Rattle.just_case_reader.specs.Line as lines;
 ghost use Rattle.just_case_reader.specs.Reading.{finished, names_in, nothing, read, step};
-ghost use Rattle.just_case_lines.specs.Rest.{names};
-ghost use Rattle.just_case_lines.specs.View.{line_view};
+ghost use Rattle.just_case_reader.specs.Rest.{names};
+ghost use Rattle.just_case_reader.specs.View.{case_line_view};
 ghost use Rattle.just_case_reader.specs.View.{case_view, evaluation_view, reading_view};
 
 use crate::case::Case;
 use crate::evaluation::Evaluation;
-use just_case_lines::line::Line;
-use just_case_lines::line_error::LineError;
-use just_case_lines::numbering::Numbering;
-use just_case_lines::rest::parse_names;
-use just_case_lines::stack::Stack;
-use just_case_lines::token;
+use crate::line::Line;
+use crate::line_error::LineError;
+use crate::numbering::Numbering;
+use crate::rest::parse_names;
+use crate::stack::Stack;
+use crate::token;
 use just_syntax::assignment::Assignment;
 use just_syntax::function_definition::FunctionDefinition;
 use just_syntax::keyed::Keyed;
@@ -74,7 +74,7 @@ impl<'src> Builder<'src> {
 
     /// Executes a line. After the end, every line that is not skipped is bad.
     pub(crate) fn take(&mut self, alloc: Global, line: &'src Line<'src>) -> Result<(), LineError>
-        ensures { Done result (step (line_view line.now) (reading_view self.old)) (reading_view self.new) }
+        ensures { Done result (step (case_line_view line.now) (reading_view self.old)) (reading_view self.new) }
     {
         if self.is_over && !line.is_skipped() {
             return Err(LineError::Bad);
@@ -84,7 +84,7 @@ impl<'src> Builder<'src> {
 
     // Executes a line before the end.
     fn read(&mut self, alloc: Global, line: &'src Line<'src>) -> Result<(), LineError>
-        ensures { Done result (read (line_view line.now) (reading_view self.old)) (reading_view self.new) }
+        ensures { Done result (read (case_line_view line.now) (reading_view self.old)) (reading_view self.new) }
     {
         match line {
             Line::Skipped => Ok(()),
@@ -210,8 +210,8 @@ impl<'src> Builder<'src> {
         ensures { Done result (read (lines.Order text.now) (reading_view self.old)) (reading_view self.new) }
     {
         let names = names_of(alloc, text)?;
-        let told = token::names(alloc, &names)?;
-        self.order = Some(told);
+        let parts = token::names(alloc, &names)?;
+        self.order = Some(parts);
         Ok(())
     }
 

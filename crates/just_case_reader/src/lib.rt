@@ -1,7 +1,14 @@
-// Cases, built from their lines. It depends on `just_syntax`, `just_value` and `just_case_lines`: reading a case needs
-// no host.
+// Cases, built from their lines: what each line says, the expressions that the lines build, and the numbers of their
+// names. It depends on `just_syntax` and `just_value`: reading a case needs no host.
 #![tactic(auto)]
 
 mod builder;
 pub mod case;
 pub mod evaluation;
+pub mod line;
+pub mod line_error;
+pub mod numbering;
+pub mod operator;
+pub mod rest;
+pub mod stack;
+pub mod token;

@@ -9,62 +9,56 @@ use Rattle.std.proofs.lemmas.Bool.Decides.{nat_tests}
 use Rattle.std.proofs.lemmas.Slice.Eq.{bytes_eq-Decides}
 use Rattle.just_syntax.specs.Plain.{Text, Assignment, Function}
 use Rattle.just_syntax.specs.View.{assignment_view, function_view, text_numbered}
+use Rattle.just_syntax.specs.Lists.{IsIn}
+use Rattle.just_syntax.proofs.Lists.{in_append, in_first, in_second}
 use Rattle.just_meaning.specs.Reaches.{function_at}
-use Rattle.just_agreement.specs.Cone.{numbered}
+use Rattle.just_laws.specs.Cone.{assignment_numbered}
 use Rattle.just_changes.specs.declared.version.Version.{Version as Declared}
-use Rattle.just_changes.specs.Nodes.{PlainNode, OfFunction, OfVariable, IsListed, IsSame, Version}
+use Rattle.just_changes.specs.Nodes.{PlainNode, OfFunction, OfVariable, IsUnchanged, Version}
 use Rattle.just_changes.specs.View.{IsWhole, all_nodes, version_view}
-use Rattle.just_changes.proofs.Spreading.{listed_append}
 
 -- the version has nothing at this node
 abbrev pub IsAbsent : Version → PlainNode → Type 0
 IsAbsent v (OfFunction t) = v.function t ≡ None
 IsAbsent v (OfVariable n) = (v.assignment n ≡ None) × (v.override n ≡ None)
 
-assignments_covered : (all : List Assignment) (n : ℕ) → IsListed (map (λ a. OfVariable a.number) all) (OfVariable n) ⊎ (numbered all n ≡ None)
+assignments_covered : (all : List Assignment) (n : ℕ) → IsIn (map (λ a. OfVariable a.number) all) (OfVariable n) ⊎ (assignment_numbered all n ≡ None)
 assignments_covered [] n = inr refl
 assignments_covered (a ∷ more) n = by (nat_eq a.number n) refl (assignments_covered more n)
   where
-    by : (b : Bool) → nat_eq a.number n ≡ b → IsListed (map (λ a. OfVariable a.number) more) (OfVariable n) ⊎ (numbered more n ≡ None)
-        → ((OfVariable a.number ≡ OfVariable n) ⊎ IsListed (map (λ a. OfVariable a.number) more) (OfVariable n)) ⊎ ((if b then Some a else numbered more n) ≡ None)
+    by : (b : Bool) → nat_eq a.number n ≡ b → IsIn (map (λ a. OfVariable a.number) more) (OfVariable n) ⊎ (assignment_numbered more n ≡ None)
+        → ((OfVariable a.number ≡ OfVariable n) ⊎ IsIn (map (λ a. OfVariable a.number) more) (OfVariable n)) ⊎ ((if b then Some a else assignment_numbered more n) ≡ None)
     by true is rest = inl (inl (let e : a.number ≡ n = grind (arith, nat_tests) in ap OfVariable e))
     by false is rest = ⊎_elim (λ k. inl (inr k)) (λ k. inr k) rest
 
-functions_covered : (fs : List Function) (t : Text) → IsListed (map (λ f. OfFunction f.name.lexeme) fs) (OfFunction t) ⊎ (function_at fs t ≡ None)
+functions_covered : (fs : List Function) (t : Text) → IsIn (map (λ f. OfFunction f.name.lexeme) fs) (OfFunction t) ⊎ (function_at fs t ≡ None)
 functions_covered [] t = inr refl
 functions_covered (f ∷ more) t = by (bytes_eq t f.name.lexeme) refl (functions_covered more t)
   where
-    by : (b : Bool) → bytes_eq t f.name.lexeme ≡ b → IsListed (map (λ f. OfFunction f.name.lexeme) more) (OfFunction t) ⊎ (function_at more t ≡ None)
-        → ((OfFunction f.name.lexeme ≡ OfFunction t) ⊎ IsListed (map (λ f. OfFunction f.name.lexeme) more) (OfFunction t)) ⊎ (cond b (Some f) (function_at more t) ≡ None)
+    by : (b : Bool) → bytes_eq t f.name.lexeme ≡ b → IsIn (map (λ f. OfFunction f.name.lexeme) more) (OfFunction t) ⊎ (function_at more t ≡ None)
+        → ((OfFunction f.name.lexeme ≡ OfFunction t) ⊎ IsIn (map (λ f. OfFunction f.name.lexeme) more) (OfFunction t)) ⊎ (cond b (Some f) (function_at more t) ≡ None)
     by true is rest = inl (inl (ap OfFunction (sym ((bytes_eq-Decides t f.name.lexeme).0 is))))
     by false is rest = ⊎_elim (λ k. inl (inr k)) (λ k. inr k) rest
 
-overrides_covered : {X : Type 0} (es : List (ℕ × X)) (n : ℕ) → IsListed (map OfVariable (keys_of es)) (OfVariable n) ⊎ (lookup (nat_eq n) es ≡ None)
+overrides_covered : {X : Type 0} (es : List (ℕ × X)) (n : ℕ) → IsIn (map OfVariable (keys_of es)) (OfVariable n) ⊎ (lookup (nat_eq n) es ≡ None)
 overrides_covered [] n = inr refl
 overrides_covered (e ∷ more) n = by (nat_eq n e.0) refl (overrides_covered more n)
   where
-    by : (b : Bool) → nat_eq n e.0 ≡ b → IsListed (map OfVariable (keys_of more)) (OfVariable n) ⊎ (lookup (nat_eq n) more ≡ None)
-        → ((OfVariable e.0 ≡ OfVariable n) ⊎ IsListed (map OfVariable (keys_of more)) (OfVariable n)) ⊎ (cond b (Some e.1) (lookup (nat_eq n) more) ≡ None)
+    by : (b : Bool) → nat_eq n e.0 ≡ b → IsIn (map OfVariable (keys_of more)) (OfVariable n) ⊎ (lookup (nat_eq n) more ≡ None)
+        → ((OfVariable e.0 ≡ OfVariable n) ⊎ IsIn (map OfVariable (keys_of more)) (OfVariable n)) ⊎ (cond b (Some e.1) (lookup (nat_eq n) more) ≡ None)
     by true is rest = inl (inl (let k : e.0 ≡ n = grind (arith, nat_tests) in ap OfVariable k))
     by false is rest = ⊎_elim (λ k. inl (inr k)) (λ k. inr k) rest
 
--- before or after other nodes
-in_front : (xs ys : List PlainNode) (x : PlainNode) → IsListed xs x → IsListed (xs ++ ys) x
-in_front xs ys x h = (listed_append xs ys x).1 (inl h)
-
-behind : (xs ys : List PlainNode) (x : PlainNode) → IsListed ys x → IsListed (xs ++ ys) x
-behind xs ys x h = (listed_append xs ys x).1 (inr h)
-
 -- one of three lists
 module _ (xs ys zs : List PlainNode) (x : PlainNode) where
-  first : IsListed xs x → IsListed (xs ++ ys ++ zs) x
-  first h = in_front (xs ++ ys) zs x (in_front xs ys x h)
+  first : IsIn xs x → IsIn (xs ++ ys ++ zs) x
+  first h = in_first (xs ++ ys) zs x (in_first xs ys x h)
 
-  second : IsListed ys x → IsListed (xs ++ ys ++ zs) x
-  second h = in_front (xs ++ ys) zs x (behind xs ys x h)
+  second : IsIn ys x → IsIn (xs ++ ys ++ zs) x
+  second h = in_first (xs ++ ys) zs x (in_second xs ys x h)
 
-  third : IsListed zs x → IsListed (xs ++ ys ++ zs) x
-  third h = behind (xs ++ ys) zs x h
+  third : IsIn zs x → IsIn (xs ++ ys ++ zs) x
+  third h = in_second (xs ++ ys) zs x h
 
 abbrev variables : Declared → List PlainNode
 variables v = map (λ a. OfVariable a.number) (map assignment_view v.assignments.now)
@@ -75,7 +69,7 @@ functions v = map (λ f. OfFunction f.name.lexeme) (map function_view v.function
 abbrev overridden : Declared → List PlainNode
 overridden v = map OfVariable (keys v.overrides.now)
 
-pub covered : (v : Declared) → IsWhole v → (x : PlainNode) → IsListed (all_nodes v) x ⊎ IsAbsent (version_view v) x
+pub covered : (v : Declared) → IsWhole v → (x : PlainNode) → IsIn (all_nodes v) x ⊎ IsAbsent (version_view v) x
 covered v whole (OfFunction t) =
     ⊎_elim (λ k. inl (second (variables v) (functions v) (overridden v) (OfFunction t) k)) (λ k. inr k) (functions_covered (map function_view v.functions.now) t)
 covered v whole (OfVariable n) =
@@ -85,33 +79,33 @@ covered v whole (OfVariable n) =
     (overrides_covered v.overrides.now.entries n))
     (assignments_covered (map assignment_view v.assignments.now) n)
 
-absent_same : (v u : Version) (x : PlainNode) → IsAbsent v x → IsAbsent u x → IsSame v u x
+absent_same : (v u : Version) (x : PlainNode) → IsAbsent v x → IsAbsent u x → IsUnchanged v u x
 absent_same v u (OfFunction t) h k = h ∙ sym k
 absent_same v u (OfVariable n) h k = (h.0 ∙ sym k.0, h.1 ∙ sym k.1)
 
 -- what neither version knows is the same, and what one of them knows was compared
-pub all_told : (v u : Declared) → IsWhole v → IsWhole u → (nodes different : List PlainNode) → nodes ≡ all_nodes v ++ all_nodes u
-    → ((x : PlainNode) → IsListed nodes x → IsListed different x ⊎ IsSame (version_view v) (version_view u) x) → (x : PlainNode) → IsListed different x ⊎ IsSame (version_view v) (version_view u) x
-all_told v u whole other nodes different is told x =
-    ⊎_elim (λ k. told x (subst (λ ys. IsListed ys x) (sym is) (in_front (all_nodes v) (all_nodes u) x k)))
-    (λ none. ⊎_elim (λ k. told x (subst (λ ys. IsListed ys x) (sym is) (behind (all_nodes v) (all_nodes u) x k))) (λ no_other. inr (absent_same (version_view v) (version_view u) x none no_other)) (covered u other x))
+pub all_compared : (v u : Declared) → IsWhole v → IsWhole u → (nodes different : List PlainNode) → nodes ≡ all_nodes v ++ all_nodes u
+    → ((x : PlainNode) → IsIn nodes x → IsIn different x ⊎ IsUnchanged (version_view v) (version_view u) x) → (x : PlainNode) → IsIn different x ⊎ IsUnchanged (version_view v) (version_view u) x
+all_compared v u whole other nodes different is compared x =
+    ⊎_elim (λ k. compared x (subst (λ ys. IsIn ys x) (sym is) (in_first (all_nodes v) (all_nodes u) x k)))
+    (λ none. ⊎_elim (λ k. compared x (subst (λ ys. IsIn ys x) (sym is) (in_second (all_nodes v) (all_nodes u) x k))) (λ no_other. inr (absent_same (version_view v) (version_view u) x none no_other)) (covered u other x))
     (covered v whole x)
 
 -- ---- one node after another
 
-module _ (S : PlainNode → Type 0) (taken different : List PlainNode) (node : PlainNode) (all : (x : PlainNode) → IsListed taken x → IsListed different x ⊎ S x) where
+module _ (S : PlainNode → Type 0) (taken different : List PlainNode) (node : PlainNode) (all : (x : PlainNode) → IsIn taken x → IsIn different x ⊎ S x) where
   -- a node that is the same
-  pub told_same : S node → (next : List PlainNode) → next ≡ taken ++ node ∷ [] → (x : PlainNode) → IsListed next x → IsListed different x ⊎ S x
-  told_same same next is x h =
-      ⊎_elim (λ k. all x k) (λ k. ⊎_elim (λ e. inr (subst S e same)) (λ bad. absurd bad) k) ((listed_append taken (node ∷ []) x).0 (subst (λ ys. IsListed ys x) is h))
+  pub same_compared : S node → (next : List PlainNode) → next ≡ taken ++ node ∷ [] → (x : PlainNode) → IsIn next x → IsIn different x ⊎ S x
+  same_compared same next is x h =
+      ⊎_elim (λ k. all x k) (λ k. ⊎_elim (λ e. inr (subst S e same)) (λ bad. absurd bad) k) ((in_append taken (node ∷ []) x).0 (subst (λ ys. IsIn ys x) is h))
 
   -- a node that differs
-  pub told_different : (next more : List PlainNode) → next ≡ taken ++ node ∷ [] → more ≡ different ++ node ∷ [] → (x : PlainNode) → IsListed next x → IsListed more x ⊎ S x
-  told_different next more is now x h =
-      let there : IsListed (different ++ node ∷ []) x → IsListed more x = (λ k. subst (λ ys. IsListed ys x) (sym now) k) in
-      ⊎_elim (λ k. ⊎_elim (λ j. inl (there (in_front different (node ∷ []) x j))) (λ s. inr s) (all x k)) (λ k. inl (there (behind different (node ∷ []) x k)))
-      ((listed_append taken (node ∷ []) x).0 (subst (λ ys. IsListed ys x) is h))
+  pub different_compared : (next more : List PlainNode) → next ≡ taken ++ node ∷ [] → more ≡ different ++ node ∷ [] → (x : PlainNode) → IsIn next x → IsIn more x ⊎ S x
+  different_compared next more is now x h =
+      let there : IsIn (different ++ node ∷ []) x → IsIn more x = (λ k. subst (λ ys. IsIn ys x) (sym now) k) in
+      ⊎_elim (λ k. ⊎_elim (λ j. inl (there (in_first different (node ∷ []) x j))) (λ s. inr s) (all x k)) (λ k. inl (there (in_second different (node ∷ []) x k)))
+      ((in_append taken (node ∷ []) x).0 (subst (λ ys. IsIn ys x) is h))
 
-pub differ_more : (S : PlainNode → Type 0) (different more : List PlainNode) (node : PlainNode) → more ≡ different ++ node ∷ [] → (S node → ⊥) → ((x : PlainNode) → IsListed different x → S x → ⊥) → (x : PlainNode) → IsListed more x → S x → ⊥
+pub differ_more : (S : PlainNode → Type 0) (different more : List PlainNode) (node : PlainNode) → more ≡ different ++ node ∷ [] → (S node → ⊥) → ((x : PlainNode) → IsIn different x → S x → ⊥) → (x : PlainNode) → IsIn more x → S x → ⊥
 differ_more S different more node now other differ x h same =
-    ⊎_elim (λ k. differ x k same) (λ k. ⊎_elim (λ e. other (subst S (sym e) same)) (λ bad. bad) k) ((listed_append different (node ∷ []) x).0 (subst (λ ys. IsListed ys x) now h))
+    ⊎_elim (λ k. differ x k same) (λ k. ⊎_elim (λ e. other (subst S (sym e) same)) (λ bad. bad) k) ((in_append different (node ∷ []) x).0 (subst (λ ys. IsIn ys x) now h))

@@ -13,10 +13,12 @@ use Rattle.std.proofs.lemmas.List.{length-map}
 use Rattle.std.proofs.lemmas.Map.Text.{is_eq-slice_cmp}
 use Rattle.std.proofs.lemmas.Slice.Eq.{bytes_eq-Decides}
 use Rattle.just_syntax.specs.Plain.{Text}
+use Rattle.just_syntax.specs.Lists.{IsIn}
+use Rattle.just_syntax.proofs.Lists.{in_append}
 use Rattle.just_changes.specs.declared.node.Node as declared
-use Rattle.just_changes.specs.Nodes.{PlainNode, OfFunction, OfVariable, IsListed}
-use Rattle.just_changes.specs.View.{found, node_view, nodes_view, total}
-use Rattle.just_changes.proofs.Spreading.{listed_append, total_taken}
+use Rattle.just_changes.specs.Nodes.{PlainNode, OfFunction, OfVariable}
+use Rattle.just_changes.specs.View.{found_nodes, node_view, nodes_view, total}
+use Rattle.just_changes.proofs.Spreading.{total_taken}
 
 pub number_decides : (k n : ℕ) → Decides (is_at (nat_cmp k) n) (k ≡ n)
 number_decides k n = ((λ h. eqb-true k n (sym (unsigned_tied k n) ∙ h)), (λ e. unsigned_tied k n ∙ eq-eqb k n e))
@@ -34,18 +36,18 @@ apart false w o d none = refl
 abbrev Lists : Type 0
 Lists = Vec declared.Node Global
 
-reader_by : {P : Type 0} (b : Bool) (old mid new : Option Lists) (all : Lists) (reader y : PlainNode) → Decides b P → mid ≡ cond b None old → new ≡ cond b (Some all) mid → (P → nodes_view all.items ≡ found old ++ reader ∷ []) →
-    IsListed (found new) y ↔ ((P × (reader ≡ y)) ⊎ IsListed (found old) y)
+reader_by : {P : Type 0} (b : Bool) (old mid new : Option Lists) (all : Lists) (reader y : PlainNode) → Decides b P → mid ≡ cond b None old → new ≡ cond b (Some all) mid → (P → nodes_view all.items ≡ found_nodes old ++ reader ∷ []) →
+    IsIn (found_nodes new) y ↔ ((P × (reader ≡ y)) ⊎ IsIn (found_nodes old) y)
 reader_by true old mid new all reader y d removed inserted items =
-    let same : found new ≡ found old ++ reader ∷ [] = ap found inserted ∙ items (d.0 refl) in
-    let more = listed_append (found old) (reader ∷ []) y in (
-      (λ h. ⊎_elim (λ k. inr k) (λ k. ⊎_elim (λ e. inl (d.0 refl, e)) (λ bad. absurd bad) k) (more.0 (subst (λ ys. IsListed ys y) same h))),
-      (λ h. subst (λ ys. IsListed ys y) (sym same) (more.1 (⊎_elim (λ k. inr (inl k.1)) (λ k. inl k) h))),
+    let same : found_nodes new ≡ found_nodes old ++ reader ∷ [] = ap found_nodes inserted ∙ items (d.0 refl) in
+    let more = in_append (found_nodes old) (reader ∷ []) y in (
+      (λ h. ⊎_elim (λ k. inr k) (λ k. ⊎_elim (λ e. inl (d.0 refl, e)) (λ bad. absurd bad) k) (more.0 (subst (λ ys. IsIn ys y) same h))),
+      (λ h. subst (λ ys. IsIn ys y) (sym same) (more.1 (⊎_elim (λ k. inr (inl k.1)) (λ k. inl k) h))),
     )
 reader_by false old mid new all reader y d removed inserted items =
-    let same : found new ≡ found old = ap found (inserted ∙ removed) in (
-      (λ h. inr (subst (λ ys. IsListed ys y) same h)),
-      (λ h. ⊎_elim (λ k. absurd (let e : false ≡ true = d.1 k.0 in cc)) (λ k. subst (λ ys. IsListed ys y) (sym same) k) h),
+    let same : found_nodes new ≡ found_nodes old = ap found_nodes (inserted ∙ removed) in (
+      (λ h. inr (subst (λ ys. IsIn ys y) same h)),
+      (λ h. ⊎_elim (λ k. absurd (let e : false ≡ true = d.1 k.0 in cc)) (λ k. subst (λ ys. IsIn ys y) (sym same) k) h),
     )
 
 abbrev name_cmp : Bor Text → Bor Text → Ordering
@@ -57,30 +59,30 @@ named m t = lookup (is_at (λ (k : Bor Text). slice_cmp nat_cmp t k.now)) m.entr
 abbrev numbered : BTreeMap ℕ Lists → ℕ → Option Lists
 numbered m n = lookup (is_at (nat_cmp n)) m.entries
 
-pub function_left : (old new : BTreeMap (Bor Text) Lists) (name : Bor Text) → ((q : Bor Text) → get name_cmp new q ≡ cond (is_at (name_cmp name) q) None (get name_cmp old q)) → (t : Text) → (name.now ≡ t → ⊥) → found (named new t) ≡ found (named old t)
-function_left old new name removed t other = ap found (removed (record { ref_ptr = (0, 0); now = t }) ∙ apart (is_eq (slice_cmp nat_cmp name.now t)) None (named old t) (name_decides name.now t) other)
+pub function_left : (old new : BTreeMap (Bor Text) Lists) (name : Bor Text) → ((q : Bor Text) → get name_cmp new q ≡ cond (is_at (name_cmp name) q) None (get name_cmp old q)) → (t : Text) → (name.now ≡ t → ⊥) → found_nodes (named new t) ≡ found_nodes (named old t)
+function_left old new name removed t other = ap found_nodes (removed (record { ref_ptr = (0, 0); now = t }) ∙ apart (is_eq (slice_cmp nat_cmp name.now t)) None (named old t) (name_decides name.now t) other)
 
-pub variable_left : (old new : BTreeMap ℕ Lists) (k : ℕ) → ((q : ℕ) → get nat_cmp new q ≡ cond (is_at (nat_cmp k) q) None (get nat_cmp old q)) → (n : ℕ) → (k ≡ n → ⊥) → found (numbered new n) ≡ found (numbered old n)
-variable_left old new k removed n other = ap found (removed n ∙ apart (is_at (nat_cmp k) n) None (numbered old n) (number_decides k n) other)
+pub variable_left : (old new : BTreeMap ℕ Lists) (k : ℕ) → ((q : ℕ) → get nat_cmp new q ≡ cond (is_at (nat_cmp k) q) None (get nat_cmp old q)) → (n : ℕ) → (k ≡ n → ⊥) → found_nodes (numbered new n) ≡ found_nodes (numbered old n)
+variable_left old new k removed n other = ap found_nodes (removed n ∙ apart (is_at (nat_cmp k) n) None (numbered old n) (number_decides k n) other)
 
 pub function_reader : (old mid new : BTreeMap (Bor Text) Lists) (name : Bor Text) (all : Lists) (reader : PlainNode) → ((q : Bor Text) → get name_cmp mid q ≡ cond (is_at (name_cmp name) q) None (get name_cmp old q)) → ((q : Bor Text) → get name_cmp new q ≡ cond (is_at (name_cmp name) q) (Some all) (get name_cmp mid q))
-    → nodes_view all.items ≡ found (named old name.now) ++ reader ∷ [] → (t : Text) (y : PlainNode) → IsListed (found (named new t)) y ↔ (((name.now ≡ t) × (reader ≡ y)) ⊎ IsListed (found (named old t)) y)
+    → nodes_view all.items ≡ found_nodes (named old name.now) ++ reader ∷ [] → (t : Text) (y : PlainNode) → IsIn (found_nodes (named new t)) y ↔ (((name.now ≡ t) × (reader ≡ y)) ⊎ IsIn (found_nodes (named old t)) y)
 function_reader old mid new name all reader removed inserted items t y =
     reader_by (is_eq (slice_cmp nat_cmp name.now t)) (named old t) (named mid t) (named new t) all reader y (name_decides name.now t) (removed (record { ref_ptr = (0, 0); now = t })) (inserted (record { ref_ptr = (0, 0); now = t }))
-    (λ e. items ∙ ap (λ (s : Text). found (named old s) ++ reader ∷ []) e)
+    (λ e. items ∙ ap (λ (s : Text). found_nodes (named old s) ++ reader ∷ []) e)
 
 pub variable_reader : (old mid new : BTreeMap ℕ Lists) (k : ℕ) (all : Lists) (reader : PlainNode) → ((q : ℕ) → get nat_cmp mid q ≡ cond (is_at (nat_cmp k) q) None (get nat_cmp old q)) → ((q : ℕ) → get nat_cmp new q ≡ cond (is_at (nat_cmp k) q) (Some all) (get nat_cmp mid q))
-    → nodes_view all.items ≡ found (numbered old k) ++ reader ∷ [] → (n : ℕ) (y : PlainNode) → IsListed (found (numbered new n)) y ↔ (((k ≡ n) × (reader ≡ y)) ⊎ IsListed (found (numbered old n)) y)
+    → nodes_view all.items ≡ found_nodes (numbered old k) ++ reader ∷ [] → (n : ℕ) (y : PlainNode) → IsIn (found_nodes (numbered new n)) y ↔ (((k ≡ n) × (reader ≡ y)) ⊎ IsIn (found_nodes (numbered old n)) y)
 variable_reader old mid new k all reader removed inserted items n y =
     reader_by (is_at (nat_cmp k) n) (numbered old n) (numbered mid n) (numbered new n) all reader y (number_decides k n) (removed n) (inserted n)
-    (λ e. items ∙ ap (λ (j : ℕ). found (numbered old j) ++ reader ∷ []) e)
+    (λ e. items ∙ ap (λ (j : ℕ). found_nodes (numbered old j) ++ reader ∷ []) e)
 
-pub size_taken : {K : Type 0} (test : K → Bool) (old new : List (K × Lists)) (o : Option Lists) (items : List declared.Node) → new ≡ remove_entry test old → o ≡ lookup test old → nodes_view items ≡ found o → total new + length items ≡ total old
+pub size_taken : {K : Type 0} (test : K → Bool) (old new : List (K × Lists)) (o : Option Lists) (items : List declared.Node) → new ≡ remove_entry test old → o ≡ lookup test old → nodes_view items ≡ found_nodes o → total new + length items ≡ total old
 size_taken test old new o items removed is seen =
     let all = total_taken test old in
     let left : total new ≡ total (remove_entry test old) = ap total removed in
     let size : length (nodes_view items) ≡ length items = length-map _ _ in
-    let more : length (nodes_view items) ≡ length (found (lookup test old)) = ap length seen ∙ ap (λ (p : Option Lists). length (found p)) is in
+    let more : length (nodes_view items) ≡ length (found_nodes (lookup test old)) = ap length seen ∙ ap (λ (p : Option Lists). length (found_nodes p)) is in
     omega (arith, all, left, size, more)
 
 -- one kind of node by its name or number, the other unchanged

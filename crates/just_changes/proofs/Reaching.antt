@@ -2,16 +2,17 @@
 use Rattle.std.proofs.Common.{◌≡◌, ◌↔◌, ◌⊎◌, inl, inr, ⊎_elim, ℕ, Bool, true, false, List, [], Option, Some, None, IsTrue, refl, ap, sym, ◌∙◌, subst}
 use Rattle.std.proofs.lemmas.Bool.{not-false, not-true}
 use Rattle.just_syntax.specs.Plain.{Text, Token, Assignment, Expr, Call, Nil, Function}
+use Rattle.just_syntax.specs.Lists.{IsIn}
 use Rattle.just_value.specs.Frames.{Frames, value_in}
 use Rattle.just_meaning.specs.Module.{Module}
-use Rattle.just_meaning.specs.Reaches.{Mention, VariableOf, CallOf, IsAmong, Reaches, Here, Later, Reads, ReadsBeyond, Stands, function_at}
-use Rattle.just_agreement.specs.Cone.{Cone, Itself, ReadBy, HaveSameCone, IsEvaluated, numbered}
-use Rattle.just_changes.specs.Nodes.{PlainNode, OfFunction, OfVariable, Version, AssignmentReads, IsFree, IsListed, IsReached, IsSame, Mentions, ReadsItself, Starts}
+use Rattle.just_meaning.specs.Reaches.{Mention, VariableOf, CallOf, IsAmong, Reaches, Here, Later, Reads, ReadsBeyond, Occurs, function_at}
+use Rattle.just_laws.specs.Cone.{Cone, Itself, ReadBy, HaveSameCone, IsEvaluated, assignment_numbered}
+use Rattle.just_changes.specs.Nodes.{PlainNode, OfFunction, OfVariable, Version, AssignmentReads, IsFree, IsReached, IsUnchanged, Mentions, ReadsItself, Starts}
 use Rattle.just_changes.specs.Nodes as nodes
 
 -- the assignments, overrides and functions of a module
 abbrev pub version_of : Module → Version
-version_of m = record { assignment = numbered m.assignments.all; function = function_at m.program.functions; override = m.overrides }
+version_of m = record { assignment = assignment_numbered m.assignments.all; function = function_at m.program.functions; override = m.overrides }
 
 -- a call of a name, with no argument
 abbrev call_of : Text → Expr
@@ -58,21 +59,21 @@ module _ (m w : Module) (outer : Frames) where
   IsFine (OfFunction name) = IsFineFrom (call_of name)
   IsFine (OfVariable n) = HaveSameCone m w outer n
 
-  called : {e : Expr} {name further : Text} (k : ℕ) → Stands e (CallOf name k) → Reaches functions (call_of name) further → Reaches functions e further
-  called {e} {name} {further} k stands (Here j here) = ⊎_elim (λ same. Here k (subst (λ t. Stands e (CallOf t k)) (called_name name further 0 j same) stands)) (λ bad. absurd bad) here
-  called {e} {name} {further} k stands (Later mid j here f found rest) = ⊎_elim (λ same. Later mid k (subst (λ t. Stands e (CallOf t k)) (called_name name mid 0 j same) stands) f found rest) (λ bad. absurd bad) here
+  called : {e : Expr} {name further : Text} (k : ℕ) → Occurs e (CallOf name k) → Reaches functions (call_of name) further → Reaches functions e further
+  called {e} {name} {further} k occurs (Here j here) = ⊎_elim (λ same. Here k (subst (λ t. Occurs e (CallOf t k)) (called_name name further 0 j same) occurs)) (λ bad. absurd bad) here
+  called {e} {name} {further} k occurs (Later mid j here f found rest) = ⊎_elim (λ same. Later mid k (subst (λ t. Occurs e (CallOf t k)) (called_name name mid 0 j same) occurs) f found rest) (λ bad. absurd bad) here
 
   -- a call alone is as fine as the expression in which it occurs
-  narrow : {e : Expr} {name : Text} (k : ℕ) → Stands e (CallOf name k) → IsFineFrom e → IsFineFrom (call_of name)
-  narrow k stands h = (
-    (λ further reached. h.0 further (called k stands reached)),
-    (λ j b. h.1 j (record { name = b.name; function = b.function; reached = called k stands b.reached; found = b.found; stands = b.stands; beyond = b.beyond })),
+  narrow : {e : Expr} {name : Text} (k : ℕ) → Occurs e (CallOf name k) → IsFineFrom e → IsFineFrom (call_of name)
+  narrow k occurs h = (
+    (λ further reached. h.0 further (called k occurs reached)),
+    (λ j b. h.1 j (record { name = b.name; function = b.function; reached = called k occurs b.reached; found = b.found; occurs = b.occurs; beyond = b.beyond })),
   )
 
   body_fine : {name : Text} (f : Function) → function_at functions name ≡ Some f → IsFineFrom (call_of name) → IsFineFrom f.body
   body_fine {name} f found h = (
     (λ further reached. h.0 further (Later name 0 (inl refl) f found reached)),
-    (λ j b. h.1 j (record { name = b.name; function = b.function; reached = Later name 0 (inl refl) f found b.reached; found = b.found; stands = b.stands; beyond = b.beyond })),
+    (λ j b. h.1 j (record { name = b.name; function = b.function; reached = Later name 0 (inl refl) f found b.reached; found = b.found; occurs = b.occurs; beyond = b.beyond })),
   )
 
   value_fine : (a : Assignment) → IsEvaluated m outer a → HaveSameCone m w outer a.number → IsFineFrom a.value
@@ -84,18 +85,18 @@ module _ (m w : Module) (outer : Frames) where
   -- what a fine node reads is fine
   passes : (y x : PlainNode) → ReadsItself before outer y x → IsFine y → IsFine x
   passes (OfFunction name) (OfFunction other) r h = narrow r.reads.0 r.reads.1 (body_fine r.function r.found h)
-  passes (OfFunction name) (OfVariable k) r h = h.1 k (record { name = name; function = r.function; reached = Here 0 (inl refl); found = r.found; stands = r.reads.0; beyond = r.reads.1 })
+  passes (OfFunction name) (OfVariable k) r h = h.1 k (record { name = name; function = r.function; reached = Here 0 (inl refl); found = r.found; occurs = r.reads.0; beyond = r.reads.1 })
   passes (OfVariable n) (OfFunction other) r h =
       narrow r.reads.mentions.0 r.reads.mentions.1 (value_fine r.assignment (evaluated r.assignment r.reads) (subst (HaveSameCone m w outer) (sym r.number) h))
   passes (OfVariable n) (OfVariable k) r h =
       within (subst (HaveSameCone m w outer) (sym r.number) h) (ReadBy r.assignment Itself (evaluated r.assignment r.reads) (inl r.reads.mentions.0))
 
-  fine_same : (x : PlainNode) → IsFine x → IsSame before after x
+  fine_same : (x : PlainNode) → IsFine x → IsUnchanged before after x
   fine_same (OfFunction name) h = h.0 name (Here 0 (inl refl))
   fine_same (OfVariable n) h = (h.assignments n Itself, h.overrides n Itself)
 
-  module _ (readers : PlainNode → List PlainNode) (starts : List PlainNode) (touched : PlainNode → Bool) (reading : (x y : PlainNode) → IsListed (readers x) y ↔ ReadsItself before outer y x)
-      (differ : (x : PlainNode) → IsListed starts x → IsSame before after x → ⊥) (all : (x : PlainNode) → IsListed starts x ⊎ IsSame before after x)
+  module _ (readers : PlainNode → List PlainNode) (starts : List PlainNode) (touched : PlainNode → Bool) (reading : (x y : PlainNode) → IsIn (readers x) y ↔ ReadsItself before outer y x)
+      (differ : (x : PlainNode) → IsIn starts x → IsUnchanged before after x → ⊥) (all : (x : PlainNode) → IsIn starts x ⊎ IsUnchanged before after x)
       (reached : (x : PlainNode) → IsTrue (touched x) ↔ IsReached readers starts x) where
     never : {x : PlainNode} → IsReached readers starts x → IsFine x → ⊥
     never {x} (Starts listed) h = differ x listed (fine_same x h)
@@ -105,12 +106,12 @@ module _ (m w : Module) (outer : Frames) where
     down : (y x : PlainNode) → ReadsItself before outer y x → touched y ≡ false → touched x ≡ false
     down y x reads off = not_true (touched x) (λ on. both_ways (touched y) off ((reached y).1 (nodes.ReadBy x ((reached x).0 on) ((reading x y).1 reads))))
 
-    untouched_same : (x : PlainNode) → touched x ≡ false → IsSame before after x
+    untouched_same : (x : PlainNode) → touched x ≡ false → IsUnchanged before after x
     untouched_same x off = ⊎_elim (λ listed. absurd (both_ways (touched x) off ((reached x).1 (Starts listed)))) (λ same. same) (all x)
 
-    functions_off : {e : Expr} {name : Text} → Reaches functions e name → ((t : Text) (k : ℕ) → Stands e (CallOf t k) → touched (OfFunction t) ≡ false) → touched (OfFunction name) ≡ false
-    functions_off {name = name} (Here k stands) off = off name k stands
-    functions_off (Later mid k stands f found rest) off = functions_off rest (λ t j there. down (OfFunction mid) (OfFunction t) (record { function = f; found = found; reads = (j, there) }) (off mid k stands))
+    functions_off : {e : Expr} {name : Text} → Reaches functions e name → ((t : Text) (k : ℕ) → Occurs e (CallOf t k) → touched (OfFunction t) ≡ false) → touched (OfFunction name) ≡ false
+    functions_off {name = name} (Here k occurs) off = off name k occurs
+    functions_off (Later mid k occurs f found rest) off = functions_off rest (λ t j there. down (OfFunction mid) (OfFunction t) (record { function = f; found = found; reads = (j, there) }) (off mid k occurs))
 
     value_off : (a : Assignment) → IsEvaluated m outer a → touched (OfVariable a.number) ≡ false → (x : PlainNode) → Mentions (λ k. ⊥) a.value x → touched x ≡ false
     value_off a e off x mentions = down (OfVariable a.number) x (record { assignment = a; number = refl; reads = record { first = e.found; free = (e.free, e.unbound); mentions = mentions } }) off
@@ -120,9 +121,9 @@ module _ (m w : Module) (outer : Frames) where
 
     cone_off : {n k : ℕ} → Cone m outer n k → touched (OfVariable n) ≡ false → touched (OfVariable k) ≡ false
     cone_off Itself off = off
-    cone_off {k = k} (ReadBy a more e (inl stands)) off = value_off a e (cone_off more off) (OfVariable k) (stands, λ bad. bad)
+    cone_off {k = k} (ReadBy a more e (inl occurs)) off = value_off a e (cone_off more off) (OfVariable k) (occurs, λ bad. bad)
     cone_off {k = k} (ReadBy a more e (inr b)) off =
-        down (OfFunction b.name) (OfVariable k) (record { function = b.function; found = b.found; reads = (b.stands, b.beyond) }) (called_off a e (cone_off more off) b.reached)
+        down (OfFunction b.name) (OfVariable k) (record { function = b.function; found = b.found; reads = (b.occurs, b.beyond) }) (called_off a e (cone_off more off) b.reached)
 
     pub exactly : (n : ℕ) → (touched (OfVariable n) ≡ false) ↔ HaveSameCone m w outer n
     exactly n = (

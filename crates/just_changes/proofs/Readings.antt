@@ -3,7 +3,7 @@ use Rattle.std.proofs.Common.{◌≡◌, ◌↔◌, ◌⊎◌, inl, inr, ⊎_eli
 use Rattle.just_syntax.specs.Plain.{Text, Expr}
 use Rattle.just_meaning.specs.Reaches.{Mention, VariableOf, CallOf}
 use Rattle.just_resolution.specs.Sites.{Site, sites_in}
-use Rattle.just_resolution.proofs.Standing.{Mentioned, mentioned}
+use Rattle.just_resolution.proofs.Occurrences.{Mentioned, mentioned}
 use Rattle.just_changes.specs.Nodes.{PlainNode, OfFunction, OfVariable, AmongSites, IsOneMention, IsOneVariable, Mentions}
 
 -- ---- what was collected and what remains

@@ -16,12 +16,12 @@ use Rattle.just_value.specs.Frames.{Frames}
 use Rattle.just_meaning.specs.Reaches.{function_at}
 use Rattle.just_changes.specs.View.{assignment_in}
 use Rattle.just_changes.proofs.Lists.{apart, number_decides}
-use Rattle.just_changes.specs.Nodes.{PlainNode, OfFunction, OfVariable, Version, IsFree, IsSame, Mentions, ReadsItself}
+use Rattle.just_changes.specs.Nodes.{PlainNode, OfFunction, OfVariable, Version, IsFree, IsUnchanged, Mentions, ReadsItself}
 
 -- a view through a reference
-pub seen_behind : {X Y : Type 0} (f : X → Y) (o : Option (Bor X)) → option_map f (option_map (λ v. v.now) o) ≡ option_map (λ v. f v.now) o
-seen_behind f None = refl
-seen_behind f (Some v) = refl
+pub seen_after : {X Y : Type 0} (f : X → Y) (o : Option (Bor X)) → option_map f (option_map (λ v. v.now) o) ≡ option_map (λ v. f v.now) o
+seen_after f None = refl
+seen_after f (Some v) = refl
 
 -- one more assignment, after those already there
 pub or_more : (o rest : Option Assignment) (b : Bool) (a : Assignment) → option_or (option_or o (if b then Some a else None)) rest ≡ option_or o (if b then Some a else rest)
@@ -77,7 +77,7 @@ added_new old new k a out updates n = by (nat_eq k n) refl
 
 -- the result of a look-up, as plain data
 pub function_found : (name : Text) (fs : List FunctionDefinition) (r : Option (Bor FunctionDefinition)) → option_map (λ v. v.now) r ≡ value_at (λ f. f.name.token.lexeme.now) name fs → function_at (map function_view fs) name ≡ option_map (λ v. function_view v.now) r
-function_found name fs r is = seen_at function_view (λ f. f.name.lexeme) name fs ∙ ap (option_map function_view) (sym is) ∙ seen_behind function_view r
+function_found name fs r is = seen_at function_view (λ f. f.name.lexeme) name fs ∙ ap (option_map function_view) (sym is) ∙ seen_after function_view r
 
 -- nothing was found
 pub none_found : {X Y : Type 0} (f : X → Y) (o : Option (Bor X)) (p : Option Y) (answer : Bool) → is_some o ≡ not answer → p ≡ option_map (λ v. f v.now) o → (answer ≡ true) ↔ (p ≡ None)
@@ -91,7 +91,7 @@ pub record AreAlike (v u : Version) : Type 0 where
   pub functions : (t : Text) → v.function t ≡ u.function t
   pub overrides : (n : ℕ) → v.override n ≡ u.override n
 
-pub same_alike : (v u w z : Version) → AreAlike v w → AreAlike u z → (x : PlainNode) → IsSame v u x → IsSame w z x
+pub same_alike : (v u w z : Version) → AreAlike v w → AreAlike u z → (x : PlainNode) → IsUnchanged v u x → IsUnchanged w z x
 same_alike v u w z first second (OfFunction t) h = sym (first.functions t) ∙ h ∙ second.functions t
 same_alike v u w z first second (OfVariable n) h = (sym (first.assignments n) ∙ h.0 ∙ second.assignments n, sym (first.overrides n) ∙ h.1 ∙ second.overrides n)
 

@@ -14,7 +14,7 @@ use Rattle.just_syntax.specs.View.{function_view}
 use Rattle.just_syntax.specs.declared.function_definition.FunctionDefinition.{FunctionDefinition}
 use Rattle.just_value.specs.Frames.{Frames}
 use Rattle.just_meaning.specs.Reaches.{IsAmong, function_at}
-use Rattle.just_agreement.specs.Cone.{numbered}
+use Rattle.just_laws.specs.Cone.{assignment_numbered}
 use Rattle.just_changes.specs.Nodes.{PlainNode, OfFunction, OfVariable, Version, AssignmentReads, FunctionReads, ReadsItself}
 
 -- one of these assignments is a node that reads another
@@ -44,11 +44,11 @@ any_assignment_reads v outer [] y x h = absurd h
 any_assignment_reads v outer (a ∷ more) y x h = ⊎_elim (λ k. assignment_reads v outer a y x k.0 k.1) (λ k. any_assignment_reads v outer more y x k) h
 
 -- the assignment that a look-up finds is one of them
-numbered_any : (v : Version) (outer : Frames) (all : List Assignment) (k : ℕ) (a : Assignment) (y x : PlainNode) → numbered all k ≡ Some a → OfVariable a.number ≡ y → AssignmentReads v outer a x → AnyAssignment v outer all y x
+numbered_any : (v : Version) (outer : Frames) (all : List Assignment) (k : ℕ) (a : Assignment) (y x : PlainNode) → assignment_numbered all k ≡ Some a → OfVariable a.number ≡ y → AssignmentReads v outer a x → AnyAssignment v outer all y x
 numbered_any v outer [] k a y x found is h = absurd (cc)
 numbered_any v outer (b ∷ more) k a y x found is h = by (λ later. numbered_any v outer more k a y x later is h) (nat_eq b.number k) found
   where
-    by : (numbered more k ≡ Some a → AnyAssignment v outer more y x) → (t : Bool) → (if t then Some b else numbered more k) ≡ Some a → AnyAssignment v outer (b ∷ more) y x
+    by : (assignment_numbered more k ≡ Some a → AnyAssignment v outer more y x) → (t : Bool) → (if t then Some b else assignment_numbered more k) ≡ Some a → AnyAssignment v outer (b ∷ more) y x
     by rest true same = inl (subst (λ c. (OfVariable c.number ≡ y) × AssignmentReads v outer c x) (let e : a ≡ b = cc in e) (is, h))
     by rest false later = inr (rest later)
 
@@ -98,7 +98,7 @@ no_variable_function (f ∷ fs) n x h = ⊎_elim (λ k. let e : OfFunction f.nam
 
 -- ---- all of a module
 
-pub reads_all : (v : Version) (outer : Frames) (all : List Assignment) (fs : List FunctionDefinition) → ((n : ℕ) → v.assignment n ≡ numbered all n) → ((t : Text) → v.function t ≡ function_at (map function_view fs) t) → IsStrictlySortedBy (slice_cmp nat_cmp) (map (λ f. f.name.token.lexeme.now) fs) →
+pub reads_all : (v : Version) (outer : Frames) (all : List Assignment) (fs : List FunctionDefinition) → ((n : ℕ) → v.assignment n ≡ assignment_numbered all n) → ((t : Text) → v.function t ≡ function_at (map function_view fs) t) → IsStrictlySortedBy (slice_cmp nat_cmp) (map (λ f. f.name.token.lexeme.now) fs) →
     (y x : PlainNode) → (AnyAssignment v outer all y x ⊎ AnyFunction (map function_view fs) y x) ↔ ReadsItself v outer y x
 reads_all v outer all fs assignments functions sorted (OfFunction t) x = (
   (λ h. ⊎_elim (λ k. any_assignment_reads v outer all (OfFunction t) x k) (λ k. let r = function_reads fs t x sorted k in record { function = r.0; found = functions t ∙ r.1; reads = r.2 }) h),

@@ -6,10 +6,9 @@ use Rattle.just_syntax.specs.View.{assignment_view, text_numbered}
 use Rattle.just_value.specs.Frames.{Frames}
 use Rattle.just_value.specs.Outcome.{Outcome, Stopped}
 use Rattle.just_host.specs.declared.justfile.Justfile.{Justfile}
-use Rattle.just_meaning.specs.Module.{Module, Block, Run, events_of, lexically}
-use Rattle.just_meaning.specs.Resolved.{IsResolved}
+use Rattle.just_meaning.specs.Module.{Module, Block, Run, events_of, lexically, IsResolvedModule}
 use Rattle.just_meaning.specs.View.{functions_view}
-use Rattle.just_laws.specs.Laws.{AreAnsweredAlike, AreSame}
+use Rattle.just_soundness.specs.Laws.{AreAnsweredAlike, AreSame}
 
 -- A module that a run over this file with these overrides may have. Its order, its settings and all else are free.
 pub record IsOver {A S : Type 0} (justfile : Justfile) (given : HashMap ℕ (String A) S) (m : Module) : Type 0 where
@@ -22,6 +21,6 @@ pub record IsOver {A S : Type 0} (justfile : Justfile) (given : HashMap ℕ (Str
 -- limit. Whatever both ask, frames aside, must be answered alike.
 abbrev pub AreAlikeAt : Module → Module → Frames → ℕ → Type 0
 AreAlikeAt m w outer n = (bs cs : List Block) (o p : Outcome Frames)
-    → m.program.fixed ≡ w.program.fixed → m.limit ≡ w.limit → IsResolved m.program.functions m.assignments outer → IsResolved w.program.functions w.assignments outer
+    → m.program.fixed ≡ w.program.fixed → m.limit ≡ w.limit → IsResolvedModule m outer → IsResolvedModule w outer
     → Run lexically m ([] ∷ outer) m.assignments.order bs o → Run lexically w ([] ∷ outer) w.assignments.order cs p → AreAnsweredAlike (events_of bs) (events_of cs)
     → (b c : Block) → Contains bs b → Contains cs c → b.number ≡ n → c.number ≡ n → b.outcome ≢ Stopped → c.outcome ≢ Stopped → (b.outcome ≡ c.outcome) × AreSame b.events c.events

@@ -1,8 +1,9 @@
 -- What the value of a variable depends on, and what two versions of a module have in common.
 use Rattle.std.specs.Prelude.{◌≡◌, ◌↔◌, ◌⊎◌, ℕ, Bool, IsTrue, List, [], ◌∷◌, Option, Some, None}
 use Rattle.just_syntax.specs.Plain.{Text, Assignment, Expr, Function}
+use Rattle.just_syntax.specs.Lists.{IsIn}
 use Rattle.just_value.specs.Frames.{Frames, value_in}
-use Rattle.just_meaning.specs.Reaches.{Mention, VariableOf, CallOf, IsAmong, Stands}
+use Rattle.just_meaning.specs.Reaches.{Mention, VariableOf, CallOf, IsAmong, Occurs}
 use Rattle.just_resolution.specs.Sites.{Site}
 
 -- a variable, or a function of the file by its name
@@ -17,9 +18,9 @@ pub record Version : Type 0 where
   pub override : ℕ → Option Text
 
 -- a node is the same in two versions
-abbrev pub IsSame : Version → Version → PlainNode → Type 0
-IsSame v u (OfFunction name) = v.function name ≡ u.function name
-IsSame v u (OfVariable n) = (v.assignment n ≡ u.assignment n) × (v.override n ≡ u.override n)
+abbrev pub IsUnchanged : Version → Version → PlainNode → Type 0
+IsUnchanged v u (OfFunction name) = v.function name ≡ u.function name
+IsUnchanged v u (OfVariable n) = (v.assignment n ≡ u.assignment n) × (v.override n ≡ u.override n)
 
 -- a number is neither overridden nor bound outside
 abbrev pub IsFree : Version → Frames → ℕ → Type 0
@@ -27,8 +28,8 @@ IsFree v outer n = (v.override n ≡ None) × (value_in outer n ≡ None)
 
 -- an expression reads a variable that is not its own, or calls a function
 abbrev pub Mentions : (ℕ → Type 0) → Expr → PlainNode → Type 0
-Mentions own e (OfFunction name) = (k : ℕ) × Stands e (CallOf name k)
-Mentions own e (OfVariable n) = Stands e (VariableOf (Some n)) × (own n → ⊥)
+Mentions own e (OfFunction name) = (k : ℕ) × Occurs e (CallOf name k)
+Mentions own e (OfVariable n) = Occurs e (VariableOf (Some n)) × (own n → ⊥)
 
 -- an assignment that is the first with its number, and evaluated, reads a node
 pub record AssignmentReads (v : Version) (outer : Frames) (a : Assignment) (x : PlainNode) : Type 0 where
@@ -72,20 +73,16 @@ abbrev pub AmongSites : (ℕ → Type 0) → List Site → PlainNode → Type 0
 AmongSites own [] x = ⊥
 AmongSites own (s ∷ ss) x = IsOneMention own s.mention x ⊎ AmongSites own ss x
 
-abbrev pub IsListed : List PlainNode → PlainNode → Type 0
-IsListed [] x = ⊥
-IsListed (y ∷ ys) x = (y ≡ x) ⊎ IsListed ys x
-
 -- some nodes, their readers, the readers of those, and so on
 pub data IsReached (readers : PlainNode → List PlainNode) (starts : List PlainNode) : PlainNode → Type 0 where
-  Starts : {x : PlainNode} → IsListed starts x → IsReached readers starts x
-  ReadBy : {y : PlainNode} → (x : PlainNode) → IsReached readers starts x → IsListed (readers x) y → IsReached readers starts y
+  Starts : {x : PlainNode} → IsIn starts x → IsReached readers starts x
+  ReadBy : {y : PlainNode} → (x : PlainNode) → IsReached readers starts x → IsIn (readers x) y → IsReached readers starts y
 
 -- What is touched between two versions: the nodes that differ, and the readers, in the first version, of touched nodes.
 pub record IsTouchedBetween (v u : Version) (outer : Frames) (touched : PlainNode → Bool) : Type 0 where
   pub readers : PlainNode → List PlainNode
-  pub read : (x y : PlainNode) → IsListed (readers x) y ↔ ReadsItself v outer y x
+  pub read : (x y : PlainNode) → IsIn (readers x) y ↔ ReadsItself v outer y x
   pub starts : List PlainNode
-  pub differ : (x : PlainNode) → IsListed starts x → IsSame v u x → ⊥
-  pub all : (x : PlainNode) → IsListed starts x ⊎ IsSame v u x
+  pub differ : (x : PlainNode) → IsIn starts x → IsUnchanged v u x → ⊥
+  pub all : (x : PlainNode) → IsIn starts x ⊎ IsUnchanged v u x
   pub reached : (x : PlainNode) → IsTrue (touched x) ↔ IsReached readers starts x

@@ -5,7 +5,7 @@ use Rattle.std.specs.Borrow.{Bor}
 use Rattle.std.specs.Map.{lookup}
 use Rattle.std.specs.BTreeMap.{BTreeMap, is_at}
 use Rattle.std.specs.HashMap.{keys}
-use Rattle.just_agreement.specs.Cone.{numbered}
+use Rattle.just_laws.specs.Cone.{assignment_numbered}
 use Rattle.std.specs.Cmp.Lexicographic.{slice_cmp}
 use Rattle.std.specs.Ordering.{nat_cmp}
 use Rattle.just_syntax.specs.Plain.{Text, Assignment}
@@ -28,13 +28,13 @@ abbrev pub nodes_view : List declared_node.Node → List PlainNode
 nodes_view ns = map node_view ns
 
 -- the nodes of a list that a look-up found
-abbrev pub found : {A : Type 0} → Option (Vec declared_node.Node A) → List PlainNode
-found None = []
-found (Some ns) = nodes_view ns.items
+abbrev pub found_nodes : {A : Type 0} → Option (Vec declared_node.Node A) → List PlainNode
+found_nodes None = []
+found_nodes (Some ns) = nodes_view ns.items
 
 abbrev pub readers_of : Readers → PlainNode → List PlainNode
-readers_of r (OfFunction name) = found (lookup (is_at (λ (k : Bor Text). slice_cmp nat_cmp name k.now)) r.of_functions.entries)
-readers_of r (OfVariable n) = found (lookup (is_at (nat_cmp n)) r.of_variables.entries)
+readers_of r (OfFunction name) = found_nodes (lookup (is_at (λ (k : Bor Text). slice_cmp nat_cmp name k.now)) r.of_functions.entries)
+readers_of r (OfVariable n) = found_nodes (lookup (is_at (nat_cmp n)) r.of_variables.entries)
 
 abbrev pub is_touched : Touched → PlainNode → Bool
 is_touched t (OfFunction name) = is_name_in t.functions name
@@ -61,7 +61,7 @@ version_view v = record {
 
 -- a version has the assignments of its file by their numbers
 abbrev pub IsWhole : Declared → Type 0
-IsWhole v = (n : ℕ) → assignment_in v.numbered n ≡ numbered (map assignment_view v.assignments.now) n
+IsWhole v = (n : ℕ) → assignment_in v.numbered n ≡ assignment_numbered (map assignment_view v.assignments.now) n
 
 -- all variables and functions that a version knows
 abbrev pub all_nodes : Declared → List PlainNode

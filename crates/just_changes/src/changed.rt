@@ -1,7 +1,7 @@
 // Which variables an edit changes.
 
 ghost use Rattle.std.specs.Prelude.{◌≡◌, ◌↔◌, ℕ, IfOk, false};
-ghost use Rattle.just_agreement.specs.Cone.{HaveSameCone};
+ghost use Rattle.just_laws.specs.Cone.{HaveSameCone};
 ghost use Rattle.just_meaning.specs.Module.{Module};
 ghost use Rattle.just_resolution.specs.Seen.{is_number_in};
 ghost use Rattle.just_value.specs.View.{frames_view};
@@ -13,8 +13,8 @@ use crate::differences::differences;
 use crate::reading::readers_in;
 use crate::touched::{Touched, spread};
 use crate::version::Version;
-use just_agreement::laws::blocks_agree;
 use just_host::justfile::Justfile;
+use just_laws::laws::blocks_agree;
 use just_syntax::number::Number;
 use just_syntax::out_of_memory::OutOfMemory;
 use just_value::scope::Scope;

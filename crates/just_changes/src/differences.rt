@@ -3,7 +3,8 @@
 ghost use Rattle.std.specs.Prelude.{◌≡◌, ◌⊎◌, ◌++◌, IfOk, OnOk, map};
 ghost use Rattle.std.specs.HashMap.{keys};
 ghost use Rattle.just_syntax.specs.View.{assignment_view, function_view};
-ghost use Rattle.just_changes.specs.Nodes.{IsListed, IsSame, OfFunction, OfVariable, PlainNode};
+ghost use Rattle.just_syntax.specs.Lists.{IsIn};
+ghost use Rattle.just_changes.specs.Nodes.{IsUnchanged, OfFunction, OfVariable, PlainNode};
 ghost use Rattle.just_changes.specs.View.{IsWhole, all_nodes, nodes_view, version_view};
 
 use crate::node::{Node, push};
@@ -24,8 +25,8 @@ pub(crate) fn differences<'src>(
 ) -> Result<Vec<Node<'src>>, OutOfMemory>
     requires before { IsWhole before.now }
     requires after { IsWhole after.now }
-    ensures differ { IfOk result (λ nodes. (x : PlainNode) → IsListed (nodes_view nodes.items) x → IsSame (version_view before.now) (version_view after.now) x → ⊥) }
-    ensures all { IfOk result (λ nodes. (x : PlainNode) → IsListed (nodes_view nodes.items) x ⊎ IsSame (version_view before.now) (version_view after.now) x) }
+    ensures differ { IfOk result (λ nodes. (x : PlainNode) → IsIn (nodes_view nodes.items) x → IsUnchanged (version_view before.now) (version_view after.now) x → ⊥) }
+    ensures all { IfOk result (λ nodes. (x : PlainNode) → IsIn (nodes_view nodes.items) x ⊎ IsUnchanged (version_view before.now) (version_view after.now) x) }
 {
     let mut all = Vec::new(alloc);
     add_nodes(&mut all, before)?;
@@ -40,8 +41,8 @@ fn different<'src>(
     after: &Version<'src, '_>,
     nodes: &[Node<'src>],
 ) -> Result<Vec<Node<'src>>, OutOfMemory>
-    ensures differ { IfOk result (λ different. (x : PlainNode) → IsListed (nodes_view different.items) x → IsSame (version_view before.now) (version_view after.now) x → ⊥) }
-    ensures all { IfOk result (λ different. (x : PlainNode) → IsListed (nodes_view nodes.now) x → IsListed (nodes_view different.items) x ⊎ IsSame (version_view before.now) (version_view after.now) x) }
+    ensures differ { IfOk result (λ different. (x : PlainNode) → IsIn (nodes_view different.items) x → IsUnchanged (version_view before.now) (version_view after.now) x → ⊥) }
+    ensures all { IfOk result (λ different. (x : PlainNode) → IsIn (nodes_view nodes.now) x → IsIn (nodes_view different.items) x ⊎ IsUnchanged (version_view before.now) (version_view after.now) x) }
 {
     let mut different = Vec::new(alloc);
     for node in nodes {

@@ -1,8 +1,9 @@
 // Which nodes read which.
 
 ghost use Rattle.std.specs.Prelude.{◌≡◌, ◌↔◌, ◌⊎◌, ◌+◌, ◌++◌, [], ◌∷◌, IfOk, OnOk, length};
-ghost use Rattle.just_changes.specs.Nodes.{IsListed, PlainNode};
-ghost use Rattle.just_changes.specs.View.{found, node_view, nodes_view, readers_of, size};
+ghost use Rattle.just_syntax.specs.Lists.{IsIn};
+ghost use Rattle.just_changes.specs.Nodes.{PlainNode};
+ghost use Rattle.just_changes.specs.View.{found_nodes, node_view, nodes_view, readers_of, size};
 
 use crate::node::{Node, push};
 use just_syntax::number::Number;
@@ -32,7 +33,7 @@ impl<'src> Readers<'src> {
 
     // Adds a reader of a node.
     pub(crate) fn add(&mut self, read: &Node<'src>, reader: &Node<'src>) -> Result<(), OutOfMemory>
-        ensures { OnOk result ((x y : PlainNode) → IsListed (readers_of self.new x) y ↔ (((node_view read.now ≡ x) × (node_view reader.now ≡ y)) ⊎ IsListed (readers_of self.old x) y)) }
+        ensures { OnOk result ((x y : PlainNode) → IsIn (readers_of self.new x) y ↔ (((node_view read.now ≡ x) × (node_view reader.now ≡ y)) ⊎ IsIn (readers_of self.old x) y)) }
     {
         match read {
             Node::Function { name } => {
@@ -63,7 +64,7 @@ impl<'src> Readers<'src> {
 
 // The readers found, or none.
 fn list<'src>(alloc: Global, readers: Option<Vec<Node<'src>>>) -> Vec<Node<'src>>
-    ensures { nodes_view result.items ≡ found readers.entry }
+    ensures { nodes_view result.items ≡ found_nodes readers.entry }
 {
     match readers {
         Some(readers) => readers,
@@ -77,7 +78,7 @@ fn with_reader<'src>(
     readers: Option<Vec<Node<'src>>>,
     reader: &Node<'src>,
 ) -> Result<Vec<Node<'src>>, OutOfMemory>
-    ensures { IfOk result (λ all. nodes_view all.items ≡ found readers.entry ++ node_view reader.now ∷ []) }
+    ensures { IfOk result (λ all. nodes_view all.items ≡ found_nodes readers.entry ++ node_view reader.now ∷ []) }
 {
     let mut all = list(alloc, readers);
     push(&mut all, reader)?;

@@ -3,7 +3,7 @@
 ghost use Rattle.std.specs.Prelude.{◌≡◌, ◌↔◌, IsTrue};
 ghost use Rattle.std.specs.Option.{option_map};
 ghost use Rattle.just_syntax.specs.Plain as plain;
-ghost use Rattle.just_syntax.specs.View.{assertion, conditional, join, literal_view, name_view, piece_views, token_view, view, views};
+ghost use Rattle.just_syntax.specs.View.{assert_view, conditional, join, literal_view, name_view, piece_views, token_view, view, views};
 
 use crate::same_token::{is_same_literal, is_same_token};
 use just_syntax::conditional_operator::ConditionalOperator;
@@ -101,7 +101,7 @@ fn is_assert(
     name: Name,
     other: &Expression,
 ) -> bool
-    ensures { IsTrue result ↔ (assertion (view condition.now) (option_map (λ e. view e.now) message.entry) (name_view name.entry) ≡ view other.now) }
+    ensures { IsTrue result ↔ (assert_view (view condition.now) (option_map (λ e. view e.now) message.entry) (name_view name.entry) ≡ view other.now) }
 {
     match other {
         Expression::Assert {

@@ -4,8 +4,8 @@ ghost use Rattle.std.specs.Prelude.{◌≡◌, ◌↔◌, ℕ, IfOk, OnOk, IsTru
 ghost use Rattle.std.specs.Option.{option_map, option_or};
 ghost use Rattle.just_value.specs.View.{frames_view};
 ghost use Rattle.just_syntax.specs.View.{assignment_view};
-ghost use Rattle.just_agreement.specs.Cone.{numbered};
-ghost use Rattle.just_changes.specs.Nodes.{IsFree, IsSame};
+ghost use Rattle.just_laws.specs.Cone.{assignment_numbered};
+ghost use Rattle.just_changes.specs.Nodes.{IsFree, IsUnchanged};
 ghost use Rattle.just_changes.specs.View.{IsWhole, assignment_in, node_view, version_view};
 
 use crate::node::Node;
@@ -52,7 +52,7 @@ impl<'a, 'src> Version<'src, 'a> {
 
     // Whether a node is the same in another version.
     pub(crate) fn is_same(&self, other: &Version<'src, '_>, node: &Node<'src>) -> bool
-        ensures { IsTrue result ↔ IsSame (version_view self.now) (version_view other.now) (node_view node.now) }
+        ensures { IsTrue result ↔ IsUnchanged (version_view self.now) (version_view other.now) (node_view node.now) }
     {
         match node {
             Node::Function { name } => self.is_same_function(other, name),
@@ -105,7 +105,7 @@ fn by_number<'a, 'src>(
     alloc: Global,
     assignments: &'a Table<Assignment<'src>>,
 ) -> Result<BTreeMap<Number, &'a Assignment<'src>>, OutOfMemory>
-    ensures { IfOk result (λ all. (n : ℕ) → assignment_in all n ≡ numbered (map assignment_view assignments.entry.now) n) }
+    ensures { IfOk result (λ all. (n : ℕ) → assignment_in all n ≡ assignment_numbered (map assignment_view assignments.entry.now) n) }
 {
     let mut all = BTreeMap::new(alloc);
     for assignment in assignments {

@@ -15,22 +15,21 @@ use Rattle.just_value.specs.Frames.{Frames, innermost}
 use Rattle.just_value.specs.Refusal.{Refusal, Const, Internal}
 use Rattle.just_value.specs.Outcome.{Outcome, Gave, Refused, Stopped, UnlessStopped, without_value}
 use Rattle.just_value.specs.View.{compile_refusal, const_ended, ended, frames_view, refusal}
-use Rattle.just_host.specs.Question.{Question, Answer}
-use Rattle.just_host.specs.Interaction.{Rules, Runs, Tree, freely}
+use Rattle.just_host.specs.Interaction.{Rules, Runs, Tree, freely, Step}
 use Rattle.just_host.proofs.Paths.{path_cut}
 use Rattle.just_meaning.specs.Assignments.{assignment_at}
 use Rattle.just_meaning.specs.Constant.{constantly}
 use Rattle.just_meaning.specs.Module.{Module, Closing, Ran, assigned, or_override}
 use Rattle.just_meaning.specs.Internal.{IsFinal}
-use Rattle.just_meaning.specs.Stage.{Constants, Standing, Staged, at_start, const_meaning, with_open}
-use Rattle.just_forms.specs.Call.{Says}
-use Rattle.just_laws.proofs.Constants.{IsTold, OfSome, const_override, const_told, eval_alike}
-use Rattle.just_eval.specs.View.{Assigned, WasBound, IsBound, IsRefused, IsSame, IsStopped, OpensOrEnds, Opens, Ends, standing_of}
+use Rattle.just_meaning.specs.Stage.{Constants, StageState, Staged, at_start, const_meaning, with_open}
+use Rattle.just_expression.specs.Call.{RefusesWith}
+use Rattle.just_soundness.proofs.Constants.{HasConstOutcome, OfSome, const_override, const_outcome, eval_alike}
+use Rattle.just_eval.specs.View.{Assigned, WasBound, IsBound, IsRefused, IsSameButScope, IsStopped, OpensOrEnds, Opens, Ends, stage_state_of}
 use Rattle.just_eval.specs.declared.evaluator.Evaluator.{Evaluator}
 use Rattle.just_eval.proofs.Module.{ran_binds, ran_fails, ran_skips}
 use Rattle.just_eval.proofs.Stages.{staged_breaks, staged_opens, staged_settles, staged_skips, staged_stops}
 
-module _ {S : Type 0} {rules : Rules} {step : S → Question → Answer → S → Type 0} {old new : S} {tree : Tree Value} {export : Bool} {a : Assignment} {frames : Frames} where
+module _ {S : Type 0} {rules : Rules} {step : Step S} {old new : S} {tree : Tree Value} {export : Bool} {a : Assignment} {frames : Frames} where
   pub assigned_none : (e : Option Refusal) → innermost a.number frames ≡ None → Runs rules step old tree (without_value e) new → Assigned rules step old tree export a frames (without_value e) new
   assigned_none (Some r) u runs = IsRefused r u runs
   assigned_none None u runs = IsStopped u runs
@@ -45,7 +44,7 @@ module _ {S : Type 0} {rules : Rules} {step : S → Question → Answer → S �
 
 -- ---- in a run
 
-module _ {S : Type 0} {step : S → Question → Answer → S → Type 0} {closing : Closing} {m : Module} where
+module _ {S : Type 0} {step : Step S} {closing : Closing} {m : Module} where
   pub ran_assigned : {old new : S} (frames : Frames) (t : Token) (a : Assignment) {o : Outcome Frames} → assignment_at m.assignments t.lexeme ≡ Some a → m.assignments.referenced a.number ≡ true →
       Assigned freely step old (assigned closing m frames a) m.program.fixed.settings.export a frames o new → Ran step old closing m frames (t ∷ []) o new
   ran_assigned frames t a found referenced (WasBound b e) = ran_skips frames t a found b referenced e
@@ -56,63 +55,63 @@ module _ {S : Type 0} {step : S → Question → Answer → S → Type 0} {closi
 -- ---- in a const stage
 
 -- an assignment's tree
-abbrev own : Constants → Standing → Assignment → Tree Value
+abbrev own : Constants → StageState → Assignment → Tree Value
 own m s a = or_override (m.overrides a.number) (const_meaning s a.value)
 
-abbrev pub InStage : {S : Type 0} → (S → Question → Answer → S → Type 0) → Constants → Standing → Assignment → S → S → Outcome Frames → Type 0
+abbrev pub InStage : {S : Type 0} → Step S → Constants → StageState → Assignment → S → S → Outcome Frames → Type 0
 InStage step m s a old new o = Assigned (constantly s.is_open) step old (own m s a) false a s.frames o new
 
-module _ {S : Type 0} {step : S → Question → Answer → S → Type 0} (m : Constants) (s : Standing) (a : Assignment) where
-  told : {old new : S} (o : Outcome Value) → Runs (constantly s.is_open) step old (own m s a) o new → IsTold s.is_open (own m s a) o old new
-  told o r = const_told s.is_open _ o (const_override IsConstEval s.is_open (m.overrides a.number) _ (eval_alike s.is_open _ _ _ a.value)) r
+module _ {S : Type 0} {step : Step S} (m : Constants) (s : StageState) (a : Assignment) where
+  determined : {old new : S} (o : Outcome Value) → Runs (constantly s.is_open) step old (own m s a) o new → HasConstOutcome s.is_open (own m s a) o old new
+  determined o r = const_outcome s.is_open _ o (const_override IsConstEval s.is_open (m.overrides a.number) _ (eval_alike s.is_open _ _ _ a.value)) r
 
   -- such a refusal is one of constant evaluation
   pub few_assigned : {old new : S} (e : Option Refusal) → InStage step m s a old new (without_value e) → OfSome IsConstEval e
-  few_assigned (Some r) (IsRefused _ u runs) = (told (Refused r) runs).few
+  few_assigned (Some r) (IsRefused _ u runs) = (determined (Refused r) runs).few
   few_assigned None h = tt
 
   module _ (t : Token) (found : assignment_at m.assignments t.lexeme ≡ Some a) (referenced : m.assignments.referenced a.number ≡ true) (unopened : s.is_open a.number ≡ false) where
     pub staged_gave : {old new : S} {frames : Frames} → InStage step m s a old new (Gave frames) → Staged m s (t ∷ []) (Gave (record { lists = s.lists; frames = frames; is_open = s.is_open }))
     staged_gave (WasBound b e) = staged_skips s t a found referenced b e
-    staged_gave (IsBound v u r) = staged_settles s t a (record { found = found; referenced = referenced; unbound = u; unopened = unopened }) v (sym (told (Gave v) r).told)
+    staged_gave (IsBound v u r) = staged_settles s t a (record { found = found; referenced = referenced; unbound = u; unopened = unopened }) v (sym (determined (Gave v) r).determined)
 
     staged_const : {old new : S} (c : ConstRefusal) → InStage step m s a old new (Refused (Const c)) → Staged m s (t ∷ []) (Gave (with_open s a.number))
-    staged_const c (IsRefused _ u r) = staged_opens s t a (record { found = found; referenced = referenced; unbound = u; unopened = unopened }) c (sym (told (Refused (Const c)) r).told)
+    staged_const c (IsRefused _ u r) = staged_opens s t a (record { found = found; referenced = referenced; unbound = u; unopened = unopened }) c (sym (determined (Refused (Const c)) r).determined)
 
     staged_other : {old new : S} (e : Option Refusal) → ForSome e IsFinal → InStage step m s a old new (without_value e) → Staged m s (t ∷ []) (without_value e)
-    staged_other (Some r) final (IsRefused _ u runs) = staged_breaks s t a (record { found = found; referenced = referenced; unbound = u; unopened = unopened }) r (final r refl) (sym (told (Refused r) runs).told)
+    staged_other (Some r) final (IsRefused _ u runs) = staged_breaks s t a (record { found = found; referenced = referenced; unbound = u; unopened = unopened }) r (final r refl) (sym (determined (Refused r) runs).determined)
     staged_other None final h = staged_stops s (t ∷ [])
 
-    opened : {old new : S} (c : ConstRefusal) (o : Outcome Standing) → InStage step m s a old new (Refused (Const c)) → UnlessStopped o (Gave (with_open s a.number)) → Staged m s (t ∷ []) o
+    opened : {old new : S} (c : ConstRefusal) (o : Outcome StageState) → InStage step m s a old new (Refused (Const c)) → UnlessStopped o (Gave (with_open s a.number)) → Staged m s (t ∷ []) o
     opened c (Gave x) h is = subst (Staged m s (t ∷ [])) (sym is) (staged_const c h)
     opened c (Refused r) h is = absurd (cc)
     opened c Stopped h is = staged_stops s (t ∷ [])
 
-    pub staged_refused : {old new : S} (e : Option Refusal) (o : Outcome Standing) → InStage step m s a old new (without_value e) → OpensOrEnds e s a.number o → Staged m s (t ∷ []) o
+    pub staged_refused : {old new : S} (e : Option Refusal) (o : Outcome StageState) → InStage step m s a old new (without_value e) → OpensOrEnds e s a.number o → Staged m s (t ∷ []) o
     staged_refused {old = old} {new = new} e o h (Opens c is up) = opened c o (subst (λ e. InStage step m s a old new (without_value e)) is h) up
     staged_refused e o h (Ends final is) = subst (Staged m s (t ∷ [])) (sym is) (staged_other e final h)
 
 -- ---- standings of evaluators
 
-pub standing_start : (e : Evaluator) (lists : Bool) (outer : Frames) → e.lists ≡ lists → frames_view e.scope ≡ [] ∷ outer → ((n : ℕ) → (standing_of e).is_open n ≡ false) → standing_of e ≡ at_start lists outer
-standing_start e lists outer same frames none = λ i. record { lists = same i; frames = frames i; is_open = fun_ext none i }
+pub stage_state_start : (e : Evaluator) (lists : Bool) (outer : Frames) → e.lists ≡ lists → frames_view e.scope ≡ [] ∷ outer → ((n : ℕ) → (stage_state_of e).is_open n ≡ false) → stage_state_of e ≡ at_start lists outer
+stage_state_start e lists outer same frames none = λ i. record { lists = same i; frames = frames i; is_open = fun_ext none i }
 
-pub standing_same : (e f : Evaluator) → IsSame e f → standing_of f ≡ record { lists = e.lists; frames = frames_view f.scope; is_open = (standing_of e).is_open }
-standing_same e f same =
-    ap (λ l. record { lists = l; frames = frames_view f.scope; is_open = (standing_of f).is_open }) same.lists
+pub stage_state_same : (e f : Evaluator) → IsSameButScope e f → stage_state_of f ≡ record { lists = e.lists; frames = frames_view f.scope; is_open = (stage_state_of e).is_open }
+stage_state_same e f same =
+    ap (λ l. record { lists = l; frames = frames_view f.scope; is_open = (stage_state_of f).is_open }) same.lists
     ∙ ap (λ set. record { lists = e.lists; frames = frames_view f.scope; is_open = λ n. list_any (nat_eq n) set.keys }) same.open_numbers
 
 -- the exit of a `?` after a failed allocation
-pub opened_exit : {X : Type 0} (f : X → Standing) (r : Result X CompileError) (e d : CompileError) → r ≡ Err d → d ≡ e → (w : Outcome Standing) → UnlessStopped (without_value (compile_refusal e)) w → UnlessStopped (const_ended f r) w
+pub opened_exit : {X : Type 0} (f : X → StageState) (r : Result X CompileError) (e d : CompileError) → r ≡ Err d → d ≡ e → (w : Outcome StageState) → UnlessStopped (without_value (compile_refusal e)) w → UnlessStopped (const_ended f r) w
 opened_exit f r e d p q w is = rw (p, q) is
 
-pub standing_kept : (e f : Evaluator) → IsSame e f → frames_view f.scope ≡ frames_view e.scope → standing_of f ≡ standing_of e
-standing_kept e f same kept = standing_same e f same ∙ ap (λ fs. record { lists = e.lists; frames = fs; is_open = (standing_of e).is_open }) kept
+pub stage_state_kept : (e f : Evaluator) → IsSameButScope e f → frames_view f.scope ≡ frames_view e.scope → stage_state_of f ≡ stage_state_of e
+stage_state_kept e f same kept = stage_state_same e f same ∙ ap (λ fs. record { lists = e.lists; frames = fs; is_open = (stage_state_of e).is_open }) kept
 
-pub standing_opened : (e f : Evaluator) (n : ℕ) → f.lists ≡ e.lists → frames_view f.scope ≡ frames_view e.scope → ((k : ℕ) → list_any (nat_eq k) f.non_const_assignments.keys ≡ cond (nat_eq n k) true (list_any (nat_eq k) e.non_const_assignments.keys)) → standing_of f ≡ with_open (standing_of e) n
-standing_opened e f n lists frames put =
-    ap (λ l. record { lists = l; frames = frames_view f.scope; is_open = (standing_of f).is_open }) lists
-    ∙ ap (λ fs. record { lists = e.lists; frames = fs; is_open = (standing_of f).is_open }) frames
+pub stage_state_opened : (e f : Evaluator) (n : ℕ) → f.lists ≡ e.lists → frames_view f.scope ≡ frames_view e.scope → ((k : ℕ) → list_any (nat_eq k) f.non_const_assignments.keys ≡ cond (nat_eq n k) true (list_any (nat_eq k) e.non_const_assignments.keys)) → stage_state_of f ≡ with_open (stage_state_of e) n
+stage_state_opened e f n lists frames put =
+    ap (λ l. record { lists = l; frames = frames_view f.scope; is_open = (stage_state_of f).is_open }) lists
+    ∙ ap (λ fs. record { lists = e.lists; frames = fs; is_open = (stage_state_of f).is_open }) frames
     ∙ ap (λ is_open. record { lists = e.lists; frames = frames_view e.scope; is_open = is_open }) (fun_ext (λ k. put k ∙ number_with n k (list_any (nat_eq k) e.non_const_assignments.keys)))
 
 -- an error other than `Const` ends a stage
@@ -132,6 +131,6 @@ final_of (errors.RecursionLimit last) other = tt
 final_of errors.OutOfMemory other = tt
 
 -- so does the refusal of an unresolved module
-pub few_said : (e : Option Refusal) (message : _) (t : Token) → Says e (Internal message t) → OfSome IsConstEval e
+pub few_said : (e : Option Refusal) (message : _) (t : Token) → RefusesWith e (Internal message t) → OfSome IsConstEval e
 few_said (Some r) message t is = subst IsConstEval (sym is) tt
 few_said None message t is = tt

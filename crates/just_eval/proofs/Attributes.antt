@@ -10,12 +10,11 @@ use Rattle.just_syntax.specs.declared.name.Name.{Name}
 use Rattle.just_value.specs.Refusal.{Refusal}
 use Rattle.just_value.specs.Value.{Value}
 use Rattle.just_value.specs.Outcome.{Outcome, Gave, Stopped, without_value}
-use Rattle.just_host.specs.Question.{Question, Answer}
-use Rattle.just_host.specs.Interaction.{Runs, Tree, bind}
+use Rattle.just_host.specs.Interaction.{Runs, Tree, bind, Step}
 use Rattle.just_host.proofs.Paths.{runs_ends, runs_gives, runs_on, runs_stopped}
 use Rattle.just_meaning.specs.Line.{string}
 use Rattle.just_meaning.specs.Parameters.{Meanings, environment, with_variable}
-use Rattle.just_eval.specs.View.{IsSameBut, dynamic_meanings, meaning, rules_of, situation_of}
+use Rattle.just_eval.specs.View.{IsSameButScopeAndEnvironment, dynamic_meanings, dynamic_meaning, rules_of, situation_of}
 use Rattle.just_eval.specs.declared.evaluator.Evaluator.{Evaluator}
 use Rattle.just_eval.proofs.Arguments.{situation_set}
 use Rattle.just_eval.proofs.Same.{runs_same}
@@ -40,7 +39,7 @@ left_none (x ∷ xs) none = absurd (cc)
 
 -- ---- the rest
 
-module _ {S : Type 0} (step : S → Question → Answer → S → Type 0) (start : S) (e : Evaluator) (all : List (Attribute × Token)) where
+module _ {S : Type 0} (step : Step S) (start : S) (e : Evaluator) (all : List (Attribute × Token)) where
   abbrev means : Meanings
   means = dynamic_meanings e.context
 
@@ -52,7 +51,7 @@ module _ {S : Type 0} (step : S → Question → Answer → S → Type 0) (start
   abbrev pub AttributesLeft : Evaluator → List (Attribute × Token) → S → Type 0
   AttributesLeft f left here = (o : Outcome (List (Text × Text))) (new : S) → Runs (rules_of e) step here (environment means (situation_of f) left) o new → Whole o new
 
-  module _ (f : Evaluator) (same : IsSameBut e f) (left : List (Attribute × Token)) (here : S) (rest : AttributesLeft f left here) where
+  module _ (f : Evaluator) (same : IsSameButScopeAndEnvironment e f) (left : List (Attribute × Token)) (here : S) (rest : AttributesLeft f left here) where
     pub attributes_all : left ≡ [] → Whole (Gave (pairs_view f.env)) here
     attributes_all is = rest _ here (subst (λ l. Runs (rules_of e) step here (environment means (situation_of f) l) (Gave (pairs_view f.env)) here) (sym is) (runs_gives (pairs_view f.env)))
 
@@ -62,23 +61,23 @@ module _ {S : Type 0} (step : S → Question → Answer → S → Type 0) (start
 
     module _ (key value : Expr) (name : Token) (more : List (Attribute × Token)) (is : left ≡ (Env key value, name) ∷ more) where
       -- the value, and then the rest
-      abbrev behind_key : Text → Tree (List (Text × Text))
-      behind_key k = bind (means (situation_of f) value) (λ v. environment means (record (situation_of f) { environment = with_variable (pairs_view f.env) k v }) more)
+      abbrev after_key : Text → Tree (List (Text × Text))
+      after_key k = bind (means (situation_of f) value) (λ v. environment means (record (situation_of f) { environment = with_variable (pairs_view f.env) k v }) more)
 
-      fronted : (o : Outcome (List (Text × Text))) (new : S) → Runs (rules_of e) step here (bind (string (means (situation_of f)) (EnvKey name) key) behind_key) o new → Whole o new
+      fronted : (o : Outcome (List (Text × Text))) (new : S) → Runs (rules_of e) step here (bind (string (means (situation_of f)) (EnvKey name) key) after_key) o new → Whole o new
       fronted o new r = rest o new (subst (λ l. Runs (rules_of e) step here (environment means (situation_of f) l) o new) (sym is) r)
 
-      pub key_ends : {new : S} (r : Option Refusal) → Runs (rules_of f) step here (string (meaning f) (EnvKey name) key) (without_value r) new → Whole (without_value r) new
-      key_ends r q = fronted (without_value r) _ (runs_ends (string (means (situation_of f)) (EnvKey name) key) behind_key r (runs_same e f same (λ m. string m (EnvKey name) key) q))
+      pub key_ends : {new : S} (r : Option Refusal) → Runs (rules_of f) step here (string (dynamic_meaning f) (EnvKey name) key) (without_value r) new → Whole (without_value r) new
+      key_ends r q = fronted (without_value r) _ (runs_ends (string (means (situation_of f)) (EnvKey name) key) after_key r (runs_same e f same (λ m. string m (EnvKey name) key) q))
 
-      module _ {mid : S} (k : Text) (first : Runs (rules_of f) step here (string (meaning f) (EnvKey name) key) (Gave k) mid) where
-        keyed : {o : Outcome (List (Text × Text))} {new : S} → Runs (rules_of e) step mid (behind_key k) o new → Whole o new
-        keyed r = fronted _ _ (runs_on (string (means (situation_of f)) (EnvKey name) key) behind_key (runs_same e f same (λ m. string m (EnvKey name) key) first) r)
+      module _ {mid : S} (k : Text) (first : Runs (rules_of f) step here (string (dynamic_meaning f) (EnvKey name) key) (Gave k) mid) where
+        keyed : {o : Outcome (List (Text × Text))} {new : S} → Runs (rules_of e) step mid (after_key k) o new → Whole o new
+        keyed r = fronted _ _ (runs_on (string (means (situation_of f)) (EnvKey name) key) after_key (runs_same e f same (λ m. string m (EnvKey name) key) first) r)
 
-        pub value_ends : {new : S} (r : Option Refusal) → Runs (rules_of f) step mid (meaning f value) (without_value r) new → Whole (without_value r) new
+        pub value_ends : {new : S} (r : Option Refusal) → Runs (rules_of f) step mid (dynamic_meaning f value) (without_value r) new → Whole (without_value r) new
         value_ends r q = keyed (runs_ends (means (situation_of f) value) (λ v. environment means (record (situation_of f) { environment = with_variable (pairs_view f.env) k v }) more) r (runs_same e f same (λ m. m value) q))
 
-        module _ {new : S} (v : Value) (second : Runs (rules_of f) step mid (meaning f value) (Gave v) new) where
+        module _ {new : S} (v : Value) (second : Runs (rules_of f) step mid (dynamic_meaning f value) (Gave v) new) where
           valued : {o : Outcome (List (Text × Text))} {last : S} → Runs (rules_of e) step new (environment means (record (situation_of f) { environment = with_variable (pairs_view f.env) k v }) more) o last → Whole o last
           valued r = keyed (runs_on (means (situation_of f) value) (λ v. environment means (record (situation_of f) { environment = with_variable (pairs_view f.env) k v }) more) (runs_same e f same (λ m. m value) second) r)
 
@@ -86,6 +85,6 @@ module _ {S : Type 0} (step : S → Question → Answer → S → Type 0) (start
           attribute_stops = valued (runs_stopped _)
 
           -- the variable is set
-          pub attribute_next : (g : Evaluator) → IsSameBut f g → g.scope ≡ f.scope → pairs_view g.env ≡ with_variable (pairs_view f.env) k v → AttributesLeft g more new
+          pub attribute_next : (g : Evaluator) → IsSameButScopeAndEnvironment f g → g.scope ≡ f.scope → pairs_view g.env ≡ with_variable (pairs_view f.env) k v → AttributesLeft g more new
           attribute_next g but scope set o last r =
               valued (subst (λ s. Runs (rules_of e) step new (environment means s more) o last) (situation_set f g but scope ∙ ap (λ v. record (situation_of f) { environment = v }) set) r)

@@ -8,16 +8,15 @@ use Rattle.just_syntax.specs.declared.parameter.Parameter.{Parameter as Declared
 use Rattle.just_syntax.specs.declared.recipe.Recipe.{Recipe}
 use Rattle.just_value.specs.Refusal.{Refusal}
 use Rattle.just_value.specs.Value.{Value}
-use Rattle.just_value.specs.Frames.{bound_in_front}
+use Rattle.just_value.specs.Frames.{bound_innermost}
 use Rattle.just_value.specs.Outcome.{Outcome, Gave, Stopped, without_value}
 use Rattle.just_value.specs.View.{frames_view}
 use Rattle.just_value.specs.declared.check_fault.CheckFault.{CheckFault}
-use Rattle.just_host.specs.Question.{Question, Answer}
-use Rattle.just_host.specs.Interaction.{Runs, RunsChecked, Tree, Verdict, bind, gives}
+use Rattle.just_host.specs.Interaction.{Runs, RunsChecked, Tree, Verdict, bind, gives, Step}
 use Rattle.just_host.proofs.Checked.{checked_ends, checked_gives, checked_on, checked_stopped, unchecked}
 use Rattle.just_meaning.specs.Parameters.{Arguments, Meanings, bindings, checked, parameter_bound, seeing, valued, words_of}
-use Rattle.just_forms.specs.Check.{Gives, IsJudged}
-use Rattle.just_eval.specs.View.{IsSameBut, dynamic_meanings, meaning, rules_of, situation_of}
+use Rattle.just_eval.specs.Check.{GivesVerdict, IsJudged}
+use Rattle.just_eval.specs.View.{IsSameButScopeAndEnvironment, dynamic_meanings, dynamic_meaning, rules_of, situation_of}
 use Rattle.just_eval.specs.declared.evaluator.Evaluator.{Evaluator}
 use Rattle.just_eval.proofs.Arguments.{checked_value, situation_bound}
 use Rattle.just_eval.proofs.Same.{runs_same}
@@ -26,7 +25,7 @@ pub mapped_none : {X Y : Type 0} (f : X → Y) (xs : List X) → length xs ≡ 0
 mapped_none f [] none = refl
 mapped_none f (x ∷ xs) none = absurd (cc)
 
-module _ {S F : Type 0} (step : S → Question → Answer → S → Type 0) (calls : Shared F (Bor Recipe × (Bor Declared × (Bor Value × Unit {0}))) (Result Unit CheckFault)) (check : F) (recipe : Recipe)
+module _ {S F : Type 0} (step : Step S) (calls : Shared F (Bor Recipe × (Bor Declared × (Bor Value × Unit {0}))) (Result Unit CheckFault)) (check : F) (recipe : Recipe)
     (start : S) (e : Evaluator) (all : List Parameter) (given : List Value) where
   abbrev means : Meanings
   means = dynamic_meanings e.context
@@ -35,7 +34,7 @@ module _ {S F : Type 0} (step : S → Question → Answer → S → Type 0) (cal
   name = (recipe_view recipe).name.lexeme
 
   abbrev says : Parameter → Value → Verdict → Type 0
-  says = Gives calls check recipe
+  says = GivesVerdict calls check recipe
 
   -- what the parameters evaluate to
   abbrev Whole : Outcome Arguments → S → Type 0
@@ -51,7 +50,7 @@ module _ {S F : Type 0} (step : S → Question → Answer → S → Type 0) (cal
       (subst (λ ps. RunsChecked (rules_of e) step says start (bindings means name (situation_of e) words ps given) o new) same
       (subst (λ vs. RunsChecked (rules_of e) step says start (bindings means name (situation_of e) words left vs) o new) has r))
 
-  module _ (f : Evaluator) (same : IsSameBut e f) (words : List Text) (left : List Parameter) (arguments : List Value) (here : S) (rest : ParametersLeft f words left arguments here) where
+  module _ (f : Evaluator) (same : IsSameButScopeAndEnvironment e f) (words : List Text) (left : List Parameter) (arguments : List Value) (here : S) (rest : ParametersLeft f words left arguments here) where
     abbrev made : Arguments
     made = record { frames = frames_view f.scope; words = words; environment = pairs_view f.env }
 
@@ -69,29 +68,29 @@ module _ {S F : Type 0} (step : S → Question → Answer → S → Type 0) (cal
       first = checked (means (situation_of f)) f.is_dependency name p argument
 
       -- the parameter is bound, and then the rest
-      abbrev behind : Value → Tree Arguments
-      behind v = bindings means name (seeing (bound_in_front (frames_view f.scope) (parameter_bound f.lists p v)) (situation_of f)) (words ++ words_of p v) more further
+      abbrev after : Value → Tree Arguments
+      after v = bindings means name (seeing (bound_innermost (frames_view f.scope) (parameter_bound f.lists p v)) (situation_of f)) (words ++ words_of p v) more further
 
-      fronted : {o : Outcome Arguments} {new : S} → RunsChecked (rules_of e) step says here (bind first behind) o new → Whole o new
+      fronted : {o : Outcome Arguments} {new : S} → RunsChecked (rules_of e) step says here (bind first after) o new → Whole o new
       fronted {o = o} {new = new} r = rest o new (subst (λ vs. RunsChecked (rules_of e) step says here (bindings means name (situation_of f) words left vs) o new) (sym has)
           (subst (λ ps. RunsChecked (rules_of e) step says here (bindings means name (situation_of f) words ps (argument ∷ further)) o new) (sym is) r))
 
-      pub parameter_ends : {new : S} (r : Option Refusal) → Runs (rules_of f) step here (valued (meaning f) f.is_dependency name p argument) (without_value r) new → Whole (without_value r) new
-      parameter_ends r q = fronted (checked_ends first behind r (checked_ends (valued (means (situation_of f)) f.is_dependency name p argument) _ r (unchecked (runs_same e f same (λ m. valued m f.is_dependency name p argument) q))))
+      pub parameter_ends : {new : S} (r : Option Refusal) → Runs (rules_of f) step here (valued (dynamic_meaning f) f.is_dependency name p argument) (without_value r) new → Whole (without_value r) new
+      parameter_ends r q = fronted (checked_ends first after r (checked_ends (valued (means (situation_of f)) f.is_dependency name p argument) _ r (unchecked (runs_same e f same (λ m. valued m f.is_dependency name p argument) q))))
 
-      module _ {mid : S} (v : Value) (q : Runs (rules_of f) step here (valued (meaning f) f.is_dependency name p argument) (Gave v) mid) where
+      module _ {mid : S} (v : Value) (q : Runs (rules_of f) step here (valued (dynamic_meaning f) f.is_dependency name p argument) (Gave v) mid) where
         judged_here : (o : Outcome Value) → IsJudged calls check recipe p v o → RunsChecked (rules_of e) step says here first o mid
         judged_here o j = checked_value (means (situation_of f)) f.is_dependency name p argument v o (runs_same e f same (λ m. valued m f.is_dependency name p argument) q) j
 
         pub check_ends : (r : Option Refusal) → IsJudged calls check recipe p v (without_value r) → Whole (without_value r) mid
-        check_ends r j = fronted (checked_ends first behind r (judged_here (without_value r) j))
+        check_ends r j = fronted (checked_ends first after r (judged_here (without_value r) j))
 
         module _ (w : Value) (j : IsJudged calls check recipe p v (Gave w)) where
           pub parameter_stops : Whole Stopped mid
-          parameter_stops = fronted (checked_on first behind (judged_here (Gave w) j) (checked_stopped (behind w)))
+          parameter_stops = fronted (checked_on first after (judged_here (Gave w) j) (checked_stopped (after w)))
 
           -- the parameter is bound
-          pub parameter_next : (g : Evaluator) → IsSameBut f g → g.env ≡ f.env → is_some f.base ≡ true → frames_view g.scope ≡ bound_in_front (frames_view f.scope) (parameter_bound f.lists p w) → ParametersLeft g (words ++ words_of p w) more further mid
+          pub parameter_next : (g : Evaluator) → IsSameButScopeAndEnvironment f g → g.env ≡ f.env → is_some f.base ≡ true → frames_view g.scope ≡ bound_innermost (frames_view f.scope) (parameter_bound f.lists p w) → ParametersLeft g (words ++ words_of p w) more further mid
           parameter_next g but env based bound o last r =
-              fronted (checked_on first behind (judged_here (Gave w) j)
-              (subst (λ s. RunsChecked (rules_of e) step says mid (bindings means name s (words ++ words_of p w) more further) o last) (situation_bound f g (bound_in_front (frames_view f.scope) (parameter_bound f.lists p w)) but env based bound) r))
+              fronted (checked_on first after (judged_here (Gave w) j)
+              (subst (λ s. RunsChecked (rules_of e) step says mid (bindings means name s (words ++ words_of p w) more further) o last) (situation_bound f g (bound_innermost (frames_view f.scope) (parameter_bound f.lists p w)) but env based bound) r))

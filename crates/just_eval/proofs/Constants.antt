@@ -14,7 +14,7 @@ use Rattle.just_value.specs.View.{compile_refusal, const_ended, ended, refusal}
 use Rattle.just_meaning.specs.Settings.{Evaluates, elements, text_in}
 use Rattle.just_eval.proofs.Module.{front}
 use Rattle.just_meaning.specs.Internal.{IfRefused}
-use Rattle.just_laws.proofs.Constants.{OfSome}
+use Rattle.just_soundness.proofs.Constants.{OfSome}
 
 pub unless_is : {A : Type 0} (o w : Outcome A) → o ≡ w → UnlessStopped o w
 unless_is (Gave a) w e = e
@@ -53,10 +53,10 @@ few_texts context (text ∷ next ∷ texts) (Some r) is = subst (IfRefused {A = 
 few_texts context v None is = tt
 
 -- concatenation of elements is associative
-pub elements_behind : {B : Type 0} (v all : Value) (w : Outcome Value) (go : Value → Outcome B) → and_then (and_then (and_then w (λ x. Gave (v ++ x))) (λ x. Gave (all ++ x))) go ≡ and_then (and_then w (λ x. Gave ((all ++ v) ++ x))) go
-elements_behind v all (Gave x) go = ap go (sym (append_assoc all v x))
-elements_behind v all (Refused r) go = refl
-elements_behind v all Stopped go = refl
+pub elements_after : {B : Type 0} (v all : Value) (w : Outcome Value) (go : Value → Outcome B) → and_then (and_then (and_then w (λ x. Gave (v ++ x))) (λ x. Gave (all ++ x))) go ≡ and_then (and_then w (λ x. Gave ((all ++ v) ++ x))) go
+elements_after v all (Gave x) go = ap go (sym (append_assoc all v x))
+elements_after v all (Refused r) go = refl
+elements_after v all Stopped go = refl
 
 -- continues with one more value
 pub elements_next : {B X : Type 0} (evaluates : Evaluates) (seen : X → Expr) (items : List X) (i : ℕ) (d : X) (fits : i < length items) (all v : Value) (go : Value → Outcome B) (o : Outcome B) → Gave v ≡ evaluates (seen (get_or items i d))
@@ -65,4 +65,4 @@ elements_next evaluates seen items i d fits all v go o is h =
     let rest = elements evaluates (map seen (drop (i + 1) items)) in
     subst (λ xs. UnlessStopped o (and_then (and_then (elements evaluates xs) (λ w. Gave (all ++ w))) go)) (sym (front seen items i d fits))
     (subst (λ x. UnlessStopped o (and_then (and_then (and_then x (λ v. and_then rest (λ w. Gave (v ++ w)))) (λ w. Gave (all ++ w))) go)) is
-    (subst (UnlessStopped o) (sym (elements_behind v all rest go)) h))
+    (subst (UnlessStopped o) (sym (elements_after v all rest go)) h))

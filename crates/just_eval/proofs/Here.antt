@@ -11,8 +11,7 @@ use Rattle.just_value.specs.Value.{Value}
 use Rattle.just_value.specs.Frames.{Frames, value_in}
 use Rattle.just_value.specs.Outcome.{Outcome, UnlessStopped}
 use Rattle.just_value.specs.View.{frames_view}
-use Rattle.just_host.specs.Question.{Question, Answer}
-use Rattle.just_host.specs.Interaction.{GoesByAnswers, Runs, Tree, freely}
+use Rattle.just_host.specs.Interaction.{GoesByAnswers, Runs, Tree, freely, Step}
 use Rattle.just_host.specs.declared.execution_context.ExecutionContext.{ExecutionContext}
 use Rattle.just_meaning.specs.Constant.{constant, constantly}
 use Rattle.just_meaning.specs.Here.{AllReadable}
@@ -23,17 +22,17 @@ use Rattle.just_meaning.specs.Meaning.{Situation, eval}
 use Rattle.just_meaning.specs.Module.{or_override, situation_at}
 use Rattle.just_meaning.specs.Resolved.{AllKnown, HasValue}
 use Rattle.just_meaning.specs.ResolvedOn.{AllResolvedOn}
-use Rattle.just_meaning.specs.Stage.{Standing, const_meaning}
+use Rattle.just_meaning.specs.Stage.{StageState, const_meaning}
 use Rattle.just_meaning.specs.View.{functions_view, program_view}
 use Rattle.just_expression.specs.View.{program_of, rules_in}
-use Rattle.just_laws.proofs.ConstInternal.{IsOther, resolved_const, shut_other}
-use Rattle.just_laws.proofs.Constants.{AllConst, IsTold, const_refused, const_told, eval_alike, unless_such}
-use Rattle.just_laws.proofs.Ends.{ends_path}
-use Rattle.just_laws.proofs.Final.{AllFinal, final_dynamic, final_eval}
-use Rattle.just_laws.proofs.Here.{AllSuch, Same, all_such, line_const, line_final, line_never, readable_apart, same_line, same_string, string_const, string_final, string_never}
-use Rattle.just_laws.proofs.Internal.{IsNeverInternal, expression_never}
-use Rattle.just_laws.proofs.Lexical.{dynamic_is_lexical}
-use Rattle.just_eval.specs.View.{Assigned, IsAtStart, IsConst, IsInRun, IsResolvedIn, Resolves, below_of, calls_left_in, dynamic_meanings, exports_all, exports_all_in, lexical_meaning, meaning, rules_of, situation_of, standing_of}
+use Rattle.just_soundness.proofs.ConstInternal.{IsOther, resolved_const, shut_other}
+use Rattle.just_soundness.proofs.Constants.{AllConst, HasConstOutcome, const_refused, const_outcome, eval_alike, unless_such}
+use Rattle.just_soundness.proofs.Ends.{ends_path}
+use Rattle.just_soundness.proofs.Final.{AllFinal, final_dynamic, final_eval}
+use Rattle.just_soundness.proofs.Here.{AllSuch, Same, all_such, line_const, line_final, line_never, readable_apart, same_line, same_string, string_const, string_final, string_never}
+use Rattle.just_soundness.proofs.Internal.{IsNeverInternal, expression_never}
+use Rattle.just_soundness.proofs.Lexical.{dynamic_is_lexical}
+use Rattle.just_eval.specs.View.{Assigned, IsAtStart, IsConst, IsInRun, IsResolvedIn, Resolves, below_of, calls_left_in, dynamic_meanings, exports_all, exports_all_in, lexical_meaning, dynamic_meaning, rules_of, situation_of, stage_state_of}
 use Rattle.just_eval.specs.declared.evaluator.Evaluator.{Evaluator}
 
 -- `make` depends only on the meanings of these expressions: equal meanings give equal trees, and the tree's refusals
@@ -110,9 +109,9 @@ module _ (e : Evaluator) {A : Type 0} (make : (Expr → Tree Value) → Tree A) 
   resolved_never (Some c) resolved = made.never _ (each_never c e es resolved es resolved.known resolved.readable)
   resolved_never None resolved = absurd resolved
 
-  module _ {S : Type 0} {step : S → Question → Answer → S → Type 0} {old new : S} {o : Outcome A} (r : Runs (rules_of e) step old (make (meaning e)) o new) where
-    freely_run : IsInRun e → Runs freely step old (make (meaning e)) o new
-    freely_run h = subst (λ rules. Runs rules step old (make (meaning e)) o new) (free e.context (standing_of e).is_open h) r
+  module _ {S : Type 0} {step : Step S} {old new : S} {o : Outcome A} (r : Runs (rules_of e) step old (make (dynamic_meaning e)) o new) where
+    freely_run : IsInRun e → Runs freely step old (make (dynamic_meaning e)) o new
+    freely_run h = subst (λ rules. Runs rules step old (make (dynamic_meaning e)) o new) (free e.context (stage_state_of e).is_open h) r
 
     pub headline : Resolves e es → Runs freely step old (make (lexical_meaning e)) o new
     headline resolved = subst (λ t. Runs freely step old t o new) (resolved_same e.context resolved) (freely_run (in_run e.context (situation_of e) es resolved))
@@ -121,7 +120,7 @@ module _ (e : Evaluator) {A : Type 0} (make : (Expr → Tree Value) → Tree A) 
     never_internal resolved = ends_path IsNotInternal tt (make (lexical_meaning e)) (resolved_never e.context resolved) (headline resolved).path
 
     pub never_const : IsInRun e → IfRefused IsFinal o
-    never_const h = ends_path (IfRefused IsFinal) tt (make (meaning e)) (made.final (meaning e) (λ x. final_eval _ (situation_of e) _ (final_dynamic _ _) x)) (freely_run h).path
+    never_const h = ends_path (IfRefused IsFinal) tt (make (dynamic_meaning e)) (made.final (dynamic_meaning e) (λ x. final_eval _ (situation_of e) _ (final_dynamic _ _) x)) (freely_run h).path
 
     pub answered : GoesByAnswers step old new
     answered = record { events = r.events; chain = r.chain }
@@ -142,54 +141,54 @@ situation_start e start =
     }
 
 -- what evaluating an assignment means in a context and a situation
-abbrev AssignedIn : {S : Type 0} → (S → Question → Answer → S → Type 0) → S → (ℕ → Bool) → Option Text → Expr → Assignment → Frames → Outcome Frames → S → Option ExecutionContext → Situation → Type 0
+abbrev AssignedIn : {S : Type 0} → Step S → S → (ℕ → Bool) → Option Text → Expr → Assignment → Frames → Outcome Frames → S → Option ExecutionContext → Situation → Type 0
 AssignedIn step old is_open override x a frames o new context s = Assigned (rules_in context is_open) step old (or_override override (dynamic_meanings context s x)) (exports_all_in context) a frames o new
 
-module _ {S : Type 0} {step : S → Question → Answer → S → Type 0} {old new : S} (e : Evaluator) (start : IsAtStart e) (override : Option Text) (x : Expr) {a : Assignment} {frames : Frames} {o : Outcome Frames} where
-  started : Assigned (rules_of e) step old (or_override override (meaning e x)) (exports_all e) a frames o new → AssignedIn step old (standing_of e).is_open override x a frames o new e.context (situation_at e.lists (frames_view e.scope))
-  started h = subst (AssignedIn step old (standing_of e).is_open override x a frames o new e.context) (situation_start e start) h
+module _ {S : Type 0} {step : Step S} {old new : S} (e : Evaluator) (start : IsAtStart e) (override : Option Text) (x : Expr) {a : Assignment} {frames : Frames} {o : Outcome Frames} where
+  started : Assigned (rules_of e) step old (or_override override (dynamic_meaning e x)) (exports_all e) a frames o new → AssignedIn step old (stage_state_of e).is_open override x a frames o new e.context (situation_at e.lists (frames_view e.scope))
+  started h = subst (AssignedIn step old (stage_state_of e).is_open override x a frames o new e.context) (situation_start e start) h
 
   -- in a run
-  pub ran_here : (c : ExecutionContext) → e.context ≡ Some c → e.lists ≡ c.module.now.settings.lists → Assigned (rules_of e) step old (or_override override (meaning e x)) (exports_all e) a frames o new
+  pub ran_here : (c : ExecutionContext) → e.context ≡ Some c → e.lists ≡ c.module.now.settings.lists → Assigned (rules_of e) step old (or_override override (dynamic_meaning e x)) (exports_all e) a frames o new
       → Assigned freely step old (or_override override (dynamic_meanings (Some c) (situation_at c.module.now.settings.lists (frames_view e.scope)) x)) c.module.now.settings.export a frames o new
   ran_here c is lists h =
-      subst (λ l. AssignedIn step old (standing_of e).is_open override x a frames o new (Some c) (situation_at l (frames_view e.scope))) lists
-      (subst (λ context. AssignedIn step old (standing_of e).is_open override x a frames o new context (situation_at e.lists (frames_view e.scope))) is (started h))
+      subst (λ l. AssignedIn step old (stage_state_of e).is_open override x a frames o new (Some c) (situation_at l (frames_view e.scope))) lists
+      (subst (λ context. AssignedIn step old (stage_state_of e).is_open override x a frames o new context (situation_at e.lists (frames_view e.scope))) is (started h))
 
 -- before any run
-pub staged_here : {S : Type 0} {step : S → Question → Answer → S → Type 0} {old new : S} (e : Evaluator) (before : IsConst e) (override : Option Text) (x : Expr) {a : Assignment} {frames : Frames} {o : Outcome Frames}
-    → Assigned (rules_of e) step old (or_override override (meaning e x)) (exports_all e) a frames o new → Assigned (constantly (standing_of e).is_open) step old (or_override override (const_meaning (standing_of e) x)) false a frames o new
+pub staged_here : {S : Type 0} {step : Step S} {old new : S} (e : Evaluator) (before : IsConst e) (override : Option Text) (x : Expr) {a : Assignment} {frames : Frames} {o : Outcome Frames}
+    → Assigned (rules_of e) step old (or_override override (dynamic_meaning e x)) (exports_all e) a frames o new → Assigned (constantly (stage_state_of e).is_open) step old (or_override override (const_meaning (stage_state_of e) x)) false a frames o new
 staged_here {step = step} {old = old} {new = new} e before override x {a = a} {frames = frames} {o = o} h =
-    subst (λ context. AssignedIn step old (standing_of e).is_open override x a frames o new context (situation_at e.lists (frames_view e.scope))) before.context (started e before.start override x h)
+    subst (λ context. AssignedIn step old (stage_state_of e).is_open override x a frames o new context (situation_at e.lists (frames_view e.scope))) before.context (started e before.start override x h)
 
 -- ---- before any run
 
-each_resolved : (s : Standing) (es : List Expr) → AllResolvedOn s es → AllSuch (λ x. AllConst IsOther s.is_open (const_meaning s x)) es
+each_resolved : (s : StageState) (es : List Expr) → AllResolvedOn s es → AllSuch (λ x. AllConst IsOther s.is_open (const_meaning s x)) es
 each_resolved s [] h = tt
 each_resolved s (x ∷ xs) h = (resolved_const s x h.0, each_resolved s xs h.1)
 
-module _ (e : Evaluator) {A : Type 0} (make : (Expr → Tree Value) → Tree A) (es : List Expr) (made : IsMadeOf make es) (before : IsConst e) {S : Type 0} {step : S → Question → Answer → S → Type 0} {old new : S} {o : Outcome A} (r : Runs (rules_of e) step old (make (meaning e)) o new) where
-  const_run : Runs (constantly (standing_of e).is_open) step old (make (const_meaning (standing_of e))) o new
+module _ (e : Evaluator) {A : Type 0} (make : (Expr → Tree Value) → Tree A) (es : List Expr) (made : IsMadeOf make es) (before : IsConst e) {S : Type 0} {step : Step S} {old new : S} {o : Outcome A} (r : Runs (rules_of e) step old (make (dynamic_meaning e)) o new) where
+  const_run : Runs (constantly (stage_state_of e).is_open) step old (make (const_meaning (stage_state_of e))) o new
   const_run =
-      subst (λ context. Runs (rules_in context (standing_of e).is_open) step old (make (dynamic_meanings context (situation_at e.lists (frames_view e.scope)))) o new) before.context
+      subst (λ context. Runs (rules_in context (stage_state_of e).is_open) step old (make (dynamic_meanings context (situation_at e.lists (frames_view e.scope)))) o new) before.context
       (subst (λ s. Runs (rules_of e) step old (make (dynamic_meanings e.context s)) o new) (situation_start e before.start) r)
 
-  told : IsTold (standing_of e).is_open (make (const_meaning (standing_of e))) o old new
-  told =
-      let s = standing_of e in
-      const_told s.is_open _ o (made.const IsConstEval s.is_open (const_meaning s) (λ context v. tt) (all_such _ (λ x. eval_alike s.is_open _ _ _ x) es)) const_run
+  determined : HasConstOutcome (stage_state_of e).is_open (make (const_meaning (stage_state_of e))) o old new
+  determined =
+      let s = stage_state_of e in
+      const_outcome s.is_open _ o (made.const IsConstEval s.is_open (const_meaning s) (λ context v. tt) (all_such _ (λ x. eval_alike s.is_open _ _ _ x) es)) const_run
 
-  pub constants : UnlessStopped o (constant (standing_of e).is_open (make (const_meaning (standing_of e))))
-  constants = told.told
+  pub constants : UnlessStopped o (constant (stage_state_of e).is_open (make (const_meaning (stage_state_of e))))
+  constants = determined.determined
 
   pub few : IfRefused IsConstEval o
-  few = told.few
+  few = determined.few
 
   pub still : new ≡ old
-  still = sym told.still
+  still = sym determined.still
 
-  pub resolved_constants : AllResolvedOn (standing_of e) es → IsNotInternal o
+  pub resolved_constants : AllResolvedOn (stage_state_of e) es → IsNotInternal o
   resolved_constants resolved =
-      let s = standing_of e in
-      unless_such IsOther o _ told.told
+      let s = stage_state_of e in
+      unless_such IsOther o _ determined.determined
       (const_refused IsOther s.is_open _ (shut_other s.is_open) (made.const IsOther s.is_open (const_meaning s) (λ context v none. none) (each_resolved s es resolved)))

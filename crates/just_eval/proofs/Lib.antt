@@ -13,3 +13,5 @@ mod Environment
 mod Evaluated
 mod Recipes
 mod Valued
+mod Judged
+mod Repeated

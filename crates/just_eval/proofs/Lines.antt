@@ -6,17 +6,16 @@ use Rattle.just_syntax.specs.View.{fragment_view}
 use Rattle.just_syntax.specs.declared.fragment.Fragment.{Fragment}
 use Rattle.just_value.specs.Refusal.{Refusal}
 use Rattle.just_value.specs.Outcome.{Gave, Stopped, without_value}
-use Rattle.just_host.specs.Question.{Question, Answer}
-use Rattle.just_host.specs.Interaction.{Runs, Tree, bind, gives}
+use Rattle.just_host.specs.Interaction.{Runs, Tree, bind, gives, Step}
 use Rattle.just_host.proofs.Left.{Left, left_cut, left_ends, left_next, left_none}
 use Rattle.just_meaning.specs.Line.{fragment, line}
-use Rattle.just_eval.specs.View.{meaning, rules_of}
+use Rattle.just_eval.specs.View.{dynamic_meaning, rules_of}
 use Rattle.just_eval.specs.declared.evaluator.Evaluator.{Evaluator}
 use Rattle.just_eval.proofs.Module.{front}
 
-module _ {S : Type 0} (step : S → Question → Answer → S → Type 0) (e : Evaluator) (start : S) (continued : Bool) (fs : List Fragment) where
+module _ {S : Type 0} (step : Step S) (e : Evaluator) (start : S) (continued : Bool) (fs : List Fragment) where
   abbrev from : Bool → List Fragment → Tree Text
-  from continues gs = line (meaning e) continues (map fragment_view gs)
+  from continues gs = line (dynamic_meaning e) continues (map fragment_view gs)
 
   abbrev pub LineLeft : Bool → ℕ → S → Text → Type 0
   LineLeft continues i here made = Left (rules_of e) step (from continued fs) start (from continues (drop i fs)) here made
@@ -26,10 +25,10 @@ module _ {S : Type 0} (step : S → Question → Answer → S → Type 0) (e : E
 
   module _ (continues : Bool) (i : ℕ) (f : Fragment) (fits : i < length fs) (is : f ≡ get_or fs i f) {here : S} (made : Text) (left : LineLeft continues i here made) where
     abbrev first : Tree Text
-    first = fragment (meaning e) continues (fragment_view f)
+    first = fragment (dynamic_meaning e) continues (fragment_view f)
 
     fronted : Left (rules_of e) step (from continued fs) start (bind first (λ text. bind (from false (drop (i + 1) fs)) (λ rest. gives (text ++ rest)))) here made
-    fronted = subst (λ gs. Left (rules_of e) step (from continued fs) start (line (meaning e) continues gs) here made) (front fragment_view fs i f fits ∙ ap (λ g. fragment_view g ∷ map fragment_view (drop (i + 1) fs)) (sym is)) left
+    fronted = subst (λ gs. Left (rules_of e) step (from continued fs) start (line (dynamic_meaning e) continues gs) here made) (front fragment_view fs i f fits ∙ ap (λ g. fragment_view g ∷ map fragment_view (drop (i + 1) fs)) (sym is)) left
 
     pub line_next : {mid : S} (text : Text) → Runs (rules_of e) step here first (Gave text) mid → LineLeft false (i + 1) mid (made ++ text)
     line_next text r = left_next (from continued fs) first _ (λ text. text) made fronted text r

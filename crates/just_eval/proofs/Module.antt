@@ -4,18 +4,16 @@ use Rattle.std.proofs.lemmas.List.{append-nil}
 use Rattle.just_syntax.specs.Plain.{Token, Assignment}
 use Rattle.just_value.specs.declared.error.Error.{Error}
 use Rattle.just_value.specs.Value.{Value}
-use Rattle.just_value.specs.Frames.{Bound, Frames, innermost, bound_in_front}
+use Rattle.just_value.specs.Frames.{Bound, Frames, innermost, bound_innermost}
 use Rattle.just_value.specs.Refusal.{Refusal, Internal}
 use Rattle.just_value.specs.Outcome.{Outcome, Gave, Refused, Stopped, without_value}
 use Rattle.just_value.specs.View.{ended, refusal}
-use Rattle.just_host.specs.Question.{Question, Answer}
-use Rattle.just_host.specs.Interaction.{Chain, GoesByAnswers, Runs, freely}
+use Rattle.just_host.specs.Interaction.{Chain, GoesByAnswers, Runs, freely, Step}
 use Rattle.just_meaning.specs.Assignments.{assignment_at}
-use Rattle.just_meaning.specs.Resolved.{IsResolved}
 use Rattle.just_meaning.specs.Messages.{unknown_assignment_text}
-use Rattle.just_meaning.specs.Module.{Module, Closing, Block, IsTaken, Run, Finished, Stops, Unknown, Passes, Skips, Binds, Breaks, Halts, Ran, assigned, bound_of, dynamically, events_of, lexically}
-use Rattle.just_forms.specs.Call.{Says}
-use Rattle.just_laws.proofs.Lexical.{pending_calls_do_not_matter}
+use Rattle.just_meaning.specs.Module.{Module, Closing, Block, IsTaken, Run, Finished, Stops, Unknown, Passes, Skips, Binds, Breaks, Halts, Ran, assigned, dynamically, events_of, lexically, IsResolvedModule, bound_in}
+use Rattle.just_expression.specs.Call.{RefusesWith}
+use Rattle.just_soundness.proofs.Lexical.{pending_calls_do_not_matter}
 use Rattle.just_host.proofs.Paths.{chain_append, path_cut}
 
 module _ {closing : Closing} {m : Module} where
@@ -53,7 +51,7 @@ events_append (b ∷ bs) cs = ap (λ es. b.events ++ es) (events_append bs cs) �
 pub front : {X Y : Type 0} (seen : X → Y) (items : List X) (i : ℕ) (d : X) → i < length items → map seen (drop i items) ≡ seen (get_or items i d) ∷ map seen (drop (i + 1) items)
 front seen items i d fits = ap (map seen) (drop-cons items i d fits) ∙ ap (λ j. seen (get_or items i d) ∷ map seen (drop j items)) (sym (add-one i))
 
-module _ {S : Type 0} {step : S → Question → Answer → S → Type 0} {closing : Closing} {m : Module} where
+module _ {S : Type 0} {step : Step S} {closing : Closing} {m : Module} where
   pub ran_finished : {h : S} (frames : Frames) → Ran step h closing m frames [] (Gave frames) h
   ran_finished frames = record { blocks = []; run = Finished; chain = refl }
 
@@ -81,7 +79,7 @@ module _ {S : Type 0} {step : S → Question → Answer → S → Type 0} {closi
   -- ---- one name
 
   module _ (frames : Frames) (t : Token) where
-    pub ran_unknown : {h : S} (r : Option Refusal) → assignment_at m.assignments t.lexeme ≡ None → Says r (Internal (unknown_assignment_text t.lexeme) t) → Ran step h closing m frames (t ∷ []) (without_value r) h
+    pub ran_unknown : {h : S} (r : Option Refusal) → assignment_at m.assignments t.lexeme ≡ None → RefusesWith r (Internal (unknown_assignment_text t.lexeme) t) → Ran step h closing m frames (t ∷ []) (without_value r) h
     ran_unknown None f is = ran_stops frames (t ∷ [])
     ran_unknown (Some r) f is = rw is (record { blocks = []; run = Unknown f; chain = refl })
 
@@ -93,10 +91,10 @@ module _ {S : Type 0} {step : S → Question → Answer → S → Type 0} {closi
       ran_skips b e f = record { blocks = []; run = Skips a b found e f Finished; chain = refl }
 
     module _ (a : Assignment) (taken : IsTaken m frames t a) where
-      pub ran_binds : {old new : S} (v : Value) (made : Frames) → made ≡ bound_in_front frames (bound_of m.program.fixed.settings.export a v) → Runs freely step old (assigned closing m frames a) (Gave v) new → Ran step old closing m frames (t ∷ []) (Gave made) new
+      pub ran_binds : {old new : S} (v : Value) (made : Frames) → made ≡ bound_innermost frames (bound_in m a v) → Runs freely step old (assigned closing m frames a) (Gave v) new → Ran step old closing m frames (t ∷ []) (Gave made) new
       ran_binds {old = old} {new = new} v made made_is r = record {
         blocks = record { number = a.number; events = r.events; outcome = Gave v } ∷ [];
-        run = Binds a r.events v taken r.path (subst (λ (x : Frames). Run closing m (bound_in_front frames (bound_of m.program.fixed.settings.export a v)) [] [] (Gave x)) (sym made_is) Finished);
+        run = Binds a r.events v taken r.path (subst (λ (x : Frames). Run closing m (bound_innermost frames (bound_in m a v)) [] [] (Gave x)) (sym made_is) Finished);
         chain = subst (λ es. Chain step old es new) (sym (append-nil r.events)) r.chain;
       }
 
@@ -132,6 +130,6 @@ module _ {S : Type 0} {step : S → Question → Answer → S → Type 0} {closi
     ran_last {old = old} {new = new} {frames = frames} e r = subst (λ left. Ran step old closing m frames left (without_value e) new) (sym (front seen items i d fits)) (ran_ends (map seen (drop (i + 1) items)) e r)
 
 -- a run of a resolved module under dynamic scope is one under lexical scope
-pub ran_lexical : {S : Type 0} {step : S → Question → Answer → S → Type 0} {old new : S} (m : Module) (outer : Frames) (o : Outcome Frames) → IsResolved m.program.functions m.assignments outer
+pub ran_lexical : {S : Type 0} {step : Step S} {old new : S} (m : Module) (outer : Frames) (o : Outcome Frames) → IsResolvedModule m outer
     → Ran step old dynamically m ([] ∷ outer) m.assignments.order o new → Ran step old lexically m ([] ∷ outer) m.assignments.order o new
 ran_lexical m outer o resolved r = record { blocks = r.blocks; run = pending_calls_do_not_matter m outer r.blocks o resolved r.run; chain = r.chain }

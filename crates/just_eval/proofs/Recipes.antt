@@ -8,8 +8,7 @@ use Rattle.just_value.specs.Frames.{Frames, own_frame, value_in}
 use Rattle.just_value.specs.Outcome.{Outcome}
 use Rattle.just_value.specs.View.{ended, frames_view}
 use Rattle.just_value.specs.declared.error.Error.{Error}
-use Rattle.just_host.specs.Question.{Question, Answer}
-use Rattle.just_host.specs.Interaction.{GoesByAnswers, RunsChecked, Verdict, freely}
+use Rattle.just_host.specs.Interaction.{GoesByAnswers, RunsChecked, Verdict, freely, Step}
 use Rattle.just_host.specs.declared.execution_context.ExecutionContext.{ExecutionContext}
 use Rattle.just_host.proofs.Checked.{answers_of}
 use Rattle.just_meaning.specs.Closings.{lexical}
@@ -19,13 +18,13 @@ use Rattle.just_meaning.specs.Meaning.{eval}
 use Rattle.just_meaning.specs.Parameters.{Arguments, HaveOneElement, Meanings, parameters}
 use Rattle.just_meaning.specs.Resolved.{AllKnown, HasValue}
 use Rattle.just_meaning.specs.View.{IsResolvedWith, functions_view, program_view, recipe_in}
-use Rattle.just_laws.proofs.Ends.{ends_path}
-use Rattle.just_laws.proofs.Final.{final_dynamic, final_eval}
-use Rattle.just_laws.proofs.Here.{AllSuch, known_behind, known_front, readable_apart}
-use Rattle.just_laws.proofs.Internal.{IsNeverInternal, expression_never}
-use Rattle.just_laws.proofs.Lexical.{dynamic_is_lexical}
-use Rattle.just_laws.proofs.OneElement.{IfGave, one_parameters}
-use Rattle.just_laws.proofs.Recipe.{IsSafe, SameOn, parameters_final, parameters_never, same_parameters}
+use Rattle.just_soundness.proofs.Ends.{ends_path}
+use Rattle.just_soundness.proofs.Final.{final_dynamic, final_eval}
+use Rattle.just_soundness.proofs.Here.{AllSuch, known_after, known_front, readable_apart}
+use Rattle.just_soundness.proofs.Internal.{IsNeverInternal, expression_never}
+use Rattle.just_soundness.proofs.Lexical.{dynamic_is_lexical}
+use Rattle.just_soundness.proofs.OneElement.{IfGave, one_parameters}
+use Rattle.just_soundness.proofs.Recipe.{IsSafe, SameOn, parameters_final, parameters_never, same_parameters}
 use Rattle.just_eval.specs.View.{IsResolvedIn, Resolves, calls_left_in, dynamic_meanings, situation_of}
 use Rattle.just_eval.specs.declared.evaluator.Evaluator.{Evaluator}
 
@@ -96,9 +95,9 @@ module _ (c : ExecutionContext) (is_dependency : Bool) (name : Option Text) (out
       never count =
           parameters_never lexically functions (value_in below) outer start.situation refl refl recipe ps arguments count
           (all_safe (attribute_expressions recipe.attributes) (known_front functions (attribute_expressions recipe.attributes) (parameter_expressions ps) both_known)) read
-          (all_safe (parameter_expressions ps) (known_behind functions (attribute_expressions recipe.attributes) (parameter_expressions ps) both_known)) resolved.in_turn
+          (all_safe (parameter_expressions ps) (known_after functions (attribute_expressions recipe.attributes) (parameter_expressions ps) both_known)) resolved.in_turn
 
-  module _ (arguments : List Value) {S : Type 0} {step : S → Question → Answer → S → Type 0} {says : Parameter → Value → Verdict → Type 0} {old new : S} {o : Outcome Arguments}
+  module _ (arguments : List Value) {S : Type 0} {step : Step S} {says : Parameter → Value → Verdict → Type 0} {old new : S} {o : Outcome Arguments}
       (r : RunsChecked freely step says old (parameters dynamically start.situation recipe ps arguments) o new) where
     pub headline : IsResolvedWith c ([] ∷ outer) recipe.attributes ps [] → RunsChecked freely step says old (parameters lexically start.situation recipe ps arguments) o new
     headline resolved = subst (λ t. RunsChecked freely step says old t o new) (is_lexical resolved arguments) r

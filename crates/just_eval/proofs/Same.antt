@@ -4,13 +4,12 @@ use Rattle.std.specs.List.{list_any}
 use Rattle.just_syntax.specs.Plain.{Expr}
 use Rattle.just_value.specs.Value.{Value}
 use Rattle.just_value.specs.Outcome.{Outcome}
-use Rattle.just_host.specs.Question.{Question, Answer}
-use Rattle.just_host.specs.Interaction.{Runs, Tree}
+use Rattle.just_host.specs.Interaction.{Runs, Tree, Step}
 use Rattle.just_expression.specs.View.{rules_in}
-use Rattle.just_eval.specs.View.{HasRoom, HasRoomIn, IsSameBut, dynamic_meanings, meaning, rules_of, situation_of, standing_of}
+use Rattle.just_eval.specs.View.{MayCall, MayCallIn, IsSameButScopeAndEnvironment, dynamic_meanings, dynamic_meaning, rules_of, situation_of, stage_state_of}
 use Rattle.just_eval.specs.declared.evaluator.Evaluator.{Evaluator}
 
-pub same_on : (e f g : Evaluator) → IsSameBut e f → IsSameBut f g → IsSameBut e g
+pub same_on : (e f g : Evaluator) → IsSameButScopeAndEnvironment e f → IsSameButScopeAndEnvironment f g → IsSameButScopeAndEnvironment e g
 same_on e f g one more = record {
   base = more.base ∙ one.base;
   context = more.context ∙ one.context;
@@ -20,13 +19,13 @@ same_on e f g one more = record {
   recipe = more.recipe ∙ one.recipe;
 }
 
-module _ (e f : Evaluator) (same : IsSameBut e f) where
-  pub same_room : HasRoom e → HasRoom f
-  same_room room = subst HasRoomIn (sym same.context) room
+module _ (e f : Evaluator) (same : IsSameButScopeAndEnvironment e f) where
+  pub same_may_call : MayCall e → MayCall f
+  same_may_call may_call = subst MayCallIn (sym same.context) may_call
 
   -- such an evaluator runs trees by the same rules
-  pub runs_same : {S A : Type 0} {step : S → Question → Answer → S → Type 0} {old new : S} {o : Outcome A} (make : (Expr → Tree Value) → Tree A)
-      → Runs (rules_of f) step old (make (meaning f)) o new → Runs (rules_of e) step old (make (dynamic_meanings e.context (situation_of f))) o new
+  pub runs_same : {S A : Type 0} {step : Step S} {old new : S} {o : Outcome A} (make : (Expr → Tree Value) → Tree A)
+      → Runs (rules_of f) step old (make (dynamic_meaning f)) o new → Runs (rules_of e) step old (make (dynamic_meanings e.context (situation_of f))) o new
   runs_same {step = step} {old = old} {new = new} {o = o} make r =
       subst (λ set. Runs (rules_in e.context (λ n. list_any (nat_eq n) set.keys)) step old (make (dynamic_meanings e.context (situation_of f))) o new) same.open_numbers
-      (subst (λ context. Runs (rules_in context (standing_of f).is_open) step old (make (dynamic_meanings context (situation_of f))) o new) same.context r)
+      (subst (λ context. Runs (rules_in context (stage_state_of f).is_open) step old (make (dynamic_meanings context (situation_of f))) o new) same.context r)

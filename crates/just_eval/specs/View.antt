@@ -9,14 +9,13 @@ use Rattle.just_syntax.specs.Plain.{Expr, Assignment}
 use Rattle.just_syntax.specs.View.{assignment_view, name_view, pairs_view}
 use Rattle.just_syntax.specs.declared.name.Name.{Name}
 use Rattle.just_value.specs.Value.{Value}
-use Rattle.just_value.specs.Frames.{Bound, Frames, innermost, bound_in_front, value_in}
+use Rattle.just_value.specs.Frames.{Bound, Frames, innermost, bound_innermost, value_in}
 use Rattle.just_value.specs.ConstRefusal.{ConstRefusal}
 use Rattle.just_value.specs.Refusal.{Refusal, Const}
 use Rattle.just_value.specs.Outcome.{Outcome, Gave, Refused, Stopped, UnlessStopped, without_value}
 use Rattle.just_value.specs.View.{frames_view}
 use Rattle.just_value.specs.declared.scope.Scope.{Scope}
-use Rattle.just_host.specs.Interaction.{Rules, Runs, Tree}
-use Rattle.just_host.specs.Question.{Question, Answer}
+use Rattle.just_host.specs.Interaction.{Rules, Runs, Tree, Step}
 use Rattle.just_host.specs.declared.execution_context.ExecutionContext.{ExecutionContext}
 use Rattle.just_meaning.specs.Closings.{dynamic}
 use Rattle.just_meaning.specs.Meaning.{Situation, eval}
@@ -24,18 +23,18 @@ use Rattle.just_meaning.specs.Here.{Here, IsResolvedHere, meanings}
 use Rattle.just_meaning.specs.Internal.{IsFinal}
 use Rattle.just_meaning.specs.Module.{bound_of}
 use Rattle.just_meaning.specs.Parameters.{Arguments, Meanings}
-use Rattle.just_meaning.specs.Stage.{Standing, with_open}
+use Rattle.just_meaning.specs.Stage.{StageState, with_open}
 use Rattle.just_meaning.specs.View.{functions_view}
 use Rattle.just_expression.specs.View.{program_of, rules_in}
 use Rattle.just_eval.specs.declared.evaluator.Evaluator.{Evaluator}
 
 -- With a context at least one call may be pending.
-abbrev pub HasRoomIn : Option ExecutionContext → Type 0
-HasRoomIn (Some c) = 0 < c.recursion_limit
-HasRoomIn None = Unit {0}
+abbrev pub MayCallIn : Option ExecutionContext → Type 0
+MayCallIn (Some c) = 0 < c.recursion_limit
+MayCallIn None = Unit {0}
 
-abbrev pub HasRoom : Evaluator → Type 0
-HasRoom e = HasRoomIn e.context
+abbrev pub MayCall : Evaluator → Type 0
+MayCall e = MayCallIn e.context
 
 -- The evaluator is one of assignments: for no recipe, with an empty environment. A called body's frame is put on its
 -- own frames.
@@ -44,7 +43,7 @@ pub record IsAtStart (e : Evaluator) : Type 0 where
   pub environment : IsEmpty e.env
   pub dependency : e.is_dependency ≡ false
   pub recipe : e.recipe ≡ None
-  pub room : HasRoom e
+  pub may_call : MayCall e
 
 -- It evaluates before any run: it has no context.
 pub record IsConst (e : Evaluator) : Type 0 where
@@ -56,13 +55,13 @@ abbrev pub IsInRun : Evaluator → Type 0
 IsInRun e = is_some e.context ≡ true
 
 -- the same except for the scope
-pub record IsSame (e f : Evaluator) : Type 0 where
+pub record IsSameButScope (e f : Evaluator) : Type 0 where
   pub context : f.context ≡ e.context
   pub lists : f.lists ≡ e.lists
   pub open_numbers : f.non_const_assignments ≡ e.non_const_assignments
 
 -- the same except for the scope and the environment
-pub record IsSameBut (e f : Evaluator) : Type 0 where
+pub record IsSameButScopeAndEnvironment (e f : Evaluator) : Type 0 where
   pub base : f.base ≡ e.base
   pub context : f.context ≡ e.context
   pub dependency : f.is_dependency ≡ e.is_dependency
@@ -83,11 +82,11 @@ abbrev pub calls_left_of : Evaluator → ℕ
 calls_left_of e = calls_left_in e.context
 
 -- which variables are bound, and which are open
-abbrev pub standing_of : Evaluator → Standing
-standing_of e = record { lists = e.lists; frames = frames_view e.scope; is_open = λ n. list_any (nat_eq n) e.non_const_assignments.keys }
+abbrev pub stage_state_of : Evaluator → StageState
+stage_state_of e = record { lists = e.lists; frames = frames_view e.scope; is_open = λ n. list_any (nat_eq n) e.non_const_assignments.keys }
 
 abbrev pub rules_of : Evaluator → Rules
-rules_of e = rules_in e.context (standing_of e).is_open
+rules_of e = rules_in e.context (stage_state_of e).is_open
 
 -- the frames that a called body's frame is put on: the evaluator's own, if it has no base
 abbrev pub below_of : Option (Bor Scope) → Frames → Frames
@@ -115,8 +114,8 @@ abbrev pub dynamic_meanings : Option ExecutionContext → Meanings
 dynamic_meanings context s x = let p = program_of context in eval p (dynamic p (calls_left_in context)) s x
 
 -- what an expression means here under dynamic scope
-abbrev pub meaning : Evaluator → Expr → Tree Value
-meaning e = dynamic_meanings e.context (situation_of e)
+abbrev pub dynamic_meaning : Evaluator → Expr → Tree Value
+dynamic_meaning e = dynamic_meanings e.context (situation_of e)
 
 -- what an expression means here under lexical scope
 abbrev pub lexical_meaning : Evaluator → Expr → Tree Value
@@ -140,14 +139,14 @@ exports_all e = exports_all_in e.context
 
 -- The evaluation of an assignment whose value is this tree. If its number is bound, nothing happens; otherwise its
 -- value is bound, or evaluation ends without one.
-pub data Assigned {S : Type 0} (rules : Rules) (step : S → Question → Answer → S → Type 0) (old : S) (tree : Tree Value) (export : Bool) (a : Assignment) (frames : Frames) : Outcome Frames → S → Type 0 where
+pub data Assigned {S : Type 0} (rules : Rules) (step : Step S) (old : S) (tree : Tree Value) (export : Bool) (a : Assignment) (frames : Frames) : Outcome Frames → S → Type 0 where
   WasBound : (b : Bound) → innermost a.number frames ≡ Some b → Assigned rules step old tree export a frames (Gave frames) old
-  IsBound : {new : S} → (v : Value) → innermost a.number frames ≡ None → Runs rules step old tree (Gave v) new → Assigned rules step old tree export a frames (Gave (bound_in_front frames (bound_of export a v))) new
+  IsBound : {new : S} → (v : Value) → innermost a.number frames ≡ None → Runs rules step old tree (Gave v) new → Assigned rules step old tree export a frames (Gave (bound_innermost frames (bound_of export a v))) new
   IsRefused : {new : S} → (r : Refusal) → innermost a.number frames ≡ None → Runs rules step old tree (Refused r) new → Assigned rules step old tree export a frames (Refused r) new
   IsStopped : {new : S} → innermost a.number frames ≡ None → Runs rules step old tree Stopped new → Assigned rules step old tree export a frames Stopped new
 
 -- How a stage goes on after a refused assignment. If only a run can lift the refusal, the number is open; any other
 -- refusal ends the stage.
-pub data OpensOrEnds (e : Option Refusal) (s : Standing) (number : ℕ) (o : Outcome Standing) : Type 0 where
+pub data OpensOrEnds (e : Option Refusal) (s : StageState) (number : ℕ) (o : Outcome StageState) : Type 0 where
   Opens : (c : ConstRefusal) → e ≡ Some (Const c) → UnlessStopped o (Gave (with_open s number)) → OpensOrEnds e s number o
   Ends : ForSome e IsFinal → o ≡ without_value e → OpensOrEnds e s number o

@@ -9,13 +9,12 @@ ghost use Rattle.just_value.specs.Outcome.{UnlessStopped};
 ghost use Rattle.just_value.specs.View.{bound_view, ended, frames_view, refusal};
 ghost use Rattle.just_host.specs.Interaction.{GoesByAnswers, Runs, freely};
 ghost use Rattle.just_meaning.specs.Internal.{IfRefused, IsFinal, IsNotInternal};
-ghost use Rattle.just_meaning.specs.Module.{Ran, bound_of, dynamically, lexically, or_override};
-ghost use Rattle.just_meaning.specs.Resolved.{IsResolved};
+ghost use Rattle.just_meaning.specs.Module.{IsResolvedModule, Ran, bound_of, dynamically, lexically, or_override};
 ghost use Rattle.just_meaning.specs.ResolvedOn.{IsResolvedOn};
 ghost use Rattle.just_meaning.specs.Stage.{const_value};
 ghost use Rattle.just_meaning.specs.View.{module_view, run_of};
 ghost use Rattle.just_expression.specs.View.{program, program_of, rules, situation};
-ghost use Rattle.just_eval.specs.View.{Assigned, HasRoom, IsAtStart, IsConst, IsInRun, IsSame, Resolves, calls_left_of, exports_all, lexical_meaning, meaning, rules_of, situation_of, standing_of};
+ghost use Rattle.just_eval.specs.View.{Assigned, MayCall, MayCallIn, IsAtStart, IsConst, IsInRun, IsSameButScope, Resolves, calls_left_of, exports_all, lexical_meaning, dynamic_meaning, rules_of, situation_of, stage_state_of};
 
 mod commands;
 mod constants;
@@ -24,7 +23,7 @@ mod parameters;
 mod sets;
 
 use just_expression::evaluator::ExpressionEvaluator;
-use just_forms::internal;
+use just_expression::internal;
 use just_host::config::Config;
 use just_host::execution_context::ExecutionContext;
 use just_host::host::Host;
@@ -46,8 +45,8 @@ use std::fmt;
 
 /// Evaluates the assignments of a module, one after another, in a scope of its own.
 ///
-/// The stack budget of an evaluation, in bytes, is what the host's `stack_room` returns. By default, and in calls
-/// without a host, it is `STACK_ROOM`, which suits a stack of 8 MiB. If forms and calls nest too deeply for the budget,
+/// The stack budget of an evaluation, in bytes, is what the host's `stack_budget` returns. By default, and in calls
+/// without a host, it is `STACK_BUDGET`, which suits a stack of 8 MiB. If forms and calls nest too deeply for the budget,
 /// evaluation fails with `OutOfMemory`, with a context and without.
 #[derive(Drop)]
 pub struct Evaluator<'src, 'run> {
@@ -94,14 +93,14 @@ impl<'src, 'run> Evaluator<'src, 'run> {
         recursion_limit: usize,
         variable_references: Option<&HashSet<Number>>,
     ) -> Result<Scope<'src, 'run>, Error<'src>>
-        requires room { 0 < recursion_limit }
+        requires may_call { 0 < recursion_limit }
 
         // On a resolved module the scope or the refusal, and the questions asked, are those of lexical scope.
         ensures headline { let m = run_of config.entry dotenv.entry «module».entry overrides.entry parent.entry search.entry recursion_limit variable_references.entry in
             let outer = frames_view parent.entry.now in
-            IsResolved m.program.functions m.assignments outer → Ran H.step host.old lexically m ([] ∷ outer) m.assignments.order (ended frames_view result) host.new }
+            IsResolvedModule m outer → Ran H.step host.old lexically m ([] ∷ outer) m.assignments.order (ended frames_view result) host.new }
         ensures never_internal { let m = run_of config.entry dotenv.entry «module».entry overrides.entry parent.entry search.entry recursion_limit variable_references.entry in
-            IsResolved m.program.functions m.assignments (frames_view parent.entry.now) → IsNotInternal (ended frames_view result) }
+            IsResolvedModule m (frames_view parent.entry.now) → IsNotInternal (ended frames_view result) }
 
         // On any module they are those of dynamic scope: a body reads from its caller what is neither its own nor the
         // module's.
@@ -138,13 +137,12 @@ impl<'src, 'run> Evaluator<'src, 'run> {
         references: Option<&HashSet<Number>>,
         names: &[Name<'src>],
     ) -> Result<Scope<'src, 'run>, Error<'src>>
-        requires room { 0 < context.now.recursion_limit }
+        requires may_call { 0 < context.now.recursion_limit }
         ensures { Ran H.step host.old dynamically (module_view context.now references.entry) ([] ∷ frames_view context.now.scope.now) (map name_view names.entry.now) (ended frames_view result) host.new }
     {
         let scope = context.scope.child(alloc)?;
         let lists = context.module.settings.lists;
-        let mut evaluator = Evaluator::of_assignments(alloc, lists, scope);
-        evaluator.context = Some(*context);
+        let mut evaluator = Evaluator::of_assignments(alloc, Some(*context), lists, scope);
         for name in names {
             evaluator.evaluate_named(alloc, host, context, references, *name)?;
         }
@@ -152,16 +150,24 @@ impl<'src, 'run> Evaluator<'src, 'run> {
         Ok(scope)
     }
 
-    // An evaluator of assignments in a scope, for no recipe and before any run. No number is open.
-    fn of_assignments(alloc: Global, lists: bool, scope: Scope<'src, 'run>) -> Evaluator<'src, 'run>
-        ensures before_runs { IsConst result }
+    // An evaluator of assignments in a scope, for no recipe: in a run with its context, before any run without one. No
+    // number is open.
+    fn of_assignments(
+        alloc: Global,
+        context: Option<ExecutionContext<'src, 'run>>,
+        lists: bool,
+        scope: Scope<'src, 'run>,
+    ) -> Evaluator<'src, 'run>
+        requires may_call { MayCallIn context }
+        ensures start { IsAtStart result }
+        ensures context { result.context ≡ context.entry }
         ensures lists { result.lists ≡ lists }
         ensures frames { frames_view result.scope ≡ frames_view scope.entry }
-        ensures none_open { (n : ℕ) → (standing_of result).is_open n ≡ false }
+        ensures none_open { (n : ℕ) → (stage_state_of result).is_open n ≡ false }
     {
         Evaluator {
             base: None,
-            context: None,
+            context,
             env: BTreeMap::new(alloc),
             is_dependency: false,
             lists,
@@ -183,7 +189,7 @@ impl<'src, 'run> Evaluator<'src, 'run> {
         requires start { IsAtStart self.old }
         requires here { self.old.context ≡ Some context.now }
         requires lists { self.old.lists ≡ context.now.«module».now.settings.lists }
-        ensures same { IsSame self.old self.new × IsAtStart self.new }
+        ensures same { IsSameButScope self.old self.new × IsAtStart self.new }
         ensures ran { Ran H.step host.old dynamically (module_view context.now references.entry) (frames_view self.old.scope) (name_view name.entry ∷ []) (ended (λ _. frames_view self.new.scope) result) host.new }
     {
         let Some(assignment) = context.module.assignments.get(name.lexeme()) else {
@@ -211,7 +217,7 @@ impl<'src, 'run> Evaluator<'src, 'run> {
         host: &mut H,
         expression: &Expression<'src>,
     ) -> Result<Value, Error<'src>>
-        requires room { HasRoom self.now }
+        requires may_call { MayCall self.now }
 
         // In a run, if everything reached is resolved, the value or the refusal, and the questions asked, are those of
         // lexical scope.
@@ -219,7 +225,7 @@ impl<'src, 'run> Evaluator<'src, 'run> {
         ensures never_internal { Resolves self.now (view expression.now ∷ []) → IsNotInternal (ended (λ v. v) result) }
 
         // Resolved or not, they are those of dynamic scope.
-        ensures dynamic { Runs (rules_of self.now) H.step host.old (meaning self.now (view expression.now)) (ended (λ v. v) result) host.new }
+        ensures dynamic { Runs (rules_of self.now) H.step host.old (dynamic_meaning self.now (view expression.now)) (ended (λ v. v) result) host.new }
 
         // Resolved or not, the refusal in a run is never `Const`, and only answered questions change the host's state.
         ensures never_const { IsInRun self.now → IfRefused IsFinal (ended (λ v. v) result) }
@@ -227,12 +233,12 @@ impl<'src, 'run> Evaluator<'src, 'run> {
 
         // Before any run the result is that of the const rules, and nothing is asked. If each variable is bound or
         // open, the refusal is not `Internal`.
-        ensures constants { IsConst self.now → UnlessStopped (ended (λ v. v) result) (const_value (standing_of self.now) (view expression.now)) }
+        ensures constants { IsConst self.now → UnlessStopped (ended (λ v. v) result) (const_value (stage_state_of self.now) (view expression.now)) }
         ensures few { IsConst self.now → IfErr result (λ e. ForSome (refusal e) IsConstEval) }
         ensures still { IsConst self.now → host.new ≡ host.old }
-        ensures resolved_constants { IsConst self.now → IsResolvedOn (standing_of self.now) (view expression.now) → IsNotInternal (ended (λ v. v) result) }
+        ensures resolved_constants { IsConst self.now → IsResolvedOn (stage_state_of self.now) (view expression.now) → IsNotInternal (ended (λ v. v) result) }
     {
-        self.evaluated(alloc, host, expression)
+        self.evaluate_expression(alloc, host, expression)
     }
 
     // Binds the value of an assignment, if its number is not bound. Out of line, and shared by runs and const stages.
@@ -245,16 +251,16 @@ impl<'src, 'run> Evaluator<'src, 'run> {
         assignment: &Assignment<'src>,
     ) -> Result<(), Error<'src>>
         requires start { IsAtStart self.old }
-        ensures same { IsSame self.old self.new × IsAtStart self.new }
+        ensures same { IsSameButScope self.old self.new × IsAtStart self.new }
         ensures kept { OnErr result (frames_view self.new.scope ≡ frames_view self.old.scope) }
         ensures assigned { let a = assignment_view assignment.now in
-            Assigned (rules_of self.old) H.step host.old (or_override (text_numbered overrides.now a.number) (meaning self.old a.value)) (exports_all self.old) a (frames_view self.old.scope) (ended (λ _. frames_view self.new.scope) result) host.new }
+            Assigned (rules_of self.old) H.step host.old (or_override (text_numbered overrides.now a.number) (dynamic_meaning self.old a.value)) (exports_all self.old) a (frames_view self.old.scope) (ended (λ _. frames_view self.new.scope) result) host.new }
     {
         if self.is_bound(assignment.number) {
             return Ok(());
         }
         let value = self.assigned_value(alloc, host, overrides, assignment)?;
-        let binding = self.bound(alloc, assignment, value);
+        let binding = self.binding_of(alloc, assignment, value);
         self.scope.bind(binding)?;
         Ok(())
     }
@@ -275,32 +281,32 @@ impl<'src, 'run> Evaluator<'src, 'run> {
         assignment: &Assignment<'src>,
     ) -> Result<Value, Error<'src>>
         requires start { IsAtStart self.now }
-        ensures { Runs (rules_of self.now) H.step host.old (or_override (text_numbered overrides.now assignment.now.number) (meaning self.now (view assignment.now.value))) (ended (λ v. v) result) host.new }
+        ensures { Runs (rules_of self.now) H.step host.old (or_override (text_numbered overrides.now assignment.now.number) (dynamic_meaning self.now (view assignment.now.value))) (ended (λ v. v) result) host.new }
     {
         match overrides.get(&assignment.number) {
             Some(text) => Ok(Value::from_text(alloc, text)?),
-            None => self.evaluated(alloc, host, &assignment.value),
+            None => self.evaluate_expression(alloc, host, &assignment.value),
         }
     }
 
     // The value of an expression under the bindings so far.
-    fn evaluated<H: Host>(
+    fn evaluate_expression<H: Host>(
         &self,
         alloc: Global,
         host: &mut H,
         expression: &Expression<'src>,
     ) -> Result<Value, Error<'src>>
-        requires room { HasRoom self.now }
-        ensures { Runs (rules_of self.now) H.step host.old (meaning self.now (view expression.now)) (ended (λ v. v) result) host.new }
+        requires may_call { MayCall self.now }
+        ensures { Runs (rules_of self.now) H.step host.old (dynamic_meaning self.now (view expression.now)) (ended (λ v. v) result) host.new }
     {
-        let room = host.stack_room();
-        self.expressions()
-            .evaluate_value(alloc, host, expression, room)
+        let budget = host.stack_budget();
+        self.expression_evaluator()
+            .evaluate_value(alloc, host, expression, budget)
     }
 
     // An evaluator of expressions under the bindings so far.
-    fn expressions(&self) -> ExpressionEvaluator<'src, 'run, '_>
-        requires room { HasRoom self.now }
+    fn expression_evaluator(&self) -> ExpressionEvaluator<'src, 'run, '_>
+        requires may_call { MayCall self.now }
         ensures rules { rules result ≡ rules_of self.now }
         ensures program { program result ≡ program_of self.now.context }
         ensures calls { result.calls_left ≡ calls_left_of self.now }
@@ -324,7 +330,7 @@ impl<'src, 'run> Evaluator<'src, 'run> {
 
     // How many calls may be pending. Before any run no call is entered.
     fn calls_left(&self) -> usize
-        requires room { HasRoom self.now }
+        requires may_call { MayCall self.now }
         ensures { result ≡ calls_left_of self.now }
     {
         match &self.context {
@@ -334,7 +340,12 @@ impl<'src, 'run> Evaluator<'src, 'run> {
     }
 
     // The binding of an assignment. Before any run no setting exports every variable.
-    fn bound(&self, alloc: Global, assignment: &Assignment<'src>, value: Value) -> Binding<'src>
+    fn binding_of(
+        &self,
+        alloc: Global,
+        assignment: &Assignment<'src>,
+        value: Value,
+    ) -> Binding<'src>
         ensures { bound_view result ≡ bound_of (exports_all self.now) (assignment_view assignment.now) value }
     {
         Binding {

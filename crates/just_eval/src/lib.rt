@@ -3,8 +3,10 @@
 // tests of resolution and, in `prelude`, what a caller needs.
 #![tactic(auto)]
 
+mod argument;
 pub mod evaluator;
 pub mod laws;
+mod line;
 pub mod prelude;
 
 pub use just_resolution::fault::Fault;

@@ -2,17 +2,17 @@
 use Rattle.std.proofs.Common.{◌≡◌, ◌⊎◌, inl, inr, ℕ, false, Bool, List, [], ◌∷◌, Contains, Option, Some, None, refl, sym, subst, ◌∙◌}
 use Rattle.just_value.specs.Frames.{Bound, Frames, bound_at, own_frame}
 use Rattle.just_value.specs.Outcome.{Gave, Stopped}
-use Rattle.just_host.specs.Question.{Answer, Question}
-use Rattle.just_meaning.specs.Module.{Block, Module, Ran, Run, lexically}
-use Rattle.just_meaning.specs.Resolved.{IsResolved, IsResolvedConst}
-use Rattle.just_meaning.specs.Stage.{Constants, Found, Stage, Staged, Standing, at_start}
-use Rattle.just_agreement.specs.Foretold.{AreOfOneModule, ConstAgrees, Foretells, is_found_open}
-use Rattle.just_agreement.specs.Results.{EndsAsItsBlocks, ResultsHaveBlocks}
+use Rattle.just_host.specs.Interaction.{Step}
+use Rattle.just_meaning.specs.Module.{Block, Module, Ran, Run, lexically, IsResolvedModule}
+use Rattle.just_meaning.specs.Resolved.{IsResolvedConst}
+use Rattle.just_meaning.specs.Stage.{Constants, Found, Stage, Staged, StageState, at_start}
+use Rattle.just_laws.specs.Predicted.{AreOfOneModule, ConstAgrees, Predicts, is_found_open}
+use Rattle.just_laws.specs.Results.{EndsAsItsBlocks, ResultsHaveBlocks}
 use Rattle.just_eval_tests.specs.Agreement.{KeepsConstants}
 
 module _ (agrees : ConstAgrees) (results : ResultsHaveBlocks) (m : Constants) (lists : Bool) (outer : Frames) (n : Module) (others : Frames)
-    (same : AreOfOneModule m lists outer n others) (before : IsResolvedConst m.assignments outer) (resolved : IsResolved n.program.functions n.assignments others)
-    (fs : List Found) (s : Standing) (stage : Stage m (at_start lists outer) m.assignments.order fs (Gave s))
+    (same : AreOfOneModule m lists outer n others) (before : IsResolvedConst m.assignments outer) (resolved : IsResolvedModule n others)
+    (fs : List Found) (s : StageState) (stage : Stage m (at_start lists outer) m.assignments.order fs (Gave s))
     (bs : List Block) (frames : Frames) (run : Run lexically n ([] ∷ others) n.assignments.order bs (Gave frames)) where
   ends : EndsAsItsBlocks bs (Gave frames)
   ends = results n others bs (Gave frames) resolved run
@@ -20,11 +20,11 @@ module _ (agrees : ConstAgrees) (results : ResultsHaveBlocks) (m : Constants) (l
   -- the value that the stage found for a number and the one that a run's block gave it are equal
   one_value : (k : ℕ) (settled bound : Bound) → bound_at k (own_frame s.frames) ≡ Some settled → bound_at k (own_frame frames) ≡ Some bound → bound.value ≡ settled.value
   one_value k settled bound h e =
-      let found = (agrees.standings m lists outer fs s stage).binds k settled h in
+      let found = (agrees.states m lists outer fs s stage).binds k settled h in
       let block = ends.bindings frames k bound refl e in
       let on = ends.unstopped block.0 (λ stopped. absurd (cc)) block.1 in
-      let foretold = agrees.blocks m lists outer n others fs (Gave s) bs (Gave frames) same before resolved stage run found.0 block.0 found.1 block.1 (found.2 ∙ sym block.2) on in
-      let gave : Foretells (is_found_open fs) (Gave settled.value) block.0 = subst (λ o. Foretells (is_found_open fs) o block.0) found.3 foretold in
+      let predicted = agrees.blocks m lists outer n others fs (Gave s) bs (Gave frames) same before resolved stage run found.0 block.0 found.1 block.1 (found.2 ∙ sym block.2) on in
+      let gave : Predicts (is_found_open fs) (Gave settled.value) block.0 = subst (λ o. Predicts (is_found_open fs) o block.0) found.3 predicted in
       cc (block.3, gave.0)
 
   keeps : KeepsConstants s.is_open s.frames frames
@@ -37,8 +37,8 @@ module _ (agrees : ConstAgrees) (results : ResultsHaveBlocks) (m : Constants) (l
 
 -- the same from the contracts of a stage and a run
 pub keeps_staged : (agrees : ConstAgrees) (results : ResultsHaveBlocks) (m : Constants) (lists : Bool) (outer : Frames) (n : Module)
-    → AreOfOneModule m lists outer n outer → IsResolvedConst m.assignments outer → IsResolved n.program.functions n.assignments outer
-    → {S : Type 0} {step : S → Question → Answer → S → Type 0} {old new : S} (s : Standing) (frames : Frames)
+    → AreOfOneModule m lists outer n outer → IsResolvedConst m.assignments outer → IsResolvedModule n outer
+    → {S : Type 0} {step : Step S} {old new : S} (s : StageState) (frames : Frames)
     → Staged m (at_start lists outer) m.assignments.order (Gave s) → Ran step old lexically n ([] ∷ outer) n.assignments.order (Gave frames) new
     → KeepsConstants s.is_open s.frames frames
 keeps_staged agrees results m lists outer n same before resolved s frames stage run =

@@ -2,9 +2,10 @@
 
 ghost use Rattle.std.specs.Prelude.{IfSome, Some, ◌<◌};
 ghost use Rattle.just_value.specs.View.{frames_view};
-ghost use Rattle.just_meaning.specs.Resolved.{IsResolved, IsResolvedConst};
+ghost use Rattle.just_meaning.specs.Resolved.{IsResolvedConst};
 ghost use Rattle.just_meaning.specs.View.{constants_of, run_of};
-ghost use Rattle.just_eval.specs.View.{standing_of};
+ghost use Rattle.just_meaning.specs.Module.{IsResolvedModule};
+ghost use Rattle.just_eval.specs.View.{stage_state_of};
 ghost use Rattle.just_eval_tests.specs.Agreement.{KeepsConstants};
 
 use just_eval::evaluator::Evaluator;
@@ -32,11 +33,11 @@ pub fn stage_and_run<'src, 'run, H: Host>(
     limit: usize,
     references: &HashSet<Number>,
 ) -> Option<(Evaluator<'src, 'run>, Scope<'src, 'run>)>
-    requires room { 0 < limit }
+    requires may_call { 0 < limit }
     ensures agrees { let m = run_of config.entry dotenv.entry «module».entry overrides.entry parent.entry search.entry limit (Some references.entry) in
         let outer = frames_view parent.entry.now in
-        IsResolvedConst m.assignments outer → IsResolved m.program.functions m.assignments outer
-        → IfSome result (λ x. KeepsConstants (standing_of x.0).is_open (standing_of x.0).frames (frames_view x.1)) }
+        IsResolvedConst m.assignments outer → IsResolvedModule m outer
+        → IfSome result (λ x. KeepsConstants (stage_state_of x.0).is_open (stage_state_of x.0).frames (frames_view x.1)) }
 {
     laws::const_agrees();
     laws::results_have_blocks();

@@ -9,16 +9,16 @@ use std::alloc::Global;
 use std::process::Abort;
 
 /// Adds the bindings of a frame, in parentheses: for each one the flags that are on, its name and its value.
-pub(crate) fn tell_frame(frame: &Frame, told: &mut String) -> Result<(), OutOfMemory> {
-    told.push_str(" (")?;
+pub(crate) fn report_frame(frame: &Frame, reported: &mut String) -> Result<(), OutOfMemory> {
+    reported.push_str(" (")?;
     for binding in frame.bindings() {
-        tell_binding(binding, told)?;
+        report_binding(binding, reported)?;
     }
-    told.push(')')?;
+    reported.push(')')?;
     Ok(())
 }
 
-fn tell_binding(binding: &Binding, told: &mut String) -> Result<(), OutOfMemory> {
+fn report_binding(binding: &Binding, reported: &mut String) -> Result<(), OutOfMemory> {
     let flags = [
         (binding.export, "export "),
         (binding.eager, "eager "),
@@ -29,12 +29,12 @@ fn tell_binding(binding: &Binding, told: &mut String) -> Result<(), OutOfMemory>
     ];
     for (is_on, flag) in flags {
         if is_on {
-            told.push_str(flag)?;
+            reported.push_str(flag)?;
         }
     }
     let name = binding.name;
     let value = &binding.value;
-    write!(told, "{name} = {value}")?;
+    write!(reported, "{name} = {value}")?;
     Ok(())
 }
 

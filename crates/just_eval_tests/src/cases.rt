@@ -6,8 +6,8 @@ ghost use Rattle.just_eval.specs.View.{IsConst};
 use crate::bindings::with_flags;
 use crate::recipes::around::expression_of;
 use crate::{constants, interpreters, kept, settings};
-use just_case_lines::line::{Line, parse_lines};
 use just_case_reader::case::{Case, build};
+use just_case_reader::line::{Line, parse_lines};
 use just_eval::evaluator::Evaluator;
 use just_syntax::assignment::Assignment;
 use just_syntax::expression::Expression;
@@ -34,7 +34,7 @@ pub(crate) enum Subject {
 }
 
 /// The report on a case whose outer scope binds the numbers from 0 on to names and values.
-pub(crate) fn told(
+pub(crate) fn reported(
     rt: &impl Abort,
     alloc: Global,
     case: &str,
@@ -42,11 +42,11 @@ pub(crate) fn told(
     subject: Subject,
 ) -> String {
     let lines = parse_lines(alloc, case.as_bytes()).expect(rt, "no memory");
-    told_of(rt, alloc, &lines, outside, subject)
+    reported_of(rt, alloc, &lines, outside, subject)
 }
 
 // The report on a case of these lines.
-fn told_of<'src>(
+fn reported_of<'src>(
     rt: &impl Abort,
     alloc: Global,
     lines: &'src [Line<'src>],
@@ -55,10 +55,10 @@ fn told_of<'src>(
 ) -> String {
     let case = flagged(rt, alloc, build(alloc, lines).expect(rt, "no case"));
     let scope = Scope::root(alloc, outside).expect(rt, "no memory");
-    let told = told_in(&case, rt, alloc, lines, &scope, subject);
+    let reported = reported_in(&case, rt, alloc, lines, &scope, subject);
     drop(scope);
     drop(case);
-    told
+    reported
 }
 
 // A case whose assignments have the flags that their names give.
@@ -71,7 +71,7 @@ fn flagged<'src>(rt: &impl Abort, alloc: Global, case: Case<'src>) -> Case<'src>
 }
 
 // The report on a case of these lines, in a scope.
-fn told_in<'src>(
+fn reported_in<'src>(
     case: &Case<'src>,
     rt: &impl Abort,
     alloc: Global,
@@ -80,12 +80,12 @@ fn told_in<'src>(
     subject: Subject,
 ) -> String {
     let outcome = evaluated(case, rt, alloc, scope);
-    let told = match &outcome {
-        Ok(evaluator) => told_by(evaluator, rt, alloc, case, lines, subject),
+    let reported = match &outcome {
+        Ok(evaluator) => reported_by(evaluator, rt, alloc, case, lines, subject),
         Err(error) => said(rt, alloc, error),
     };
     drop(outcome);
-    told
+    reported
 }
 
 // Evaluates the referenced assignments of a case.
@@ -108,7 +108,7 @@ fn evaluated<'src, 'run>(
     )
 }
 
-fn told_by<'src>(
+fn reported_by<'src>(
     evaluator: &Evaluator<'src, '_>,
     rt: &impl Abort,
     alloc: Global,
@@ -120,18 +120,18 @@ fn told_by<'src>(
 {
     match subject {
         Subject::Expression => match case.assignments.get("e") {
-            Some(assignment) => told_of_both(evaluator, rt, alloc, &assignment.value, lines),
+            Some(assignment) => reported_of_both(evaluator, rt, alloc, &assignment.value, lines),
             None => panic!(rt; "no expression"),
         },
         Subject::Interpreter => {
-            interpreters::told_by(evaluator, rt, alloc, assignments_of(rt, alloc, lines))
+            interpreters::reported_by(evaluator, rt, alloc, assignments_of(rt, alloc, lines))
         }
-        _ => settings::told_by(evaluator, rt, alloc, sets_of(rt, alloc, lines, subject)),
+        _ => settings::reported_by(evaluator, rt, alloc, sets_of(rt, alloc, lines, subject)),
     }
 }
 
 // The report on an expression, that of the assignment `e` of these lines, and on a line of it.
-fn told_of_both<'src>(
+fn reported_of_both<'src>(
     evaluator: &Evaluator<'src, '_>,
     rt: &impl Abort,
     alloc: Global,
@@ -142,9 +142,9 @@ fn told_of_both<'src>(
 {
     let again = expression_of(rt, alloc, lines, "", "e").expect(rt, "no expression");
     let line = constants::line_of(rt, alloc, again);
-    let told = constants::told_by(evaluator, rt, alloc, expression, &line);
+    let reported = constants::reported_by(evaluator, rt, alloc, expression, &line);
     drop(line);
-    told
+    reported
 }
 
 // The settings of a case of these lines, or those that the subject names.

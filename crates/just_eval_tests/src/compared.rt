@@ -3,8 +3,8 @@
 use std::process::Abort;
 
 /// The report on something is as expected.
-pub(crate) fn tells(rt: &impl Abort, of: &str, told: String, wanted: &str) {
-    same(rt, of, &told, wanted);
+pub(crate) fn reports(rt: &impl Abort, of: &str, reported: String, wanted: &str) {
+    same(rt, of, &reported, wanted);
 }
 
 /// A text is as expected.

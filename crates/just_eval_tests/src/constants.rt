@@ -2,10 +2,10 @@
 
 ghost use Rattle.just_eval.specs.View.{IsConst};
 
-use crate::bindings::tell_frame;
-use crate::cases::{Subject, add_said, told};
-use crate::compared::tells;
-use just_case_lines::token::{name, token};
+use crate::bindings::report_frame;
+use crate::cases::{Subject, add_said, reported};
+use crate::compared::reports;
+use just_case_reader::token::{name, token};
 use just_eval::evaluator::Evaluator;
 use just_host::no_host::NoHost;
 use just_host::recorder::Recorder;
@@ -82,13 +82,13 @@ pub(crate) fn evaluates_to(
     let both = format!(in alloc; "{value}; {text}; ").expect(rt, "no memory");
     let wanted = format!(in alloc; "{both}{both}{line}; 0; \"sh\" open - - - {OWN}");
     let wanted = wanted.expect(rt, "no memory");
-    tells(rt, expression, staged(rt, alloc, expression), &wanted);
+    reports(rt, expression, staged(rt, alloc, expression), &wanted);
 }
 
 // The report on an expression, with `s` settled and `o` open.
 fn staged(rt: &impl Abort, alloc: Global, expression: &str) -> String {
     let case = format!(in alloc; "{STAGE}{expression}{LAST_LINES}").expect(rt, "no memory");
-    told(rt, alloc, &case, NOTHING, Subject::Expression)
+    reported(rt, alloc, &case, NOTHING, Subject::Expression)
 }
 
 // The assignments `a`, `b`, `d` and `e` have the numbers 0 to 3, and `e` is not referenced.
@@ -126,10 +126,10 @@ fn settles(
     numbers: &str,
 ) {
     let wanted = format!(in alloc; "{Y}{numbers}").expect(rt, "no memory");
-    tells(
+    reports(
         rt,
         case,
-        told(rt, alloc, case, outside, Subject::Expression),
+        reported(rt, alloc, case, outside, Subject::Expression),
         &wanted,
     );
 }
@@ -162,7 +162,7 @@ fn push<'src>(rt: &impl Abort, line: &mut Line<'src>, fragment: Fragment<'src>) 
 
 /// What an expression evaluates to: as a value, as a text, as both with a host, and in a line with that host; then how
 /// many questions the host was asked, the values of the first five numbers, and the own bindings.
-pub(crate) fn told_by<'src>(
+pub(crate) fn reported_by<'src>(
     evaluator: &Evaluator<'src, '_>,
     rt: &impl Abort,
     alloc: Global,
@@ -270,8 +270,8 @@ fn add_numbers(evaluator: &Evaluator, rt: &impl Abort, text: &mut String) {
         add_number(evaluator, rt, text, Number::new(number));
     }
     text.push_str("own").expect(rt, "no memory");
-    let told = tell_frame(evaluator.scope().frame(), text);
-    told.expect(rt, "no memory");
+    let reported = report_frame(evaluator.scope().frame(), text);
+    reported.expect(rt, "no memory");
 }
 
 fn add_number(evaluator: &Evaluator, rt: &impl Abort, text: &mut String, number: Number) {

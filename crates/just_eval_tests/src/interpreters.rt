@@ -3,9 +3,9 @@
 
 ghost use Rattle.just_eval.specs.View.{IsConst};
 
-use crate::cases::{Subject, said, told};
-use crate::compared::{same, tells};
-use just_case_lines::token::name;
+use crate::cases::{Subject, reported, said};
+use crate::compared::{reports, same};
+use just_case_reader::token::name;
 use just_eval::evaluator::Evaluator;
 use just_syntax::assignment::Assignment;
 use just_syntax::expression::Expression;
@@ -67,7 +67,7 @@ const INTERPRETERS: &[(&str, &str)] = &[
 #[test]
 fn const_interpreters(rt: HostRuntime) {
     for (list, expected) in INTERPRETERS {
-        tells(&rt, list, staged(&rt, rt.alloc(), list), expected);
+        reports(&rt, list, staged(&rt, rt.alloc(), list), expected);
     }
 }
 
@@ -75,11 +75,11 @@ fn const_interpreters(rt: HostRuntime) {
 pub(crate) fn staged(rt: &impl Abort, alloc: Global, list: &str) -> String {
     let case = format!(in alloc; "str zsh\nassign s\n{list}\nassign e\nonly s\nconst");
     let case = case.expect(rt, "no memory");
-    told(rt, alloc, &case, &[], Subject::Interpreter)
+    reported(rt, alloc, &case, &[], Subject::Interpreter)
 }
 
 /// What the interpreter of a case evaluates to, or the message of its refusal.
-pub(crate) fn told_by<'src>(
+pub(crate) fn reported_by<'src>(
     evaluator: &Evaluator<'src, '_>,
     rt: &impl Abort,
     alloc: Global,
@@ -88,13 +88,13 @@ pub(crate) fn told_by<'src>(
     requires before_runs { IsConst evaluator.now }
 {
     let list = interpreter(rt, first_of(rt, assignments));
-    let told = told_of(evaluator, rt, alloc, &list);
+    let reported = reported_of(evaluator, rt, alloc, &list);
     drop(list);
-    told
+    reported
 }
 
 // The same for an interpreter.
-fn told_of<'src>(
+fn reported_of<'src>(
     evaluator: &Evaluator<'src, '_>,
     rt: &impl Abort,
     alloc: Global,
@@ -104,9 +104,9 @@ fn told_of<'src>(
 {
     match evaluator.evaluate_interpreter(alloc, list, name("shell")) {
         Ok(interpreter) => {
-            let told = printed(rt, alloc, &interpreter);
+            let reported = printed(rt, alloc, &interpreter);
             drop(interpreter);
-            told
+            reported
         }
         Err(error) => said(rt, alloc, &error),
     }

@@ -1,9 +1,9 @@
 // Settings without expressions: the flags, the indentation and the minimum version.
 
-use crate::cases::{Subject, told};
-use crate::compared::tells;
+use crate::cases::{Subject, reported};
+use crate::compared::reports;
 use crate::settings::add;
-use just_case_lines::token::{name, token};
+use just_case_reader::token::{name, token};
 use just_host::settings::Settings;
 use just_syntax::indentation::Indentation;
 use just_syntax::set::Set;
@@ -105,8 +105,8 @@ fn is_off_alone(rt: &impl Abort, alloc: Global, left_out: &'static str) {
             write!(wanted, "{flag};").expect(rt, "no memory");
         }
     }
-    let told = told(rt, alloc, NOTHING, &[], Subject::FlagsBut(left_out));
-    tells(rt, left_out, told, &wanted);
+    let reported = reported(rt, alloc, NOTHING, &[], Subject::FlagsBut(left_out));
+    reports(rt, left_out, reported, &wanted);
 }
 
 /// The settings that turn on all but one of these flags.
@@ -128,8 +128,8 @@ pub(crate) fn flags_but<'src>(
 // A setting that is set twice has its last value. The minimum version changes nothing.
 #[test]
 fn kept_settings(rt: HostRuntime) {
-    let told = told(&rt, rt.alloc(), NOTHING, &[], Subject::SetTwice);
-    tells(&rt, "kept settings", told, "indentation Spaces(2);");
+    let reported = reported(&rt, rt.alloc(), NOTHING, &[], Subject::SetTwice);
+    reports(&rt, "kept settings", reported, "indentation Spaces(2);");
 }
 
 /// The minimum version, and indentation and quiet, each set twice.

@@ -2,8 +2,8 @@
 
 ghost use Rattle.just_eval.specs.View.{IsConst};
 
-use crate::cases::{Subject, told};
-use crate::compared::tells;
+use crate::cases::{Subject, reported};
+use crate::compared::reports;
 use crate::interpreters::{self, interpreter};
 use crate::kept::{FLAGS, flags_of};
 use just_eval::evaluator::Evaluator;
@@ -112,7 +112,7 @@ pub(crate) fn add<'src>(
 }
 
 /// What settings evaluate to: each one that is set, after its name; or the refusal.
-pub(crate) fn told_by<'src>(
+pub(crate) fn reported_by<'src>(
     evaluator: &Evaluator<'src, '_>,
     rt: &impl Abort,
     alloc: Global,
@@ -122,16 +122,16 @@ pub(crate) fn told_by<'src>(
 {
     match evaluator.evaluate_sets(alloc, sets) {
         Ok(settings) => {
-            let told = printed(rt, alloc, &settings);
+            let reported = printed(rt, alloc, &settings);
             drop(settings);
-            told
+            reported
         }
-        Err(error) => refusal_told(rt, alloc, &error),
+        Err(error) => refusal_reported(rt, alloc, &error),
     }
 }
 
 // The message of a refusal, after its place.
-fn refusal_told(rt: &impl Abort, alloc: Global, error: &CompileError) -> String {
+fn refusal_reported(rt: &impl Abort, alloc: Global, error: &CompileError) -> String {
     match error {
         CompileError::ConstEval { token, error } => {
             let place = token.lexeme();
@@ -277,7 +277,7 @@ const SETTINGS: &[(&str, &str)] = &[
 #[test]
 fn const_settings(rt: HostRuntime) {
     for (case, settings) in SETTINGS {
-        let told = told(&rt, rt.alloc(), case, &[], Subject::Settings);
-        tells(&rt, case, told, settings);
+        let reported = reported(&rt, rt.alloc(), case, &[], Subject::Settings);
+        reports(&rt, case, reported, settings);
     }
 }

@@ -1,8 +1,8 @@
 // Constants of a thousand elements, and texts of a thousand pieces. If there is memory each call must succeed; no
 // clause forbids a call to give up.
 
-use crate::cases::{Subject, told};
-use crate::compared::tells;
+use crate::cases::{Subject, reported};
+use crate::compared::reports;
 use crate::constants::evaluates_to;
 use crate::interpreters::staged;
 use std::alloc::Global;
@@ -44,8 +44,13 @@ fn is_a_text(rt: &impl Abort, alloc: Global) {
 fn is_an_interpreter(rt: &impl Abort, alloc: Global) {
     let list = thousand(rt, alloc, "", "str a\n", "list 1000");
     let wanted = thousand(rt, alloc, "", " \"a\"", "");
-    let told = staged(rt, alloc, &list);
-    tells(rt, "an interpreter", told, wanted.trim_start_matches(' '));
+    let reported = staged(rt, alloc, &list);
+    reports(
+        rt,
+        "an interpreter",
+        reported,
+        wanted.trim_start_matches(' '),
+    );
 }
 
 // A setting of a list, one of an interpreter, and one of a text.
@@ -71,6 +76,6 @@ fn are_settings(rt: &impl Abort, alloc: Global) {
     let shell = thousand(rt, alloc, "];shell \"sh\"", " \"a\"", ";");
     let tempdir = thousand(rt, alloc, "tempdir ", "/a", ";");
     let wanted = format!(in alloc; "{command}{shell}{tempdir}").expect(rt, "no memory");
-    let told = told(rt, alloc, &case, &[], Subject::Settings);
-    tells(rt, "settings", told, &wanted);
+    let reported = reported(rt, alloc, &case, &[], Subject::Settings);
+    reports(rt, "settings", reported, &wanted);
 }

@@ -7,16 +7,15 @@ use Rattle.just_value.specs.Value.{Value}
 use Rattle.just_value.specs.Refusal.{Refusal}
 use Rattle.just_value.specs.Outcome.{Outcome, Gave, without_value}
 use Rattle.just_value.specs.Frames.{Frames, value_in}
-use Rattle.just_host.specs.Question.{Question, Answer}
-use Rattle.just_host.specs.Interaction.{Entered, Rules, Runs, Tree, bind, done, note}
+use Rattle.just_host.specs.Interaction.{Entered, Rules, Runs, Tree, bind, done, note, Step}
 use Rattle.just_host.specs.declared.execution_context.ExecutionContext.{ExecutionContext}
 use Rattle.just_host.proofs.Paths.{runs_done, runs_ends, runs_note, runs_on, runs_stopped}
 use Rattle.just_meaning.specs.Callee.{callee}
 use Rattle.just_meaning.specs.Closings.{dynamic, inside, with_parameters}
 use Rattle.just_meaning.specs.Meaning.{Program, Situation, called, eval}
 use Rattle.just_meaning.specs.View.{program_view}
-use Rattle.just_forms.specs.Call.{EndsBefore, Enters, Reached, entered, look}
-use Rattle.just_forms.proofs.Commands.{itself}
+use Rattle.just_expression.specs.Call.{EndsBefore, Enters, Reached, entered, look}
+use Rattle.just_expression.proofs.Commands.{itself}
 use Rattle.just_expression.specs.View.{context_of, deeper, is_non_const, program, program_of, row, rules, situation}
 use Rattle.just_expression.specs.declared.evaluator.ExpressionEvaluator.{ExpressionEvaluator}
 use Rattle.just_expression.proofs.Leaves.{passes}
@@ -27,11 +26,11 @@ pub inside_is : (inner : Frames) (s own : Situation) (f : Function) (vs : List V
 inside_is inner s own f vs e is = is ∙ rw e refl
 
 -- a body runs in its own situation
-pub body_runs : {rules : Rules} {S : Type 0} {step : S → Question → Answer → S → Type 0} {old new : S} (p : Program) (calls : ℕ) (inner own : Situation) (e : Expr) (o : Outcome Value) → inner ≡ own → Runs rules step old (eval p (dynamic p calls) inner e) o new → Runs rules step old (eval p (dynamic p calls) own e) o new
+pub body_runs : {rules : Rules} {S : Type 0} {step : Step S} {old new : S} (p : Program) (calls : ℕ) (inner own : Situation) (e : Expr) (o : Outcome Value) → inner ≡ own → Runs rules step old (eval p (dynamic p calls) inner e) o new → Runs rules step old (eval p (dynamic p calls) own e) o new
 body_runs {rules = rules} {step = step} {old = old} {new = new} p calls inner own e o is r = subst (λ i. Runs rules step old (eval p (dynamic p calls) i e) o new) is r
 
 -- the runs of a call, in a context
-module _ {S : Type 0} (step : S → Question → Answer → S → Type 0) (e : ExpressionEvaluator) (c : Bor ExecutionContext) (is : e.context ≡ Some c) (t : Token) (xs : List Expression) where
+module _ {S : Type 0} (step : Step S) (e : ExpressionEvaluator) (c : Bor ExecutionContext) (is : e.context ≡ Some c) (t : Token) (xs : List Expression) where
   given : context_of e ≡ Some c.now
   given = ap option_copied is
 
@@ -61,6 +60,6 @@ module _ {S : Type 0} (step : S → Question → Answer → S → Type 0) (e : E
     call_runs {old = old} {new = new} vs o q b = entering _ (subst (λ x. Runs (rules e) step old x o new) (sym call_enters) (runs_on _ _ q b))
 
 -- an argument's value, and what is derived from it without a question
-pub looked_at : {rules : Rules} {S : Type 0} {step : S → Question → Answer → S → Type 0} {old new : S} (t : Tree Value) (look : ℕ → Value → Tree Value) (i k : ℕ) (v : Value) (w : Outcome Value) → i ≡ k → Runs rules step old t (Gave v) new → look i v ≡ done w → Runs rules step old (bind t (look k)) w new
+pub looked_at : {rules : Rules} {S : Type 0} {step : Step S} {old new : S} (t : Tree Value) (look : ℕ → Value → Tree Value) (i k : ℕ) (v : Value) (w : Outcome Value) → i ≡ k → Runs rules step old t (Gave v) new → look i v ≡ done w → Runs rules step old (bind t (look k)) w new
 looked_at {rules = rules} {step = step} {old = old} {new = new} t look i k v w same r is =
     runs_on t (look k) r (subst (λ x. Runs rules step new x w new) (sym is ∙ ap (λ j. look j v) same) (runs_done w w (itself w w refl)))

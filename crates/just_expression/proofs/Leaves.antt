@@ -6,7 +6,7 @@ use Rattle.just_value.specs.Refusal.{Refusal, Const}
 use Rattle.just_value.specs.Outcome.{Refused, UnlessStopped, without_value}
 use Rattle.just_host.specs.Interaction.{Note, Read}
 use Rattle.just_host.specs.declared.execution_context.ExecutionContext.{ExecutionContext}
-use Rattle.just_forms.specs.Call.{Says}
+use Rattle.just_expression.specs.Call.{RefusesWith}
 use Rattle.just_expression.specs.View.{open_in, rules_in}
 
 -- with a context nothing is refused
@@ -24,7 +24,7 @@ shuts (Some c) is_open t n h = absurd (cc)
 shuts None is_open t n h = rw h refl
 
 -- a refusal, or running out of memory, is the outcome
-pub said : (A : Type 0) (r : Option Refusal) (s : Refusal) → Says r s → UnlessStopped {A = A} (without_value r) (Refused s)
+pub said : (A : Type 0) (r : Option Refusal) (s : Refusal) → RefusesWith r s → UnlessStopped {A = A} (without_value r) (Refused s)
 said A None s h = tt
 said A (Some r) s h = ap Refused h
 

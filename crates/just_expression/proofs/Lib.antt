@@ -2,3 +2,6 @@ mod Calls
 mod Leaves
 mod Rows
 mod Texts
+mod Callees
+mod Commands
+mod InFront

@@ -10,8 +10,7 @@ use Rattle.just_syntax.proofs.Rows.{view_list, view_call, view_format_string, co
 use Rattle.just_value.specs.Value.{Value, joined}
 use Rattle.just_value.specs.Refusal.{Refusal}
 use Rattle.just_value.specs.Outcome.{Gave, Stopped, without_value}
-use Rattle.just_host.specs.Question.{Question, Answer}
-use Rattle.just_host.specs.Interaction.{Entered, Runs, Tree, note, bind, gives}
+use Rattle.just_host.specs.Interaction.{Entered, Runs, Tree, note, bind, gives, Step}
 use Rattle.just_host.proofs.Left.{Left, left_cut, left_ends, left_next, left_none}
 use Rattle.just_meaning.specs.Callee.{callee}
 use Rattle.just_meaning.specs.Meaning.{as_it_is, called, eval_pieces, eval_row, flatten, formatted}
@@ -37,7 +36,7 @@ flatten_more (w ∷ vs) v = ap (λ x. w ++ x) (flatten_more vs v) ∙ sym (appen
 
 -- ---- the rows of an evaluator
 
-module _ {S : Type 0} (step : S → Question → Answer → S → Type 0) (e : ExpressionEvaluator) (start : S) where
+module _ {S : Type 0} (step : Step S) (e : ExpressionEvaluator) (start : S) where
   -- the values of expressions from an index on, each passed to `look`
   module _ (look : ℕ → Value → Tree Value) (xs : List Expression) where
     abbrev from : ℕ → List Expression → Tree (List Value)

@@ -1,11 +1,11 @@
 -- Arguments whose values at text positions are texts.
 use Rattle.std.proofs.Common.{◌≡◌, ℕ, zero, suc, ◌<◌, Bool, true, List, [], ◌∷◌, ◌++◌, length, arith}
 use Rattle.just_value.specs.Value.{Value}
-use Rattle.just_builtins.specs.Argument.{value_at}
+use Rattle.just_builtins.specs.Argument.{argument_at}
 
 -- the values at these positions are texts
 abbrev pub AreTexts : (ℕ → Bool) → List Value → Type 0
-AreTexts is_text vs = (i : ℕ) → i < length vs → is_text i ≡ true → length (value_at vs i) ≡ 1
+AreTexts is_text vs = (i : ℕ) → i < length vs → is_text i ≡ true → length (argument_at vs i) ≡ 1
 
 -- one more at the end
 pub more_texts : (is_text : ℕ → Bool) (v : Value) (vs : List Value) → AreTexts is_text vs → (is_text (length vs) ≡ true → length v ≡ 1) → AreTexts is_text (vs ++ v ∷ [])

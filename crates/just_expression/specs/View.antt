@@ -10,8 +10,7 @@ use Rattle.just_value.specs.Frames.{value_in}
 use Rattle.just_value.specs.Value.{Value}
 use Rattle.just_value.specs.View.{ended, frames_view}
 use Rattle.just_value.specs.declared.error.Error.{Error}
-use Rattle.just_host.specs.Interaction.{Rules, Runs, Tree, freely}
-use Rattle.just_host.specs.Question.{Question, Answer}
+use Rattle.just_host.specs.Interaction.{Rules, Runs, Tree, freely, Step}
 use Rattle.just_host.specs.declared.execution_context.ExecutionContext.{ExecutionContext}
 use Rattle.just_meaning.specs.Closings.{dynamic}
 use Rattle.just_meaning.specs.Constant.{constantly, nowhere}
@@ -71,5 +70,5 @@ abbrev pub row : ExpressionEvaluator → List Expression → Row
 row e xs = eval_row (program e) (deeper e) (situation e) 0 (views xs)
 
 -- The result is the outcome of a run of the tree, whose questions take the host's state from `old` to `new`.
-abbrev pub Answers : {S : Type 0} → ExpressionEvaluator → (S → Question → Answer → S → Type 0) → S → Tree Value → Result Value Error → S → Type 0
-Answers e step old tree result new = Runs (rules e) step old tree (ended (λ v. v) result) new
+abbrev pub RunsTo : {S : Type 0} → ExpressionEvaluator → Step S → S → Tree Value → Result Value Error → S → Type 0
+RunsTo e step old tree result new = Runs (rules e) step old tree (ended (λ v. v) result) new

@@ -6,24 +6,23 @@ ghost use Rattle.just_syntax.specs.View.{name_view, token_view, view};
 ghost use Rattle.just_syntax.specs.declared.list_operator.ListOperator.TheVariants.{Join};
 ghost use Rattle.just_host.specs.Interaction.{gives};
 ghost use Rattle.just_meaning.specs.Meaning.{assertion, assertion_text, branch, choice, combination, comparison, conjunction, disjunction, negation, succession};
-ghost use Rattle.just_expression.specs.View.{Answers, deeper, meaning, program, situation};
+ghost use Rattle.just_expression.specs.View.{RunsTo, deeper, meaning, program, situation};
 
 mod call;
 mod combination;
 mod leaf;
 mod row;
 
-use crate::stack;
-use just_forms::form;
+use crate::form;
 use just_host::execution_context::ExecutionContext;
 use just_host::host::Host;
-use just_printing::condition;
 use just_syntax::conditional_operator::ConditionalOperator;
 use just_syntax::expression::Expression;
 use just_syntax::list_operator::ListOperator;
 use just_syntax::name::Name;
 use just_syntax::number::Number;
 use just_syntax::token::Token;
+use just_syntax::{condition, stack};
 use just_value::error::Error;
 use just_value::scope::Scope;
 use just_value::value::Value;
@@ -55,7 +54,7 @@ pub struct ExpressionEvaluator<'src, 'run, 'here> {
 }
 
 impl<'src, 'run, 'here> ExpressionEvaluator<'src, 'run, 'here> {
-    /// The value of an expression, with the questions that it asks the host, within a stack budget of `room` bytes.
+    /// The value of an expression, with the questions that it asks the host, within a stack budget of `budget` bytes.
     /// Each form passes its parts the budget less its own frames, so that the recursion ends by the budget alone. Each
     /// level checks the budget once, against the largest form.
     ///
@@ -65,7 +64,7 @@ impl<'src, 'run, 'here> ExpressionEvaluator<'src, 'run, 'here> {
     /// # Errors
     ///
     /// The first refusal of a part, in the order of the parts. `OutOfMemory` if an allocation fails, if the host
-    /// reports it, or if the expression, with the bodies that it calls, nests too deeply for `room`. Without a context,
+    /// reports it, or if the expression, with the bodies that it calls, nests too deeply for `budget`. Without a context,
     /// `Const` at the first call, command or variable with no constant value.
     #[cycle(evaluate)]
     pub fn evaluate_value<H: Host>(
@@ -73,30 +72,30 @@ impl<'src, 'run, 'here> ExpressionEvaluator<'src, 'run, 'here> {
         alloc: Global,
         host: &mut H,
         expression: &Expression<'src>,
-        room: usize,
+        budget: usize,
     ) -> Result<Value, Error<'src>>
-        ensures { Answers self.now H.step host.old (meaning self.now (view expression.now)) result host.new }
+        ensures { RunsTo self.now H.step host.old (meaning self.now (view expression.now)) result host.new }
     {
-        if room < stack::FORM {
+        if budget < stack::FORM {
             return Err(Error::OutOfMemory);
         }
         match expression {
             Expression::And { lhs, rhs } => {
-                self.evaluate_and(alloc, host, lhs, rhs, room - stack::AND)
+                self.evaluate_and(alloc, host, lhs, rhs, budget - stack::AND)
             }
             Expression::Assert {
                 condition,
                 message,
                 name,
             } => {
-                let room = room - stack::ASSERT;
-                self.evaluate_assert(alloc, host, condition, message.as_deref(), name, room)
+                let budget = budget - stack::ASSERT;
+                self.evaluate_assert(alloc, host, condition, message.as_deref(), name, budget)
             }
             Expression::Backtick { contents, token } => {
                 self.evaluate_backtick(alloc, host, contents, token)
             }
             Expression::Call { arguments, name } => {
-                self.evaluate_call(alloc, host, name, arguments, room - stack::CALL)
+                self.evaluate_call(alloc, host, name, arguments, budget - stack::CALL)
             }
             Expression::Comparison {
                 lhs,
@@ -104,54 +103,62 @@ impl<'src, 'run, 'here> ExpressionEvaluator<'src, 'run, 'here> {
                 rhs,
                 token,
             } => {
-                let room = room - stack::COMPARISON;
-                self.evaluate_comparison(alloc, host, lhs, *operator, rhs, token, room)
+                let budget = budget - stack::COMPARISON;
+                self.evaluate_comparison(alloc, host, lhs, *operator, rhs, token, budget)
             }
             Expression::Concatenation { lhs, operator, rhs } => {
-                let room = room - stack::CONCATENATION;
+                let budget = budget - stack::CONCATENATION;
                 let list_operator = ListOperator::Concatenate;
-                self.evaluate_combination(alloc, host, lhs, list_operator, operator, rhs, room)
+                self.evaluate_combination(alloc, host, lhs, list_operator, operator, rhs, budget)
             }
             Expression::Conditional {
                 condition,
                 consequence,
                 otherwise,
             } => {
-                let room = room - stack::CONDITIONAL;
+                let budget = budget - stack::CONDITIONAL;
                 let otherwise = otherwise.as_deref();
-                self.evaluate_conditional(alloc, host, condition, consequence, otherwise, room)
+                self.evaluate_conditional(alloc, host, condition, consequence, otherwise, budget)
             }
             Expression::FormatString { start, expressions } => {
-                let room = room - stack::FORMAT_STRING;
-                self.evaluate_format_string(alloc, host, start, expressions, room)
+                let budget = budget - stack::FORMAT_STRING;
+                self.evaluate_format_string(alloc, host, start, expressions, budget)
             }
             Expression::Group { contents } => {
-                self.evaluate_group(alloc, host, contents, room - stack::GROUP)
+                self.evaluate_group(alloc, host, contents, budget - stack::GROUP)
             }
             Expression::Join { lhs, operator, rhs } => match lhs {
                 Some(lhs) => {
-                    let room = room - stack::JOIN;
+                    let budget = budget - stack::JOIN;
                     let list_operator = ListOperator::Join;
-                    self.evaluate_combination(alloc, host, lhs, list_operator, operator, rhs, room)
+                    self.evaluate_combination(
+                        alloc,
+                        host,
+                        lhs,
+                        list_operator,
+                        operator,
+                        rhs,
+                        budget,
+                    )
                 }
-                None => self.evaluate_root(alloc, host, operator, rhs, room - stack::ROOT),
+                None => self.evaluate_root(alloc, host, operator, rhs, budget - stack::ROOT),
             },
             Expression::List { elements, token: _ } => {
-                self.evaluate_list(alloc, host, elements, room - stack::LIST)
+                self.evaluate_list(alloc, host, elements, budget - stack::LIST)
             }
             Expression::ListConcatenation {
                 lhs,
                 operator: _,
                 rhs,
             } => {
-                let room = room - stack::LIST_CONCATENATION;
-                self.evaluate_list_concatenation(alloc, host, lhs, rhs, room)
+                let budget = budget - stack::LIST_CONCATENATION;
+                self.evaluate_list_concatenation(alloc, host, lhs, rhs, budget)
             }
             Expression::Not { operand } => {
-                self.evaluate_not(alloc, host, operand, room - stack::NOT)
+                self.evaluate_not(alloc, host, operand, budget - stack::NOT)
             }
             Expression::Or { lhs, rhs } => {
-                self.evaluate_or(alloc, host, lhs, rhs, room - stack::OR)
+                self.evaluate_or(alloc, host, lhs, rhs, budget - stack::OR)
             }
             Expression::StringLiteral { string_literal } => {
                 form::string_literal(alloc, string_literal)
@@ -170,11 +177,11 @@ impl<'src, 'run, 'here> ExpressionEvaluator<'src, 'run, 'here> {
         alloc: Global,
         host: &mut H,
         contents: &Expression<'src>,
-        room: usize,
+        budget: usize,
     ) -> Result<Value, Error<'src>>
-        ensures { Answers self.now H.step host.old (meaning self.now (view contents.now)) result host.new }
+        ensures { RunsTo self.now H.step host.old (meaning self.now (view contents.now)) result host.new }
     {
-        self.evaluate_value(alloc, host, contents, room)
+        self.evaluate_value(alloc, host, contents, budget)
     }
 
     // The value of `lhs && rhs`.
@@ -186,13 +193,13 @@ impl<'src, 'run, 'here> ExpressionEvaluator<'src, 'run, 'here> {
         host: &mut H,
         lhs: &Expression<'src>,
         rhs: &Expression<'src>,
-        room: usize,
+        budget: usize,
     ) -> Result<Value, Error<'src>>
-        ensures { Answers self.now H.step host.old (conjunction (meaning self.now (view lhs.now)) (meaning self.now (view rhs.now))) result host.new }
+        ensures { RunsTo self.now H.step host.old (conjunction (meaning self.now (view lhs.now)) (meaning self.now (view rhs.now))) result host.new }
     {
-        let value = self.evaluate_value(alloc, host, lhs, room)?;
+        let value = self.evaluate_value(alloc, host, lhs, budget)?;
         if value.is_truthy() {
-            self.evaluate_value(alloc, host, rhs, room)
+            self.evaluate_value(alloc, host, rhs, budget)
         } else {
             Ok(Value::new(alloc))
         }
@@ -207,15 +214,15 @@ impl<'src, 'run, 'here> ExpressionEvaluator<'src, 'run, 'here> {
         host: &mut H,
         lhs: &Expression<'src>,
         rhs: &Expression<'src>,
-        room: usize,
+        budget: usize,
     ) -> Result<Value, Error<'src>>
-        ensures { Answers self.now H.step host.old (disjunction (meaning self.now (view lhs.now)) (meaning self.now (view rhs.now))) result host.new }
+        ensures { RunsTo self.now H.step host.old (disjunction (meaning self.now (view lhs.now)) (meaning self.now (view rhs.now))) result host.new }
     {
-        let value = self.evaluate_value(alloc, host, lhs, room)?;
+        let value = self.evaluate_value(alloc, host, lhs, budget)?;
         if value.is_truthy() {
             Ok(value)
         } else {
-            self.evaluate_value(alloc, host, rhs, room)
+            self.evaluate_value(alloc, host, rhs, budget)
         }
     }
 
@@ -227,11 +234,11 @@ impl<'src, 'run, 'here> ExpressionEvaluator<'src, 'run, 'here> {
         alloc: Global,
         host: &mut H,
         operand: &Expression<'src>,
-        room: usize,
+        budget: usize,
     ) -> Result<Value, Error<'src>>
-        ensures { Answers self.now H.step host.old (negation (meaning self.now (view operand.now))) result host.new }
+        ensures { RunsTo self.now H.step host.old (negation (meaning self.now (view operand.now))) result host.new }
     {
-        let value = self.evaluate_value(alloc, host, operand, room)?;
+        let value = self.evaluate_value(alloc, host, operand, budget)?;
         Ok(Value::from_bool(alloc, !value.is_truthy())?)
     }
 
@@ -246,15 +253,15 @@ impl<'src, 'run, 'here> ExpressionEvaluator<'src, 'run, 'here> {
         operator: ConditionalOperator,
         rhs: &Expression<'src>,
         token: &Token<'src>,
-        room: usize,
+        budget: usize,
     ) -> Result<Value, Error<'src>>
-        ensures { Answers self.now H.step host.old (comparison operator (token_view token.now) (meaning self.now (view lhs.now)) (meaning self.now (view rhs.now))) result host.new }
+        ensures { RunsTo self.now H.step host.old (comparison operator (token_view token.now) (meaning self.now (view lhs.now)) (meaning self.now (view rhs.now))) result host.new }
     {
         if form::is_regex(operator) {
             return Err(Error::LeftOutRegex { token: *token });
         }
-        let left = self.evaluate_value(alloc, host, lhs, room)?;
-        let right = self.evaluate_value(alloc, host, rhs, room)?;
+        let left = self.evaluate_value(alloc, host, lhs, budget)?;
+        let right = self.evaluate_value(alloc, host, rhs, budget)?;
         Ok(Value::from_bool(alloc, form::compares(operator, &left, &right))?)
     }
 
@@ -268,18 +275,18 @@ impl<'src, 'run, 'here> ExpressionEvaluator<'src, 'run, 'here> {
         condition: &Expression<'src>,
         consequence: &Expression<'src>,
         otherwise: Option<&Expression<'src>>,
-        room: usize,
+        budget: usize,
     ) -> Result<Value, Error<'src>>
-        ensures { Answers self.now H.step host.old (choice (meaning self.now (view condition.now)) (meaning self.now (view consequence.now)) (branch (program self.now) (deeper self.now) (situation self.now) (option_map (λ e. view e.now) otherwise.entry))) result host.new }
+        ensures { RunsTo self.now H.step host.old (choice (meaning self.now (view condition.now)) (meaning self.now (view consequence.now)) (branch (program self.now) (deeper self.now) (situation self.now) (option_map (λ e. view e.now) otherwise.entry))) result host.new }
     {
-        let value = self.evaluate_value(alloc, host, condition, room)?;
+        let value = self.evaluate_value(alloc, host, condition, budget)?;
         let taken = if value.is_truthy() {
             Some(consequence)
         } else {
             otherwise
         };
         match taken {
-            Some(taken) => self.evaluate_value(alloc, host, taken, room),
+            Some(taken) => self.evaluate_value(alloc, host, taken, budget),
             None => Ok(Value::new(alloc)),
         }
     }
@@ -293,11 +300,11 @@ impl<'src, 'run, 'here> ExpressionEvaluator<'src, 'run, 'here> {
         host: &mut H,
         operator: &Token<'src>,
         rhs: &Expression<'src>,
-        room: usize,
+        budget: usize,
     ) -> Result<Value, Error<'src>>
-        ensures { Answers self.now H.step host.old (combination Join (gives ([] ∷ [])) (token_view operator.now) (meaning self.now (view rhs.now))) result host.new }
+        ensures { RunsTo self.now H.step host.old (combination Join (gives ([] ∷ [])) (token_view operator.now) (meaning self.now (view rhs.now))) result host.new }
     {
-        let right = self.evaluate_value(alloc, host, rhs, room)?;
+        let right = self.evaluate_value(alloc, host, rhs, budget)?;
         let left = form::empty_text(alloc)?;
         left.apply(alloc, &right, ListOperator::Join, *operator)
     }
@@ -311,12 +318,12 @@ impl<'src, 'run, 'here> ExpressionEvaluator<'src, 'run, 'here> {
         host: &mut H,
         lhs: &Expression<'src>,
         rhs: &Expression<'src>,
-        room: usize,
+        budget: usize,
     ) -> Result<Value, Error<'src>>
-        ensures { Answers self.now H.step host.old (succession (meaning self.now (view lhs.now)) (meaning self.now (view rhs.now))) result host.new }
+        ensures { RunsTo self.now H.step host.old (succession (meaning self.now (view lhs.now)) (meaning self.now (view rhs.now))) result host.new }
     {
-        let left = self.evaluate_value(alloc, host, lhs, room)?;
-        let right = self.evaluate_value(alloc, host, rhs, room)?;
+        let left = self.evaluate_value(alloc, host, lhs, budget)?;
+        let right = self.evaluate_value(alloc, host, rhs, budget)?;
         Ok(form::extended(left, right)?)
     }
 
@@ -330,20 +337,20 @@ impl<'src, 'run, 'here> ExpressionEvaluator<'src, 'run, 'here> {
         condition: &Expression<'src>,
         message: Option<&Expression<'src>>,
         name: &Name<'src>,
-        room: usize,
+        budget: usize,
     ) -> Result<Value, Error<'src>>
-        ensures { Answers self.now H.step host.old (assertion (situation self.now).lists (name_view name.now) (meaning self.now (view condition.now)) (assertion_text (program self.now) (deeper self.now) (situation self.now) (view condition.now) (option_map (λ e. view e.now) message.entry))) result host.new }
+        ensures { RunsTo self.now H.step host.old (assertion (situation self.now).lists (name_view name.now) (meaning self.now (view condition.now)) (assertion_text (program self.now) (deeper self.now) (situation self.now) (view condition.now) (option_map (λ e. view e.now) message.entry))) result host.new }
     {
-        let value = self.evaluate_value(alloc, host, condition, room)?;
+        let value = self.evaluate_value(alloc, host, condition, budget)?;
         if value.is_truthy() {
             return Ok(form::asserted(alloc, self.lists, value)?);
         }
         let message = match message {
             Some(message) => {
-                let value = self.evaluate_value(alloc, host, message, room)?;
+                let value = self.evaluate_value(alloc, host, message, budget)?;
                 value.join(alloc)?
             }
-            None => condition::in_backticks(alloc, condition, room)?,
+            None => condition::in_backticks(alloc, condition, budget)?,
         };
         Err(Error::Assert {
             message,

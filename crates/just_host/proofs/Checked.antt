@@ -6,11 +6,10 @@ use Rattle.just_value.specs.declared.error.Error.{Error}
 use Rattle.just_value.specs.Refusal.{Refusal}
 use Rattle.just_value.specs.Outcome.{Outcome, Gave, Stopped, without_value}
 use Rattle.just_value.specs.View.{refusal, ended}
-use Rattle.just_host.specs.Question.{Question, Answer}
-use Rattle.just_host.specs.Interaction.{Event, Asked, Noted, Checked, Tree, Verdict, bind, check, done, gives, Rules, Ends, Stops, Checks, Chain, CheckedChain, GoesByAnswers, Runs, RunsChecked}
+use Rattle.just_host.specs.Interaction.{Event, Asked, Noted, Checked, Tree, Verdict, bind, check, done, gives, Rules, Ends, Stops, Checks, Chain, CheckedChain, GoesByAnswers, Runs, RunsChecked, Step}
 use Rattle.just_host.proofs.Paths.{path_on, path_ends}
 
-module _ {S : Type 0} (step : S → Question → Answer → S → Type 0) (says : Parameter → Value → Verdict → Type 0) where
+module _ {S : Type 0} (step : Step S) (says : Parameter → Value → Verdict → Type 0) where
   chain_checked : (a b : S) (es : List Event) → Chain step a es b → CheckedChain step says a es b
   chain_checked a b [] p = p
   chain_checked a b (Asked q x ∷ es) (m, s, p) = (m, s, chain_checked m b es p)
@@ -30,7 +29,7 @@ module _ {S : Type 0} (step : S → Question → Answer → S → Type 0) (says 
   checked_answers a b (Noted x ∷ es) p = checked_answers a b es p
   checked_answers a b (Checked x v y ∷ es) (h, p) = checked_answers a b es p
 
-module _ {rules : Rules} {S : Type 0} {step : S → Question → Answer → S → Type 0} {says : Parameter → Value → Verdict → Type 0} where
+module _ {rules : Rules} {S : Type 0} {step : Step S} {says : Parameter → Value → Verdict → Type 0} where
   -- a run that checks nothing
   pub unchecked : {A : Type 0} {old new : S} {t : Tree A} {o : Outcome A} → Runs rules step old t o new → RunsChecked rules step says old t o new
   unchecked {old = old} {new = new} r = record { events = r.events; path = r.path; chain = chain_checked step says old new r.events r.chain }

@@ -3,47 +3,46 @@ use Rattle.std.proofs.Common.{List, [], ◌++◌, refl, ap, sym, subst, Option, 
 use Rattle.std.proofs.lemmas.List.{append-nil, append_assoc}
 use Rattle.just_value.specs.Refusal.{Refusal}
 use Rattle.just_value.specs.Outcome.{Outcome, Gave, Refused, Stopped, without_value}
-use Rattle.just_host.specs.Question.{Question, Answer}
-use Rattle.just_host.specs.Interaction.{Rules, Runs, Tree, bind, gives}
+use Rattle.just_host.specs.Interaction.{Rules, Runs, Tree, bind, gives, Step}
 use Rattle.just_host.proofs.Paths.{runs_on, runs_ends, runs_gives, runs_stopped}
 
 -- the outcome, f applied to its value: f prepends what is already done
-abbrev pub behind : {A B : Type 0} → (A → B) → Outcome A → Outcome B
-behind f (Gave a) = Gave (f a)
-behind f (Refused r) = Refused r
-behind f Stopped = Stopped
+abbrev pub after : {A B : Type 0} → (A → B) → Outcome A → Outcome B
+after f (Gave a) = Gave (f a)
+after f (Refused r) = Refused r
+after f Stopped = Stopped
 
-behind_ended : {A B : Type 0} (f : A → B) (e : Option Refusal) → behind f (without_value e) ≡ without_value e
-behind_ended f (Some r) = refl
-behind_ended f None = refl
+after_ended : {A B : Type 0} (f : A → B) (e : Option Refusal) → after f (without_value e) ≡ without_value e
+after_ended f (Some r) = refl
+after_ended f None = refl
 
 -- one more element, and then the rest
-behind_next : {X : Type 0} (made more : List X) (o : Outcome (List X)) → behind (λ xs. made ++ xs) (behind (λ xs. more ++ xs) o) ≡ behind (λ xs. (made ++ more) ++ xs) o
-behind_next made more (Gave xs) = ap Gave (sym (append_assoc made more xs))
-behind_next made more (Refused r) = refl
-behind_next made more Stopped = refl
+after_next : {X : Type 0} (made more : List X) (o : Outcome (List X)) → after (λ xs. made ++ xs) (after (λ xs. more ++ xs) o) ≡ after (λ xs. (made ++ more) ++ xs) o
+after_next made more (Gave xs) = ap Gave (sym (append_assoc made more xs))
+after_next made more (Refused r) = refl
+after_next made more Stopped = refl
 
-behind_nothing : {X : Type 0} (o : Outcome (List X)) → behind (λ xs. [] ++ xs) o ≡ o
-behind_nothing (Gave xs) = refl
-behind_nothing (Refused r) = refl
-behind_nothing Stopped = refl
+after_nothing : {X : Type 0} (o : Outcome (List X)) → after (λ xs. [] ++ xs) o ≡ o
+after_nothing (Gave xs) = refl
+after_nothing (Refused r) = refl
+after_nothing Stopped = refl
 
 -- The list `made` so far and the remaining tree `left`: if a run of `left` from here ends with an outcome, a run of the
 -- whole ends with it, `made` prepended.
-abbrev pub Left : {S X : Type 0} → Rules → (S → Question → Answer → S → Type 0) → Tree (List X) → S → Tree (List X) → S → List X → Type 0
-Left {S} {X} by step whole start left here made = (o : Outcome (List X)) (new : S) → Runs by step here left o new → Runs by step start whole (behind (λ xs. made ++ xs) o) new
+abbrev pub Left : {S X : Type 0} → Rules → Step S → Tree (List X) → S → Tree (List X) → S → List X → Type 0
+Left {S} {X} by step whole start left here made = (o : Outcome (List X)) (new : S) → Runs by step here left o new → Runs by step start whole (after (λ xs. made ++ xs) o) new
 
-module _ {rules : Rules} {S : Type 0} {step : S → Question → Answer → S → Type 0} where
+module _ {rules : Rules} {S : Type 0} {step : Step S} where
   -- a value, and then the rest, to which f adds the value
   runs_more : {V A B : Type 0} {old mid new : S} (first : Tree V) (rest : Tree A) (v : V) (f : V → A → B) (o : Outcome A) → Runs rules step old first (Gave v) mid → Runs rules step mid rest o new
-      → Runs rules step old (bind first (λ v. bind rest (λ a. gives (f v a)))) (behind (f v) o) new
+      → Runs rules step old (bind first (λ v. bind rest (λ a. gives (f v a)))) (after (f v) o) new
   runs_more first rest v f (Gave a) r q = runs_on first _ r (runs_on rest (λ a. gives (f v a)) q (runs_gives (f v a)))
   runs_more first rest v f (Refused s) r q = runs_on first _ r (runs_ends rest (λ a. gives (f v a)) (Some s) q)
   runs_more first rest v f Stopped r q = runs_on first _ r (runs_ends rest (λ a. gives (f v a)) None q)
 
   module _ {X : Type 0} (whole : Tree (List X)) where
     pub left_all : {h : S} → Left rules step whole h whole h []
-    left_all {h = h} o new r = subst (λ x. Runs rules step h whole x new) (sym (behind_nothing o)) r
+    left_all {h = h} o new r = subst (λ x. Runs rules step h whole x new) (sym (after_nothing o)) r
 
     pub left_none : {start here : S} (made : List X) → Left rules step whole start (gives []) here made → Runs rules step start whole (Gave made) here
     left_none {start = start} {here = here} made left = subst (λ xs. Runs rules step start whole (Gave xs) here) (append-nil made) (left (Gave []) here (runs_gives []))
@@ -54,11 +53,11 @@ module _ {rules : Rules} {S : Type 0} {step : S → Question → Answer → S �
     -- a first tree, whose value gives some elements, and more
     module _ {V : Type 0} {start here : S} (first : Tree V) (more : Tree (List X)) (f : V → List X) (made : List X) (rest : Left rules step whole start (bind first (λ v. bind more (λ xs. gives (f v ++ xs)))) here made) where
       pub left_next : {mid : S} (v : V) → Runs rules step here first (Gave v) mid → Left rules step whole start more mid (made ++ f v)
-      left_next v r o new q = subst (λ x. Runs rules step start whole x new) (behind_next made (f v) o) (rest (behind (λ xs. f v ++ xs) o) new (runs_more first more v (λ v xs. f v ++ xs) o r q))
+      left_next v r o new q = subst (λ x. Runs rules step start whole x new) (after_next made (f v) o) (rest (after (λ xs. f v ++ xs) o) new (runs_more first more v (λ v xs. f v ++ xs) o r q))
 
       -- the first tree ends without a value
       pub left_ends : {new : S} (e : Option Refusal) → Runs rules step here first (without_value e) new → Runs rules step start whole (without_value e) new
-      left_ends {new = new} e r = subst (λ x. Runs rules step start whole x new) (behind_ended (λ xs. made ++ xs) e) (rest (without_value e) new (runs_ends first _ e r))
+      left_ends {new = new} e r = subst (λ x. Runs rules step start whole x new) (after_ended (λ xs. made ++ xs) e) (rest (without_value e) new (runs_ends first _ e r))
 
       -- memory runs out after the first tree's value
       pub left_cut : {new : S} (v : V) → Runs rules step here first (Gave v) new → Runs rules step start whole Stopped new

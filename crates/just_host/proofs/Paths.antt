@@ -5,7 +5,7 @@ use Rattle.just_value.specs.Refusal.{Refusal}
 use Rattle.just_value.specs.Outcome.{Outcome, Gave, Refused, Stopped, UnlessStopped, without_value}
 use Rattle.just_value.specs.View.{refusal, ended}
 use Rattle.just_host.specs.Question.{Question, Answer}
-use Rattle.just_host.specs.Interaction.{Note, Event, Asked, Noted, Checked, Tree, done, ask, note, bind, gives, Rules, Path, Ends, Stops, Asks, Notes, Checks, Shuts, Chain, Runs}
+use Rattle.just_host.specs.Interaction.{Note, Event, Asked, Noted, Checked, Tree, done, ask, note, bind, gives, Rules, Path, Ends, Stops, Asks, Notes, Checks, Shuts, Chain, Runs, Step}
 
 module _ {rules : Rules} where
   -- a path to a value, continued after the value
@@ -41,14 +41,14 @@ module _ {rules : Rules} where
   path_cut (Notes e p) = Notes e (path_cut p)
   path_cut (Checks p) = Checks (path_cut p)
 
-module _ {S : Type 0} (step : S → Question → Answer → S → Type 0) where
+module _ {S : Type 0} (step : Step S) where
   pub chain_append : (a b : S) (es fs : List Event) (c : S) → Chain step a es b → Chain step b fs c → Chain step a (es ++ fs) c
   chain_append a b [] fs c p q = subst (λ x. Chain step x fs c) (sym p) q
   chain_append a b (Asked x y ∷ es) fs c (m, s, p) q = (m, s, chain_append m b es fs c p q)
   chain_append a b (Noted x ∷ es) fs c p q = chain_append a b es fs c p q
   chain_append a b (Checked x v y ∷ es) fs c p q = absurd p
 
-module _ {rules : Rules} {S : Type 0} {step : S → Question → Answer → S → Type 0} where
+module _ {rules : Rules} {S : Type 0} {step : Step S} where
   -- a run without questions
   pub runs_done : {A : Type 0} {h : S} (w o : Outcome A) → UnlessStopped o w → Runs rules step h (done w) o h
   runs_done {h = h} w (Gave a) u = subst (λ x. Runs rules step h (done x) (Gave a) h) u (record { events = []; path = Ends; chain = refl })

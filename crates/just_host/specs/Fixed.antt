@@ -1,7 +1,7 @@
 -- The fixed context of a module's evaluation.
 use Rattle.std.specs.Prelude.{Bool, List, Option, Some, None, if◌then◌else◌}
 use Rattle.just_syntax.specs.Plain.{Text}
-use Rattle.just_text.specs.Path.{joined}
+use Rattle.just_text.specs.Path.{joined_paths}
 use Rattle.just_host.specs.Settings.{Config, Settings}
 
 -- The search's justfile and directory; the module's settings, unexports, source, path and directory, and whether it is
@@ -19,7 +19,7 @@ pub record Fixed : Type 0 where
   pub is_submodule : Bool
 
 abbrev pub or_joined : Text → Option Text → Text
-or_joined base (Some directory) = joined base directory
+or_joined base (Some directory) = joined_paths base directory
 or_joined base None = base
 
 -- the directory that commands run in: the module's for a submodule, otherwise the search's, joined with the one that is

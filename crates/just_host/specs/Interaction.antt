@@ -16,8 +16,8 @@ pub data Note : Type 0 where
 -- the verdict of a value check: the value passes; it does not, with a message; or memory ran out
 pub data Verdict : Type 0 where
   Passed : Verdict
-  Denied : Text → Verdict
-  Untold : Verdict
+  Rejected : Text → Verdict
+  Undecided : Verdict
 
 -- what happens along a trace
 pub data Event : Type 0 where
@@ -67,16 +67,20 @@ pub data Path {A : Type 0} (rules : Rules) : Tree A → List Event → Outcome A
   Checks : {p : Parameter} {v : Value} {next : Verdict → Tree A} {a : Verdict} {es : List Event} {o : Outcome A} → Path rules (next a) es o → Path rules (check p v next) (Checked p v a ∷ es) o
   Shuts : {x : Note} {rest : Tree A} {r : Refusal} → rules x ≡ Some r → Path rules (note x rest) [] (Refused r)
 
+-- a transition relation: a state, a question, its answer, and the next state
+abbrev pub Step : Type 0 → Type 1
+Step S = S → Question → Answer → S → Type 0
+
 -- An execution of the transition relation `step`, labelled with questions and answers: those among the events take a
 -- host's state from `old` to `new`, one after another. Nothing else is asked, and no value is checked.
-abbrev pub Chain : {S : Type 0} → (S → Question → Answer → S → Type 0) → S → List Event → S → Type 0
+abbrev pub Chain : {S : Type 0} → Step S → S → List Event → S → Type 0
 Chain step old [] new = old ≡ new
 Chain {S} step old (Asked q a ∷ events) new = (mid : S) × step old q a mid × Chain step mid events new
 Chain step old (Noted x ∷ events) new = Chain step old events new
 Chain step old (Checked p v a ∷ events) new = ⊥
 
 -- The same with a value check: each verdict is one that the check may give, and the host is not asked for it.
-abbrev pub CheckedChain : {S : Type 0} → (S → Question → Answer → S → Type 0) → (Parameter → Value → Verdict → Type 0) → S → List Event → S → Type 0
+abbrev pub CheckedChain : {S : Type 0} → Step S → (Parameter → Value → Verdict → Type 0) → S → List Event → S → Type 0
 CheckedChain step gives old [] new = old ≡ new
 CheckedChain {S} step gives old (Asked q a ∷ events) new = (mid : S) × step old q a mid × CheckedChain step gives mid events new
 CheckedChain step gives old (Noted x ∷ events) new = CheckedChain step gives old events new
@@ -84,23 +88,23 @@ CheckedChain step gives old (Checked p v a ∷ events) new = gives p v a × Chec
 
 -- The tree may behave like this: some events are a trace of it to the outcome, and their questions take the host's
 -- state from `old` to `new`.
-pub record Runs {S A : Type 0} (rules : Rules) (step : S → Question → Answer → S → Type 0) (old : S) (tree : Tree A) (outcome : Outcome A) (new : S) : Type 0 where
+pub record Runs {S A : Type 0} (rules : Rules) (step : Step S) (old : S) (tree : Tree A) (outcome : Outcome A) (new : S) : Type 0 where
   pub events : List Event
   pub path : Path rules tree events outcome
   pub chain : Chain step old events new
 
 -- The same with a value check.
-pub record RunsChecked {S A : Type 0} (rules : Rules) (step : S → Question → Answer → S → Type 0) (gives : Parameter → Value → Verdict → Type 0) (old : S) (tree : Tree A) (outcome : Outcome A) (new : S) : Type 0 where
+pub record RunsChecked {S A : Type 0} (rules : Rules) (step : Step S) (gives : Parameter → Value → Verdict → Type 0) (old : S) (tree : Tree A) (outcome : Outcome A) (new : S) : Type 0 where
   pub events : List Event
   pub path : Path rules tree events outcome
   pub chain : CheckedChain step gives old events new
 
 -- Only answered questions take the host's state from `old` to `new`.
-pub record GoesByAnswers {S : Type 0} (step : S → Question → Answer → S → Type 0) (old new : S) : Type 0 where
+pub record GoesByAnswers {S : Type 0} (step : Step S) (old new : S) : Type 0 where
   pub events : List Event
   pub chain : Chain step old events new
 
 -- The question and its answer take the host's state from `old` to `new`. Or memory runs out before it is asked, and the
 -- answer says so.
-abbrev pub AsksOnce : {S : Type 0} → (S → Question → Answer → S → Type 0) → S → Question → Answer → S → Type 0
+abbrev pub AsksOnce : {S : Type 0} → Step S → S → Question → Answer → S → Type 0
 AsksOnce step old q a new = step old q a new ⊎ ((a ≡ Failed NoMemory) × (old ≡ new))

@@ -8,8 +8,8 @@ use Rattle.just_value.specs.Refusal.{Message}
 use Rattle.just_host.specs.Question.{Blind, CommandOf, TextOf, ExistsAt, NumberOf, Variable, Read, Answer, Replied, Failed, Absent, Found, Numbered}
 
 -- the text at a key of a map
-abbrev pub text_at : {A B : Type 0} → BTreeMap (String A) (String B) → Text → Option Text
-text_at map key = option_map string_bytes (get_by_text map key)
+abbrev pub text_for_key : {A B : Type 0} → BTreeMap (String A) (String B) → Text → Option Text
+text_for_key map key = option_map string_bytes (get_by_text map key)
 
 -- what commands write, what variables hold, what files hold
 pub record Texts : Type 0 where

@@ -7,6 +7,7 @@ use Rattle.just_host.specs.Question.{Blind, CommandOf, TextOf, ExistsAt, NumberO
 use Rattle.just_host.specs.Question as asked
 use Rattle.just_host.specs.declared.recorded.TextKind.{TextKind}
 use Rattle.just_host.specs.declared.recorded.TextKind.TheVariants as kinds
+use Rattle.just_host.specs.Interaction.{Step}
 
 -- A command, its arguments if it takes any, and its environment; a question for a text, and its subject; whether
 -- something exists at a path; a number.
@@ -45,6 +46,6 @@ recorded (NumberOf q) = KeptNumber q
 
 -- The question is recorded after the others, and the inner host's answer to it is the answer. If memory runs out, it
 -- may be neither recorded nor asked.
-abbrev pub RecordsAndAsks : {S : Type 0} → (S → Question → Answer → S → Type 0) → S → List Kept → Question → Answer → S → List Kept → Type 0
+abbrev pub RecordsAndAsks : {S : Type 0} → Step S → S → List Kept → Question → Answer → S → List Kept → Type 0
 RecordsAndAsks step old kept question answer new kept' =
     (step old question answer new × (kept' ≡ kept ++ recorded question.blind ∷ [])) ⊎ ((answer ≡ Failed NoMemory) × (new ≡ old) × (kept' ≡ kept))

@@ -2,7 +2,6 @@
 use Rattle.std.specs.Prelude.{ℕ, Bool, List, map, string_bytes, Result, Ok, Err, Vec}
 use Rattle.std.specs.Borrow.{Bor}
 use Rattle.std.specs.Option.{option_map}
-use Rattle.std.specs.BTreeMap.{BTreeMap}
 use Rattle.std.specs.declared.string.String.{String}
 use Rattle.just_syntax.specs.Plain.{Text, Interpreter}
 use Rattle.just_syntax.specs.declared.out_of_memory.OutOfMemory.{OutOfMemory}
@@ -167,17 +166,17 @@ abbrev pub existence_question : Text → Question
 existence_question path = frameless (ExistsAt path)
 
 -- whether it exists, or `OutOfMemory`, as an answer
-abbrev pub found : Result Bool OutOfMemory → Answer
-found (Ok there) = Found there
-found (Err e) = Failed NoMemory
+abbrev pub existence_answer : Result Bool OutOfMemory → Answer
+existence_answer (Ok there) = Found there
+existence_answer (Err e) = Failed NoMemory
 
 abbrev pub number_question : NumberQuestion → Question
 number_question q = frameless (NumberOf q)
 
 -- a number, or `OutOfMemory`, as an answer
-abbrev pub numbered : Result ℕ OutOfMemory → Answer
-numbered (Ok n) = Numbered n
-numbered (Err e) = Failed NoMemory
+abbrev pub number_answer : Result ℕ OutOfMemory → Answer
+number_answer (Ok n) = Numbered n
+number_answer (Err e) = Failed NoMemory
 
 -- ---- recorders
 

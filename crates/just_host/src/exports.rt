@@ -28,7 +28,7 @@ pub enum EnvironmentChange<'name> {
 /// the texts are copies.
 ///
 /// The effect is the same as if, for each frame from the outermost inward, the names were removed and the frame's
-/// bindings exported (upstream's `Environment`; docs/HOST.md says what is known of it).
+/// bindings exported (upstream's `Environment`; docs/guide/hosts.md says what is known of it).
 ///
 /// # Errors
 ///

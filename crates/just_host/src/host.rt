@@ -1,24 +1,16 @@
 // The host, which answers the questions that evaluation asks.
 
 ghost use Rattle.just_host.specs.Question.{Answer, Question};
-ghost use Rattle.just_host.specs.View.{existence_question, found, number_question, numbered, question_view, replied, text_question, text_replied};
+ghost use Rattle.just_host.specs.View.{existence_question, existence_answer, number_question, number_answer, question_view, replied, text_question, text_replied};
 
 use crate::command_question::CommandQuestion;
 use crate::number_question::NumberQuestion;
 use crate::text_answer::TextAnswer;
 use crate::text_question::TextQuestion;
 use just_syntax::out_of_memory::OutOfMemory;
+pub use just_syntax::stack::{STACK_BUDGET, TRIED_STACK_BUDGET};
 use just_value::error::CommandFault;
 use std::alloc::Global;
-
-/// The stack budget of evaluation on a stack of 8 MiB, in bytes. The remaining half MiB is for the callers of
-/// evaluation, for what the innermost form calls, and for the host.
-pub const STACK_ROOM: usize = 15 * 512 * 1024;
-
-/// The stack budget of evaluation on a stack of 8 MiB, in bytes, in a program run by `rt try`. Such a program is
-/// compiled with checks, and its frames are up to six times as large. A host that runs so returns this from
-/// `stack_room`.
-pub const TRIED_STACK_ROOM: usize = 1024 * 1024;
 
 /// Answers the questions that evaluation asks.
 ///
@@ -49,7 +41,7 @@ pub trait Host {
     ///
     /// `OutOfMemory`, if there is no memory to find out. That is a transition too.
     fn exists(&mut self, alloc: Global, path: &str) -> Result<bool, OutOfMemory>
-        ensures { step self.old (existence_question path.now) (found result) self.new };
+        ensures { step self.old (existence_question path.now) (existence_answer result) self.new };
 
     /// Returns the number that a question asks for.
     ///
@@ -57,12 +49,12 @@ pub trait Host {
     ///
     /// `OutOfMemory`, if there is no memory to find out. That is a transition too.
     fn number(&mut self, alloc: Global, question: NumberQuestion) -> Result<u64, OutOfMemory>
-        ensures { step self.old (number_question question) (numbered result) self.new };
+        ensures { step self.old (number_question question) (number_answer result) self.new };
 
     /// The stack budget of evaluation, in bytes, counted from the frame of its caller. A host on a stack of another
     /// size than 8 MiB returns what suits it, and keeps a reserve for itself. No clause mentions it, since a smaller
     /// budget only makes evaluation run out of memory earlier. It is neither a question nor a transition.
-    fn stack_room(&self) -> usize {
-        STACK_ROOM
+    fn stack_budget(&self) -> usize {
+        STACK_BUDGET
     }
 }

@@ -94,7 +94,7 @@ impl<H: Host> Host for Recorder<H> {
         self.host.number(alloc, question)
     }
 
-    fn stack_room(&self) -> usize {
-        self.host.stack_room()
+    fn stack_budget(&self) -> usize {
+        self.host.stack_budget()
     }
 }

@@ -1,130 +1,156 @@
--- Under the const rules nothing is asked, and few refusals occur.
-use Rattle.std.proofs.Common.{◌≡◌, ℕ, Bool, true, false, List, if◌then◌else◌, Option, Some, None, refl, sym, subst}
-use Rattle.just_syntax.specs.Plain.{Text, Token, Expr}
-use Rattle.just_value.specs.ConstEval.{IsConstEval}
-use Rattle.just_value.specs.ConstRefusal as constants
+-- Soundness of constant evaluation: a run of the same module confirms what a const stage finds.
+use Rattle.std.proofs.Common.{◌≡◌, ◌≢◌, inl, inr, ℕ, zero, suc, ◌-◌, Bool, true, false, List, [], ◌∷◌, map, Some, None, if◌then◌else◌, refl, sym, ap, ◌∙◌, subst}
+use Rattle.just_syntax.specs.Plain.{Assignment}
+use Rattle.just_syntax.specs.Lists.{IsIn}
+use Rattle.just_syntax.proofs.Lists.{in_of, of_in}
+use Rattle.just_value.specs.ConstRefusal.{ConstRefusal, Backtick, FunctionCall, Variable}
 use Rattle.just_value.specs.Value.{Value, Names}
+use Rattle.just_value.specs.Frames.{Frames, value_in}
 use Rattle.just_value.specs.Refusal.{Refusal, Const}
-use Rattle.just_value.specs.Outcome.{Outcome, Gave, Refused, Stopped, UnlessStopped}
-use Rattle.just_host.specs.Question.{Question, Answer}
-use Rattle.just_host.specs.Interaction.{Note, Event, Read, Entered, Command, Tree, done, ask, note, check, bind, Path, Ends, Stops, Asks, Notes, Checks, Shuts, Chain, Runs}
-use Rattle.just_meaning.specs.Constant.{constant, constantly, unless_refused}
-use Rattle.just_meaning.specs.Internal.{IfRefused}
-use Rattle.just_meaning.specs.Reaches.{Mention, VariableOf, CallOf, Stands}
-use Rattle.just_meaning.specs.Meaning.{Program, Situation, Deeper, eval, named, variable}
-use Rattle.just_meaning.specs.Module.{or_override}
-use Rattle.just_laws.proofs.Forms.{OfForms, holds_eval}
+use Rattle.just_value.specs.Outcome.{Outcome, Gave, Refused, Stopped}
+use Rattle.just_host.specs.Interaction as interaction
+use Rattle.just_host.specs.Interaction.{Note, Read, Entered, Command, Event, Noted, Tree, done, note, Path, Ends, Notes, Shuts, freely}
+use Rattle.just_meaning.specs.Closings.{lexical, inside}
+use Rattle.just_meaning.specs.Constant.{constant, constantly, nowhere, unless_refused}
+use Rattle.just_meaning.specs.Internal.{IfRefused, IsFinal}
+use Rattle.just_meaning.specs.Meaning.{Program, AtLimit, eval}
+use Rattle.just_meaning.specs.Module.{Module, Block, assigned, lexically, or_override, situation_at}
+use Rattle.just_meaning.specs.Reaches.{Mention, VariableOf, CallOf, Occurs}
+use Rattle.just_meaning.specs.Stage.{Constants, Found, const_meaning}
+use Rattle.just_meaning.proofs.Distinct.{distinct_front}
+use Rattle.just_soundness.proofs.Ends.{AllEnd}
+use Rattle.just_soundness.proofs.Final.{IsFinalDeeper, final_eval, final_override}
+use Rattle.just_laws.specs.Predicted.{AreConstant, AreOfOneModule, ConstAgrees, Predicts, is_found_open, is_shut}
+use Rattle.just_laws.specs.Cone.{assignment_numbered}
+use Rattle.just_laws.proofs.Alike.{Alike, Done, Both, Same, SameCheck, UpToShut, ReadsAlike, alike_eval, alike_override}
+use Rattle.just_laws.proofs.Blocks.{AllMet, IsGiven, Met, all_met, gave_same, met_outside, never_both, some_same}
+use Rattle.just_laws.proofs.Agreed.{gave_on}
+use Rattle.just_laws.proofs.Stages as stages
+use Rattle.just_laws.proofs.Stages.{IsFound, MetConst, found_outside, is_what_was_found, stage_state}
 
--- Under the const rules the tree reaches no question and no check, and each of its refusals has this property.
-abbrev pub AllConst : {A : Type 0} → (Refusal → Type 0) → (ℕ → Bool) → Tree A → Type 0
-AllConst P is_open (done (Gave a)) = Unit {0}
-AllConst P is_open (done (Refused r)) = P r
-AllConst P is_open (done Stopped) = Unit {0}
-AllConst P is_open (ask q next) = ⊥
-AllConst P is_open (check p v next) = ⊥
-AllConst P is_open (note x rest) = constantly is_open x ≡ None → AllConst P is_open rest
+-- ---- traces
 
--- the refusals of a variable with no value have this property
-abbrev pub Fine : (Refusal → Type 0) → (ℕ → Bool) → Names → Mention → Type 0
-Fine P is_open names (VariableOf number) = (t : Token) → AllConst P is_open (variable t number names)
-Fine P is_open names (CallOf f n) = Unit {0}
+abbrev block_of : ℕ → List Event → Outcome Value → Block
+block_of n es o = record { number = n; events = es; outcome = o }
 
-module _ (P : Refusal → Type 0) (is_open : ℕ → Bool) where
-  pub const_bind : {A B : Type 0} (t : Tree A) (go : A → Tree B) → AllConst P is_open t → ((a : A) → AllConst P is_open (go a)) → AllConst P is_open (bind t go)
-  const_bind (done (Gave a)) go h k = k a
-  const_bind (done (Refused r)) go h k = h
-  const_bind (done Stopped) go h k = tt
-  const_bind (ask q next) go h k = absurd h
-  const_bind (check p v next) go h k = absurd h
-  const_bind (note x rest) go h k = λ e. const_bind rest go (h e) k
+-- any other refusal is the same in both
+predicts_refused : (is_open : ℕ → Bool) (n : ℕ) (es : List Event) (r : Refusal) → IsFinal r → AreConstant is_open es → Predicts is_open (Refused r) (block_of n es (Refused r))
+predicts_refused is_open n es (Const c) h k = absurd h
+predicts_refused is_open n es _ h k = (refl, k)
 
-  module _ (allows : OfForms P) where
-    module _ (c : Program) (d : Deeper) (s : Situation) where
-      -- a call and a command are refused before any of their parts is evaluated
-      pub const_eval : (e : Expr) → ((x : Mention) → Stands e x → Fine P is_open s.names x) → AllConst P is_open (eval c d s e)
-      const_eval = holds_eval (λ A t. AllConst P is_open t) (λ A a. tt) (λ A B t go h k. const_bind t go h k) allows
-          c d s (Fine P is_open s.names) (λ text t. λ e. absurd (cc)) (λ t es fine row. λ e. absurd (cc)) (λ number fine t. fine t)
+-- one more note that the const rules allow, before what is foretold
+predicts_note : (is_open : ℕ → Bool) (x : Note) (o : Outcome Value) (n : ℕ) (es : List Event) (p : Outcome Value) → is_shut is_open x ≡ false → Predicts is_open o (block_of n es p) → Predicts is_open o (block_of n (Noted x ∷ es) p)
+predicts_note is_open x (Gave v) n es p e h = (h.0, (e, h.1))
+predicts_note is_open x (Refused (Const c)) n es p e h = inr h
+predicts_note is_open x (Refused _) n es p e h = (h.0, (e, h.1))
+predicts_note is_open x Stopped n es p e h = tt
 
-  pub const_override : (o : Option Text) (t : Tree Value) → AllConst P is_open t → AllConst P is_open (or_override o t)
-  const_override (Some text) t h = tt
-  const_override None t h = h
+-- exactly these notes are refused by the const rules
+refused_shut : (is_open : ℕ → Bool) (x : Note) → is_shut is_open x ≡ true → (c : ConstRefusal) × (constantly is_open x ≡ Some (Const c))
+refused_shut is_open (Read t n) e = (Variable t, ap (λ b. if b then Some (Const (Variable t)) else None) e)
+refused_shut is_open (Entered t) e = (FunctionCall t, refl)
+refused_shut is_open (Command t) e = (Backtick t, refl)
 
-  -- the outcome of such a tree has this property, or is a refusal of the const rules
-  const_unless : {A : Type 0} (r : Option Refusal) (o : Outcome A) → ((s : Refusal) → r ≡ Some s → P s) → (r ≡ None → IfRefused P o) → IfRefused P (unless_refused r o)
-  const_unless (Some r) o h k = h r refl
-  const_unless None o h k = k refl
+passed_open : (is_open : ℕ → Bool) (x : Note) → is_shut is_open x ≡ false → constantly is_open x ≡ None
+passed_open is_open (Read t n) e = ap (λ b. if b then Some (Const (Variable t)) else None) e
+passed_open is_open (Entered t) e = absurd (cc)
+passed_open is_open (Command t) e = absurd (cc)
 
-  pub const_refused : {A : Type 0} (t : Tree A) → ((x : Note) (s : Refusal) → constantly is_open x ≡ Some s → P s) → AllConst P is_open t → IfRefused P (constant is_open t)
-  const_refused (done (Gave a)) shut h = tt
-  const_refused (done (Refused r)) shut h = h
-  const_refused (done Stopped) shut h = tt
-  const_refused (ask q next) shut h = absurd h
-  const_refused (check p v next) shut h = absurd h
-  const_refused (note x rest) shut h = const_unless (constantly is_open x) (constant is_open rest) (shut x) (λ e. const_refused rest shut (h e))
+module _ (one other : ℕ → Bool) (n : ℕ) where
+  predicted_note : (x : Note) (o : Outcome Value) (es : List Event) (p : Outcome Value) (b : Bool) → is_shut one x ≡ b → is_shut one x ≡ is_shut other x → (is_shut one x ≡ false → Predicts other o (block_of n es p))
+      → Predicts other (unless_refused (constantly one x) o) (block_of n (Noted x ∷ es) p)
+  predicted_note x o es p true e same h =
+      let c = refused_shut one x e in
+      subst (λ r. Predicts other (unless_refused r o) (block_of n (Noted x ∷ es) p)) (sym c.1) (inl (sym same ∙ e))
+  predicted_note x o es p false e same h = subst (λ r. Predicts other (unless_refused r o) (block_of n (Noted x ∷ es) p)) (sym (passed_open one x e)) (predicts_note other x o n es p (sym same ∙ e) (h e))
 
-  -- unless it is stopped, a trace of such a tree ends with the tree's outcome and asks nothing
-  pub const_path : {A : Type 0} (t : Tree A) {es : List Event} {o : Outcome A} → AllConst P is_open t → Path (constantly is_open) t es o → UnlessStopped o (constant is_open t)
-  const_path (done (Gave a)) h Ends = refl
-  const_path (done (Refused r)) h Ends = refl
-  const_path (done Stopped) h Ends = tt
-  const_path t h Stops = tt
-  const_path (ask q next) h (Asks p) = absurd h
-  const_path (check p v next) h (Checks q) = absurd h
-  const_path (note x rest) {o = o} h (Notes e p) = subst (λ r. UnlessStopped o (unless_refused r (constant is_open rest))) (sym e) (const_path rest (h e) p)
-  const_path (note x rest) h (Shuts {r = r} e) = subst (λ s. UnlessStopped (Refused r) (unless_refused s (constant is_open rest))) (sym e) refl
+  -- the outcome of a tree under the const rules foretells the traces of one that is alike up to what they refuse
+  predicted : {t u : Tree Value} {es : List Event} {p : Outcome Value} → Alike (UpToShut one other) t u → AllEnd (IfRefused IsFinal) u → Path freely u es p → p ≢ Stopped → Predicts other (constant one t) (block_of n es p)
+  predicted (Done {o = Gave v}) final Ends on = (refl, tt)
+  predicted (Done {o = Refused r}) final Ends on = predicts_refused other n [] r final tt
+  predicted (Done {o = Stopped}) final Ends on = tt
+  predicted (Same {x = x} {t = t} steady k) final (Notes {es = es} {o = end} e p) on = predicted_note x (constant one t) es end (is_shut one x) refl steady (λ e. predicted (k e) final p on)
+  predicted (Both whole e k) final p on = absurd whole
+  predicted (SameCheck whole k) final p on = absurd whole
+  predicted a final interaction.Stops on = absurd (on refl)
+  predicted a final (Shuts e) on = absurd (cc)
 
-  pub const_asks_nothing : {A S : Type 0} (step : S → Question → Answer → S → Type 0) (old new : S) (t : Tree A) {es : List Event} {o : Outcome A} → AllConst P is_open t → Path (constantly is_open) t es o → Chain step old es new → old ≡ new
-  const_asks_nothing step old new t h Ends chain = chain
-  const_asks_nothing step old new t h Stops chain = chain
-  const_asks_nothing step old new (ask q next) h (Asks p) chain = absurd h
-  const_asks_nothing step old new (check p v next) h (Checks q) chain = absurd h
-  const_asks_nothing step old new (note x rest) h (Notes e p) chain = const_asks_nothing step old new rest (h e) p chain
-  const_asks_nothing step old new (note x rest) h (Shuts e) chain = chain
+-- ---- no outcome of a run's tree is a refusal of the const rules
 
--- ---- constant evaluation has few refusals
+final_lexical : (c : Program) (base : Names) (n : ℕ) → IsFinalDeeper (lexical c base n)
+final_lexical c base zero = tt
+final_lexical c base (suc n) = λ f s vs. final_eval c (inside base s f vs) (lexical c base n) (final_lexical c base n) f.body
 
--- the refusal, if there is one, has this property
-abbrev pub OfSome : (Refusal → Type 0) → Option Refusal → Type 0
-OfSome P (Some r) = P r
-OfSome P None = Unit {0}
+final_assigned : (m : Module) (frames : Frames) (a : Assignment) → AllEnd (IfRefused IsFinal) (assigned lexically m frames a)
+final_assigned m frames a =
+    final_override (m.overrides a.number) _ (final_eval m.program (situation_at m.program.fixed.settings.lists frames) (lexically m frames) (final_lexical m.program (value_in frames) (m.limit - 1)) a.value)
 
-allows_all : OfForms IsConstEval
-allows_all = record { assertion = λ message t. tt; operation = λ l o r t. tt; regex = λ t. tt }
+-- ---- the blocks of a run
 
-shut_alike : (is_open : ℕ → Bool) (x : Note) (s : Refusal) → constantly is_open x ≡ Some s → IsConstEval s
-shut_alike is_open (Read t n) s e = by (is_open n) e
-  where
-    by : (b : Bool) → (if b then Some (Const (constants.Variable t)) else None) ≡ Some s → IsConstEval s
-    by true e = subst (OfSome IsConstEval) e tt
-    by false e = absurd (cc)
-shut_alike is_open (Entered t) s e = subst (OfSome IsConstEval) e tt
-shut_alike is_open (Command t) s e = subst (OfSome IsConstEval) e tt
+module _ (m : Constants) (lists : Bool) (outer : Frames) (n : Module) (others : Frames) (same : AreOfOneModule m lists outer n others) (ends : ℕ → Bool) (fs : List Found) (met : (f : Found) → IsIn fs f → MetConst m lists outer ends fs f) where
+  -- the tree of an assignment in the stage is alike to its tree in the run, up to what the const rules refuse
+  assigned_alike : (f : Found) (k : MetConst m lists outer ends fs f) (frames : Frames) → ((j : ℕ) → Occurs k.assignment.value (VariableOf (Some j)) → k.opened j ≡ false → value_in (k.frame ∷ outer) j ≡ value_in frames j)
+      → Alike (UpToShut k.opened ends) (or_override (m.overrides k.assignment.number) (const_meaning (stage_state lists outer k.frame k.opened) k.assignment.value)) (assigned lexically n frames k.assignment)
+  assigned_alike f k frames names =
+      subst (λ o. Alike (UpToShut k.opened ends) (or_override (m.overrides a.number) (const_meaning (stage_state lists outer k.frame k.opened) a.value)) (or_override o (eval n.program (lexically n frames) (situation_at n.program.fixed.settings.lists frames) a.value))) (same.overrides a.number)
+      (alike_override (m.overrides a.number) (λ free.
+      subst (λ b. Alike (UpToShut k.opened ends) (const_meaning (stage_state lists outer k.frame k.opened) a.value) (eval n.program (lexically n frames) (situation_at b frames) a.value)) same.same_lists
+      (alike_eval (UpToShut k.opened ends) nowhere n.program AtLimit (lexically n frames) (situation_at lists (k.frame ∷ outer)) (value_in frames) frames frames (λ name. Unit {0})
+      (λ text t e. absurd (cc)) (λ t i row other e reached counted h. absurd (cc)) a.value same_reads)))
+    where
+      a : Assignment
+      a = k.assignment
 
-named_alike : (is_open : ℕ → Bool) (t : Token) (o : Option Value) → AllConst IsConstEval is_open (done (named t o))
-named_alike is_open t None = tt
-named_alike is_open t (Some v) = tt
+      same_reads : (x : Mention) → Occurs k.assignment.value x → ReadsAlike (UpToShut k.opened ends) (λ name. Unit {0}) (value_in (k.frame ∷ outer)) (value_in frames) x
+      same_reads (VariableOf None) h = tt
+      same_reads (VariableOf (Some j)) h = λ t. (k.steady j h, names j h)
+      same_reads (CallOf name i) h = tt
 
-fine_alike : (is_open : ℕ → Bool) (names : Names) (x : Mention) → Fine IsConstEval is_open names x
-fine_alike is_open names (VariableOf None) = λ t. tt
-fine_alike is_open names (VariableOf (Some n)) = λ t e. named_alike is_open t (names n)
-fine_alike is_open names (CallOf f n) = tt
+  abbrev Bears : Block → Type 0
+  Bears b = (f : Found) → IsIn fs f → f.number ≡ b.number → b.outcome ≢ Stopped → Predicts ends f.outcome b
 
-pub eval_alike : (is_open : ℕ → Bool) (c : Program) (d : Deeper) (s : Situation) (e : Expr) → AllConst IsConstEval is_open (eval c d s e)
-eval_alike is_open c d s e = const_eval IsConstEval is_open allows_all c d s e (λ x h. fine_alike is_open s.names x)
+  abbrev AllBear : List Block → Type 0
+  AllBear before = (b : Block) → IsIn before b → Bears b × (value_in others b.number ≡ None)
 
--- each run of a tree that asks nothing determines the tree's outcome
-pub record IsTold {S A : Type 0} (is_open : ℕ → Bool) (t : Tree A) (o : Outcome A) (old new : S) : Type 0 where
-  pub told : UnlessStopped o (constant is_open t)
-  pub still : old ≡ new
-  pub few : IfRefused IsConstEval o
+  one_value : (before : List Block) → AllBear before → (j : ℕ) (v u : Value) → IsFound outer fs j v → IsGiven others before j u → v ≡ u
+  one_value before borne j v u (inl out) (inl out') = some_same v u (sym out ∙ same.values j ∙ out')
+  one_value before borne j v u (inl out) (inr (b, at, number, gave)) = absurd (never_both v (value_in others j) (sym (same.values j) ∙ out) (subst (λ i. value_in others i ≡ None) number (borne b at).1))
+  one_value before borne j v u (inr (f, at, number, gave)) (inl out) = absurd (never_both u (value_in outer j) (same.values j ∙ out) (subst (λ i. value_in outer i ≡ None) number (found_outside m lists outer ends fs f (met f at))))
+  one_value before borne j v u (inr (f, at, number, gave)) (inr (b, at', number', gave')) =
+      let borne_out : Predicts ends (Gave v) b = subst (λ o. Predicts ends o b) gave ((borne b at').0 f at (number ∙ sym number') (gave_on u b.outcome gave')) in
+      gave_same v u (sym borne_out.0 ∙ gave')
 
--- an outcome that equals the expected one has no further refusals
-pub unless_such : {A : Type 0} (P : Refusal → Type 0) (o w : Outcome A) → UnlessStopped o w → IfRefused P w → IfRefused P o
-unless_such P (Gave a) w e h = tt
-unless_such P (Refused r) w e h = subst (IfRefused P) (sym e) h
-unless_such P Stopped w e h = tt
+  bear_here : (before : List Block) → AllBear before → (b : Block) → Met n others before b → Bears b
+  bear_here before borne b l f at number on =
+      subst (λ o. Predicts ends o b) k.comes
+      (predicted k.opened ends b.number (assigned_alike f k (l.frame ∷ others) names) (final_assigned n (l.frame ∷ others) k.assignment) (subst (λ a. Path freely (assigned lexically n (l.frame ∷ others) a) b.events b.outcome) (sym one) l.path) on)
+    where
+      k : MetConst m lists outer ends fs f
+      k = met f at
 
-pub const_told : {S A : Type 0} {step : S → Question → Answer → S → Type 0} {old new : S} (is_open : ℕ → Bool) (t : Tree A) (o : Outcome A) → AllConst IsConstEval is_open t → Runs (constantly is_open) step old t o new → IsTold is_open t o old new
-const_told {step = step} {old = old} {new = new} is_open t o h r =
-    let told = const_path IsConstEval is_open t h r.path in
-    record { told = told; still = const_asks_nothing IsConstEval is_open step old new t h r.path r.chain; few = unless_such IsConstEval o _ told (const_refused IsConstEval is_open t (shut_alike is_open) h) }
+      one : k.assignment ≡ l.assignment
+      one = some_same k.assignment l.assignment (sym k.found ∙ ap (λ all. assignment_numbered all k.assignment.number) same.assignments ∙ ap (assignment_numbered n.assignments.all) (k.number ∙ number ∙ sym l.number) ∙ l.found)
+
+      names : (j : ℕ) → Occurs k.assignment.value (VariableOf (Some j)) → k.opened j ≡ false → value_in (k.frame ∷ outer) j ≡ value_in (l.frame ∷ others) j
+      names j h e =
+          let v = k.has j h e in
+          let u = l.reads j (inl (subst (λ a. Occurs a.value (VariableOf (Some j))) one h)) in
+          v.1 ∙ ap Some (one_value before borne j v.0 u.0 (k.given j v.0 v.1) (l.given j u.0 u.1)) ∙ sym u.1
+
+  bear_all : (before bs : List Block) → AllBear before → AllMet n others before bs → (b : Block) → IsIn bs b → Bears b
+  bear_all before [] borne h b at = absurd at
+  bear_all before (d ∷ ds) borne h b (inl here) = subst Bears here (bear_here before borne d h.0)
+  bear_all before (d ∷ ds) borne h b (inr later) = bear_all (d ∷ before) ds more h.1 b later
+    where
+      more : AllBear (d ∷ before)
+      more c (inl here) = subst (λ (x : Block). Bears x × (value_in others x.number ≡ None)) here (bear_here before borne d h.0, met_outside n others before d h.0)
+      more c (inr at) = borne c at
+
+pub const_agrees : ConstAgrees
+const_agrees = record {
+  states = λ m lists outer fs s r. is_what_was_found m lists outer r;
+  refusals = λ m lists outer fs r resolved stage. let f = stages.ends_refused m lists outer _ resolved.named stage r refl in (f.0, of_in fs f.0 f.1, f.2);
+  blocks = λ m lists outer n others fs o bs p same before resolved stage run f b at at' number on.
+      bear_all m lists outer n others same (is_found_open fs) fs (stages.all_met m lists outer before.distinct before.in_order stage) [] bs (λ c none. absurd none)
+      (all_met n others (distinct_front (map (λ a. a.number) n.assignments.all) _ resolved.distinct) resolved.in_order run) b (in_of bs b at') f (in_of fs f at) number on;
+}

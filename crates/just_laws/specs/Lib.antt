@@ -1,1 +1,5 @@
-pub mod Laws
+pub mod Decided
+pub mod Predicted
+pub mod Reordered
+pub mod Cone
+pub mod Results

@@ -1,5 +1,5 @@
 -- What a called name stands for: a built-in function is not left out, and the test of its number of arguments is right.
-use Rattle.std.proofs.Common.{nat_le, ◌≤◌, arith, ◌≡◌, ◌↔◌, ℕ, Bool, true, false, not, ◌&&◌, cond, List, [], ◌∷◌, Some, None, bytes_eq, find, length, option_map, refl, sym, ap, ◌∙◌}
+use Rattle.std.proofs.Common.{nat_le, ◌≤◌, arith, ◌≡◌, ◌↔◌, ℕ, Bool, true, false, not, cond, List, [], ◌∷◌, Some, bytes_eq, find, length, option_map, refl, sym, ap, ◌∙◌}
 use Rattle.std.specs.List.{list_all}
 use Rattle.std.proofs.lemmas.Bool.{and_parts, and_from, eqb-true, eq-eqb}
 use Rattle.std.proofs.lemmas.Bool.Decides.{nat_tests}

@@ -1,2 +1,3 @@
 pub mod Callees
 pub mod Reached
+pub mod Distinct

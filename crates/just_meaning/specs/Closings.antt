@@ -4,7 +4,7 @@ use Rattle.std.specs.Prelude.{ℕ, zero, suc, List, [], ◌∷◌}
 use Rattle.just_syntax.specs.Plain.{Token, Function}
 use Rattle.just_value.specs.Value.{Value, Names}
 use Rattle.just_value.specs.Frames.{Frame, over, value_in, with_bound, plainly_bound}
-use Rattle.just_meaning.specs.Meaning.{Program, Situation, Deeper, AtLimit, Room, eval}
+use Rattle.just_meaning.specs.Meaning.{Program, Situation, Deeper, AtLimit, WithinLimit, eval}
 
 -- a frame with these parameters bound to these values
 abbrev pub with_parameters : Frame → List (Token × ℕ) → List Value → Frame
@@ -22,9 +22,9 @@ inside names s f vs =
 -- lexical scope: a body reads its own parameters and the base, and nothing of its caller
 abbrev pub lexical : Program → Names → ℕ → Deeper
 lexical c base zero = AtLimit
-lexical c base (suc n) = Room (λ f s vs. eval c (lexical c base n) (inside base s f vs) f.body)
+lexical c base (suc n) = WithinLimit (λ f s vs. eval c (lexical c base n) (inside base s f vs) f.body)
 
 -- dynamic scope: below its own parameters a body reads the frames that its own is put on
 abbrev pub dynamic : Program → ℕ → Deeper
 dynamic c zero = AtLimit
-dynamic c (suc n) = Room (λ f s vs. eval c (dynamic c n) (inside (value_in s.below) s f vs) f.body)
+dynamic c (suc n) = WithinLimit (λ f s vs. eval c (dynamic c n) (inside (value_in s.below) s f vs) f.body)

@@ -1,13 +1,14 @@
 -- The situations of a recipe's expressions, and when what they reach is resolved.
 use Rattle.std.specs.Prelude.{◌⊎◌, ℕ, Bool, List, [], ◌∷◌, ◌++◌, map, Option, Some, None}
 use Rattle.just_syntax.specs.Plain.{Text, Token, Assignment, Attribute, Env, Expr, Function, Other, Parameter}
+use Rattle.just_syntax.specs.Lists.{IsIn}
 use Rattle.just_value.specs.Value.{Names}
 use Rattle.just_value.specs.Frames.{Frames, value_in}
 use Rattle.just_meaning.specs.Closings.{lexical}
 use Rattle.just_meaning.specs.Meaning.{Program, Situation, eval}
 use Rattle.just_meaning.specs.Parameters.{Meanings}
-use Rattle.just_meaning.specs.Reaches.{ReadsBeyond, Stands, VariableOf}
-use Rattle.just_meaning.specs.Resolved.{AllKnown, AreDistinct, HasValue, IsOneOf, parameter_numbers}
+use Rattle.just_meaning.specs.Reaches.{ReadsBeyond, Occurs, VariableOf}
+use Rattle.just_meaning.specs.Resolved.{AllKnown, AreDistinct, HasValue, parameter_numbers}
 
 -- the program, how many calls may be pending, and the situation
 pub record Here : Type 0 where
@@ -50,7 +51,7 @@ parameter_expressions (p ∷ ps) = expressions_of p ++ parameter_expressions ps
 
 -- By itself an expression reads only what is readable. Through functions it reads only what has a value in the base.
 pub record IsReadable (functions : List Function) (base : Names) (readable : ℕ → Type 0) (e : Expr) : Type 0 where
-  pub own : (n : ℕ) → Stands e (VariableOf (Some n)) → readable n
+  pub own : (n : ℕ) → Occurs e (VariableOf (Some n)) → readable n
   pub beyond : (n : ℕ) → ReadsBeyond functions e n → HasValue base n
 
 abbrev pub AllReadable : List Function → Names → (ℕ → Type 0) → List Expr → Type 0
@@ -61,7 +62,7 @@ AllReadable functions base readable (e ∷ es) = IsReadable functions base reada
 abbrev pub AreReadableInTurn : List Function → Names → Names → List ℕ → List Parameter → Type 0
 AreReadableInTurn functions base names earlier [] = Unit {0}
 AreReadableInTurn functions base names earlier (p ∷ ps) =
-    AllReadable functions base (λ n. IsOneOf earlier n ⊎ HasValue names n) (expressions_of p) × AreReadableInTurn functions base names (p.number ∷ earlier) ps
+    AllReadable functions base (λ n. IsIn earlier n ⊎ HasValue names n) (expressions_of p) × AreReadableInTurn functions base names (p.number ∷ earlier) ps
 
 -- The numbers of assignments and of all parameters are distinct, no parameter is bound outside, every variable has a
 -- number, and every call has as many arguments as its name takes. What attributes and expressions read is bound in
@@ -69,7 +70,7 @@ AreReadableInTurn functions base names earlier (p ∷ ps) =
 -- body reads beyond its own parameters is bound in the base.
 pub record IsResolvedHere (functions : List Function) (assignments : List Assignment) (base frames : Frames) (attributes : List (Attribute × Token)) (parameters : List Parameter) (expressions : List Expr) : Type 0 where
   pub distinct : AreDistinct (map (λ a. a.number) assignments ++ parameter_numbers functions ++ map (λ p. p.number) parameters)
-  pub unbound : (n : ℕ) → IsOneOf (parameter_numbers functions ++ map (λ p. p.number) parameters) n → HasValue (value_in frames) n ⊎ HasValue (value_in base) n → ⊥
+  pub unbound : (n : ℕ) → IsIn (parameter_numbers functions ++ map (λ p. p.number) parameters) n → HasValue (value_in frames) n ⊎ HasValue (value_in base) n → ⊥
   pub known : AllKnown functions (attribute_expressions attributes ++ parameter_expressions parameters ++ expressions)
   pub bodies : AllKnown functions (map (λ f. f.body) functions)
   pub readable : AllReadable functions (value_in base) (HasValue (value_in frames)) (attribute_expressions attributes ++ expressions)

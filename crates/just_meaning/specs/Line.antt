@@ -13,12 +13,12 @@ abbrev pub string : (Expr → Tree Value) → StringContext → Expr → Tree Te
 string means context e = bind (means e) (λ v. done (text_in context v))
 
 -- Text as written, with `{{{{` for `{{`. If it continues a line, its leading white space is dropped.
-abbrev pub written : Bool → Text → Text
-written continues text = let t = replaced text (codes "{{{{") (codes "{{") in if continues then trim_start t else t
+abbrev pub fragment_text : Bool → Text → Text
+fragment_text continues text = let t = replaced text (codes "{{{{") (codes "{{") in if continues then trim_start t else t
 
 -- the text of a fragment, or its interpolation, joined
 abbrev pub fragment : (Expr → Tree Value) → Bool → Fragment → Tree Text
-fragment means continues (TextFragment t) = gives (written continues t.lexeme)
+fragment means continues (TextFragment t) = gives (fragment_text continues t.lexeme)
 fragment means continues (Interpolation e) = bind (means e) (λ v. gives (joined v))
 
 -- The text of a line: its fragments in order. The first may continue the line before.

@@ -47,7 +47,7 @@ pub record Situation : Type 0 where
 -- The fuel of calls: at the recursion limit a call is refused; otherwise a body may be evaluated.
 pub data Deeper : Type 0 where
   AtLimit : Deeper
-  Room : (Function → Situation → List Value → Tree Value) → Deeper
+  WithinLimit : (Function → Situation → List Value → Tree Value) → Deeper
 
 -- the value of a name, or a refusal if it has none
 abbrev pub named : Token → Option Value → Outcome Value
@@ -72,11 +72,11 @@ answered t (Failed f) = faulted t f
 answered t _ = Stopped
 
 -- what a command expression evaluates to: its text in backticks in a dry run, else the host's answer
-abbrev pub written : Fixed → List (Text × Text) → Frames → Text → Token → Tree Value
-written f environment shown text t = if f.config.dry_run then gives (((96 ∷ text) ++ 96 ∷ []) ∷ []) else ask (command_question f environment shown text None) (λ a. done (answered t a))
+abbrev pub command_value : Fixed → List (Text × Text) → Frames → Text → Token → Tree Value
+command_value f environment shown text t = if f.config.dry_run then gives (((96 ∷ text) ++ 96 ∷ []) ∷ []) else ask (command_question f environment shown text None) (λ a. done (answered t a))
 
 abbrev pub command : Fixed → Situation → Text → Token → Tree Value
-command f s text t = note (Command t) (written f s.environment s.shown text t)
+command f s text t = note (Command t) (command_value f s.environment s.shown text t)
 
 -- a value as a text argument of a function: its one element
 abbrev pub one_text : Token → Value → Tree Value
@@ -116,7 +116,7 @@ texts_of f t i v = argument (is_text f i) t v
 -- recursion limit, then for their number.
 abbrev pub called : Program → Token → Callee → Deeper → Situation → ℕ → Row → Tree Value
 called c t (Defined f) AtLimit s n row = refuses (refusal.RecursionLimit f.name)
-called c t (Defined f) (Room run) s n row = if nat_eq n (length f.parameters) then bind (row as_it_is) (run f s) else refuses (Internal (miscounted_text t.lexeme) t)
+called c t (Defined f) (WithinLimit run) s n row = if nat_eq n (length f.parameters) then bind (row as_it_is) (run f s) else refuses (Internal (miscounted_text t.lexeme) t)
 called c t (BuiltIn f) d s n row = if accepts (BuiltIn f) n then bind (row (texts_of f t)) (built_in_call c s t f) else refuses (Internal (miscounted_text t.lexeme) t)
 called c t LeftOut d s n row = refuses (refusal.LeftOut t)
 called c t Unknown d s n row = refuses (Internal (unknown_function_text t.lexeme) t)

@@ -2,15 +2,15 @@
 use Rattle.std.specs.Prelude.{◌≡◌, ℕ, Bool, true, false, ◌||◌, ◌-◌, List, [], ◌∷◌, ◌++◌, Option, Some, None}
 use Rattle.just_syntax.specs.Plain.{Text, Token, Assignment}
 use Rattle.just_value.specs.Value.{Value}
-use Rattle.just_value.specs.Frames.{Bound, Frames, innermost, value_in, bound_in_front}
+use Rattle.just_value.specs.Frames.{Bound, Frames, innermost, value_in, bound_innermost}
 use Rattle.just_value.specs.Refusal.{Refusal, Internal}
 use Rattle.just_value.specs.Outcome.{Outcome, Gave, Refused, Stopped}
-use Rattle.just_host.specs.Question.{Question, Answer}
-use Rattle.just_host.specs.Interaction.{Event, Tree, gives, Path, Chain, freely}
+use Rattle.just_host.specs.Interaction.{Event, Tree, gives, Path, Chain, freely, Step}
 use Rattle.just_meaning.specs.Assignments.{Assignments, assignment_at}
 use Rattle.just_meaning.specs.Messages.{unknown_assignment_text}
 use Rattle.just_meaning.specs.Meaning.{Program, Situation, Deeper, eval}
 use Rattle.just_meaning.specs.Closings.{lexical, dynamic}
+use Rattle.just_meaning.specs.Resolved.{IsResolved}
 
 -- the inputs of a run besides its frames
 pub record Module : Type 0 where
@@ -26,6 +26,14 @@ situation_at lists frames = record { names = value_in frames; environment = []; 
 -- the binding of an assignment
 abbrev pub bound_of : Bool → Assignment → Value → Bound
 bound_of export a v = record { attributes = []; eager = a.eager; export = a.export || export; file_depth = 0; name = a.name; number = a.number; prelude = false; private = a.private; value = v }
+
+-- the binding of an assignment of a module
+abbrev pub bound_in : Module → Assignment → Value → Bound
+bound_in m = bound_of m.program.fixed.settings.export
+
+-- what evaluation of the module's assignments reads is resolved
+abbrev pub IsResolvedModule : Module → Frames → Type 0
+IsResolvedModule m = IsResolved m.program.functions m.assignments
 
 -- an override is one element; without one the expression is evaluated
 abbrev pub or_override : Option Text → Tree Value → Tree Value
@@ -77,7 +85,7 @@ pub data Run (closing : Closing) (m : Module) : Frames → List Token → List B
   Skips : {frames : Frames} {t : Token} {left : List Token} {bs : List Block} {o : Outcome Frames} → (a : Assignment) (b : Bound) → assignment_at m.assignments t.lexeme ≡ Some a → m.assignments.referenced a.number ≡ true → innermost a.number frames ≡ Some b → Run closing m frames left bs o → Run closing m frames (t ∷ left) bs o
   -- its value is bound
   Binds : {frames : Frames} {t : Token} {left : List Token} {bs : List Block} {o : Outcome Frames} → (a : Assignment) (es : List Event) (v : Value) → IsTaken m frames t a → Path freely (assigned closing m frames a) es (Gave v)
-      → Run closing m (bound_in_front frames (bound_of m.program.fixed.settings.export a v)) left bs o → Run closing m frames (t ∷ left) (record { number = a.number; events = es; outcome = Gave v } ∷ bs) o
+      → Run closing m (bound_innermost frames (bound_of m.program.fixed.settings.export a v)) left bs o → Run closing m frames (t ∷ left) (record { number = a.number; events = es; outcome = Gave v } ∷ bs) o
   -- it is refused
   Breaks : {frames : Frames} {t : Token} {left : List Token} → (a : Assignment) (es : List Event) (r : Refusal) → IsTaken m frames t a → Path freely (assigned closing m frames a) es (Refused r)
       → Run closing m frames (t ∷ left) (record { number = a.number; events = es; outcome = Refused r } ∷ []) (Refused r)
@@ -86,7 +94,7 @@ pub data Run (closing : Closing) (m : Module) : Frames → List Token → List B
       → Run closing m frames (t ∷ left) (record { number = a.number; events = es; outcome = Stopped } ∷ []) Stopped
 
 -- Some blocks form a run to the outcome, and their questions take the host's state from `old` to `new`.
-pub record Ran {S : Type 0} (step : S → Question → Answer → S → Type 0) (old : S) (closing : Closing) (m : Module) (frames : Frames) (names : List Token) (outcome : Outcome Frames) (new : S) : Type 0 where
+pub record Ran {S : Type 0} (step : Step S) (old : S) (closing : Closing) (m : Module) (frames : Frames) (names : List Token) (outcome : Outcome Frames) (new : S) : Type 0 where
   pub blocks : List Block
   pub run : Run closing m frames names blocks outcome
   pub chain : Chain step old (events_of blocks) new

@@ -9,10 +9,10 @@ use Rattle.just_syntax.specs.StringContext.{EnvKey}
 use Rattle.just_syntax.specs.declared.parameter_kind.ParameterKind.{ParameterKind}
 use Rattle.just_syntax.specs.declared.parameter_kind.ParameterKind.TheVariants.{Star}
 use Rattle.just_value.specs.Value.{Value, joined}
-use Rattle.just_value.specs.Frames.{Bound, Frame, Frames, bound_in_front, value_in}
+use Rattle.just_value.specs.Frames.{Bound, Frame, Frames, bound_innermost, value_in}
 use Rattle.just_value.specs.Refusal.{Check, EmptyListArgument, Internal}
 use Rattle.just_value.specs.Outcome.{Outcome, Gave, Refused, Stopped}
-use Rattle.just_host.specs.Interaction.{Denied, Passed, Tree, Untold, Verdict, bind, check, done, gives, refuses}
+use Rattle.just_host.specs.Interaction.{Rejected, Passed, Tree, Undecided, Verdict, bind, check, done, gives, refuses}
 use Rattle.just_meaning.specs.Line.{string}
 use Rattle.just_meaning.specs.Meaning.{Situation}
 use Rattle.just_meaning.specs.Messages.{mismatched_text}
@@ -68,8 +68,8 @@ valued means is_dependency recipe p (x ∷ xs) = argument_or_value means is_depe
 -- the outcome of a value check
 abbrev pub judged : Parameter → Value → Verdict → Outcome Value
 judged p v Passed = Gave v
-judged p v (Denied message) = Refused (Check p.name.lexeme message)
-judged p v Untold = Stopped
+judged p v (Rejected message) = Refused (Check p.name.lexeme message)
+judged p v Undecided = Stopped
 
 -- the value of a parameter, after the check
 abbrev pub checked : (Expr → Tree Value) → Bool → Text → Parameter → Value → Tree Value
@@ -100,7 +100,7 @@ seeing frames s = record s { names = value_in frames; shown = frames }
 abbrev pub bindings : Meanings → Text → Situation → List Text → List Parameter → List Value → Tree Arguments
 bindings means recipe s words (p ∷ ps) (argument ∷ arguments) =
     bind (checked (means s) s.is_dependency recipe p argument)
-    (λ v. bindings means recipe (seeing (bound_in_front s.shown (parameter_bound s.lists p v)) s) (words ++ words_of p v) ps arguments)
+    (λ v. bindings means recipe (seeing (bound_innermost s.shown (parameter_bound s.lists p v)) s) (words ++ words_of p v) ps arguments)
 bindings means recipe s words _ _ = gives (record { frames = s.shown; words = words; environment = s.environment })
 
 -- The attributes first, then the number of arguments, then the parameters.

@@ -14,34 +14,34 @@ pub data Mention : Type 0 where
 
 -- the variables and the calls that occur in an expression
 abbrev mutual
-  pub Stands : Expr → Mention → Type 0
-  Stands (And l r) x = Stands l x ⊎ Stands r x
-  Stands (Assert e m t) x = Stands e x ⊎ Stands m x
-  Stands (AssertOnly e t) x = Stands e x
-  Stands (Backtick text t) x = ⊥
-  Stands (Call t es) x = (CallOf t.lexeme (count es) ≡ x) ⊎ StandsIn es x
-  Stands (Comparison l o r t) x = Stands l x ⊎ Stands r x
-  Stands (Concatenation l t r) x = Stands l x ⊎ Stands r x
-  Stands (Conditional e a b) x = Stands e x ⊎ Stands a x ⊎ Stands b x
-  Stands (ConditionalOnly e a) x = Stands e x ⊎ Stands a x
-  Stands (FormatString start pieces) x = StandsInPieces pieces x
-  Stands (Group e) x = Stands e x
-  Stands (Join l t r) x = Stands l x ⊎ Stands r x
-  Stands (JoinOnly t r) x = Stands r x
-  Stands (ListOf es t) x = StandsIn es x
-  Stands (ListConcatenation l t r) x = Stands l x ⊎ Stands r x
-  Stands (Not e) x = Stands e x
-  Stands (Or l r) x = Stands l x ⊎ Stands r x
-  Stands (StringLiteral literal) x = ⊥
-  Stands (Variable t number) x = VariableOf number ≡ x
+  pub Occurs : Expr → Mention → Type 0
+  Occurs (And l r) x = Occurs l x ⊎ Occurs r x
+  Occurs (Assert e m t) x = Occurs e x ⊎ Occurs m x
+  Occurs (AssertOnly e t) x = Occurs e x
+  Occurs (Backtick text t) x = ⊥
+  Occurs (Call t es) x = (CallOf t.lexeme (count es) ≡ x) ⊎ OccursIn es x
+  Occurs (Comparison l o r t) x = Occurs l x ⊎ Occurs r x
+  Occurs (Concatenation l t r) x = Occurs l x ⊎ Occurs r x
+  Occurs (Conditional e a b) x = Occurs e x ⊎ Occurs a x ⊎ Occurs b x
+  Occurs (ConditionalOnly e a) x = Occurs e x ⊎ Occurs a x
+  Occurs (FormatString start pieces) x = OccursInPieces pieces x
+  Occurs (Group e) x = Occurs e x
+  Occurs (Join l t r) x = Occurs l x ⊎ Occurs r x
+  Occurs (JoinOnly t r) x = Occurs r x
+  Occurs (ListOf es t) x = OccursIn es x
+  Occurs (ListConcatenation l t r) x = Occurs l x ⊎ Occurs r x
+  Occurs (Not e) x = Occurs e x
+  Occurs (Or l r) x = Occurs l x ⊎ Occurs r x
+  Occurs (StringLiteral literal) x = ⊥
+  Occurs (Variable t number) x = VariableOf number ≡ x
 
-  pub StandsIn : Exprs → Mention → Type 0
-  StandsIn Nil x = ⊥
-  StandsIn (Cons e es) x = Stands e x ⊎ StandsIn es x
+  pub OccursIn : Exprs → Mention → Type 0
+  OccursIn Nil x = ⊥
+  OccursIn (Cons e es) x = Occurs e x ⊎ OccursIn es x
 
-  pub StandsInPieces : Pieces → Mention → Type 0
-  StandsInPieces NoPiece x = ⊥
-  StandsInPieces (Piece e literal pieces) x = Stands e x ⊎ StandsInPieces pieces x
+  pub OccursInPieces : Pieces → Mention → Type 0
+  OccursInPieces NoPiece x = ⊥
+  OccursInPieces (Piece e literal pieces) x = Occurs e x ⊎ OccursInPieces pieces x
 
 -- the number is that of one of these parameters
 abbrev pub IsAmong : List (Token × ℕ) → ℕ → Type 0
@@ -50,8 +50,8 @@ IsAmong (p ∷ ps) n = (p.1 ≡ n) ⊎ IsAmong ps n
 
 -- the functions that are called, and those that their bodies call
 pub data Reaches (functions : List Function) : Expr → Text → Type 0 where
-  Here : {e : Expr} {name : Text} → (n : ℕ) → Stands e (CallOf name n) → Reaches functions e name
-  Later : {e : Expr} {further : Text} → (name : Text) (n : ℕ) → Stands e (CallOf name n) → (f : Function) → function_at functions name ≡ Some f → Reaches functions f.body further → Reaches functions e further
+  Here : {e : Expr} {name : Text} → (n : ℕ) → Occurs e (CallOf name n) → Reaches functions e name
+  Later : {e : Expr} {further : Text} → (name : Text) (n : ℕ) → Occurs e (CallOf name n) → (f : Function) → function_at functions name ≡ Some f → Reaches functions f.body further → Reaches functions e further
 
 -- the number is read in the body of a reached function and is not its own parameter's
 pub record ReadsBeyond (functions : List Function) (e : Expr) (n : ℕ) : Type 0 where
@@ -59,9 +59,9 @@ pub record ReadsBeyond (functions : List Function) (e : Expr) (n : ℕ) : Type 0
   pub function : Function
   pub reached : Reaches functions e name
   pub found : function_at functions name ≡ Some function
-  pub stands : Stands function.body (VariableOf (Some n))
+  pub occurs : Occurs function.body (VariableOf (Some n))
   pub beyond : IsAmong function.parameters n → ⊥
 
 -- what an expression reads, by itself and through functions
 abbrev pub Reads : List Function → Expr → ℕ → Type 0
-Reads functions e n = Stands e (VariableOf (Some n)) ⊎ ReadsBeyond functions e n
+Reads functions e n = Occurs e (VariableOf (Some n)) ⊎ ReadsBeyond functions e n

@@ -1,11 +1,12 @@
 -- When a module is resolved.
 use Rattle.std.specs.Prelude.{◌≡◌, ◌⊎◌, ℕ, true, List, [], ◌∷◌, ◌++◌, map, Option, Some, None, if◌then◌else◌}
 use Rattle.just_syntax.specs.Plain.{Token, Assignment, Function, Expr}
+use Rattle.just_syntax.specs.Lists.{IsIn}
 use Rattle.just_value.specs.Value.{Value, Names}
 use Rattle.just_value.specs.Frames.{Frames, value_in}
 use Rattle.just_meaning.specs.Assignments.{Assignments, assignment_at}
 use Rattle.just_meaning.specs.Callee.{Accepts, callee}
-use Rattle.just_meaning.specs.Reaches.{Mention, VariableOf, CallOf, Stands, Reads}
+use Rattle.just_meaning.specs.Reaches.{Mention, VariableOf, CallOf, Occurs, Reads}
 
 -- the variable has a number, or the called name takes this many arguments
 abbrev pub IsKnown : List Function → Mention → Type 0
@@ -16,16 +17,12 @@ IsKnown functions (CallOf name n) = Accepts (callee functions name) n
 -- everything that occurs in these expressions is known
 abbrev pub AllKnown : List Function → List Expr → Type 0
 AllKnown functions [] = Unit {0}
-AllKnown functions (e ∷ es) = ((x : Mention) → Stands e x → IsKnown functions x) × AllKnown functions es
-
-abbrev pub IsOneOf : List ℕ → ℕ → Type 0
-IsOneOf [] n = ⊥
-IsOneOf (m ∷ ms) n = (m ≡ n) ⊎ IsOneOf ms n
+AllKnown functions (e ∷ es) = ((x : Mention) → Occurs e x → IsKnown functions x) × AllKnown functions es
 
 -- no number occurs twice
 abbrev pub AreDistinct : List ℕ → Type 0
 AreDistinct [] = Unit {0}
-AreDistinct (n ∷ ns) = (IsOneOf ns n → ⊥) × AreDistinct ns
+AreDistinct (n ∷ ns) = (IsIn ns n → ⊥) × AreDistinct ns
 
 -- the numbers of all parameters
 abbrev pub parameter_numbers : List Function → List ℕ
@@ -50,14 +47,14 @@ with_taken assignments (Some a) taken = if assignments.referenced a.number then 
 abbrev pub AreInOrder : List Function → Assignments → Frames → List ℕ → List Token → Type 0
 AreInOrder functions assignments outer taken [] = Unit {0}
 AreInOrder functions assignments outer taken (t ∷ left) =
-    ((a : Assignment) → assignment_at assignments t.lexeme ≡ Some a → assignments.referenced a.number ≡ true → (n : ℕ) → Reads functions a.value n → IsOneOf taken n ⊎ HasValue (value_in outer) n)
+    ((a : Assignment) → assignment_at assignments t.lexeme ≡ Some a → assignments.referenced a.number ≡ true → (n : ℕ) → Reads functions a.value n → IsIn taken n ⊎ HasValue (value_in outer) n)
     × AreInOrder functions assignments outer (with_taken assignments (assignment_at assignments t.lexeme) taken) left
 
 -- Numbers are distinct, no parameter is bound outside, every variable has a number, every call has as many arguments as
 -- its name takes, the order names only assignments, and everything is taken before it is read.
 pub record IsResolved (functions : List Function) (assignments : Assignments) (outer : Frames) : Type 0 where
   pub distinct : AreDistinct (map (λ a. a.number) assignments.all ++ parameter_numbers functions)
-  pub unbound : (n : ℕ) → IsOneOf (parameter_numbers functions) n → HasValue (value_in outer) n → ⊥
+  pub unbound : (n : ℕ) → IsIn (parameter_numbers functions) n → HasValue (value_in outer) n → ⊥
   pub values : AllKnown functions (map (λ a. a.value) assignments.all)
   pub bodies : AllKnown functions (map (λ f. f.body) functions)
   pub named : AreAssignments assignments assignments.order
@@ -67,7 +64,7 @@ pub record IsResolved (functions : List Function) (assignments : Assignments) (o
 
 -- each variable in an expression has a number; there is no condition on the names that are called
 abbrev pub IsNumbered : Expr → Type 0
-IsNumbered e = Stands e (VariableOf None) → ⊥
+IsNumbered e = Occurs e (VariableOf None) → ⊥
 
 abbrev pub AllNumbered : List Expr → Type 0
 AllNumbered [] = Unit {0}

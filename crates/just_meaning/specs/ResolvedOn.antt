@@ -3,17 +3,17 @@ use Rattle.std.specs.Prelude.{◌≡◌, ◌⊎◌, ℕ, true, List, [], ◌∷�
 use Rattle.just_syntax.specs.Plain as plain
 use Rattle.just_syntax.specs.Plain.{Expr, Interpreter, Set}
 use Rattle.just_value.specs.Frames.{value_in}
-use Rattle.just_meaning.specs.Reaches.{Stands, VariableOf}
+use Rattle.just_meaning.specs.Reaches.{Occurs, VariableOf}
 use Rattle.just_meaning.specs.Resolved.{HasValue, IsNumbered}
-use Rattle.just_meaning.specs.Stage.{Standing}
+use Rattle.just_meaning.specs.Stage.{StageState}
 
 -- Each variable in the expression has a number that is bound or open. There is no condition on the names that are
 -- called.
-pub record IsResolvedOn (s : Standing) (e : Expr) : Type 0 where
+pub record IsResolvedOn (s : StageState) (e : Expr) : Type 0 where
   pub numbered : IsNumbered e
-  pub known : (n : ℕ) → Stands e (VariableOf (Some n)) → HasValue (value_in s.frames) n ⊎ (s.is_open n ≡ true)
+  pub known : (n : ℕ) → Occurs e (VariableOf (Some n)) → HasValue (value_in s.frames) n ⊎ (s.is_open n ≡ true)
 
-abbrev pub AllResolvedOn : Standing → List Expr → Type 0
+abbrev pub AllResolvedOn : StageState → List Expr → Type 0
 AllResolvedOn s [] = Unit {0}
 AllResolvedOn s (e ∷ es) = IsResolvedOn s e × AllResolvedOn s es
 

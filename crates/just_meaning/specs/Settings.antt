@@ -18,8 +18,8 @@ abbrev pub text_in : StringContext → Value → Outcome Text
 text_in context (text ∷ []) = Gave text
 text_in context v = Refused (ListInStringContext context v)
 
-abbrev pub string : Evaluates → StringContext → Expr → Outcome Text
-string evaluates context e = and_then (evaluates e) (text_in context)
+abbrev pub const_string : Evaluates → StringContext → Expr → Outcome Text
+const_string evaluates context e = and_then (evaluates e) (text_in context)
 
 -- the elements of all, in their order
 abbrev pub elements : Evaluates → List Expr → Outcome Value
@@ -66,9 +66,9 @@ with_setting evaluates s name (plain.DotenvFilename e) = and_then (evaluates e) 
 with_setting evaluates s name (plain.DotenvPath e) = and_then (evaluates e) (λ v. Gave (record s { dotenv_path = v }))
 with_setting evaluates s name (plain.ScriptInterpreter i) = and_then (interpreter evaluates name i) (λ command. Gave (record s { script_interpreter = Some command }))
 with_setting evaluates s name (plain.Shell i) = and_then (interpreter evaluates name i) (λ command. Gave (record s { shell = Some command }))
-with_setting evaluates s name (plain.Tempdir e) = and_then (string evaluates (contexts.Setting name) e) (λ text. Gave (record s { tempdir = Some text }))
+with_setting evaluates s name (plain.Tempdir e) = and_then (const_string evaluates (contexts.Setting name) e) (λ text. Gave (record s { tempdir = Some text }))
 with_setting evaluates s name (plain.WindowsShell i) = and_then (interpreter evaluates name i) (λ command. Gave (record s { windows_shell = Some command }))
-with_setting evaluates s name (plain.WorkingDirectory e) = and_then (string evaluates (contexts.Setting name) e) (λ text. Gave (record s { working_directory = Some text }))
+with_setting evaluates s name (plain.WorkingDirectory e) = and_then (const_string evaluates (contexts.Setting name) e) (λ text. Gave (record s { working_directory = Some text }))
 with_setting evaluates s name x = Gave (kept s x)
 
 -- settings with several more, one after another

@@ -2,7 +2,7 @@
 use Rattle.std.specs.Prelude.{◌≡◌, ℕ, Bool, true, false, ◌||◌, List, [], ◌∷◌, Option, Some, None, nat_eq}
 use Rattle.just_syntax.specs.Plain.{Text, Token, Expr, Assignment}
 use Rattle.just_value.specs.Value.{Value}
-use Rattle.just_value.specs.Frames.{Bound, Frames, innermost, bound_in_front}
+use Rattle.just_value.specs.Frames.{Bound, Frames, innermost, bound_innermost}
 use Rattle.just_value.specs.ConstRefusal.{ConstRefusal}
 use Rattle.just_value.specs.Refusal.{Refusal, Const, Internal}
 use Rattle.just_value.specs.Outcome.{Outcome, Gave, Refused, Stopped}
@@ -20,38 +20,38 @@ pub record Constants : Type 0 where
   pub overrides : ℕ → Option Text
 
 -- the state of a const stage: whether lists are on, the frames with the settled values so far, and the open numbers
-pub record Standing : Type 0 where
+pub record StageState : Type 0 where
   pub lists : Bool
   pub frames : Frames
   pub is_open : ℕ → Bool
 
 -- nothing is settled, and nothing is open
-abbrev pub at_start : Bool → Frames → Standing
+abbrev pub at_start : Bool → Frames → StageState
 at_start lists outer = record { lists = lists; frames = [] ∷ outer; is_open = λ n. false }
 
 -- one more number is open
-abbrev pub with_open : Standing → ℕ → Standing
+abbrev pub with_open : StageState → ℕ → StageState
 with_open s n = record { lists = s.lists; frames = s.frames; is_open = λ m. nat_eq m n || s.is_open m }
 
 -- one more number is settled
-abbrev pub with_settled : Standing → Bound → Standing
-with_settled s b = record { lists = s.lists; frames = bound_in_front s.frames b; is_open = s.is_open }
+abbrev pub with_settled : StageState → Bound → StageState
+with_settled s b = record { lists = s.lists; frames = bound_innermost s.frames b; is_open = s.is_open }
 
 -- What an expression means without a context: its usual tree, with nothing to call.
-abbrev pub const_meaning : Standing → Expr → Tree Value
+abbrev pub const_meaning : StageState → Expr → Tree Value
 const_meaning s e = eval nowhere AtLimit (situation_at s.lists s.frames) e
 
 -- The outcome of an expression before any run. It is refused where it would enter a call, run a command or read an open
 -- number.
-abbrev pub const_value : Standing → Expr → Outcome Value
+abbrev pub const_value : StageState → Expr → Outcome Value
 const_value s e = constant s.is_open (const_meaning s e)
 
 -- the outcome of an assignment: an override is one element; without one the expression is evaluated
-abbrev pub const_assigned : Constants → Standing → Assignment → Outcome Value
+abbrev pub const_assigned : Constants → StageState → Assignment → Outcome Value
 const_assigned m s a = constant s.is_open (or_override (m.overrides a.number) (const_meaning s a.value))
 
 -- the name is that of an assignment that is referenced and neither bound nor open
-pub record IsNew (m : Constants) (s : Standing) (t : Token) (a : Assignment) : Type 0 where
+pub record IsNew (m : Constants) (s : StageState) (t : Token) (a : Assignment) : Type 0 where
   pub found : assignment_at m.assignments t.lexeme ≡ Some a
   pub referenced : m.assignments.referenced a.number ≡ true
   pub unbound : innermost a.number s.frames ≡ None
@@ -64,24 +64,24 @@ pub record Found : Type 0 where
 
 -- A const stage over the assignments with these names: the outcome of each one that is evaluated, and the standing at
 -- the end. If memory runs out, it may stop at any point.
-pub data Stage (m : Constants) : Standing → List Token → List Found → Outcome Standing → Type 0 where
-  Finished : {s : Standing} → Stage m s [] [] (Gave s)
-  Stops : {s : Standing} {left : List Token} → Stage m s left [] Stopped
+pub data Stage (m : Constants) : StageState → List Token → List Found → Outcome StageState → Type 0 where
+  Finished : {s : StageState} → Stage m s [] [] (Gave s)
+  Stops : {s : StageState} {left : List Token} → Stage m s left [] Stopped
   -- there is no such assignment
-  Unknown : {s : Standing} {t : Token} {left : List Token} → assignment_at m.assignments t.lexeme ≡ None → Stage m s (t ∷ left) [] (Refused (Internal (unknown_assignment_text t.lexeme) t))
+  Unknown : {s : StageState} {t : Token} {left : List Token} → assignment_at m.assignments t.lexeme ≡ None → Stage m s (t ∷ left) [] (Refused (Internal (unknown_assignment_text t.lexeme) t))
   -- it is not referenced
-  Passes : {s : Standing} {t : Token} {left : List Token} {fs : List Found} {o : Outcome Standing} → (a : Assignment) → assignment_at m.assignments t.lexeme ≡ Some a → m.assignments.referenced a.number ≡ false → Stage m s left fs o → Stage m s (t ∷ left) fs o
+  Passes : {s : StageState} {t : Token} {left : List Token} {fs : List Found} {o : Outcome StageState} → (a : Assignment) → assignment_at m.assignments t.lexeme ≡ Some a → m.assignments.referenced a.number ≡ false → Stage m s left fs o → Stage m s (t ∷ left) fs o
   -- it is already bound
-  Skips : {s : Standing} {t : Token} {left : List Token} {fs : List Found} {o : Outcome Standing} → (a : Assignment) (b : Bound) → assignment_at m.assignments t.lexeme ≡ Some a → m.assignments.referenced a.number ≡ true → innermost a.number s.frames ≡ Some b → Stage m s left fs o → Stage m s (t ∷ left) fs o
+  Skips : {s : StageState} {t : Token} {left : List Token} {fs : List Found} {o : Outcome StageState} → (a : Assignment) (b : Bound) → assignment_at m.assignments t.lexeme ≡ Some a → m.assignments.referenced a.number ≡ true → innermost a.number s.frames ≡ Some b → Stage m s left fs o → Stage m s (t ∷ left) fs o
   -- it is already open
-  StaysOpen : {s : Standing} {t : Token} {left : List Token} {fs : List Found} {o : Outcome Standing} → (a : Assignment) → assignment_at m.assignments t.lexeme ≡ Some a → m.assignments.referenced a.number ≡ true → s.is_open a.number ≡ true → Stage m s left fs o → Stage m s (t ∷ left) fs o
+  StaysOpen : {s : StageState} {t : Token} {left : List Token} {fs : List Found} {o : Outcome StageState} → (a : Assignment) → assignment_at m.assignments t.lexeme ≡ Some a → m.assignments.referenced a.number ≡ true → s.is_open a.number ≡ true → Stage m s left fs o → Stage m s (t ∷ left) fs o
   -- it is settled: its value is bound
-  Settles : {s : Standing} {t : Token} {left : List Token} {fs : List Found} {o : Outcome Standing} → (a : Assignment) (v : Value) → IsNew m s t a → const_assigned m s a ≡ Gave v → Stage m (with_settled s (bound_of false a v)) left fs o → Stage m s (t ∷ left) (record { number = a.number; outcome = Gave v } ∷ fs) o
+  Settles : {s : StageState} {t : Token} {left : List Token} {fs : List Found} {o : Outcome StageState} → (a : Assignment) (v : Value) → IsNew m s t a → const_assigned m s a ≡ Gave v → Stage m (with_settled s (bound_of false a v)) left fs o → Stage m s (t ∷ left) (record { number = a.number; outcome = Gave v } ∷ fs) o
   -- it is open, and the stage continues
-  Opens : {s : Standing} {t : Token} {left : List Token} {fs : List Found} {o : Outcome Standing} → (a : Assignment) (c : ConstRefusal) → IsNew m s t a → const_assigned m s a ≡ Refused (Const c) → Stage m (with_open s a.number) left fs o → Stage m s (t ∷ left) (record { number = a.number; outcome = Refused (Const c) } ∷ fs) o
+  Opens : {s : StageState} {t : Token} {left : List Token} {fs : List Found} {o : Outcome StageState} → (a : Assignment) (c : ConstRefusal) → IsNew m s t a → const_assigned m s a ≡ Refused (Const c) → Stage m (with_open s a.number) left fs o → Stage m s (t ∷ left) (record { number = a.number; outcome = Refused (Const c) } ∷ fs) o
   -- any other refusal ends the stage
-  Breaks : {s : Standing} {t : Token} {left : List Token} → (a : Assignment) (r : Refusal) → IsFinal r → IsNew m s t a → const_assigned m s a ≡ Refused r → Stage m s (t ∷ left) (record { number = a.number; outcome = Refused r } ∷ []) (Refused r)
+  Breaks : {s : StageState} {t : Token} {left : List Token} → (a : Assignment) (r : Refusal) → IsFinal r → IsNew m s t a → const_assigned m s a ≡ Refused r → Stage m s (t ∷ left) (record { number = a.number; outcome = Refused r } ∷ []) (Refused r)
 
 -- a const stage over these names ends with this outcome
-abbrev pub Staged : Constants → Standing → List Token → Outcome Standing → Type 0
+abbrev pub Staged : Constants → StageState → List Token → Outcome StageState → Type 0
 Staged m s names o = (fs : List Found) × Stage m s names fs o

@@ -7,11 +7,13 @@ use Rattle.std.specs.Str.{bytes_eq}
 use Rattle.std.proofs.lemmas.Bool.{or_cases, or_left, or_right}
 use Rattle.std.proofs.lemmas.Slice.Eq.{bytes_eq-Decides}
 use Rattle.just_syntax.specs.Plain.{Text, Token, Function, Expr}
+use Rattle.just_syntax.specs.Lists.{IsIn}
+use Rattle.just_syntax.proofs.Lists.{in_append}
 use Rattle.just_resolution.specs.Admitted.{FindsBeyond, FindsBody, FindsUnreadable, IsAdmitted, ReadsWithin}
 use Rattle.just_resolution.specs.Sites.{called_names, calls_of, sites_in}
 use Rattle.just_meaning.proofs.Reached.{reaches_on}
-use Rattle.just_meaning.specs.Reaches.{VariableOf, CallOf, IsAmong, Reaches, Here, Later, Stands, function_at}
-use Rattle.just_resolution.proofs.Standing.{IsIn, all_called, all_may_be_read, in_append, reads_all, unreadable_alike}
+use Rattle.just_meaning.specs.Reaches.{VariableOf, CallOf, IsAmong, Reaches, Here, Later, Occurs, function_at}
+use Rattle.just_resolution.proofs.Occurrences.{all_called, all_may_be_read, reads_all, unreadable_alike}
 
 -- a set with one more name
 abbrev pub Adds : (Text → Bool) → (Text → Bool) → Text → Type 0
@@ -25,10 +27,10 @@ IsSettled admitted pending t = IsTrue (admitted t) ⊎ IsIn pending t
 -- pending is reached. The expression reads by itself only what it may, and admitted functions read only what bodies
 -- may.
 pub record IsWalked (functions : List Function) (e : Expr) (here readable : ℕ → Bool) (admitted : Text → Bool) (pending : List Text) : Type 0 where
-  pub start : (name : Text) (n : ℕ) → Stands e (CallOf name n) → IsSettled admitted pending name
-  pub own : (n : ℕ) → Stands e (VariableOf (Some n)) → IsTrue (here n)
-  pub reads : (name : Text) (f : Function) → IsTrue (admitted name) → function_at functions name ≡ Some f → (n : ℕ) → Stands f.body (VariableOf (Some n)) → IsAmong f.parameters n ⊎ IsTrue (readable n)
-  pub calls : (name : Text) (f : Function) → IsTrue (admitted name) → function_at functions name ≡ Some f → (further : Text) (n : ℕ) → Stands f.body (CallOf further n) → IsSettled admitted pending further
+  pub start : (name : Text) (n : ℕ) → Occurs e (CallOf name n) → IsSettled admitted pending name
+  pub own : (n : ℕ) → Occurs e (VariableOf (Some n)) → IsTrue (here n)
+  pub reads : (name : Text) (f : Function) → IsTrue (admitted name) → function_at functions name ≡ Some f → (n : ℕ) → Occurs f.body (VariableOf (Some n)) → IsAmong f.parameters n ⊎ IsTrue (readable n)
+  pub calls : (name : Text) (f : Function) → IsTrue (admitted name) → function_at functions name ≡ Some f → (further : Text) (n : ℕ) → Occurs f.body (CallOf further n) → IsSettled admitted pending further
   pub reached : (name : Text) → IsIn pending name → Reaches functions e name
 
 -- with no own numbers, what may be read is readable
@@ -47,13 +49,13 @@ body_found o f own readable r found owns h =
     )) (sites_in f.body) r h)
 
 -- nothing is found in a function's body: it reads only its parameters and what is readable
-pub body_reads : (o : Option Function) (readable : ℕ → Bool) (r : Option Token) → is_some r ≡ false → FindsBody o (λ n. IsTrue (readable n)) r → (f : Function) → o ≡ Some f → (n : ℕ) → Stands f.body (VariableOf (Some n)) → IsAmong f.parameters n ⊎ IsTrue (readable n)
+pub body_reads : (o : Option Function) (readable : ℕ → Bool) (r : Option Token) → is_some r ≡ false → FindsBody o (λ n. IsTrue (readable n)) r → (f : Function) → o ≡ Some f → (n : ℕ) → Occurs f.body (VariableOf (Some n)) → IsAmong f.parameters n ⊎ IsTrue (readable n)
 body_reads o readable r none h f found =
     reads_all (λ n. IsAmong f.parameters n ⊎ IsTrue (readable n)) f.body r none (subst (λ (p : Option Function). FindsBody p (λ n. IsTrue (readable n)) r) found h)
 
 module _ (functions : List Function) where
   -- a closed set that holds what an expression calls holds what it reaches
-  reached_admitted : {e : Expr} {name : Text} (readable : ℕ → Bool) (admitted : Text → Bool) → IsAdmitted functions readable admitted → ((t : Text) (n : ℕ) → Stands e (CallOf t n) → IsTrue (admitted t)) → Reaches functions e name → IsTrue (admitted name)
+  reached_admitted : {e : Expr} {name : Text} (readable : ℕ → Bool) (admitted : Text → Bool) → IsAdmitted functions readable admitted → ((t : Text) (n : ℕ) → Occurs e (CallOf t n) → IsTrue (admitted t)) → Reaches functions e name → IsTrue (admitted name)
   reached_admitted {name = name} readable admitted closed start (Here n s) = start name n s
   reached_admitted readable admitted closed start (Later mid n s f found rest) =
       reached_admitted readable admitted closed (λ t k there. closed.calls mid f (start mid n s) found t k there) rest
@@ -63,7 +65,7 @@ module _ (functions : List Function) where
     AllReadable = ReadsWithin functions e here readable
 
     -- at the start nothing more is admitted, and what the expression calls is pending
-    pub begins : (admitted : Text → Bool) (pending : List Text) → IsAdmitted functions readable admitted → pending ≡ called_names (sites_in e) → ((n : ℕ) → Stands e (VariableOf (Some n)) → IsTrue (here n)) → IsWalked functions e here readable admitted pending
+    pub begins : (admitted : Text → Bool) (pending : List Text) → IsAdmitted functions readable admitted → pending ≡ called_names (sites_in e) → ((n : ℕ) → Occurs e (VariableOf (Some n)) → IsTrue (here n)) → IsWalked functions e here readable admitted pending
     begins admitted pending closed is own = record {
       start = λ name n s. inr (subst (λ names. IsIn names name) (sym is) ((all_called e name).1 (n, s)));
       own = own;
@@ -82,7 +84,7 @@ module _ (functions : List Function) where
         by (Some v) some_q k = inl k
 
     -- nothing is found in the expression itself
-    pub reads_at_once : (own : ℕ → Bool) (r : Option Token) → is_some r ≡ false → ((n : ℕ) → own n ≡ false) → FindsUnreadable (λ n. IsTrue (own n || here n)) (sites_in e) r → (n : ℕ) → Stands e (VariableOf (Some n)) → IsTrue (here n)
+    pub reads_at_once : (own : ℕ → Bool) (r : Option Token) → is_some r ≡ false → ((n : ℕ) → own n ≡ false) → FindsUnreadable (λ n. IsTrue (own n || here n)) (sites_in e) r → (n : ℕ) → Occurs e (VariableOf (Some n)) → IsTrue (here n)
     reads_at_once own r nothing none h n s = own_out (own n) (here n) (none n) (reads_all (λ k. IsTrue (own k || here k)) e r nothing h n s)
 
     -- what is found in the body of a reached function
@@ -105,8 +107,8 @@ module _ (functions : List Function) where
           (λ k. ⊎_elim (λ j. inr (kept t j)) (λ j. ⊎_elim (λ same. inl ((adds t).1 (inl same))) (λ bad. absurd bad) j) ((in_append front (name ∷ []) t).0 k)) h
 
       -- one more name is admitted: its function reads only what it may, and what it calls is admitted or pending
-      step : ((f : Function) → function_at functions name ≡ Some f → (n : ℕ) → Stands f.body (VariableOf (Some n)) → IsAmong f.parameters n ⊎ IsTrue (readable n)) →
-          ((f : Function) → function_at functions name ≡ Some f → (further : Text) (n : ℕ) → Stands f.body (CallOf further n) → IsSettled next_admitted next further) →
+      step : ((f : Function) → function_at functions name ≡ Some f → (n : ℕ) → Occurs f.body (VariableOf (Some n)) → IsAmong f.parameters n ⊎ IsTrue (readable n)) →
+          ((f : Function) → function_at functions name ≡ Some f → (further : Text) (n : ℕ) → Occurs f.body (CallOf further n) → IsSettled next_admitted next further) →
           ((t : Text) → IsIn next t → Reaches functions e t) → IsWalked functions e here readable next_admitted next
       step reads calls reached = record {
         start = λ t n s. settled_on t (w.start t n s);
@@ -127,7 +129,7 @@ module _ (functions : List Function) where
 
     -- the last pending name is admitted now, and what its body calls is pending
     pub admits : (admitted next_admitted : Text → Bool) (front next : List Text) (name : Text) → IsWalked functions e here readable admitted (front ++ name ∷ []) → Adds admitted next_admitted name →
-        ((f : Function) → function_at functions name ≡ Some f → (n : ℕ) → Stands f.body (VariableOf (Some n)) → IsAmong f.parameters n ⊎ IsTrue (readable n)) →
+        ((f : Function) → function_at functions name ≡ Some f → (n : ℕ) → Occurs f.body (VariableOf (Some n)) → IsAmong f.parameters n ⊎ IsTrue (readable n)) →
         next ≡ front ++ calls_of (function_at functions name) → IsWalked functions e here readable next_admitted next
     admits admitted next_admitted front next name w adds reads is =
         step admitted next_admitted front next name w adds
@@ -155,7 +157,7 @@ module _ (functions : List Function) where
       λ n b. ⊎_elim (λ k. absurd (b.beyond k)) (λ k. k)
           (w.reads b.name b.function
           (reached_admitted readable admitted (closes admitted w) (λ t k s. ⊎_elim (λ a. a) (λ bad. absurd bad) (w.start t k s)) b.reached)
-          b.found n b.stands),
+          b.found n b.occurs),
     )
 
 -- ---- termination of the walk

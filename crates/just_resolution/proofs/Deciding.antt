@@ -1,17 +1,18 @@
 -- What a search decides.
 use Rattle.std.proofs.Common.{◌≡◌, ◌↔◌, ℕ, Bool, true, false, List, [], map, Option, Some, None, is_some, not, option_map, refl, ap, sym, ◌∙◌, IsTrue}
 use Rattle.just_syntax.specs.Plain.{Token, Expr, Function}
+use Rattle.just_syntax.specs.Lists.{IsIn}
 use Rattle.just_value.specs.Frames.{Frames, value_in}
 use Rattle.just_meaning.specs.Assignments.{Assignments}
-use Rattle.just_meaning.specs.Reaches.{Mention, Stands}
-use Rattle.just_meaning.specs.Resolved.{AllKnown, AreAssignments, AreDistinct, AreInOrder, HasValue, IsKnown, IsOneOf}
+use Rattle.just_meaning.specs.Reaches.{Mention, Occurs}
+use Rattle.just_meaning.specs.Resolved.{AllKnown, AreAssignments, AreDistinct, AreInOrder, HasValue, IsKnown}
 use Rattle.just_resolution.specs.Admitted.{FindsBeyond, FindsBound, FindsUnknown, ReadsWithin}
-use Rattle.just_resolution.specs.Fault.{Fault, BoundParameter, IsFaulty, IsSound, mention_fault, name_places, number_places}
+use Rattle.just_resolution.specs.Fault.{ModuleFault, BoundParameter, IsFaulty, IsSound, mention_fault, name_places, number_places}
 use Rattle.just_resolution.specs.First.{Finds}
 use Rattle.just_resolution.specs.Sites.{all_sites, sites_in}
 use Rattle.just_resolution.proofs.Faults.{all_distinct, apart, names_if, unbound_if, unreadable_apart}
 use Rattle.just_resolution.proofs.Finding.{finds_none, some_seen}
-use Rattle.just_resolution.proofs.Standing.{fault_unknown, known_all, sound_stands}
+use Rattle.just_resolution.proofs.Occurrences.{fault_unknown, known_all, sound_occurs}
 
 -- ---- answers
 
@@ -42,7 +43,7 @@ as_seen seen o = ((λ h. some_seen seen o ∙ h), (λ h. sym (some_seen seen o) 
 
 -- ---- what finding nothing decides
 
-module _ {A : Type 0} (seen : A → Fault) (o : Option A) where
+module _ {A : Type 0} (seen : A → ModuleFault) (o : Option A) where
   pub distinct_decided : (functions : List Function) (assignments : Assignments) (outer : Frames) (ps : List (Token × ℕ)) →
       Finds (IsSound functions assignments outer) (IsFaulty functions assignments outer) (number_places [] ps) (option_map seen o) → (is_some o ≡ false) ↔ AreDistinct (map (λ p. p.1) ps)
   distinct_decided functions assignments outer ps found =
@@ -50,17 +51,17 @@ module _ {A : Type 0} (seen : A → Fault) (o : Option A) where
       (finds_none (IsSound functions assignments outer) (IsFaulty functions assignments outer) (apart functions assignments outer) (number_places [] ps) (option_map seen o) found)
       (all_distinct functions assignments outer ps))
 
-  pub bound_decided : (outer : Frames) (ps : List (Token × ℕ)) → FindsBound outer ps (option_map seen o) → (is_some o ≡ false) ↔ ((n : ℕ) → IsOneOf (map (λ p. p.1) ps) n → HasValue (value_in outer) n → ⊥)
+  pub bound_decided : (outer : Frames) (ps : List (Token × ℕ)) → FindsBound outer ps (option_map seen o) → (is_some o ≡ false) ↔ ((n : ℕ) → IsIn (map (λ p. p.1) ps) n → HasValue (value_in outer) n → ⊥)
   bound_decided outer ps found =
       through (as_seen seen o) (through
       (finds_none (λ p. HasValue (value_in outer) p.1 → ⊥) (λ p f. (BoundParameter p.0 ≡ f) × HasValue (value_in outer) p.1) (λ p f bad fine. fine bad.1) ps (option_map seen o) found)
       (unbound_if outer ps))
 
-  pub known_decided : (functions : List Function) (e : Expr) → FindsUnknown functions (sites_in e) (option_map seen o) → (is_some o ≡ false) ↔ ((x : Mention) → Stands e x → IsKnown functions x)
+  pub known_decided : (functions : List Function) (e : Expr) → FindsUnknown functions (sites_in e) (option_map seen o) → (is_some o ≡ false) ↔ ((x : Mention) → Occurs e x → IsKnown functions x)
   known_decided functions e found =
       through (as_seen seen o) (through
       (finds_none (λ s. IsKnown functions s.mention) (λ s f. mention_fault functions s.token s.mention ≡ Some f) (λ s f. fault_unknown functions s.token s.mention f) (sites_in e) (option_map seen o) found)
-      (sound_stands (IsKnown functions) e))
+      (sound_occurs (IsKnown functions) e))
 
   pub all_known_decided : (functions : List Function) (es : List Expr) → FindsUnknown functions (all_sites es) (option_map seen o) → (is_some o ≡ false) ↔ AllKnown functions es
   all_known_decided functions es found =

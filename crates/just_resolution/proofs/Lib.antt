@@ -8,6 +8,6 @@ mod Readers
 mod Resolving
 mod Rows
 pub mod Sets
-pub mod Standing
+pub mod Occurrences
 mod Tables
 mod Turns

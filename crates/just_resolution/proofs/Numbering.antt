@@ -3,9 +3,9 @@ use Rattle.std.proofs.Common.{◌≡◌, ◌↔◌, ◌⊎◌, inl, inr, ⊎_eli
 use Rattle.std.specs.BTreeSet.{BTreeSet}
 use Rattle.std.proofs.lemmas.Bool.{not-false, not-true}
 use Rattle.just_syntax.specs.Plain.{Token, Function}
+use Rattle.just_syntax.specs.Lists.{IsIn}
 use Rattle.just_value.specs.Frames.{Frames}
 use Rattle.just_meaning.specs.Assignments.{Assignments}
-use Rattle.just_meaning.specs.Resolved.{IsOneOf}
 use Rattle.just_resolution.specs.Fault.{DuplicateNumber, IsFaulty, IsSound, NumberOf, number_places}
 use Rattle.just_resolution.specs.First.{Finds}
 use Rattle.just_resolution.specs.Seen.{is_number_in}
@@ -14,7 +14,7 @@ use Rattle.just_resolution.proofs.Finding.{Leads, leads_off, leads_on}
 -- A list of the numbers seen so far, with the same members as the set; and what is found in the rest is found in all.
 pub record IsCountedTo (seen : BTreeSet ℕ) (left all : List (Token × ℕ)) : Type 0 where
   pub earlier : List ℕ
-  pub same : (n : ℕ) → IsOneOf earlier n ↔ IsTrue (is_number_in seen n)
+  pub same : (n : ℕ) → IsIn earlier n ↔ IsTrue (is_number_in seen n)
   pub leads : (functions : List Function) (assignments : Assignments) (outer : Frames) → Leads (IsSound functions assignments outer) (IsFaulty functions assignments outer) (number_places earlier left) (number_places [] all)
 
 -- no number was seen yet

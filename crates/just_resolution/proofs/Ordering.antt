@@ -9,7 +9,7 @@ use Rattle.just_value.specs.Frames.{Frames, value_in}
 use Rattle.just_value.specs.View.{frames_view}
 use Rattle.just_value.specs.declared.scope.Scope.{Scope}
 use Rattle.just_resolution.specs.Admitted.{FindsMisplaced, IsAdmitted, IsNumberOf, IsTakenBy, ReadsReadable}
-use Rattle.just_resolution.specs.Fault.{Fault, IsFaulty, IsMisplaced, IsSound, IsTakenOrBound, MayComeNext, NameOf, ReadsUntaken, name_places}
+use Rattle.just_resolution.specs.Fault.{ModuleFault, IsFaulty, IsMisplaced, IsSound, IsTakenOrBound, MayComeNext, NameOf, ReadsUntaken, name_places}
 use Rattle.just_resolution.specs.First.{Finds}
 use Rattle.just_resolution.specs.Sites.{sites_in}
 use Rattle.just_resolution.specs.Unreadable.{IsUnreadable, IsUnreadableBeyond}
@@ -17,10 +17,11 @@ use Rattle.just_meaning.specs.Assignments.{Assignments, assignment_at}
 use Rattle.just_meaning.specs.Reaches.{IsAmong, Reads}
 use Rattle.just_resolution.specs.Seen.{is_readable, is_taken}
 use Rattle.just_resolution.specs.declared.readable.Readable.{Readable}
-use Rattle.just_meaning.specs.Resolved.{AreDistinct, HasValue, IsOneOf, with_taken}
+use Rattle.just_meaning.specs.Resolved.{AreDistinct, HasValue, with_taken}
 use Rattle.just_syntax.proofs.Tables.{found_is}
+use Rattle.just_syntax.specs.Lists.{IsIn}
 use Rattle.just_resolution.proofs.Finding.{Leads, leads_off, leads_on}
-use Rattle.just_resolution.proofs.Standing.{IsIn, unreadable_alike}
+use Rattle.just_resolution.proofs.Occurrences.{unreadable_alike}
 
 -- ---- numbers that are distinct
 
@@ -28,7 +29,7 @@ use Rattle.just_resolution.proofs.Standing.{IsIn, unreadable_alike}
 found_in : (name : Text) (vs : List Assignment) (a : Assignment) → value_at (λ v. v.name.lexeme) name vs ≡ Some a → IsIn vs a
 found_in name vs a found = found_is (λ v. v.name.lexeme) name (λ xs. (b : Assignment) → IsIn xs b → IsIn vs b) (IsIn vs) (λ v xs h. h v (inl refl)) (λ v xs h b later. h b (inr later)) vs a (λ b h. h) found
 
-number_in : (vs : List Assignment) (a : Assignment) → IsIn vs a → IsOneOf (map (λ v. v.number) vs) a.number
+number_in : (vs : List Assignment) (a : Assignment) → IsIn vs a → IsIn (map (λ v. v.number) vs) a.number
 number_in [] a h = absurd h
 number_in (v ∷ vs) a (inl same) = inl (ap (λ (w : Assignment). w.number) same)
 number_in (v ∷ vs) a (inr later) = inr (number_in vs a later)
@@ -37,18 +38,9 @@ number_in (v ∷ vs) a (inr later) = inr (number_in vs a later)
 one_assignment : (vs : List Assignment) → AreDistinct (map (λ v. v.number) vs) → (a b : Assignment) → IsIn vs a → IsIn vs b → a.number ≡ b.number → a ≡ b
 one_assignment [] distinct a b h k same = absurd h
 one_assignment (v ∷ vs) distinct a b (inl h) (inl k) same = sym h ∙ k
-one_assignment (v ∷ vs) distinct a b (inl h) (inr k) same = absurd (distinct.0 (subst (IsOneOf (map (λ v. v.number) vs)) (sym (ap (λ (w : Assignment). w.number) h ∙ same)) (number_in vs b k)))
-one_assignment (v ∷ vs) distinct a b (inr h) (inl k) same = absurd (distinct.0 (subst (IsOneOf (map (λ v. v.number) vs)) (same ∙ ap (λ (w : Assignment). w.number) (sym k)) (number_in vs a h)))
+one_assignment (v ∷ vs) distinct a b (inl h) (inr k) same = absurd (distinct.0 (subst (IsIn (map (λ v. v.number) vs)) (sym (ap (λ (w : Assignment). w.number) h ∙ same)) (number_in vs b k)))
+one_assignment (v ∷ vs) distinct a b (inr h) (inl k) same = absurd (distinct.0 (subst (IsIn (map (λ v. v.number) vs)) (same ∙ ap (λ (w : Assignment). w.number) (sym k)) (number_in vs a h)))
 one_assignment (v ∷ vs) distinct a b (inr h) (inr k) same = one_assignment vs distinct.1 a b h k same
-
-one_left : (xs ys : List ℕ) (n : ℕ) → IsOneOf xs n → IsOneOf (xs ++ ys) n
-one_left [] ys n h = absurd h
-one_left (x ∷ xs) ys n h = ⊎_elim (λ e. inl e) (λ k. inr (one_left xs ys n k)) h
-
--- the front of distinct numbers is distinct
-pub distinct_front : (xs ys : List ℕ) → AreDistinct (xs ++ ys) → AreDistinct xs
-distinct_front [] ys d = tt
-distinct_front (x ∷ xs) ys d = ((λ one. d.0 (one_left xs ys x one)), distinct_front xs ys d.1)
 
 -- ---- what is readable
 
@@ -136,7 +128,7 @@ module _ (functions : List Function) (assignments : Assignments) where
     )
 
     -- it is taken now, or it reads too early
-    pub comes_now : {A : Type 0} (seen : A → Fault) (readable : ℕ → Bool) (r : Option A) → assignments.referenced a.number ≡ true → MatchOption r (ReadsReadable functions readable a) (λ f. ReadsUntaken functions (λ n. IsTrue (readable n)) a (seen f)) →
+    pub comes_now : {A : Type 0} (seen : A → ModuleFault) (readable : ℕ → Bool) (r : Option A) → assignments.referenced a.number ≡ true → MatchOption r (ReadsReadable functions readable a) (λ f. ReadsUntaken functions (λ n. IsTrue (readable n)) a (seen f)) →
         FindsMisplaced functions assignments readable t (option_map seen r)
     comes_now seen readable None on h = may_come_found readable (λ referenced. h)
     comes_now seen readable (Some f) on h = inr (a, found, on, h)
@@ -155,12 +147,12 @@ module _ (functions : List Function) (assignments : Assignments) where
     pub by_now : IsTakenBy functions assignments taken readable admitted
     pub readable_if : (n : ℕ) → IsTrue (readable n) ↔ (IsTrue (taken n) ⊎ HasValue (value_in outer) n)
     pub numbers : List ℕ
-    pub same : (n : ℕ) → IsOneOf numbers n ↔ IsTrue (taken n)
+    pub same : (n : ℕ) → IsIn numbers n ↔ IsTrue (taken n)
     pub leads : Leads (IsSound functions assignments outer) (IsFaulty functions assignments outer) (name_places assignments numbers left) (name_places assignments [] all)
 
   module _ (outer : Frames) where
     -- what is readable was taken or is bound outside
-    taken_or_bound : (taken readable : ℕ → Bool) (numbers : List ℕ) → ((n : ℕ) → IsTrue (readable n) ↔ (IsTrue (taken n) ⊎ HasValue (value_in outer) n)) → ((n : ℕ) → IsOneOf numbers n ↔ IsTrue (taken n)) →
+    taken_or_bound : (taken readable : ℕ → Bool) (numbers : List ℕ) → ((n : ℕ) → IsTrue (readable n) ↔ (IsTrue (taken n) ⊎ HasValue (value_in outer) n)) → ((n : ℕ) → IsIn numbers n ↔ IsTrue (taken n)) →
         (n : ℕ) → IsTrue (readable n) ↔ IsTakenOrBound outer numbers n
     taken_or_bound taken readable numbers readable_if same n = (
       (λ h. ⊎_elim (λ k. inl ((same n).1 k)) (λ k. inr k) ((readable_if n).0 h)),
@@ -185,15 +177,15 @@ module _ (functions : List Function) (assignments : Assignments) where
     reads_alike P Q e v same (inl first) = inl (unreadable_alike P Q same (sites_in e) (Some v) first)
     reads_alike P Q e v same (inr later) = inr (unreadable_alike P Q same (sites_in e) None later.0, beyond_alike P Q e v same later.1)
 
-    misplaced_alike : (P Q : ℕ → Type 0) (t : Token) (f : Fault) → ((n : ℕ) → P n ↔ Q n) → IsMisplaced functions assignments P t f → IsMisplaced functions assignments Q t f
+    misplaced_alike : (P Q : ℕ → Type 0) (t : Token) (f : ModuleFault) → ((n : ℕ) → P n ↔ Q n) → IsMisplaced functions assignments P t f → IsMisplaced functions assignments Q t f
     misplaced_alike P Q t f same (inl none) = inl none
     misplaced_alike P Q t f same (inr r) = inr (r.0, r.1, r.2, (r.3.0, r.3.1, reads_alike P Q r.0.value r.3.0 same r.3.2))
 
-    with_one : (o : Option Assignment) (numbers : List ℕ) (n : ℕ) → IsOneOf (with_taken assignments o numbers) n ↔ (IsOneOf numbers n ⊎ ((a : Assignment) × (o ≡ Some a) × (assignments.referenced a.number ≡ true) × (a.number ≡ n)))
+    with_one : (o : Option Assignment) (numbers : List ℕ) (n : ℕ) → IsIn (with_taken assignments o numbers) n ↔ (IsIn numbers n ⊎ ((a : Assignment) × (o ≡ Some a) × (assignments.referenced a.number ≡ true) × (a.number ≡ n)))
     with_one None numbers n = ((λ h. inl h), (λ h. ⊎_elim (λ k. k) (λ k. absurd (let e : None ≡ Some k.0 = k.1 in cc)) h))
     with_one (Some a) numbers n = by (assignments.referenced a.number) refl
       where
-        by : (b : Bool) → assignments.referenced a.number ≡ b → IsOneOf (cond b (a.number ∷ numbers) numbers) n ↔ (IsOneOf numbers n ⊎ ((c : Assignment) × (Some a ≡ Some c) × (assignments.referenced c.number ≡ true) × (c.number ≡ n)))
+        by : (b : Bool) → assignments.referenced a.number ≡ b → IsIn (cond b (a.number ∷ numbers) numbers) n ↔ (IsIn numbers n ⊎ ((c : Assignment) × (Some a ≡ Some c) × (assignments.referenced c.number ≡ true) × (c.number ≡ n)))
         by true e = (
           (λ h. ⊎_elim (λ k. inr (a, refl, e, k)) (λ k. inl k) h),
           (λ h. ⊎_elim (λ k. inr k) (λ k. inl (let f : Some a ≡ Some k.0 = k.1 in let is : a ≡ k.0 = cc in ap (λ (c : Assignment). c.number) is ∙ k.3)) h),
@@ -220,12 +212,12 @@ module _ (functions : List Function) (assignments : Assignments) where
       }
 
       -- a name that may not come next is the one found
-      pub walks_off : (f : Fault) → IsMisplaced functions assignments (λ n. IsTrue (readable n)) t f → Finds (IsSound functions assignments outer) (IsFaulty functions assignments outer) (name_places assignments [] all) (Some f)
+      pub walks_off : (f : ModuleFault) → IsMisplaced functions assignments (λ n. IsTrue (readable n)) t f → Finds (IsSound functions assignments outer) (IsFaulty functions assignments outer) (name_places assignments [] all) (Some f)
       walks_off f bad = leads_off (IsSound functions assignments outer) (IsFaulty functions assignments outer) (name_places assignments w.numbers (t ∷ left)) (name_places assignments (with_taken assignments (assignment_at assignments t.lexeme) w.numbers) left) (name_places assignments [] all) w.leads
           (NameOf t w.numbers) f refl (misplaced_alike (λ n. IsTrue (readable n)) (IsTakenOrBound outer w.numbers) t f (taken_or_bound taken readable w.numbers w.readable_if w.same) bad)
 
     -- the result of a search that meets a name that may not come next
-    pub spoils : (taken readable : ℕ → Bool) (admitted : Text → Bool) (t : Token) (left start all : List Token) (r : Option Fault) → start ≡ t ∷ left → IsWalkedTo outer taken readable admitted start all → is_some r ≡ true → FindsMisplaced functions assignments readable t r →
+    pub spoils : (taken readable : ℕ → Bool) (admitted : Text → Bool) (t : Token) (left start all : List Token) (r : Option ModuleFault) → start ≡ t ∷ left → IsWalkedTo outer taken readable admitted start all → is_some r ≡ true → FindsMisplaced functions assignments readable t r →
         Finds (IsSound functions assignments outer) (IsFaulty functions assignments outer) (name_places assignments [] all) r
     spoils taken readable admitted t left start all None is w some h = absurd (let e : false ≡ true = some in cc)
     spoils taken readable admitted t left start all (Some f) is w some h = walks_off taken readable admitted t left all (subst (λ l. IsWalkedTo outer taken readable admitted l all) is w) f h

@@ -1,11 +1,12 @@
 -- What the parts of a test decide.
 use Rattle.std.proofs.Common.{◌≡◌, ◌↔◌, ◌++◌, ◌⊎◌, ℕ, List, [], map, Bool, true, false, ⊎_elim, inl, inr}
 use Rattle.just_syntax.specs.Plain.{Token, Assignment, Attribute, Expr, Function, Parameter}
+use Rattle.just_syntax.specs.Lists.{IsIn}
 use Rattle.just_value.specs.Frames.{Frames, value_in}
 use Rattle.just_meaning.specs.Assignments.{Assignments}
 use Rattle.just_resolution.specs.Admitted.{ReadsReadable, ReadsWithin}
 use Rattle.just_meaning.specs.Here.{AllReadable, AreReadableInTurn, IsResolvedHere, attribute_expressions, parameter_expressions}
-use Rattle.just_meaning.specs.Resolved.{AllKnown, AllNumbered, AreAssignments, AreDistinct, AreInOrder, HasValue, IsOneOf, IsResolved, IsResolvedConst, parameter_numbers}
+use Rattle.just_meaning.specs.Resolved.{AllKnown, AllNumbered, AreAssignments, AreDistinct, AreInOrder, HasValue, IsResolved, IsResolvedConst, parameter_numbers}
 
 -- a part that does not hold refuses the whole
 pub refuses : {P R : Type 0} (b : Bool) → b ≡ false → (b ≡ true) ↔ P → (R → P) → (false ≡ true) ↔ R
@@ -16,7 +17,7 @@ refuses b off decides implies = (
 
 -- if all the other parts hold, the order decides
 pub is_resolved : (functions : List Function) (assignments : Assignments) (outer : Frames) (A : Type 0) → AreDistinct (map (λ a. a.number) assignments.all ++ parameter_numbers functions) →
-    ((n : ℕ) → IsOneOf (parameter_numbers functions) n → HasValue (value_in outer) n → ⊥) → AllKnown functions (map (λ a. a.value) assignments.all) → AllKnown functions (map (λ f. f.body) functions) →
+    ((n : ℕ) → IsIn (parameter_numbers functions) n → HasValue (value_in outer) n → ⊥) → AllKnown functions (map (λ a. a.value) assignments.all) → AllKnown functions (map (λ f. f.body) functions) →
     A ↔ (AreAssignments assignments assignments.order × AreInOrder functions assignments outer [] assignments.order) → A ↔ IsResolved functions assignments outer
 is_resolved functions assignments outer A distinct unbound values bodies order = (
   (λ a. let h = order.0 a in record { distinct = distinct; unbound = unbound; values = values; bodies = bodies; named = h.0; in_order = h.1 }),
@@ -34,7 +35,7 @@ is_resolved_const assignments outer A distinct values order = (
 -- for a recipe: if all the other parts hold, what is read decides
 pub is_resolved_here : (functions : List Function) (assignments : List Assignment) (base frames : Frames) (attributes : List (Attribute × Token)) (parameters : List Parameter) (expressions : List Expr) (A : Type 0) →
     AreDistinct (map (λ a. a.number) assignments ++ parameter_numbers functions ++ map (λ p. p.number) parameters) →
-    ((n : ℕ) → IsOneOf (parameter_numbers functions ++ map (λ p. p.number) parameters) n → HasValue (value_in frames) n ⊎ HasValue (value_in base) n → ⊥) → AllKnown functions (map (λ f. f.body) functions) →
+    ((n : ℕ) → IsIn (parameter_numbers functions ++ map (λ p. p.number) parameters) n → HasValue (value_in frames) n ⊎ HasValue (value_in base) n → ⊥) → AllKnown functions (map (λ f. f.body) functions) →
     A ↔ (AllKnown functions (attribute_expressions attributes ++ parameter_expressions parameters ++ expressions) × AllReadable functions (value_in base) (HasValue (value_in frames)) (attribute_expressions attributes ++ expressions) × AreReadableInTurn functions (value_in base) (value_in frames) [] parameters) →
     A ↔ IsResolvedHere functions assignments base frames attributes parameters expressions
 is_resolved_here functions assignments base frames attributes parameters expressions A distinct unbound bodies all = (

@@ -82,6 +82,6 @@ own_more pair xs i x old new n within is was now =
     )
 
 -- dropping a list leaves what was appended to it
-pub behind : {X Y : Type 0} (seen : X → Y) (all : List X) (first more : List Y) (n : ℕ) → map seen all ≡ first ++ more → n ≡ length first → map seen (take (length all - n) (drop n all)) ≡ more
-behind seen all first more n is size =
+pub after : {X Y : Type 0} (seen : X → Y) (all : List X) (first more : List Y) (n : ℕ) → map seen all ≡ first ++ more → n ≡ length first → map seen (take (length all - n) (drop n all)) ≡ more
+after seen all first more n is size =
     ap (map seen) (take_all (length all - n) (drop n all) (let l = length-drop n all in omega (arith, l))) ∙ sym (drop-map seen n all) ∙ ap (drop n) is ∙ ap (λ k. drop k (first ++ more)) size ∙ drop-append_seam first more

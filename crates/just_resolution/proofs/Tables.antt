@@ -12,13 +12,13 @@ use Rattle.just_meaning.specs.Callee.{Callee, accepts, defined_or}
 use Rattle.just_meaning.specs.Reaches.{function_at}
 
 module _ {X Y : Type 0} (f : X → Y) (key : Y → Text) where
-  behind : (r : Option (Bor X)) → option_map f (option_map (λ v. v.now) r) ≡ option_map (λ v. f v.now) r
-  behind None = refl
-  behind (Some v) = refl
+  after : (r : Option (Bor X)) → option_map f (option_map (λ v. v.now) r) ≡ option_map (λ v. f v.now) r
+  after None = refl
+  after (Some v) = refl
 
   -- the result of a look-up, as plain data
   pub found_at : (name : Text) (xs : List X) (r : Option (Bor X)) → option_map (λ v. v.now) r ≡ value_at (λ x. key (f x)) name xs → value_at key name (map f xs) ≡ option_map (λ v. f v.now) r
-  found_at name xs r is = seen_at f key name xs ∙ ap (option_map f) (sym is) ∙ behind r
+  found_at name xs r is = seen_at f key name xs ∙ ap (option_map f) (sym is) ∙ after r
 
 pub function_found : (name : Text) (fs : List FunctionDefinition) (r : Option (Bor FunctionDefinition)) → option_map (λ v. v.now) r ≡ value_at (λ f. f.name.token.lexeme.now) name fs
     → function_at (map function_view fs) name ≡ option_map (λ v. function_view v.now) r

@@ -1,10 +1,11 @@
 -- What is evaluated for a recipe is readable exactly if the tests of its parts say so, one after another.
 use Rattle.std.proofs.Common.{◌≡◌, ◌↔◌, ◌⊎◌, inl, inr, ⊎_elim, ℕ, Bool, true, false, List, [], ◌∷◌, ◌++◌, IsTrue, refl, sym, subst}
 use Rattle.just_syntax.specs.Plain.{Expr, Function, Parameter}
+use Rattle.just_syntax.specs.Lists.{IsIn}
 use Rattle.just_value.specs.Value.{Names}
 use Rattle.just_meaning.specs.Here.{AllReadable, AreReadableInTurn, expressions_of, parameter_expressions}
-use Rattle.just_meaning.specs.Resolved.{AllKnown, HasValue, IsOneOf}
-use Rattle.just_resolution.specs.Admitted.{AllReadBy, MayAllStand, MayFollowInTurn, MayStand}
+use Rattle.just_meaning.specs.Resolved.{AllKnown, HasValue}
+use Rattle.just_resolution.specs.Admitted.{AllReadBy, MayAllOccur, MayFollowInTurn, MayOccur}
 use Rattle.just_resolution.proofs.Resolving.{refuses}
 
 pub known_append : (functions : List Function) (es fs : List Expr) → AllKnown functions (es ++ fs) ↔ (AllKnown functions es × AllKnown functions fs)
@@ -23,30 +24,30 @@ one_more A B C E same = (
 
 module _ (functions : List Function) (here readable : ℕ → Bool) where
   -- the last of some expressions, separated from the others
-  stand_append : (es : List Expr) (e : Expr) → MayAllStand functions here readable (es ++ e ∷ []) ↔ (MayAllStand functions here readable es × MayStand functions here readable e)
-  stand_append [] e = ((λ h. ((tt, tt), (h.0.0, h.1.0))), (λ h. ((h.1.0, tt), (h.1.1, tt))))
-  stand_append (d ∷ es) e =
-      let rest = stand_append es e in (
+  occur_append : (es : List Expr) (e : Expr) → MayAllOccur functions here readable (es ++ e ∷ []) ↔ (MayAllOccur functions here readable es × MayOccur functions here readable e)
+  occur_append [] e = ((λ h. ((tt, tt), (h.0.0, h.1.0))), (λ h. ((h.1.0, tt), (h.1.1, tt))))
+  occur_append (d ∷ es) e =
+      let rest = occur_append es e in (
         (λ h. let r = rest.0 (h.0.1, h.1.1) in (((h.0.0, r.0.0), (h.1.0, r.0.1)), r.1)),
         (λ h. let r = rest.1 ((h.0.0.1, h.0.1.1), h.1) in ((h.0.0.0, r.0), (h.0.1.0, r.1))),
       )
 
-  module _ (D : Type 0) (old new : List Expr) (e : Expr) (is : old ≡ new ++ e ∷ []) (all : MayAllStand functions here readable old ↔ D) where
+  module _ (D : Type 0) (old new : List Expr) (e : Expr) (is : old ≡ new ++ e ∷ []) (all : MayAllOccur functions here readable old ↔ D) where
     -- the last one may occur
-    pub stand_next : (answer : Bool) → answer ≡ true → (answer ≡ true) ↔ MayStand functions here readable e → MayAllStand functions here readable new ↔ D
-    stand_next answer on decides =
-        let last = stand_append new e in (
-          (λ h. all.0 (subst (MayAllStand functions here readable) (sym is) (last.1 (h, decides.0 on)))),
-          (λ d. (last.0 (subst (MayAllStand functions here readable) is (all.1 d))).0),
+    pub occur_next : (answer : Bool) → answer ≡ true → (answer ≡ true) ↔ MayOccur functions here readable e → MayAllOccur functions here readable new ↔ D
+    occur_next answer on decides =
+        let last = occur_append new e in (
+          (λ h. all.0 (subst (MayAllOccur functions here readable) (sym is) (last.1 (h, decides.0 on)))),
+          (λ d. (last.0 (subst (MayAllOccur functions here readable) is (all.1 d))).0),
         )
 
     -- the last one may not occur
-    pub stand_off : (answer : Bool) → answer ≡ false → (answer ≡ true) ↔ MayStand functions here readable e → (false ≡ true) ↔ D
-    stand_off answer off decides = refuses answer off decides (λ d. ((stand_append new e).0 (subst (MayAllStand functions here readable) is (all.1 d))).1)
+    pub occur_off : (answer : Bool) → answer ≡ false → (answer ≡ true) ↔ MayOccur functions here readable e → (false ≡ true) ↔ D
+    occur_off answer off decides = refuses answer off decides (λ d. ((occur_append new e).0 (subst (MayAllOccur functions here readable) is (all.1 d))).1)
 
   -- none is left
-  pub stand_end : (D : Type 0) (left : List Expr) → left ≡ [] → MayAllStand functions here readable left ↔ D → (true ≡ true) ↔ D
-  stand_end D left none all = ((λ h. all.0 (subst (MayAllStand functions here readable) (sym none) (tt, tt))), (λ d. refl))
+  pub occur_end : (D : Type 0) (left : List Expr) → left ≡ [] → MayAllOccur functions here readable left ↔ D → (true ≡ true) ↔ D
+  occur_end D left none all = ((λ h. all.0 (subst (MayAllOccur functions here readable) (sym none) (tt, tt))), (λ d. refl))
 
 module _ (functions : List Function) (readable : ℕ → Bool) where
   -- the same numbers may be read
@@ -92,12 +93,12 @@ module _ (functions : List Function) (base names : Names) (readable : ℕ → Bo
         (λ h. (((λ n s. (same n).1 (h.0.own n s)), (λ n r. (bodies n).1 (h.0.beyond n r))), rest.1 h.1)),
       )
 
-  pub turn_readable : (here : ℕ → Type 0) (earlier : List ℕ) (ps : List Parameter) → ((n : ℕ) → here n ↔ (IsOneOf earlier n ⊎ HasValue names n))
+  pub turn_readable : (here : ℕ → Type 0) (earlier : List ℕ) (ps : List Parameter) → ((n : ℕ) → here n ↔ (IsIn earlier n ⊎ HasValue names n))
       → MayFollowInTurn functions here readable ps ↔ (AllKnown functions (parameter_expressions ps) × AreReadableInTurn functions base names earlier ps)
   turn_readable here earlier [] same = ((λ h. (tt, tt)), (λ h. tt))
   turn_readable here earlier (p ∷ ps) same =
-      let own = read_readable here (λ n. IsOneOf earlier n ⊎ HasValue names n) (expressions_of p) same in
-      let rest = turn_readable (λ n. here n ⊎ (p.number ≡ n)) (p.number ∷ earlier) ps (λ n. one_more (here n) (IsOneOf earlier n) (HasValue names n) (p.number ≡ n) (same n)) in
+      let own = read_readable here (λ n. IsIn earlier n ⊎ HasValue names n) (expressions_of p) same in
+      let rest = turn_readable (λ n. here n ⊎ (p.number ≡ n)) (p.number ∷ earlier) ps (λ n. one_more (here n) (IsIn earlier n) (HasValue names n) (p.number ≡ n) (same n)) in
       let known = known_append functions (expressions_of p) (parameter_expressions ps) in (
         (λ h. let r = rest.0 h.1 in (known.1 (h.0.0, r.0), (own.0 h.0.1, r.1))),
         (λ h. let k = known.0 h.0 in ((k.0, own.1 h.1.0), rest.1 (k.1, h.1.1))),
@@ -105,7 +106,7 @@ module _ (functions : List Function) (base names : Names) (readable : ℕ → Bo
 
   -- the three tests are the test of all
   pub all_here : (here : ℕ → Bool) (A : Type 0) (attributes expressions : List Expr) (ps : List Parameter) → ((n : ℕ) → IsTrue (here n) ↔ HasValue names n)
-      → A ↔ (MayAllStand functions here readable attributes × MayAllStand functions here readable expressions × MayFollowInTurn functions (λ n. IsTrue (here n)) readable ps)
+      → A ↔ (MayAllOccur functions here readable attributes × MayAllOccur functions here readable expressions × MayFollowInTurn functions (λ n. IsTrue (here n)) readable ps)
       → A ↔ (AllKnown functions (attributes ++ parameter_expressions ps ++ expressions) × AllReadable functions base (HasValue names) (attributes ++ expressions) × AreReadableInTurn functions base names [] ps)
   all_here here A attributes expressions ps bound all =
       let in_turn = turn_readable (λ n. IsTrue (here n)) [] ps (λ n. ((λ h. inr ((bound n).0 h)), (λ h. ⊎_elim (λ bad. absurd bad) (λ v. (bound n).1 v) h))) in

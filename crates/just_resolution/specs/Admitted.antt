@@ -5,8 +5,8 @@ use Rattle.just_value.specs.Frames.{Frames, value_in}
 use Rattle.just_meaning.specs.Assignments.{Assignments, assignment_at}
 use Rattle.just_meaning.specs.Here.{expressions_of}
 use Rattle.just_meaning.specs.Resolved.{AllKnown, HasValue, IsKnown}
-use Rattle.just_meaning.specs.Reaches.{Mention, VariableOf, CallOf, IsAmong, Reads, ReadsBeyond, Stands, function_at}
-use Rattle.just_resolution.specs.Fault.{Fault, BoundParameter, IsMisplaced, MayComeNext, mention_fault}
+use Rattle.just_meaning.specs.Reaches.{Mention, VariableOf, CallOf, IsAmong, Reads, ReadsBeyond, Occurs, function_at}
+use Rattle.just_resolution.specs.Fault.{ModuleFault, BoundParameter, IsMisplaced, MayComeNext, mention_fault}
 use Rattle.just_resolution.specs.First.{Finds}
 use Rattle.just_resolution.specs.Sites.{Site, sites_in}
 use Rattle.just_resolution.specs.Unreadable.{IsUnreadable, MayBeRead}
@@ -17,9 +17,9 @@ may_be_read test None = true
 may_be_read test (Some n) = test n
 
 -- whether it is a call, or a variable whose number, if it has one, passes a test
-abbrev pub may_stand : (ℕ → Bool) → Mention → Bool
-may_stand test (VariableOf number) = may_be_read test number
-may_stand test (CallOf name k) = true
+abbrev pub may_occur : (ℕ → Bool) → Mention → Bool
+may_occur test (VariableOf number) = may_be_read test number
+may_occur test (CallOf name k) = true
 
 -- whether it is a call, or a variable with a number
 abbrev pub is_numbered : Mention → Bool
@@ -27,11 +27,11 @@ is_numbered (VariableOf number) = is_some number
 is_numbered (CallOf name k) = true
 
 -- the result of a search among sites: nothing, or the fault of the first that is not known
-abbrev pub FindsUnknown : List Function → List Site → Option Fault → Type 0
+abbrev pub FindsUnknown : List Function → List Site → Option ModuleFault → Type 0
 FindsUnknown functions ss found = Finds (λ s. IsKnown functions s.mention) (λ s f. mention_fault functions s.token s.mention ≡ Some f) ss found
 
 -- the result of a search among parameters: nothing, or the first that is bound outside
-abbrev pub FindsBound : Frames → List (Token × ℕ) → Option Fault → Type 0
+abbrev pub FindsBound : Frames → List (Token × ℕ) → Option ModuleFault → Type 0
 FindsBound outer ps found = Finds (λ p. HasValue (value_in outer) p.1 → ⊥) (λ p f. (BoundParameter p.0 ≡ f) × HasValue (value_in outer) p.1) ps found
 
 -- the result of a search among sites: nothing, or the first variable that may not be read
@@ -40,12 +40,12 @@ FindsUnreadable readable ss found = Finds (λ s. MayBeRead readable s.mention) (
 
 -- an admitted function reads only its own parameters and what is readable, and calls only admitted functions
 pub record IsAdmitted (functions : List Function) (readable : ℕ → Bool) (admitted : Text → Bool) : Type 0 where
-  pub reads : (name : Text) (f : Function) → IsTrue (admitted name) → function_at functions name ≡ Some f → (n : ℕ) → Stands f.body (VariableOf (Some n)) → IsAmong f.parameters n ⊎ IsTrue (readable n)
-  pub calls : (name : Text) (f : Function) → IsTrue (admitted name) → function_at functions name ≡ Some f → (further : Text) (n : ℕ) → Stands f.body (CallOf further n) → IsTrue (admitted further)
+  pub reads : (name : Text) (f : Function) → IsTrue (admitted name) → function_at functions name ≡ Some f → (n : ℕ) → Occurs f.body (VariableOf (Some n)) → IsAmong f.parameters n ⊎ IsTrue (readable n)
+  pub calls : (name : Text) (f : Function) → IsTrue (admitted name) → function_at functions name ≡ Some f → (further : Text) (n : ℕ) → Occurs f.body (CallOf further n) → IsTrue (admitted further)
 
 -- By itself an expression reads only what is readable here. Through functions it reads only what bodies may read.
 abbrev pub ReadsWithin : List Function → Expr → (ℕ → Bool) → (ℕ → Bool) → Type 0
-ReadsWithin functions e here readable = ((n : ℕ) → Stands e (VariableOf (Some n)) → IsTrue (here n)) × ((n : ℕ) → ReadsBeyond functions e n → IsTrue (readable n))
+ReadsWithin functions e here readable = ((n : ℕ) → Occurs e (VariableOf (Some n)) → IsTrue (here n)) × ((n : ℕ) → ReadsBeyond functions e n → IsTrue (readable n))
 
 -- nothing is found if an expression reads only that; otherwise the first variable that may not be read
 abbrev pub FindsBeyond : List Function → Expr → (ℕ → Bool) → (ℕ → Bool) → Option Token → Type 0
@@ -59,19 +59,19 @@ FindsBody (Some f) readable found = FindsUnreadable (λ n. IsAmong f.parameters 
 -- By themselves these expressions read only these numbers. Through functions they read only what bodies may read.
 abbrev pub AllReadBy : List Function → (ℕ → Type 0) → (ℕ → Bool) → List Expr → Type 0
 AllReadBy functions here readable [] = Unit {0}
-AllReadBy functions here readable (e ∷ es) = (((n : ℕ) → Stands e (VariableOf (Some n)) → here n) × ((n : ℕ) → ReadsBeyond functions e n → IsTrue (readable n))) × AllReadBy functions here readable es
+AllReadBy functions here readable (e ∷ es) = (((n : ℕ) → Occurs e (VariableOf (Some n)) → here n) × ((n : ℕ) → ReadsBeyond functions e n → IsTrue (readable n))) × AllReadBy functions here readable es
 
 -- the same with a test of what is readable here
 abbrev pub AllWithin : List Function → (ℕ → Bool) → (ℕ → Bool) → List Expr → Type 0
 AllWithin functions here readable es = AllReadBy functions (λ n. IsTrue (here n)) readable es
 
 -- everything that occurs in an expression is known, and it reads only what it may
-abbrev pub MayStand : List Function → (ℕ → Bool) → (ℕ → Bool) → Expr → Type 0
-MayStand functions here readable e = ((x : Mention) → Stands e x → IsKnown functions x) × ReadsWithin functions e here readable
+abbrev pub MayOccur : List Function → (ℕ → Bool) → (ℕ → Bool) → Expr → Type 0
+MayOccur functions here readable e = ((x : Mention) → Occurs e x → IsKnown functions x) × ReadsWithin functions e here readable
 
 -- the same for each of these expressions
-abbrev pub MayAllStand : List Function → (ℕ → Bool) → (ℕ → Bool) → List Expr → Type 0
-MayAllStand functions here readable es = AllKnown functions es × AllWithin functions here readable es
+abbrev pub MayAllOccur : List Function → (ℕ → Bool) → (ℕ → Bool) → List Expr → Type 0
+MayAllOccur functions here readable es = AllKnown functions es × AllWithin functions here readable es
 
 -- the default and the value of each parameter are known, and read only what is readable here or an earlier parameter
 abbrev pub MayFollowInTurn : List Function → (ℕ → Type 0) → (ℕ → Bool) → List Parameter → Type 0
@@ -93,5 +93,5 @@ abbrev pub IsNumberOf : Assignments → Token → ℕ → Type 0
 IsNumberOf assignments t n = (a : Assignment) × (assignment_at assignments t.lexeme ≡ Some a) × (assignments.referenced a.number ≡ true) × (a.number ≡ n)
 
 -- the result at a name: nothing if it may come next, or why it may not
-abbrev pub FindsMisplaced : List Function → Assignments → (ℕ → Bool) → Token → Option Fault → Type 0
+abbrev pub FindsMisplaced : List Function → Assignments → (ℕ → Bool) → Token → Option ModuleFault → Type 0
 FindsMisplaced functions assignments readable t found = MatchOption found (MayComeNext functions assignments (λ n. IsTrue (readable n)) t) (λ f. IsMisplaced functions assignments (λ n. IsTrue (readable n)) t f)

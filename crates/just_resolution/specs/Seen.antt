@@ -19,7 +19,7 @@ use Rattle.just_resolution.specs.declared.readable.Readable.{Readable}
 use Rattle.just_resolution.specs.declared.site.Mention.{Mention}
 use Rattle.just_resolution.specs.declared.site.Mention.TheVariants.{Call, Variable}
 use Rattle.just_resolution.specs.declared.site.Site as declared_site
-use Rattle.just_resolution.specs.Fault.{Fault, ArgumentCountMismatch, BoundParameter, DuplicateNumber, UndefinedFunction, UndefinedVariable, UnknownAssignment, UntakenVariable}
+use Rattle.just_resolution.specs.Fault.{ModuleFault, ArgumentCountMismatch, BoundParameter, DuplicateNumber, UndefinedFunction, UndefinedVariable, UnknownAssignment, UntakenVariable}
 use Rattle.just_resolution.specs.Sites.{Site}
 
 abbrev pub mention_view : Name → Mention → reaches.Mention
@@ -32,14 +32,14 @@ site_view s = record { token = name_view s.name; mention = mention_view s.name s
 abbrev pub sites_view : List declared_site.Site → List Site
 sites_view ss = map site_view ss
 
-abbrev pub fault_view : declared_fault.Fault → Fault
-fault_view (faults.ArgumentCountMismatch function n) = ArgumentCountMismatch (name_view function) n
-fault_view (faults.BoundParameter parameter) = BoundParameter (name_view parameter)
-fault_view (faults.DuplicateNumber variable) = DuplicateNumber (name_view variable)
-fault_view (faults.UndefinedFunction function) = UndefinedFunction (name_view function)
-fault_view (faults.UndefinedVariable variable) = UndefinedVariable (name_view variable)
-fault_view (faults.UnknownAssignment assignment) = UnknownAssignment (name_view assignment)
-fault_view (faults.UntakenVariable assignment variable) = UntakenVariable (name_view assignment) (name_view variable)
+abbrev pub module_fault_view : declared_fault.Fault → ModuleFault
+module_fault_view (faults.ArgumentCountMismatch function n) = ArgumentCountMismatch (name_view function) n
+module_fault_view (faults.BoundParameter parameter) = BoundParameter (name_view parameter)
+module_fault_view (faults.DuplicateNumber variable) = DuplicateNumber (name_view variable)
+module_fault_view (faults.UndefinedFunction function) = UndefinedFunction (name_view function)
+module_fault_view (faults.UndefinedVariable variable) = UndefinedVariable (name_view variable)
+module_fault_view (faults.UnknownAssignment assignment) = UnknownAssignment (name_view assignment)
+module_fault_view (faults.UntakenVariable assignment variable) = UntakenVariable (name_view assignment) (name_view variable)
 
 abbrev pub texts : List (Bor Text) → List Text
 texts names = map (λ name. name.now) names

@@ -8,11 +8,11 @@ pub record Site : Type 0 where
   pub token : Token
   pub mention : Mention
 
-abbrev pub with_call : List Site → Token → ℕ → List Site
-with_call ss t n = ss ++ (record { token = t; mention = CallOf t.lexeme n }) ∷ []
+abbrev pub with_call_site : List Site → Token → ℕ → List Site
+with_call_site ss t n = ss ++ (record { token = t; mention = CallOf t.lexeme n }) ∷ []
 
-abbrev pub with_variable : List Site → Token → Option ℕ → List Site
-with_variable ss t number = ss ++ (record { token = t; mention = VariableOf number }) ∷ []
+abbrev pub with_variable_site : List Site → Token → Option ℕ → List Site
+with_variable_site ss t number = ss ++ (record { token = t; mention = VariableOf number }) ∷ []
 
 -- these sites, and then those of an expression
 abbrev mutual
@@ -21,7 +21,7 @@ abbrev mutual
   sites ss (Assert e m t) = sites (sites ss e) m
   sites ss (AssertOnly e t) = sites ss e
   sites ss (Backtick text t) = ss
-  sites ss (Call t es) = sites_of_row (with_call ss t (count es)) es
+  sites ss (Call t es) = sites_of_row (with_call_site ss t (count es)) es
   sites ss (Comparison l o r t) = sites (sites ss l) r
   sites ss (Concatenation l t r) = sites (sites ss l) r
   sites ss (Conditional e a b) = sites (sites (sites ss e) a) b
@@ -35,7 +35,7 @@ abbrev mutual
   sites ss (Not e) = sites ss e
   sites ss (Or l r) = sites (sites ss l) r
   sites ss (StringLiteral literal) = ss
-  sites ss (Variable t number) = with_variable ss t number
+  sites ss (Variable t number) = with_variable_site ss t number
 
   pub sites_of_row : List Site → Exprs → List Site
   sites_of_row ss Nil = ss
@@ -52,7 +52,7 @@ sites_of_some ss (Some e) = sites ss e
 
 -- the same for a call
 abbrev pub sites_of_call : List Site → Token → Exprs → List Site
-sites_of_call ss t es = sites_of_row (with_call ss t (count es)) es
+sites_of_call ss t es = sites_of_row (with_call_site ss t (count es)) es
 
 -- the sites of an expression
 abbrev pub sites_in : Expr → List Site

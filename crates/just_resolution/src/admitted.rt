@@ -4,8 +4,8 @@ ghost use Rattle.std.specs.Prelude.{◌≡◌, ◌⊎◌, ◌++◌, ◌||◌, �
 ghost use Rattle.std.specs.Option.{option_map};
 ghost use Rattle.just_syntax.specs.Plain.{Function};
 ghost use Rattle.just_syntax.specs.View.{function_view, name_view, view};
-ghost use Rattle.just_meaning.specs.Reaches.{IsAmong, Stands, VariableOf, function_at};
-ghost use Rattle.just_resolution.specs.Admitted.{FindsBeyond, FindsBody, FindsUnreadable, IsAdmitted, may_be_read, may_stand};
+ghost use Rattle.just_meaning.specs.Reaches.{IsAmong, Occurs, VariableOf, function_at};
+ghost use Rattle.just_resolution.specs.Admitted.{FindsBeyond, FindsBody, FindsUnreadable, IsAdmitted, may_be_read, may_occur};
 ghost use Rattle.just_resolution.specs.Seen.{is_name_in, is_number_in, is_readable, site_view, sites_view, texts};
 ghost use Rattle.just_resolution.specs.Sites.{called_names, calls_of, name_called, sites_in};
 
@@ -111,7 +111,7 @@ fn first_unreadable_site<'src>(
     ensures { FindsUnreadable (λ n. IsTrue (is_number_in own.now n || is_readable readable.now n)) (sites_view sites.now) (option_map name_view result) }
 {
     for site in sites {
-        if !may_stand(readable, own, site) {
+        if !may_occur(readable, own, site) {
             return Some(site.name);
         }
     }
@@ -119,8 +119,8 @@ fn first_unreadable_site<'src>(
 }
 
 // Whether it is a call, or a variable whose number, if it has one, is own or readable.
-fn may_stand(readable: &Readable, own: &BTreeSet<Number>, site: &Site) -> bool
-    ensures { result ≡ may_stand (λ n. is_number_in own.now n || is_readable readable.now n) (site_view site.now).mention }
+fn may_occur(readable: &Readable, own: &BTreeSet<Number>, site: &Site) -> bool
+    ensures { result ≡ may_occur (λ n. is_number_in own.now n || is_readable readable.now n) (site_view site.now).mention }
 {
     match site.mention {
         Mention::Call { arguments: _ } => true,

@@ -3,7 +3,7 @@
 ghost use Rattle.std.specs.Prelude.{◌≡◌};
 ghost use Rattle.just_syntax.specs.View.{token_view};
 ghost use Rattle.just_resolution.specs.Fault.{fault_token};
-ghost use Rattle.just_resolution.specs.Seen.{fault_view};
+ghost use Rattle.just_resolution.specs.Seen.{module_fault_view};
 
 use just_syntax::name::Name;
 use just_syntax::token::Token;
@@ -50,7 +50,7 @@ pub enum Fault<'src> {
 impl<'src> Fault<'src> {
     /// The token where the fault occurs: that of the name that is called, declared, ordered or read.
     pub fn token(&self) -> Token<'src>
-        ensures { token_view result ≡ fault_token (fault_view self.now) }
+        ensures { token_view result ≡ fault_token (module_fault_view self.now) }
     {
         match self {
             Fault::ArgumentCountMismatch { function, found: _ }
@@ -69,12 +69,12 @@ impl<'src> Fault<'src> {
 
 impl fmt::Display for Fault<'_> {
     ghost use Rattle.std.specs.Prelude.{Some};
-    ghost use Rattle.just_resolution.specs.Fault.{fault_text};
-    ghost use Rattle.just_resolution.specs.Seen.{fault_view};
+    ghost use Rattle.just_resolution.specs.Fault.{module_fault_text};
+    ghost use Rattle.just_resolution.specs.Seen.{module_fault_view};
 
-    ghost output = { λ fault. Some (fault_text (fault_view fault)) };
+    ghost output = { λ fault. Some (module_fault_text (module_fault_view fault)) };
 
-    ghost styled_output = { λ fault _. Some (fault_text (fault_view fault)) };
+    ghost styled_output = { λ fault _. Some (module_fault_text (module_fault_view fault)) };
 
     fn fmt<W: fmt::Write>(&self, f: &mut fmt::Formatter<W>) -> fmt::Result {
         match self {

@@ -8,7 +8,7 @@ ghost use Rattle.just_value.specs.View.{frames_view};
 ghost use Rattle.just_meaning.specs.Here.{AllReadable, AreReadableInTurn, attribute_expressions, parameter_expressions};
 ghost use Rattle.just_meaning.specs.Resolved.{AllKnown, HasValue};
 ghost use Rattle.just_meaning.specs.View.{functions_view};
-ghost use Rattle.just_resolution.specs.Admitted.{IsAdmitted, MayAllStand, MayFollowInTurn, MayStand};
+ghost use Rattle.just_resolution.specs.Admitted.{IsAdmitted, MayAllOccur, MayFollowInTurn, MayOccur};
 ghost use Rattle.just_resolution.specs.Apart.{AreApart};
 ghost use Rattle.just_resolution.specs.Seen.{IsSameReader, attributes_of, expressions_view, is_name_in, is_readable};
 
@@ -74,7 +74,7 @@ pub(crate) fn are_readable_here<'src, 'run>(
         bodies: Readable::new(alloc, context.scope),
         admitted: BTreeSet::new(alloc),
     };
-    reader.may_stand_and_follow(alloc, recipe, parameters, expressions)
+    reader.may_occur_and_follow(alloc, recipe, parameters, expressions)
 }
 
 // What may be read, and the functions that were scanned.
@@ -90,14 +90,14 @@ struct Reader<'src, 'a, 'run> {
 
 impl<'src> Reader<'src, '_, '_> {
     // Whether an expression is known and reads only what it may.
-    fn may_stand(
+    fn may_occur(
         &mut self,
         alloc: Global,
         expression: &Expression<'src>,
     ) -> Result<bool, OutOfMemory>
         requires closed { IsAdmitted (map function_view self.old.functions.now) (is_readable self.old.bodies) (is_name_in self.old.admitted) }
         ensures same { IsSameReader self.old self.new }
-        ensures exact { IfOk result (λ answer. IsTrue answer ↔ MayStand (map function_view self.old.functions.now) (is_readable self.old.here) (is_readable self.old.bodies) (view expression.now)) }
+        ensures exact { IfOk result (λ answer. IsTrue answer ↔ MayOccur (map function_view self.old.functions.now) (is_readable self.old.here) (is_readable self.old.bodies) (view expression.now)) }
         ensures closed { IfOk result (λ answer. IsTrue answer → IsAdmitted (map function_view self.old.functions.now) (is_readable self.old.bodies) (is_name_in self.new.admitted)) }
     {
         if expression_fault(alloc, self.functions, expression)?.is_some() {
@@ -115,19 +115,19 @@ impl<'src> Reader<'src, '_, '_> {
     }
 
     // The same for each of these expressions. The answer does not depend on the order in which they are checked.
-    fn may_all_stand(
+    fn may_all_occur(
         &mut self,
         alloc: Global,
         expressions: Vec<&Expression<'src>>,
     ) -> Result<bool, OutOfMemory>
         requires closed { IsAdmitted (map function_view self.old.functions.now) (is_readable self.old.bodies) (is_name_in self.old.admitted) }
         ensures same { IsSameReader self.old self.new }
-        ensures exact { IfOk result (λ answer. IsTrue answer ↔ MayAllStand (map function_view self.old.functions.now) (is_readable self.old.here) (is_readable self.old.bodies) (expressions_view expressions.entry.items)) }
+        ensures exact { IfOk result (λ answer. IsTrue answer ↔ MayAllOccur (map function_view self.old.functions.now) (is_readable self.old.here) (is_readable self.old.bodies) (expressions_view expressions.entry.items)) }
         ensures closed { IfOk result (λ answer. IsTrue answer → IsAdmitted (map function_view self.old.functions.now) (is_readable self.old.bodies) (is_name_in self.new.admitted)) }
     {
         let mut left = expressions;
         while let Some(expression) = left.pop() {
-            if !self.may_stand(alloc, expression)? {
+            if !self.may_occur(alloc, expression)? {
                 return Ok(false);
             }
         }
@@ -136,7 +136,7 @@ impl<'src> Reader<'src, '_, '_> {
 
     // Whether these expressions and a recipe's attributes are known and read only what they may, and these parameters
     // only that and the earlier ones.
-    fn may_stand_and_follow(
+    fn may_occur_and_follow(
         &mut self,
         alloc: Global,
         recipe: Option<&Recipe<'src>>,
@@ -144,14 +144,14 @@ impl<'src> Reader<'src, '_, '_> {
         expressions: Vec<&Expression<'src>>,
     ) -> Result<bool, OutOfMemory>
         requires closed { IsAdmitted (map function_view self.old.functions.now) (is_readable self.old.bodies) (is_name_in self.old.admitted) }
-        ensures { let functions = map function_view self.old.functions.now in let may_stand = MayAllStand functions (is_readable self.old.here) (is_readable self.old.bodies) in
-            IfOk result (λ answer. IsTrue answer ↔ (may_stand (attribute_expressions (attributes_of recipe.entry)) × may_stand (expressions_view expressions.entry.items) × MayFollowInTurn functions (λ n. IsTrue (is_readable self.old.here n)) (is_readable self.old.bodies) (map recipe_parameter_view parameters.now))) }
+        ensures { let functions = map function_view self.old.functions.now in let may_occur = MayAllOccur functions (is_readable self.old.here) (is_readable self.old.bodies) in
+            IfOk result (λ answer. IsTrue answer ↔ (may_occur (attribute_expressions (attributes_of recipe.entry)) × may_occur (expressions_view expressions.entry.items) × MayFollowInTurn functions (λ n. IsTrue (is_readable self.old.here n)) (is_readable self.old.bodies) (map recipe_parameter_view parameters.now))) }
     {
-        if !self.may_all_stand(alloc, expressions)? {
+        if !self.may_all_occur(alloc, expressions)? {
             return Ok(false);
         }
         let attributes = recipe_expressions(alloc, recipe)?;
-        if !self.may_all_stand(alloc, attributes)? {
+        if !self.may_all_occur(alloc, attributes)? {
             return Ok(false);
         }
         self.may_follow(alloc, parameters)
@@ -169,7 +169,7 @@ impl<'src> Reader<'src, '_, '_> {
     {
         for parameter in parameters {
             let own = expressions_of(alloc, parameter)?;
-            if !self.may_all_stand(alloc, own)? {
+            if !self.may_all_occur(alloc, own)? {
                 return Ok(false);
             }
             self.here.take(parameter.number)?;

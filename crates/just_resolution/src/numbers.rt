@@ -10,9 +10,9 @@ ghost use Rattle.just_meaning.specs.Assignments.{Assignments};
 ghost use Rattle.just_meaning.specs.Reaches.{IsAmong};
 ghost use Rattle.just_meaning.specs.View.{functions_view};
 ghost use Rattle.just_resolution.specs.Admitted.{FindsBound};
-ghost use Rattle.just_resolution.specs.Fault.{IsFaulty, IsSound, number_places, numbered, parameter_places, parameters_of};
+ghost use Rattle.just_resolution.specs.Fault.{IsFaulty, IsSound, number_places, numbered_assignments, parameter_places, numbered_parameters};
 ghost use Rattle.just_resolution.specs.First.{Finds};
-ghost use Rattle.just_resolution.specs.Seen.{fault_view, is_number_in};
+ghost use Rattle.just_resolution.specs.Seen.{module_fault_view, is_number_in};
 
 use crate::fault::Fault;
 use just_host::justfile::Justfile;
@@ -34,9 +34,9 @@ pub(crate) fn numbering_fault<'src>(
     module: &Justfile<'src>,
     parent: &Scope<'src, '_>,
 ) -> Result<Option<Fault<'src>>, OutOfMemory>
-    ensures { let parameters = parameters_of (functions_view «module».now) in let outer = frames_view parent.now in
+    ensures { let parameters = numbered_parameters (functions_view «module».now) in let outer = frames_view parent.now in
         IfOk result (λ fault. (functions : List Function) (assignments : Assignments) → Finds (IsSound functions assignments outer) (IsFaulty functions assignments outer)
-        (number_places [] (numbered (map assignment_view «module».now.assignments) ++ parameters) ++ parameter_places parameters) (option_map fault_view fault)) }
+        (number_places [] (numbered_assignments (map assignment_view «module».now.assignments) ++ parameters) ++ parameter_places parameters) (option_map module_fault_view fault)) }
 {
     let mut numbers = assignment_numbers(alloc, &module.assignments)?;
     let first_parameter = numbers.len();
@@ -53,7 +53,7 @@ pub(crate) fn assignment_numbers<'src>(
     alloc: Global,
     assignments: &Table<Assignment<'src>>,
 ) -> Result<Vec<(Name<'src>, Number)>, OutOfMemory>
-    ensures { IfOk result (λ numbers. map parameter_view numbers.items ≡ numbered (map assignment_view assignments.now)) }
+    ensures { IfOk result (λ numbers. map parameter_view numbers.items ≡ numbered_assignments (map assignment_view assignments.now)) }
 {
     let mut numbers = Vec::new(alloc);
     for assignment in assignments {
@@ -67,7 +67,7 @@ pub(crate) fn add_parameter_numbers<'src>(
     numbers: &mut Vec<(Name<'src>, Number)>,
     functions: &Table<FunctionDefinition<'src>>,
 ) -> Result<(), OutOfMemory>
-    ensures { OnOk result (map parameter_view numbers.new.items ≡ map parameter_view numbers.old.items ++ parameters_of (map function_view functions.now)) }
+    ensures { OnOk result (map parameter_view numbers.new.items ≡ map parameter_view numbers.old.items ++ numbered_parameters (map function_view functions.now)) }
 {
     for function in functions {
         numbers.extend_from_slice(&function.parameters)?;
@@ -107,7 +107,7 @@ pub(crate) fn number_fault<'src>(
     alloc: Global,
     numbers: &[(Name<'src>, Number)],
 ) -> Result<Option<Fault<'src>>, OutOfMemory>
-    ensures { IfOk result (λ fault. (functions : List Function) (assignments : Assignments) (outer : Frames) → Finds (IsSound functions assignments outer) (IsFaulty functions assignments outer) (number_places [] (map parameter_view numbers.now)) (option_map fault_view fault)) }
+    ensures { IfOk result (λ fault. (functions : List Function) (assignments : Assignments) (outer : Frames) → Finds (IsSound functions assignments outer) (IsFaulty functions assignments outer) (number_places [] (map parameter_view numbers.now)) (option_map module_fault_view fault)) }
 {
     let mut seen = BTreeSet::new(alloc);
     for (name, number) in numbers {
@@ -123,7 +123,7 @@ pub(crate) fn parameter_fault<'src>(
     scope: &Scope,
     parameters: &[(Name<'src>, Number)],
 ) -> Option<Fault<'src>>
-    ensures { FindsBound (frames_view scope.now) (map parameter_view parameters.now) (option_map fault_view result) }
+    ensures { FindsBound (frames_view scope.now) (map parameter_view parameters.now) (option_map module_fault_view result) }
 {
     for (name, number) in parameters {
         if scope.value(*number).is_some() {

@@ -10,7 +10,7 @@ ghost use Rattle.just_meaning.specs.View.{ordered_view};
 ghost use Rattle.just_resolution.specs.Admitted.{FindsMisplaced, IsAdmitted, IsNumberOf, IsTakenBy, ReadsReadable};
 ghost use Rattle.just_resolution.specs.Fault.{IsFaulty, IsSound, ReadsUntaken, name_places};
 ghost use Rattle.just_resolution.specs.First.{Finds};
-ghost use Rattle.just_resolution.specs.Seen.{fault_view, is_name_in, is_readable, is_taken};
+ghost use Rattle.just_resolution.specs.Seen.{module_fault_view, is_name_in, is_readable, is_taken};
 
 use crate::admitted::first_unreadable;
 use crate::fault::Fault;
@@ -38,7 +38,7 @@ pub(crate) fn order_fault<'src>(
 ) -> Result<Option<Fault<'src>>, OutOfMemory>
     requires distinct { AreDistinct (map (λ a. a.number) (map assignment_view assignments.now)) }
     ensures { let all = map function_view functions.now in let ordered = ordered_view assignments.now evaluation_order.now variable_references.entry in
-        IfOk result (λ fault. Finds (IsSound all ordered (frames_view outer.now)) (IsFaulty all ordered (frames_view outer.now)) (name_places ordered [] ordered.order) (option_map fault_view fault)) }
+        IfOk result (λ fault. Finds (IsSound all ordered (frames_view outer.now)) (IsFaulty all ordered (frames_view outer.now)) (name_places ordered [] ordered.order) (option_map module_fault_view fault)) }
 {
     let mut readable = Readable::new(alloc, outer);
     let mut admitted = BTreeSet::new(alloc);
@@ -75,7 +75,7 @@ fn take_next<'src>(
         IsTakenBy (map function_view functions.now) all (is_taken readable.old) (is_readable readable.old) (is_name_in admitted.old) }
     ensures outer { readable.new.outer ≡ readable.old.outer }
     ensures exact { let all = ordered_view assignments.now [] variable_references.entry in
-        IfOk result (λ fault. FindsMisplaced (map function_view functions.now) all (is_readable readable.old) (name_view name.now) (option_map fault_view fault)) }
+        IfOk result (λ fault. FindsMisplaced (map function_view functions.now) all (is_readable readable.old) (name_view name.now) (option_map module_fault_view fault)) }
     ensures number { let all = ordered_view assignments.now [] variable_references.entry in
         IfOk result (λ fault. IsNone fault → (n : ℕ) → IsTrue (is_taken readable.new n) ↔ (IsTrue (is_taken readable.old n) ⊎ IsNumberOf all (name_view name.now) n)) }
     ensures taken { let all = ordered_view assignments.now [] variable_references.entry in
@@ -106,7 +106,7 @@ fn take<'src>(
     requires closed { IsAdmitted (map function_view functions.now) (is_readable readable.old) (is_name_in admitted.old) }
     ensures outer { readable.new.outer ≡ readable.old.outer }
     ensures exact { let seen = assignment_view assignment.now in
-        IfOk result (λ fault. MatchOption fault (ReadsReadable (map function_view functions.now) (is_readable readable.old) seen) (λ found. ReadsUntaken (map function_view functions.now) (λ n. IsTrue (is_readable readable.old n)) seen (fault_view found))) }
+        IfOk result (λ fault. MatchOption fault (ReadsReadable (map function_view functions.now) (is_readable readable.old) seen) (λ found. ReadsUntaken (map function_view functions.now) (λ n. IsTrue (is_readable readable.old n)) seen (module_fault_view found))) }
     ensures taken { IfOk result (λ fault. IsNone fault → (n : ℕ) → IsTrue (is_taken readable.new n) ↔ (IsTrue (is_taken readable.old n) ⊎ (assignment.now.number ≡ n))) }
     ensures closed { IfOk result (λ fault. IsNone fault → IsAdmitted (map function_view functions.now) (is_readable readable.old) (is_name_in admitted.new)) }
 {

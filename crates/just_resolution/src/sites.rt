@@ -4,7 +4,7 @@ ghost use Rattle.std.specs.Prelude.{◌≡◌, ◌++◌, [], ◌∷◌, IfOk, On
 ghost use Rattle.std.specs.Option.{option_map};
 ghost use Rattle.just_syntax.specs.View.{name_view, piece_views, view, views};
 ghost use Rattle.just_resolution.specs.Seen.{mention_view, sites_view};
-ghost use Rattle.just_resolution.specs.Sites.{sites, sites_in, sites_of_call, sites_of_some, sites_of_pieces, sites_of_row, with_call, with_variable};
+ghost use Rattle.just_resolution.specs.Sites.{sites, sites_in, sites_of_call, sites_of_some, sites_of_pieces, sites_of_row, with_call_site, with_variable_site};
 
 use crate::site::{Mention, Site};
 use just_syntax::expression::Expression;
@@ -204,7 +204,7 @@ fn add_one_call<'src>(
     name: &Name<'src>,
     arguments: usize,
 ) -> Result<(), OutOfMemory>
-    ensures { OnOk result (sites_view all.new.items ≡ with_call (sites_view all.old.items) (name_view name.now) arguments) }
+    ensures { OnOk result (sites_view all.new.items ≡ with_call_site (sites_view all.old.items) (name_view name.now) arguments) }
 {
     add_site(all, name, Mention::Call { arguments })
 }
@@ -216,7 +216,7 @@ fn add_variable<'src>(
     name: &Name<'src>,
     number: Option<Number>,
 ) -> Result<(), OutOfMemory>
-    ensures { OnOk result (sites_view all.new.items ≡ with_variable (sites_view all.old.items) (name_view name.now) number) }
+    ensures { OnOk result (sites_view all.new.items ≡ with_variable_site (sites_view all.old.items) (name_view name.now) number) }
 {
     add_site(all, name, Mention::Variable { number })
 }

@@ -1,6 +1,6 @@
 // Turns words into the environment, the positional words and the lines of the recipe.
 
-ghost use Rattle.just_eval.specs.View.{HasRoom};
+ghost use Rattle.just_eval.specs.View.{MayCall};
 ghost use Rattle.std.specs.Prelude.{◌<◌};
 
 use crate::build::{self, Continued};
@@ -41,7 +41,7 @@ fn explain_in(
     text: &mut String,
     words: &str,
 ) -> Result<(), OutOfMemory>
-    requires room { 0 < context.now.recursion_limit }
+    requires may_call { 0 < context.now.recursion_limit }
 {
     let called = Called::new(alloc, words)?;
     let explained = explain_called(alloc, context, &called, text);
@@ -56,7 +56,7 @@ fn explain_called<'src>(
     called: &Called<'src>,
     text: &mut String,
 ) -> Result<(), OutOfMemory>
-    requires room { 0 < context.now.recursion_limit }
+    requires may_call { 0 < context.now.recursion_limit }
 {
     explain_resolution(alloc, context, called, text)?;
     let mut host = Calendar {
@@ -121,7 +121,7 @@ fn explain_given<'src>(
     positional: &[String],
     env: BTreeMap<String, String>,
 ) -> Result<(), OutOfMemory>
-    requires room { 0 < context.now.recursion_limit }
+    requires may_call { 0 < context.now.recursion_limit }
 {
     explain_questions(text, &host.asked)?;
     explain_environment(text, positional, &env)?;
@@ -153,7 +153,7 @@ fn explain_lines<'src>(
     host: &mut Calendar,
     env: BTreeMap<String, String>,
 ) -> Result<(), OutOfMemory>
-    requires room { 0 < context.now.recursion_limit }
+    requires may_call { 0 < context.now.recursion_limit }
 {
     let name = Some(called.recipe.name);
     let evaluator = Evaluator::new(alloc, context, env, false, name, scope)?;
@@ -168,7 +168,7 @@ fn explain_each<'src>(
     text: &mut String,
     host: &mut Calendar,
 ) -> Result<(), OutOfMemory>
-    requires room { HasRoom evaluator.now }
+    requires may_call { MayCall evaluator.now }
 {
     for (line, continued) in lines {
         match evaluator.evaluate_line(alloc, host, line, *continued) {
@@ -213,7 +213,7 @@ impl<'src> Called<'src> {
         host: &mut Calendar,
         context: &ExecutionContext<'src, 'run>,
     ) -> Result<Given<'src, 'run>, Error<'src>>
-        requires room { 0 < context.now.recursion_limit }
+        requires may_call { 0 < context.now.recursion_limit }
     {
         let check = |_: &Recipe, _: &Parameter, value: &Value| inside(alloc, value);
         Evaluator::evaluate_parameters(

@@ -28,9 +28,9 @@ first_or other [] = other
 first_or other (answer ∷ answers) = answer
 
 -- the answers after the first
-abbrev pub behind_first : {A : Type 0} → List A → List A
-behind_first [] = []
-behind_first (answer ∷ answers) = answers
+abbrev pub after_first : {A : Type 0} → List A → List A
+after_first [] = []
+after_first (answer ∷ answers) = answers
 
 -- The answer is the next reply; if none is left, it is the fault `no reply`, or `NoMemory` if there is no memory for
 -- its message.
@@ -46,14 +46,14 @@ with_replies old replies = record { always = old.always; replies = replies; text
 -- next reply.
 abbrev pub AnswersCommand : Option Text → Script → Answer → Script → Type 0
 AnswersCommand (Some text) old answer new = UnlessNoMemory answer (Replied text) × (new ≡ old)
-AnswersCommand None old answer new = AnswersNext old.replies answer × (new ≡ with_replies old (behind_first old.replies))
+AnswersCommand None old answer new = AnswersNext old.replies answer × (new ≡ with_replies old (after_first old.replies))
 
 -- Each other kind of question takes the next answer of its own list, or `Absent`, false or 0 if none is left.
 abbrev pub AnswersByScript : Script → Blind → Answer → Script → Type 0
 AnswersByScript old (CommandOf c) answer new = AnswersCommand (text_for c.command old.always) old answer new
 AnswersByScript old (TextOf q) answer new =
-    (answer ≡ first_or Absent old.texts) × (new ≡ record { always = old.always; replies = old.replies; texts = behind_first old.texts; exists = old.exists; numbers = old.numbers })
+    (answer ≡ first_or Absent old.texts) × (new ≡ record { always = old.always; replies = old.replies; texts = after_first old.texts; exists = old.exists; numbers = old.numbers })
 AnswersByScript old (ExistsAt path) answer new =
-    (answer ≡ Found (first_or false old.exists)) × (new ≡ record { always = old.always; replies = old.replies; texts = old.texts; exists = behind_first old.exists; numbers = old.numbers })
+    (answer ≡ Found (first_or false old.exists)) × (new ≡ record { always = old.always; replies = old.replies; texts = old.texts; exists = after_first old.exists; numbers = old.numbers })
 AnswersByScript old (NumberOf q) answer new =
-    (answer ≡ Numbered (first_or 0 old.numbers)) × (new ≡ record { always = old.always; replies = old.replies; texts = old.texts; exists = old.exists; numbers = behind_first old.numbers })
+    (answer ≡ Numbered (first_or 0 old.numbers)) × (new ≡ record { always = old.always; replies = old.replies; texts = old.texts; exists = old.exists; numbers = after_first old.numbers })

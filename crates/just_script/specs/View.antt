@@ -1,7 +1,6 @@
 -- Hosts as plain data.
-use Rattle.std.specs.Prelude.{List, map, string_bytes}
+use Rattle.std.specs.Prelude.{map}
 use Rattle.std.specs.Vec.Iter.{into_iter_items}
-use Rattle.std.specs.declared.string.String.{String}
 use Rattle.just_syntax.specs.View.{pair_view}
 use Rattle.just_host.specs.View.{replied, text_replied}
 use Rattle.just_script.specs.Failing.{Failing}

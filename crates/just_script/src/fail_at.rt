@@ -104,8 +104,8 @@ impl<H: Host> Host for FailAt<H> {
         Err(OutOfMemory)
     }
 
-    fn stack_room(&self) -> usize {
-        self.host.stack_room()
+    fn stack_budget(&self) -> usize {
+        self.host.stack_budget()
     }
 }
 

@@ -14,13 +14,10 @@ use just_host::number_question::NumberQuestion;
 use just_host::text_answer::TextAnswer;
 use just_host::text_question::TextQuestion;
 use just_syntax::out_of_memory::OutOfMemory;
+use just_syntax::stack::PROGRAM_STACK_BUDGET;
 use just_value::error::CommandFault;
 use std::alloc::Global;
 use std::vec::IntoIter;
-
-// The host itself uses little stack, and so does the program that it was written for: 320 KiB of 8 MiB are enough for
-// both.
-const PROGRAM_ROOM: usize = 7_872 * 1024;
 
 /// A host that answers by a script. A command with a fixed text gets that text; any other command gets the next of the
 /// replies, or the fault `no reply` after the last. Each other kind of question takes its answers from a list, in
@@ -92,8 +89,8 @@ impl Host for ScriptedHost {
         Ok(self.numbers.next().unwrap_or(0))
     }
 
-    fn stack_room(&self) -> usize {
-        PROGRAM_ROOM
+    fn stack_budget(&self) -> usize {
+        PROGRAM_STACK_BUDGET
     }
 }
 

@@ -7,7 +7,7 @@ use Rattle.just_syntax.specs.declared.expression.Expression.TheViews as expressi
 use Rattle.just_syntax.specs.Plain.{Call, Cons, Piece, ListOf, FormatString, count}
 use Rattle.just_syntax.specs.declared.string_literal.StringLiteral.{StringLiteral as Written}
 use Rattle.just_syntax.specs.Printed.{printed, printed_call, printed_row, printed_pieces}
-use Rattle.just_syntax.specs.View.{assertion, conditional, join, name_view, token_view, literal_view, view, views, row_view, piece_views, pieces_view}
+use Rattle.just_syntax.specs.View.{assert_view, conditional, join, name_view, token_view, literal_view, view, views, row_view, piece_views, pieces_view}
 
 row_items : {n : _} (row : Row_of-Expression n) → row_view row ≡ views (items-the_row-Expression n row)
 row_items end_of-Expression = refl
@@ -24,7 +24,7 @@ pub count_views : (es : List Expression) → count (views es) ≡ length es
 count_views [] = refl
 count_views (e ∷ es) = ap suc (count_views es)
 
-pub view_assert : (e : Box Expression Global) (m : Option (Box Expression Global)) (name : _) → view (expressions.Assert e m name) ≡ assertion (view e.value) (option_map (λ b. view b.value) m) (name_view name)
+pub view_assert : (e : Box Expression Global) (m : Option (Box Expression Global)) (name : _) → view (expressions.Assert e m name) ≡ assert_view (view e.value) (option_map (λ b. view b.value) m) (name_view name)
 view_assert e None name = refl
 view_assert e (Some m) name = refl
 

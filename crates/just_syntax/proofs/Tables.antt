@@ -23,10 +23,10 @@ module _ {X Y : Type 0} (f : X → Y) (key : Y → Text) where
 
 -- If All of a list implies One of its first value and All of the values after it, then it implies One of the value that
 -- is found.
-module _ {V : Type 0} (key : V → Text) (name : Text) (All : List V → Type 0) (One : V → Type 0) (first : (v : V) (vs : List V) → All (v ∷ vs) → One v) (behind : (v : V) (vs : List V) → All (v ∷ vs) → All vs) where
+module _ {V : Type 0} (key : V → Text) (name : Text) (All : List V → Type 0) (One : V → Type 0) (first : (v : V) (vs : List V) → All (v ∷ vs) → One v) (after : (v : V) (vs : List V) → All (v ∷ vs) → All vs) where
   pub found_is : (vs : List V) (v : V) → All vs → value_at key name vs ≡ Some v → One v
   found_is [] v h e = absurd (cc)
-  found_is (x ∷ xs) v h e = by (λ is. found_is xs v (behind x xs h) is) (bytes_eq name (key x)) e
+  found_is (x ∷ xs) v h e = by (λ is. found_is xs v (after x xs h) is) (bytes_eq name (key x)) e
     where
       by : (value_at key name xs ≡ Some v → One v) → (b : Bool) → cond b (Some x) (value_at key name xs) ≡ Some v → One v
       by later true is = let same : x ≡ v = cc in subst One same (first x xs h)

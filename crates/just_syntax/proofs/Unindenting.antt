@@ -79,9 +79,9 @@ nothing_common xs ys i h =
     omega (arith, both.0, both.1, length-drop i xs, length-drop i ys)
 
 -- one more line is written
-pub line_on : (all line behind : Text) (n : ℕ) (is_first : Bool) (is_last : Bool) (text : Text) (whole : Text) → lines text ≡ line ∷ lines behind → is_last ≡ eqb (length behind) 0
-    → all ++ unindented_lines n is_first (lines text) ≡ whole → (all ++ unindented_line n is_first is_last line) ++ unindented_lines n false (lines behind) ≡ whole
-line_on all line behind n is_first is_last text whole cut last so_far =
-    append_assoc all (unindented_line n is_first is_last line) (unindented_lines n false (lines behind))
-    ∙ ap (λ b. all ++ (unindented_line n is_first b line ++ unindented_lines n false (lines behind))) (last ∙ sym (none_left behind))
+pub line_on : (all line after : Text) (n : ℕ) (is_first : Bool) (is_last : Bool) (text : Text) (whole : Text) → lines text ≡ line ∷ lines after → is_last ≡ eqb (length after) 0
+    → all ++ unindented_lines n is_first (lines text) ≡ whole → (all ++ unindented_line n is_first is_last line) ++ unindented_lines n false (lines after) ≡ whole
+line_on all line after n is_first is_last text whole cut last so_far =
+    append_assoc all (unindented_line n is_first is_last line) (unindented_lines n false (lines after))
+    ∙ ap (λ b. all ++ (unindented_line n is_first b line ++ unindented_lines n false (lines after))) (last ∙ sym (none_left after))
     ∙ ap (λ ls. all ++ unindented_lines n is_first ls) (sym cut) ∙ so_far

@@ -4,5 +4,5 @@ use Rattle.std.specs.Fmt.{◌++?◌}
 use Rattle.just_syntax.specs.Plain.{Text}
 
 -- a backtick, the text, a backtick, if there is a text
-abbrev pub ticked : Option Text → Option Text
-ticked text = Some (codes "`") ++? text ++? Some (codes "`")
+abbrev pub ticked_output : Option Text → Option Text
+ticked_output text = Some (codes "`") ++? text ++? Some (codes "`")

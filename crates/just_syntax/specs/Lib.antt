@@ -10,3 +10,5 @@ pub mod OutOfMemory
 pub mod Variables
 pub mod View
 pub mod Unindented
+pub mod Levels
+pub mod Lists

@@ -45,9 +45,9 @@ name_view name = token_view name.token
 abbrev pub literal_view : Written → plain.Literal
 literal_view s = record { cooked = string_bytes s.cooked; lexeme = s.lexeme.now; indented = s.indented }
 
-abbrev pub assertion : Expr → Option Expr → plain.Token → Expr
-assertion e (Some m) t = plain.Assert e m t
-assertion e None t = plain.AssertOnly e t
+abbrev pub assert_view : Expr → Option Expr → plain.Token → Expr
+assert_view e (Some m) t = plain.Assert e m t
+assert_view e None t = plain.AssertOnly e t
 
 abbrev pub conditional : Expr → Expr → Option Expr → Expr
 conditional e a (Some b) = plain.Conditional e a b
@@ -60,7 +60,7 @@ join None t r = plain.JoinOnly t r
 abbrev mutual
   pub view : Expression → Expr
   view (And' p l q r) = plain.And (view l) (view r)
-  view (Assert' p e m name) = assertion (view e) (held_view m) (name_view name)
+  view (Assert' p e m name) = assert_view (view e) (held_view m) (name_view name)
   view (Backtick contents t) = plain.Backtick (string_bytes contents) (token_view t)
   view (Call' shape es name) = plain.Call (name_view name) (row_view es)
   view (Comparison' p l o q r t) = plain.Comparison (view l) o (view r) (token_view t)

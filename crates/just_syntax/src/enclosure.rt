@@ -22,11 +22,11 @@ impl<T> Enclosure<T> {
 }
 
 impl<T: fmt::Display> fmt::Display for Enclosure<T> {
-    ghost use Rattle.just_syntax.specs.Enclosure.{ticked};
+    ghost use Rattle.just_syntax.specs.Enclosure.{ticked_output};
 
-    ghost output = { λ enclosure. ticked (T.output enclosure.value) };
+    ghost output = { λ enclosure. ticked_output (T.output enclosure.value) };
 
-    ghost styled_output = { λ enclosure _. ticked (T.output enclosure.value) };
+    ghost styled_output = { λ enclosure _. ticked_output (T.output enclosure.value) };
 
     fn fmt<W: fmt::Write>(&self, f: &mut fmt::Formatter<W>) -> fmt::Result {
         let value = &self.value;

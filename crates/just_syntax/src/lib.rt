@@ -6,6 +6,7 @@
 pub mod assignment;
 pub mod attribute;
 pub mod attribute_set;
+pub mod condition;
 pub mod conditional_operator;
 pub mod enclosure;
 pub mod expression;
@@ -27,6 +28,7 @@ mod printed;
 pub mod recipe;
 pub mod set;
 pub mod setting;
+pub mod stack;
 pub mod string_context;
 pub mod string_literal;
 pub mod table;

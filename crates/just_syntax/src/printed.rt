@@ -89,7 +89,7 @@ fn print_between<W: fmt::Write>(
 
 // Prints an expression after a text.
 #[cycle(print)]
-fn print_behind<W: fmt::Write>(
+fn print_after<W: fmt::Write>(
     text: &str,
     expression: &Expression,
     f: &mut fmt::Formatter<W>,
@@ -128,11 +128,11 @@ fn print_conditional<W: fmt::Write>(
 ) -> fmt::Result
     ensures { WritesStyledOnOk W.write_str_gives f.old result (printed_conditional (printed (view condition.now)) (printed (view consequence.now)) (option_map (λ e. printed (view e.now)) otherwise.entry)) f.new }
 {
-    print_behind("if ", condition, f)?;
-    print_behind(" { ", consequence, f)?;
+    print_after("if ", condition, f)?;
+    print_after(" { ", consequence, f)?;
     match otherwise {
         Some(otherwise) => {
-            print_behind(" } else { ", otherwise, f)?;
+            print_after(" } else { ", otherwise, f)?;
             f.write_str(" }")
         }
         None => f.write_str(" }"),
@@ -144,7 +144,7 @@ fn print_conditional<W: fmt::Write>(
 fn print_group<W: fmt::Write>(contents: &Expression, f: &mut fmt::Formatter<W>) -> fmt::Result
     ensures { WritesStyledOnOk W.write_str_gives f.old result ((codes "(" ++ printed (view contents.now)) ++ codes ")") f.new }
 {
-    print_behind("(", contents, f)?;
+    print_after("(", contents, f)?;
     f.write_str(")")
 }
 

@@ -19,10 +19,10 @@ pub fn unindent(alloc: Global, text: &str) -> Result<String, OutOfMemory>
     let mut all = String::new(alloc);
     let mut rest = text;
     let mut is_first = true;
-    while let Some((line, behind)) = split_first_line(rest) {
-        all.push_str(unindented_line(line, width, is_first, behind.is_empty()))?;
+    while let Some((line, after)) = split_first_line(rest) {
+        all.push_str(unindented_line(line, width, is_first, after.is_empty()))?;
         is_first = false;
-        rest = behind;
+        rest = after;
     }
     Ok(all)
 }
@@ -48,9 +48,9 @@ fn common_width(text: &str) -> usize
 {
     let mut common = None;
     let mut rest = text;
-    while let Some((line, behind)) = split_first_line(rest) {
+    while let Some((line, after)) = split_first_line(rest) {
         common = common_with(common, line.as_bytes());
-        rest = behind;
+        rest = after;
     }
     match common {
         Some(indentation) => indentation.len(),

@@ -110,8 +110,8 @@ trim_whole (b ∷ bs) ends =
 trim_one : (path : List ℕ) → Lacks slash path → trim_trailing path ≡ path
 trim_one path lacks = trim_whole path (λ some. trailing_no path (length path - 1) (lacks (length path - 1) (omega arith)) (inr (lacks (length path - 1 - 1) (omega arith))))
 
-behind_slash : (dir last : List ℕ) (k : ℕ) → Lacks slash last → k < length last → get_or (dir ++ 47 ∷ last) (length dir + suc k) 0 ≢ 47
-behind_slash dir last k lacks less e = lacks k less (sym (get_or-append-add dir (47 ∷ last) (suc k) 0) ∙ e)
+after_slash : (dir last : List ℕ) (k : ℕ) → Lacks slash last → k < length last → get_or (dir ++ 47 ∷ last) (length dir + suc k) 0 ≢ 47
+after_slash dir last k lacks less e = lacks k less (sym (get_or-append-add dir (47 ∷ last) (suc k) 0) ∙ e)
 
 named_ends : (dir last : List ℕ) → Lacks slash last → is_name last ≡ true → is_trailing (dir ++ 47 ∷ last) (length (dir ++ 47 ∷ last) - 1) ≡ false
 named_ends dir [] lacks named = cc
@@ -119,13 +119,13 @@ named_ends dir (a ∷ []) lacks named =
     let path = dir ++ 47 ∷ a ∷ [] in
     let n : length path - 1 ≡ length dir + suc 0 = omega (arith, length-append dir (47 ∷ a ∷ [])) in
     let no_dot : get_or path (length dir + suc 0) 0 ≢ 46 = λ e. let same : a ≡ 46 = sym (get_or-append-add dir (47 ∷ a ∷ []) (suc 0) 0) ∙ e in let wrong : is_name (46 ∷ []) ≡ true = rw same at named in cc in
-    ap (is_trailing path) n ∙ trailing_no path (length dir + suc 0) (behind_slash dir (a ∷ []) 0 lacks (omega arith)) (inl no_dot)
+    ap (is_trailing path) n ∙ trailing_no path (length dir + suc 0) (after_slash dir (a ∷ []) 0 lacks (omega arith)) (inl no_dot)
 named_ends dir (a ∷ b ∷ rest) lacks named =
     let path = dir ++ 47 ∷ a ∷ b ∷ rest in
     let n : length path - 1 ≡ length dir + suc (suc (length rest)) = omega (arith, length-append dir (47 ∷ a ∷ b ∷ rest)) in
     let before : (length dir + suc (suc (length rest))) - 1 ≡ length dir + suc (length rest) = omega arith in
-    ap (is_trailing path) n ∙ trailing_no path (length dir + suc (suc (length rest))) (behind_slash dir (a ∷ b ∷ rest) (suc (length rest)) lacks (omega arith))
-    (inr (λ e. behind_slash dir (a ∷ b ∷ rest) (length rest) lacks (omega arith) (ap (λ k. get_or path k 0) (sym before) ∙ e)))
+    ap (is_trailing path) n ∙ trailing_no path (length dir + suc (suc (length rest))) (after_slash dir (a ∷ b ∷ rest) (suc (length rest)) lacks (omega arith))
+    (inr (λ e. after_slash dir (a ∷ b ∷ rest) (length rest) lacks (omega arith) (ap (λ k. get_or path k 0) (sym before) ∙ e)))
 
 -- trimming a prefix of a path does not depend on the rest
 trimmed_front : (dir rest : List ℕ) (k : ℕ) → k ≤ length dir → trimmed_len (dir ++ rest) k ≡ trimmed_len dir k
@@ -266,11 +266,11 @@ before_slash [] last k = refl
 before_slash (d ∷ ds) last k =
     cond-false _ _ _ (ne_eqb (length (d ∷ ds)) 0 (λ e. absurd (omega arith))) ∙ (k.trimmed ∙ sym (up_to_front d ds (47 ∷ last) (from_last (d ∷ ds)) k.within))
 
-behind_range : (dir last : List ℕ) → slice_range (dir ++ 47 ∷ last) (length dir + 1) ((length dir + 1) + length last) ≡ last
-behind_range dir last =
+after_range : (dir last : List ℕ) → slice_range (dir ++ 47 ∷ last) (length dir + 1) ((length dir + 1) + length last) ≡ last
+after_range dir last =
     let n : ((length dir + 1) + length last) - (length dir + 1) ≡ length last = omega arith in
-    let behind : drop (length dir + 1) (dir ++ 47 ∷ last) ≡ last = rw (← append_assoc dir (47 ∷ []) last) (drop_at (dir ++ 47 ∷ []) last (length dir + 1) (length-append dir (47 ∷ []))) in
-    ap₂ (λ k t. take k t) n behind ∙ take_all (length last) last (omega arith)
+    let after : drop (length dir + 1) (dir ++ 47 ∷ last) ≡ last = rw (← append_assoc dir (47 ∷ []) last) (drop_at (dir ++ 47 ∷ []) last (length dir + 1) (length-append dir (47 ∷ []))) in
+    ap₂ (λ k t. take k t) n after ∙ take_all (length last) last (omega arith)
 
 not_root : (dir last : List ℕ) → is_name last ≡ true → bytes_eq (dir ++ 47 ∷ last) root_dir ≡ false
 not_root [] [] named = cc
@@ -290,7 +290,7 @@ known_named dir last lacks named e k =
       within = subst (Within (length path)) (sym place) (omega arith, omega (arith, n), within_more (length dir) (length path) (from_last dir) (omega (arith, n)) k.within);
       trimmed = trims ∙ (sym whole_path ∙ ap (up_to path) (sym place));
       parts = split_whole path trims (omega (arith, n)) (not_root dir last named) ∙ (ap (λ r. Some (parent_and_last path r)) e
-          ∙ (ap₂ (λ a t. Some (a, t)) (before_slash dir last k) (sym (behind_range dir last)) ∙ ap (described path) (sym place)));
+          ∙ (ap₂ (λ a t. Some (a, t)) (before_slash dir last k) (sym (after_range dir last)) ∙ ap (described path) (sym place)));
     }
 
 known_split : (dir last : List ℕ) → Lacks slash last → rsplit_once slash (dir ++ 47 ∷ last) ≡ Some (dir, last) → Known dir → Known (dir ++ 47 ∷ last)

@@ -4,7 +4,7 @@ use lib.Utf8.{encode}
 use Rattle.std.specs.Str.{chars}
 use Rattle.percent_encoding.specs.Percent.{percent_encode_byte}
 use Rattle.just_text.specs.Case.{capitalize}
-use Rattle.just_text.specs.Path.{joined, parent, file_name, file_stem, extension}
+use Rattle.just_text.specs.Path.{joined_paths, parent, file_name, file_stem, extension}
 use Rattle.just_text.specs.Pattern.{without_starts, without_ends}
 use Rattle.just_text.specs.Quote.{single_quoted}
 use Rattle.just_text.specs.Replace.{replaced}
@@ -67,10 +67,10 @@ hidden_stem : file_stem (codes ".bashrc") ≡ Some (codes ".bashrc")
 unfolding file_stem file_name
 hidden_stem = refl
 
-second_rooted : joined (codes "a") (codes "/b") ≡ codes "/b"
+second_rooted : joined_paths (codes "a") (codes "/b") ≡ codes "/b"
 second_rooted = refl
 
-one_slash : joined (codes "a/") (codes "b") ≡ codes "a/b"
+one_slash : joined_paths (codes "a/") (codes "b") ≡ codes "a/b"
 one_slash = refl
 
 starts : without_starts (codes "ab") (codes "ababa") ≡ codes "a"

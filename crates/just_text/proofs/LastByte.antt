@@ -73,7 +73,7 @@ pub after_last_at : (c : ℕ) (front back : List ℕ) → Lacks c back → after
 after_last_at c front back lacks =
     let text = front ++ c ∷ back in
     let n : length text - suffix_len (not_at c) text ≡ length front + 1 = omega (arith, suffix_at c front back lacks, length-append front (c ∷ back)) in
-    ap (λ k. drop k text) n ∙ behind front
+    ap (λ k. drop k text) n ∙ suffix front
   where
-    behind : (xs : List ℕ) → drop (length xs + 1) (xs ++ c ∷ back) ≡ back
-    behind xs = rw (← append_assoc xs (c ∷ []) back) (drop_at (xs ++ c ∷ []) back (length xs + 1) (length-append xs (c ∷ [])))
+    suffix : (xs : List ℕ) → drop (length xs + 1) (xs ++ c ∷ back) ≡ back
+    suffix xs = rw (← append_assoc xs (c ∷ []) back) (drop_at (xs ++ c ∷ []) back (length xs + 1) (length-append xs (c ∷ [])))

@@ -15,12 +15,12 @@ use Rattle.std.proofs.lemmas.Slice.Eq.{bytes_eq-Decides}
 use Rattle.std.proofs.lemmas.Str.{chars-nil, chars_past_char, IsUtf8-past_char}
 use Rattle.just_text.specs.Quote.{in_quotes}
 use Rattle.just_text.specs.Replace.{interleaved, replaced}
-use Rattle.just_text.specs.Split.{pieces, pieces_behind, PiecesGiveTextBack, NoPieceHoldsSeparator}
+use Rattle.just_text.specs.Split.{pieces, pieces_after, PiecesGiveTextBack, NoPieceHoldsSeparator}
 use Rattle.just_text.proofs.Ends.{starts, starts_not}
 use Rattle.just_text.proofs.Joined.{joined, joined_more, joined_onto}
 
 -- the remaining bytes of an occurrence are skipped
-passed : (p : List ℕ) (k : ℕ) (s : List ℕ) → pieces_behind p k s ≡ pieces_behind p 0 (drop k s)
+passed : (p : List ℕ) (k : ℕ) (s : List ℕ) → pieces_after p k s ≡ pieces_after p 0 (drop k s)
 passed p zero s = refl
 passed p (suc k) [] = refl
 passed p (suc k) (b ∷ bs) = passed p k bs
@@ -28,7 +28,7 @@ passed p (suc k) (b ∷ bs) = passed p k bs
 nothing_in_nil : (p rest : List ℕ) → 0 < length p → [] ≡ p ++ rest → ⊥
 nothing_in_nil p rest some e = omega (arith, ap length e, length-append p rest)
 
-first_here : (p s : List ℕ) (j : ℕ) → 0 < length p → s ≡ p ++ drop j s → j ≡ length p → pieces_behind p 0 s ≡ [] ∷ pieces_behind p 0 (drop j s)
+first_here : (p s : List ℕ) (j : ℕ) → 0 < length p → s ≡ p ++ drop j s → j ≡ length p → pieces_after p 0 s ≡ [] ∷ pieces_after p 0 (drop j s)
 first_here p [] j some split ends = absurd (nothing_in_nil p (drop j []) some split)
 first_here p (b ∷ bs) zero some split ends = absurd (omega arith)
 first_here p (b ∷ bs) (suc j) some split ends =
@@ -36,7 +36,7 @@ first_here p (b ∷ bs) (suc j) some split ends =
     rw (starts p (b ∷ bs) (drop j bs) split, left) (ap (λ ps. [] ∷ ps) (passed p j bs))
 
 -- the pieces of a text, by the first occurrence of a separator
-at_first : (p s : List ℕ) (i j : ℕ) → 0 < length p → ((k : ℕ) → k < i → LacksTextAt p s k) × (drop i s ≡ p ++ drop j s) × (j ≡ i + length p) → pieces_behind p 0 s ≡ take i s ∷ pieces_behind p 0 (drop j s)
+at_first : (p s : List ℕ) (i j : ℕ) → 0 < length p → ((k : ℕ) → k < i → LacksTextAt p s k) × (drop i s ≡ p ++ drop j s) × (j ≡ i + length p) → pieces_after p 0 s ≡ take i s ∷ pieces_after p 0 (drop j s)
 at_first p s zero j some (before, split, ends) = first_here p s j some split (omega arith)
 at_first p [] (suc i) zero some (before, split, ends) = absurd (omega arith)
 at_first p [] (suc i) (suc j) some (before, split, ends) = absurd (nothing_in_nil p [] some split)
@@ -44,7 +44,7 @@ at_first p (b ∷ bs) (suc i) zero some (before, split, ends) = absurd (omega ar
 at_first p (b ∷ bs) (suc i) (suc j) some (before, split, ends) =
     rw (starts_not p (b ∷ bs) (before 0 (omega arith))) (ap (onto_first b) (at_first p bs i j some (λ k h. before (suc k) (omega arith), split, omega arith)))
 
-at_none : (p s : List ℕ) → 0 < length p → FindsText p s None → pieces_behind p 0 s ≡ s ∷ []
+at_none : (p s : List ℕ) → 0 < length p → FindsText p s None → pieces_after p 0 s ≡ s ∷ []
 at_none p [] some none = refl
 at_none p (b ∷ bs) some none = rw (starts_not p (b ∷ bs) (none 0 (omega arith))) (ap (onto_first b) (at_none p bs some (λ i h. none (suc i) (omega arith))))
 
@@ -61,14 +61,14 @@ onto_some : (b : ℕ) (ps : List (List ℕ)) → 0 < length (onto_first b ps)
 onto_some b [] = omega arith
 onto_some b (p ∷ ps) = omega arith
 
-pieces_behind_some : (p : List ℕ) (k : ℕ) (s : List ℕ) → 0 < length (pieces_behind p k s)
-pieces_behind_some p k [] = omega arith
-pieces_behind_some p (suc k) (b ∷ bs) = pieces_behind_some p k bs
-pieces_behind_some p zero (b ∷ bs) = cond_both (starts_with eqb (b ∷ bs) p) ([] ∷ pieces_behind p (length p - 1) bs) (onto_first b (pieces_behind p 0 bs)) (λ ps. 0 < length ps) (λ e. omega arith) (λ e. onto_some b (pieces_behind p 0 bs))
+pieces_after_some : (p : List ℕ) (k : ℕ) (s : List ℕ) → 0 < length (pieces_after p k s)
+pieces_after_some p k [] = omega arith
+pieces_after_some p (suc k) (b ∷ bs) = pieces_after_some p k bs
+pieces_after_some p zero (b ∷ bs) = cond_both (starts_with eqb (b ∷ bs) p) ([] ∷ pieces_after p (length p - 1) bs) (onto_first b (pieces_after p 0 bs)) (λ ps. 0 < length ps) (λ e. omega arith) (λ e. onto_some b (pieces_after p 0 bs))
 
 pieces_some : (p s : List ℕ) → 0 < length (pieces p s)
 unfolding pieces
-pieces_some p s = pieces_behind_some p 0 s
+pieces_some p s = pieces_after_some p 0 s
 
 -- the remaining pieces of an iterator
 abbrev left : Split (Bor (List ℕ)) → List ℕ → List (List ℕ)
@@ -100,8 +100,8 @@ replaced_filled p to zero q s out some same (none, e) =
     rw (pieces_whole p s some (subst (λ t. FindsText t s None) same none)) (e ∙ sym (append-nil s))
 replaced_filled p to (suc n) q s out some same (i, j, next, rest, found, kept, inl (shorter, others), e) =
     let here = subst (λ t. FindsText t s (Some (i, j))) same found in
-    let behind = replaced_filled p to n next (drop j s) rest some (kept ∙ same) others in
-    rw (pieces_cut p s i j some here, joined_more to (take i s) (pieces p (drop j s)) (pieces_some p (drop j s)), ← behind) e
+    let after = replaced_filled p to n next (drop j s) rest some (kept ∙ same) others in
+    rw (pieces_cut p s i j some here, joined_more to (take i s) (pieces p (drop j s)) (pieces_some p (drop j s)), ← after) e
 replaced_filled p to (suc n) q s out some same (i, j, next, rest, found, kept, inr (empty, others), e) =
     let here = subst (λ t. FindsText t s (Some (i, j))) same found in
     absurd (omega (arith, empty, here.1.ends))
@@ -124,8 +124,8 @@ replaced_empty to (suc n) q s out utf8 same (i, j, next, rest, found, kept, inr 
 replaced_empty to (suc n) q s out utf8 same (i, j, next, rest, found, kept, inr (empty, inr (c, t, more, cut, others, goes)), e) =
     let front = at_front s i j (subst (λ t. FindsText t s (Some (i, j))) same found) in
     let whole : s ≡ encode_utf8 c ++ t = ap (λ k. drop k s) (sym front.1) ∙ cut in
-    let behind = replaced_empty to n next t more (IsUtf8-past_char s t c utf8 whole) (kept ∙ same) others in
-    rw (chars_past_char s t c utf8 whole, e, front.0, goes, behind) (simp append_assoc)
+    let after = replaced_empty to n next t more (IsUtf8-past_char s t c utf8 whole) (kept ∙ same) others in
+    rw (chars_past_char s t c utf8 whole, e, front.0, goes, after) (simp append_assoc)
 
 pub replaced_is : (from to : List ℕ) (n : ℕ) (q : Bor (List ℕ)) (s out : List ℕ) → IsUtf8 s → q.now ≡ from
     → ReplacesMatches (λ (n : Bor (List ℕ)). FindsText n.now) (λ n m. m.now ≡ n.now) to n q s out → out ≡ replaced s from to
@@ -139,31 +139,31 @@ unfolding pieces
 quotes_replaced [] = refl
 quotes_replaced (b ∷ bs) =
     elim (eqb_tells b 39) [
-      | inl w ↦ rw (w.1) (joined_more (39 ∷ 92 ∷ 39 ∷ 39 ∷ []) [] (pieces_behind (39 ∷ []) 0 bs) (pieces_behind_some (39 ∷ []) 0 bs) ∙ ap (λ t. (39 ∷ 92 ∷ 39 ∷ 39 ∷ []) ++ t) (quotes_replaced bs))
-      | inr w ↦ rw (w.0, ne_eqb 39 b (λ e. w.1 (sym e))) (joined_onto (39 ∷ 92 ∷ 39 ∷ 39 ∷ []) b (pieces_behind (39 ∷ []) 0 bs) (pieces_behind_some (39 ∷ []) 0 bs) ∙ ap (λ t. b ∷ t) (quotes_replaced bs))
+      | inl w ↦ rw (w.1) (joined_more (39 ∷ 92 ∷ 39 ∷ 39 ∷ []) [] (pieces_after (39 ∷ []) 0 bs) (pieces_after_some (39 ∷ []) 0 bs) ∙ ap (λ t. (39 ∷ 92 ∷ 39 ∷ 39 ∷ []) ++ t) (quotes_replaced bs))
+      | inr w ↦ rw (w.0, ne_eqb 39 b (λ e. w.1 (sym e))) (joined_onto (39 ∷ 92 ∷ 39 ∷ 39 ∷ []) b (pieces_after (39 ∷ []) 0 bs) (pieces_after_some (39 ∷ []) 0 bs) ∙ ap (λ t. b ∷ t) (quotes_replaced bs))
     ]
 
 -- the text after a separator that it begins with
-behind_separator : (p s : List ℕ) → starts_with eqb s p ≡ true → s ≡ p ++ drop (length p) s
-behind_separator p s e = sym (take-append-drop (length p) s) ∙ ap (λ t. t ++ drop (length p) s) (sym ((bytes_eq-Decides p (take (length p) s)).0 e))
+after_separator : (p s : List ℕ) → starts_with eqb s p ≡ true → s ≡ p ++ drop (length p) s
+after_separator p s e = sym (take-append-drop (length p) s) ∙ ap (λ t. t ++ drop (length p) s) (sym ((bytes_eq-Decides p (take (length p) s)).0 e))
 
-shorter_behind : (p : List ℕ) (b : ℕ) (bs : List ℕ) → 0 < length p → drop (length p) (b ∷ bs) ≡ drop (length p - 1) bs
-shorter_behind [] b bs some = absurd (omega arith)
-shorter_behind (c ∷ cs) b bs some =
+shorter_after : (p : List ℕ) (b : ℕ) (bs : List ℕ) → 0 < length p → drop (length p) (b ∷ bs) ≡ drop (length p - 1) bs
+shorter_after [] b bs some = absurd (omega arith)
+shorter_after (c ∷ cs) b bs some =
     let n : length cs ≡ length (c ∷ cs) - 1 = omega arith in
     ap (λ k. drop k bs) n
 
 -- the pieces joined again
-given_back : (p : List ℕ) → 0 < length p → (n : ℕ) (s : List ℕ) → length s ≤ n → joined p (pieces_behind p 0 s) ≡ s
+given_back : (p : List ℕ) → 0 < length p → (n : ℕ) (s : List ℕ) → length s ≤ n → joined p (pieces_after p 0 s) ≡ s
 given_back p some n [] fits = refl
 given_back p some zero (b ∷ bs) fits = absurd (omega arith)
 given_back p some (suc n) (b ∷ bs) fits =
     let rest = drop (length p - 1) bs in
     elim (cases_Bool (starts_with eqb (b ∷ bs) p)) [
-      | inl e ↦ rw e (joined_more p [] (pieces_behind p (length p - 1) bs) (pieces_behind_some p (length p - 1) bs)
+      | inl e ↦ rw e (joined_more p [] (pieces_after p (length p - 1) bs) (pieces_after_some p (length p - 1) bs)
           ∙ (ap (λ ps. p ++ joined p ps) (passed p (length p - 1) bs) ∙ (ap (λ t. p ++ t) (given_back p some n rest (omega (arith, length-drop (length p - 1) bs)))
-          ∙ (ap (λ t. p ++ t) (sym (shorter_behind p b bs some)) ∙ sym (behind_separator p (b ∷ bs) e)))))
-      | inr e ↦ rw e (joined_onto p b (pieces_behind p 0 bs) (pieces_behind_some p 0 bs) ∙ ap (λ t. b ∷ t) (given_back p some n bs (omega arith)))
+          ∙ (ap (λ t. p ++ t) (sym (shorter_after p b bs some)) ∙ sym (after_separator p (b ∷ bs) e)))))
+      | inr e ↦ rw e (joined_onto p b (pieces_after p 0 bs) (pieces_after_some p 0 bs) ∙ ap (λ t. b ∷ t) (given_back p some n bs (omega arith)))
     ]
 
 pub pieces_joined : PiecesGiveTextBack
@@ -174,18 +174,18 @@ pieces_joined separator text some = given_back separator some (length text) text
 FreeOf : List ℕ → List ℕ → Type 0
 FreeOf p piece = ¬ (HasSubslice piece p)
 
-Told : List ℕ → List ℕ → List (List ℕ) → Type 0
-Told p s [] = ⊥
-Told p s (x ∷ xs) = ((rest : List ℕ) × (s ≡ x ++ rest)) × All (FreeOf p) (x ∷ xs)
+IsFree : List ℕ → List ℕ → List (List ℕ) → Type 0
+IsFree p s [] = ⊥
+IsFree p s (x ∷ xs) = ((rest : List ℕ) × (s ≡ x ++ rest)) × All (FreeOf p) (x ∷ xs)
 
 nothing_free : (p : List ℕ) → 0 < length p → FreeOf p []
 unfolding FreeOf
 nothing_free p some (front, back, e) = omega (arith, ap length e, length-append front (p ++ back), length-append p back)
 
-told_free : (p s : List ℕ) (ps : List (List ℕ)) → Told p s ps → All (FreeOf p) ps
-unfolding Told
-told_free p s [] told = absurd told
-told_free p s (x ∷ xs) told = told.1
+free_rest : (p s : List ℕ) (ps : List (List ℕ)) → IsFree p s ps → All (FreeOf p) ps
+unfolding IsFree
+free_rest p s [] are_free = absurd are_free
+free_rest p s (x ∷ xs) are_free = are_free.1
 
 begins : (p s rest : List ℕ) → s ≡ p ++ rest → starts_with eqb s p ≡ false → ⊥
 begins p s rest e not = both_ways (starts_with eqb s p) not (starts p s rest e)
@@ -195,27 +195,27 @@ unfolding FreeOf
 longer_free p b x bs rest split not free ([], back, e) = begins p (b ∷ bs) (back ++ rest) (ap (λ t. b ∷ t) split ∙ (ap (λ t. t ++ rest) e ∙ append_assoc p back rest)) not
 longer_free p b x bs rest split not free (c ∷ front, back, e) = free (front, back, cc)
 
-told_onto : (p : List ℕ) (b : ℕ) (bs : List ℕ) (ps : List (List ℕ)) → starts_with eqb (b ∷ bs) p ≡ false → Told p bs ps → Told p (b ∷ bs) (onto_first b ps)
-unfolding Told
-told_onto p b bs [] not told = absurd told
-told_onto p b bs (x ∷ xs) not ((rest, split), free) =
+free_onto : (p : List ℕ) (b : ℕ) (bs : List ℕ) (ps : List (List ℕ)) → starts_with eqb (b ∷ bs) p ≡ false → IsFree p bs ps → IsFree p (b ∷ bs) (onto_first b ps)
+unfolding IsFree
+free_onto p b bs [] not are_free = absurd are_free
+free_onto p b bs (x ∷ xs) not ((rest, split), free) =
     ((rest, ap (λ t. b ∷ t) split), All-cons (FreeOf p) (b ∷ x) xs (longer_free p b x bs rest split not (All-head (FreeOf p) x xs free)) (All-tail (FreeOf p) x xs free))
 
-told : (p : List ℕ) → 0 < length p → (n : ℕ) (s : List ℕ) → length s ≤ n → Told p s (pieces_behind p 0 s)
-unfolding Told
-told p some n [] fits = (([], refl), All-cons (FreeOf p) [] [] (nothing_free p some) (All-nil (FreeOf p)))
-told p some zero (b ∷ bs) fits = absurd (omega arith)
-told p some (suc n) (b ∷ bs) fits =
+are_free : (p : List ℕ) → 0 < length p → (n : ℕ) (s : List ℕ) → length s ≤ n → IsFree p s (pieces_after p 0 s)
+unfolding IsFree
+are_free p some n [] fits = (([], refl), All-cons (FreeOf p) [] [] (nothing_free p some) (All-nil (FreeOf p)))
+are_free p some zero (b ∷ bs) fits = absurd (omega arith)
+are_free p some (suc n) (b ∷ bs) fits =
     let rest = drop (length p - 1) bs in
     elim (cases_Bool (starts_with eqb (b ∷ bs) p)) [
       | inl e ↦ rw e (
         (b ∷ bs, refl),
-        All-cons (FreeOf p) [] (pieces_behind p (length p - 1) bs) (nothing_free p some)
-            (rw (passed p (length p - 1) bs) (told_free p rest (pieces_behind p 0 rest) (told p some n rest (omega (arith, length-drop (length p - 1) bs))))),
+        All-cons (FreeOf p) [] (pieces_after p (length p - 1) bs) (nothing_free p some)
+            (rw (passed p (length p - 1) bs) (free_rest p rest (pieces_after p 0 rest) (are_free p some n rest (omega (arith, length-drop (length p - 1) bs))))),
       )
-      | inr e ↦ rw e (told_onto p b bs (pieces_behind p 0 bs) e (told p some n bs (omega arith)))
+      | inr e ↦ rw e (free_onto p b bs (pieces_after p 0 bs) e (are_free p some n bs (omega arith)))
     ]
 
 pub pieces_free : NoPieceHoldsSeparator
 unfolding pieces FreeOf
-pieces_free separator text some = told_free separator text (pieces_behind separator 0 text) (told separator some (length text) text (omega arith))
+pieces_free separator text some = free_rest separator text (pieces_after separator 0 text) (are_free separator some (length text) text (omega arith))

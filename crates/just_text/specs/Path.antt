@@ -14,8 +14,8 @@ abbrev pub with_slash : Text → Text
 with_slash base = if length base == 0 || slice_index base (length base - 1) == slash then base else base ++ codes "/"
 
 -- the second path if it is rooted, otherwise the two joined by a slash
-abbrev pub joined : Text → Text → Text
-joined base path = if is_rooted path then path else with_slash base ++ path
+abbrev pub joined_paths : Text → Text → Text
+joined_paths base path = if is_rooted path then path else with_slash base ++ path
 
 -- the pieces between the slashes
 abbrev pub segments : Text → List Text
@@ -73,12 +73,12 @@ file_name path = last_name path (from_last path)
 abbrev pub before_dot : Text → Text
 before_dot name = before_last (λ b. b == dot) name
 
-abbrev pub behind_dot : Text → Text
-behind_dot name = after_last (λ b. b == dot) name
+abbrev pub after_dot : Text → Text
+after_dot name = after_last (λ b. b == dot) name
 
 -- a name without a dot, or whose last dot is its first byte, has no extension: its stem is all of it
 abbrev pub extension_of : Text → Option Text
-extension_of name = if length (before_dot name) == 0 then None else Some (behind_dot name)
+extension_of name = if length (before_dot name) == 0 then None else Some (after_dot name)
 
 abbrev pub stem_of : Text → Text
 stem_of name = if length (before_dot name) == 0 then name else before_dot name

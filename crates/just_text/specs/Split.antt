@@ -10,29 +10,29 @@ abbrev pub is_filled : Text → Bool
 is_filled piece = not (length piece == 0)
 
 -- the pieces between white space that are not empty, from characters
-abbrev pub words_of : List ℕ → List Text
-words_of characters = map encode_utf8_all (filter is_filled (slice_split is_whitespace characters))
+abbrev pub words_in : List ℕ → List Text
+words_in characters = map encode_utf8_all (filter is_filled (slice_split is_whitespace characters))
 
 -- the words of a text: the pieces between characters of the property White_Space that are not empty
 unfoldable pub words : Text → List Text
-words text = words_of (chars text)
+words text = words_in (chars text)
 
 -- the characters of a text
 abbrev pub characters : Text → List Text
 characters text = map encode_utf8 (chars text)
 
 -- the pieces of a text between the occurrences of a separator, after the first `left` bytes are skipped
-abbrev pub pieces_behind : Text → ℕ → Text → List Text
-pieces_behind separator left [] = [] ∷ []
-pieces_behind separator (suc left) (b ∷ bs) = pieces_behind separator left bs
-pieces_behind separator zero (b ∷ bs) =
+abbrev pub pieces_after : Text → ℕ → Text → List Text
+pieces_after separator left [] = [] ∷ []
+pieces_after separator (suc left) (b ∷ bs) = pieces_after separator left bs
+pieces_after separator zero (b ∷ bs) =
     if starts_with nat_eq (b ∷ bs) separator
-    then [] ∷ pieces_behind separator (length separator - 1) bs
-    else onto_first b (pieces_behind separator zero bs)
+    then [] ∷ pieces_after separator (length separator - 1) bs
+    else onto_first b (pieces_after separator zero bs)
 
 -- the pieces between the leftmost occurrences of a separator that do not overlap
 unfoldable pub pieces : Text → Text → List Text
-pieces separator text = pieces_behind separator 0 text
+pieces separator text = pieces_after separator 0 text
 
 -- the pieces between the occurrences of a separator; for an empty one, the characters
 abbrev pub split : Text → Text → List Text

@@ -14,7 +14,7 @@ use std::path::Path;
 ///
 /// `OutOfMemory`, if an allocation fails: nothing is created.
 pub fn join(alloc: Global, base: &str, path: &str) -> Result<String, OutOfMemory>
-    ensures { IfOk result (λ text. string_bytes text ≡ spec.joined base.now path.now) }
+    ensures { IfOk result (λ text. string_bytes text ≡ spec.joined_paths base.now path.now) }
 {
     let joined = Path::new(base).join(alloc, path)?;
     Ok(joined.into_string())

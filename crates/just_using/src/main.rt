@@ -31,8 +31,8 @@ impl Host for Greeter {
         NoHost.number(alloc, asked)
     }
 
-    fn stack_room(&self) -> usize {
-        TRIED_STACK_ROOM
+    fn stack_budget(&self) -> usize {
+        TRIED_STACK_BUDGET
     }
 }
 
@@ -122,7 +122,11 @@ fn print_bindings(rt: &impl Print, scope: &Scope) -> Result<()> {
 
 fn print_error(rt: &impl Print, error: &Error) -> Result<()> {
     match error.token() {
-        Some(at) => println!(rt; "{}:{}:{}: {error}", at.path, at.line, at.column)?,
+        Some(at) => {
+            // A place counts lines and columns from 0, and people count from 1.
+            let (line, column) = (at.line.saturating_add(1), at.column.saturating_add(1));
+            println!(rt; "{}:{line}:{column}: {error}", at.path)?;
+        }
         None => println!(rt; "{error}")?,
     }
     Ok(())

@@ -5,7 +5,7 @@ use Rattle.std.specs.Str.Pattern.{HasCharAt}
 use Rattle.std.proofs.lemmas.List.{take-append-drop, map_push}
 use Rattle.std.proofs.lemmas.Bool.{ne_eqb, eq-eqb}
 use Rattle.std.proofs.lemmas.Str.Pattern.{NoCharPasses-char, drop_at_char}
-use Rattle.just_value.specs.Positional.{Positional, cut_at_first, behind_last, cut_behind_last, is_dots, directory_and_tail, tail_before, with_directory, behind_overrides, override_of, with_override, with_next, with_word}
+use Rattle.just_value.specs.Positional.{Positional, cut_at_first, after_last, cut_after_last, is_dots, directory_and_tail, tail_before, with_directory, after_overrides, override_of, with_override, with_next, with_word}
 
 -- the text lacks the byte
 abbrev pub Lacks : ℕ → List ℕ → Type 0
@@ -19,13 +19,13 @@ pub first_found : (c : ℕ) (xs ys : List ℕ) → Lacks c xs → cut_at_first c
 first_found c [] ys lacks = rw (eq-eqb c c refl) refl
 first_found c (b ∷ bs) ys lacks = rw (ne_eqb b c (lacks 0 (omega arith)), first_found c bs ys (λ i h. lacks (suc i) (omega arith))) refl
 
-pub last_none : (c : ℕ) (bs : List ℕ) → Lacks c bs → cut_behind_last c bs ≡ None
+pub last_none : (c : ℕ) (bs : List ℕ) → Lacks c bs → cut_after_last c bs ≡ None
 last_none c [] lacks = refl
 last_none c (b ∷ bs) lacks = rw (last_none c bs (λ i h. lacks (suc i) (omega arith)), ne_eqb b c (lacks 0 (omega arith))) refl
 
-pub last_found : (c : ℕ) (xs ys : List ℕ) → Lacks c ys → cut_behind_last c (xs ++ c ∷ ys) ≡ Some (xs ++ c ∷ [], ys)
+pub last_found : (c : ℕ) (xs ys : List ℕ) → Lacks c ys → cut_after_last c (xs ++ c ∷ ys) ≡ Some (xs ++ c ∷ [], ys)
 last_found c [] ys lacks = rw (last_none c ys lacks, eq-eqb c c refl) refl
-last_found c (b ∷ bs) ys lacks = ap (behind_last c b (bs ++ c ∷ ys)) (last_found c bs ys lacks)
+last_found c (b ∷ bs) ys lacks = ap (after_last c b (bs ++ c ∷ ys)) (last_found c bs ys lacks)
 
 -- the text around the byte that a search found
 round : (c : ℕ) (s : List ℕ) (i j : ℕ) → c < 128 → HasCharAt c s i j → s ≡ take i s ++ c ∷ drop j s
@@ -40,14 +40,14 @@ first_missed c s ascii none = first_none c s (lacks c s ascii none)
 pub first_split : (c : ℕ) (s : List ℕ) (i j : ℕ) → c < 128 → NoCharPasses (λ d. eqb d c) (take i s) × HasCharAt c s i j → cut_at_first c s ≡ Some (take i s, drop j s)
 first_split c s i j ascii (none, found) = ap (cut_at_first c) (round c s i j ascii found) ∙ first_found c (take i s) (drop j s) (lacks c (take i s) ascii none)
 
-pub last_missed : (c : ℕ) (s : List ℕ) → c < 128 → NoCharPasses (λ d. eqb d c) s → cut_behind_last c s ≡ None
+pub last_missed : (c : ℕ) (s : List ℕ) → c < 128 → NoCharPasses (λ d. eqb d c) s → cut_after_last c s ≡ None
 last_missed c s ascii none = last_none c s (lacks c s ascii none)
 
-pub last_split : (c : ℕ) (s : List ℕ) (i j : ℕ) → c < 128 → NoCharPasses (λ d. eqb d c) (drop j s) × HasCharAt c s i j → cut_behind_last c s ≡ Some (take i s ++ c ∷ [], drop j s)
-last_split c s i j ascii (none, found) = ap (cut_behind_last c) (round c s i j ascii found) ∙ last_found c (take i s) (drop j s) (lacks c (drop j s) ascii none)
+pub last_split : (c : ℕ) (s : List ℕ) (i j : ℕ) → c < 128 → NoCharPasses (λ d. eqb d c) (drop j s) × HasCharAt c s i j → cut_after_last c s ≡ Some (take i s ++ c ∷ [], drop j s)
+last_split c s i j ascii (none, found) = ap (cut_after_last c) (round c s i j ascii found) ∙ last_found c (take i s) (drop j s) (lacks c (drop j s) ascii none)
 
 -- the meaning of the first word after the overrides
-no_dots_here : (word : List ℕ) (o : Option (List ℕ × List ℕ)) → is_dots word ≡ false → directory_and_tail word ≡ o → behind_overrides word [] ≡ with_directory word [] o
+no_dots_here : (word : List ℕ) (o : Option (List ℕ × List ℕ)) → is_dots word ≡ false → directory_and_tail word ≡ o → after_overrides word [] ≡ with_directory word [] o
 no_dots_here word o dots e = ap (λ b. cond b (record { arguments = []; overrides = []; search_directory = Some word }) (with_directory word [] (directory_and_tail word))) dots ∙ ap (with_directory word []) e
 
 pub with_slash : (word front tail d : List ℕ) (arguments : List (List ℕ)) (overrides : List (List ℕ × List ℕ)) → is_dots word ≡ false → directory_and_tail word ≡ Some (front ++ 47 ∷ [], tail) → d ≡ front ++ 47 ∷ [] → arguments ≡ tail_before tail []

@@ -56,7 +56,7 @@ module _ {X K : Type 0} (key : X → K) {R : K → K → Ordering} (total : IsTo
     (
       λ i d lo hi. elim (cases_lt i (length xs - 1)) [
         | inl below ↦ total.trans _ _ _ (Less-from_sorted _ xs i (length xs - 1) d rising below (omega arith)) (last d)
-        | inr behind ↦ let same : length xs - 1 ≡ i = omega arith in ap (λ j. R (key (get_or xs j d)) k) (sym same) ∙ last d
+        | inr after ↦ let same : length xs - 1 ≡ i = omega arith in ap (λ j. R (key (get_or xs j d)) k) (sym same) ∙ last d
       ],
       λ i d lo hi. absurd (omega arith),
     ),
@@ -72,5 +72,5 @@ module _ {X K : Type 0} (key : X → K) {R : K → K → Ordering} (total : IsTo
     pub lookup_between : (i : ℕ) → IsPlace (λ x. R (key x) k) xs (Err i) → lookup test (map entry xs) ≡ None
     lookup_between i place = missing entry test (λ x. R (key x) k) tests xs (λ j d lt. elim (cases_lt j i) [
       | inl below ↦ ap is_eq (place.1.0 j d (omega arith) below)
-      | inr behind ↦ ap is_eq (place.1.1 j d behind lt)
+      | inr after ↦ ap is_eq (place.1.1 j d after lt)
     ])

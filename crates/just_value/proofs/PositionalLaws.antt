@@ -1,7 +1,7 @@
 -- Proofs of the laws of positional words and their cut.
 use Rattle.std.proofs.Common.{◌≡◌, ℕ, Bool, true, false, cond, eqb, ◌&&◌, List, [], ◌∷◌, ◌++◌, Option, Some, None, IfSome, option_map, refl, ap, sym, ◌∙◌}
 use Rattle.std.proofs.lemmas.Bool.{eqb-true, eq-eqb}
-use Rattle.just_value.specs.Positional.{Positional, cut_at_first, behind_last, cut_behind_last, override_of, is_dots, directory_and_tail, tail_before, with_directory, with_first, positional, cut_directory, cut_first, cut_words, put_back, KeepsWords, MeansTheCut, SameExactlyIfCutAlike, with_override, with_word}
+use Rattle.just_value.specs.Positional.{Positional, cut_at_first, after_last, cut_after_last, override_of, is_dots, directory_and_tail, tail_before, with_directory, with_first, positional, cut_directory, cut_first, cut_words, put_back, KeepsWords, MeansTheCut, SameExactlyIfCutAlike, with_override, with_word}
 
 -- the two sides of a cut at the first occurrence of a byte, joined by it, are the text
 first_step : (c b : ℕ) (bs : List ℕ) (same : Bool) (o : Option (List ℕ × List ℕ)) → eqb b c ≡ same → IfSome o (λ p. (p.0 ++ c ∷ []) ++ p.1 ≡ bs)
@@ -22,18 +22,18 @@ last_step_none : (c b : ℕ) (bs : List ℕ) (same : Bool) → eqb b c ≡ same 
 last_step_none c b bs true test = (refl, ([], ap (λ x. x ∷ []) (eqb-true b c test)))
 last_step_none c b bs false test = tt
 
-last_step : (c b : ℕ) (bs : List ℕ) (o : Option (List ℕ × List ℕ)) → IfSome o (IsLastCut c bs) → IfSome (behind_last c b bs o) (IsLastCut c (b ∷ bs))
+last_step : (c b : ℕ) (bs : List ℕ) (o : Option (List ℕ × List ℕ)) → IfSome o (IsLastCut c bs) → IfSome (after_last c b bs o) (IsLastCut c (b ∷ bs))
 last_step c b bs None more = last_step_none c b bs (eqb b c) refl
 last_step c b bs (Some p) more = (ap (λ t. b ∷ t) more.0, (b ∷ more.1.0, ap (λ t. b ∷ t) more.1.1))
 
-last_whole : (c : ℕ) (bs : List ℕ) → IfSome (cut_behind_last c bs) (IsLastCut c bs)
+last_whole : (c : ℕ) (bs : List ℕ) → IfSome (cut_after_last c bs) (IsLastCut c bs)
 last_whole c [] = tt
-last_whole c (b ∷ bs) = last_step c b bs (cut_behind_last c bs) (last_whole c bs)
+last_whole c (b ∷ bs) = last_step c b bs (cut_after_last c bs) (last_whole c bs)
 
 -- a text that ends with the byte is cut at its end
-last_at_end : (c : ℕ) (front : List ℕ) → cut_behind_last c (front ++ c ∷ []) ≡ Some (front ++ c ∷ [], [])
+last_at_end : (c : ℕ) (front : List ℕ) → cut_after_last c (front ++ c ∷ []) ≡ Some (front ++ c ∷ [], [])
 last_at_end c [] = rw (eq-eqb c c refl) refl
-last_at_end c (b ∷ bs) = ap (behind_last c b (bs ++ c ∷ [])) (last_at_end c bs)
+last_at_end c (b ∷ bs) = ap (after_last c b (bs ++ c ∷ [])) (last_at_end c bs)
 
 -- a prefix of a text that lacks the byte lacks it too
 none_step : (b : ℕ) (bs cs : List ℕ) (same : Bool) (o q : Option (List ℕ × List ℕ)) → (o ≡ None → q ≡ None)
@@ -43,9 +43,9 @@ none_step b bs cs true o q more e = cc
 none_step b bs cs false None q more e = ap (option_map (λ p. (b ∷ p.0, p.1))) (more refl)
 none_step b bs cs false (Some p) q more e = cc
 
-none_in_front : (c : ℕ) (x y : List ℕ) → cut_at_first c (x ++ y) ≡ None → cut_at_first c x ≡ None
-none_in_front c [] y e = refl
-none_in_front c (b ∷ bs) y e = none_step b (bs ++ y) bs (eqb b c) (cut_at_first c (bs ++ y)) (cut_at_first c bs) (none_in_front c bs y) e
+none_before : (c : ℕ) (x y : List ℕ) → cut_at_first c (x ++ y) ≡ None → cut_at_first c x ≡ None
+none_before c [] y e = refl
+none_before c (b ∷ bs) y e = none_step b (bs ++ y) bs (eqb b c) (cut_at_first c (bs ++ y)) (cut_at_first c bs) (none_before c bs y) e
 
 -- a text that ends with a slash is neither `.` nor `..`
 and_false : (a : Bool) → (a && false) ≡ false
@@ -78,7 +78,7 @@ kept (w ∷ ws) = kept_step w ws (cut_words ws) (positional ws) (override_of w) 
 same_cut : (w : List ℕ) (ws : List (List ℕ)) (d t : List ℕ) → override_of w ≡ None → d ++ t ≡ w → (front : List ℕ) → d ≡ front ++ 47 ∷ []
     → positional (d ∷ tail_before t ws) ≡ record { arguments = tail_before t ws; overrides = []; search_directory = Some d }
 same_cut w ws d t none whole front ends =
-    let unset : override_of d ≡ None = none_in_front 61 d t (ap override_of whole ∙ none) in
+    let unset : override_of d ≡ None = none_before 61 d t (ap override_of whole ∙ none) in
     let dotless : is_dots d ≡ false = ap is_dots ends ∙ no_dots front in
     let again : directory_and_tail d ≡ Some (d, []) = ap directory_and_tail ends ∙ (last_at_end 47 front ∙ ap (λ x. Some (x, [])) (sym ends)) in
     ap (with_first d (tail_before t ws) (positional (tail_before t ws))) unset
@@ -112,13 +112,13 @@ pub same_exactly_if_cut_alike : SameExactlyIfCutAlike
 same_exactly_if_cut_alike v w = (λ e. sym (kept v) ∙ (ap put_back e ∙ kept w), λ e. sym (same v) ∙ (ap positional e ∙ same w))
 
 -- one more word at the end
-behind_push_at : (x w : List ℕ) (xs : List (List ℕ)) (dots : Bool) (o : Option (List ℕ × List ℕ))
+after_push_at : (x w : List ℕ) (xs : List (List ℕ)) (dots : Bool) (o : Option (List ℕ × List ℕ))
     → cond dots (record { arguments = xs ++ w ∷ []; overrides = []; search_directory = Some x }) (with_directory x (xs ++ w ∷ []) o)
     ≡ with_word (cond dots (record { arguments = xs; overrides = []; search_directory = Some x }) (with_directory x xs o)) w
-behind_push_at x w xs true o = refl
-behind_push_at x w xs false None = refl
-behind_push_at x w xs false (Some (d, [])) = refl
-behind_push_at x w xs false (Some (d, t ∷ ts)) = refl
+after_push_at x w xs true o = refl
+after_push_at x w xs false None = refl
+after_push_at x w xs false (Some (d, [])) = refl
+after_push_at x w xs false (Some (d, t ∷ ts)) = refl
 
 commute_override : (p : List ℕ × List ℕ) (w : List ℕ) (overrides : List (List ℕ × List ℕ)) (x : List ℕ) (xs : List (List ℕ)) (o : Option (List ℕ × List ℕ))
     → with_first x (xs ++ w ∷ []) (with_override (record { arguments = []; overrides = overrides; search_directory = None }) w o) (Some p)
@@ -135,7 +135,7 @@ commute p w arguments overrides (Some d) x xs = refl
 
 push_step : (x w : List ℕ) (xs : List (List ℕ)) (meant : Positional) (o : Option (List ℕ × List ℕ)) → meant ≡ with_word (positional xs) w
     → with_first x (xs ++ w ∷ []) meant o ≡ with_word (with_first x xs (positional xs) o) w
-push_step x w xs meant None e = behind_push_at x w xs (is_dots x) (directory_and_tail x)
+push_step x w xs meant None e = after_push_at x w xs (is_dots x) (directory_and_tail x)
 push_step x w xs meant (Some p) e = ap (λ m. with_first x (xs ++ w ∷ []) m (Some p)) e ∙ commute p w (positional xs).arguments (positional xs).overrides (positional xs).search_directory x xs
 
 alone_at : (w : List ℕ) (dots : Bool) (o : Option (List ℕ × List ℕ))

@@ -55,9 +55,9 @@ value_in [] = λ n. None
 value_in (frame ∷ outer) = over frame (value_in outer)
 
 -- the frames with a binding added to the first
-abbrev pub bound_in_front : Frames → Bound → Frames
-bound_in_front [] b = []
-bound_in_front (frame ∷ outer) b = with_bound frame b ∷ outer
+abbrev pub bound_innermost : Frames → Bound → Frames
+bound_innermost [] b = []
+bound_innermost (frame ∷ outer) b = with_bound frame b ∷ outer
 
 -- the first of some frames
 abbrev pub own_frame : Frames → Frame
@@ -88,7 +88,7 @@ with_constants frame n (c ∷ cs) = with_constants (with_bound frame (constant_b
 
 -- after a binding is added to the first frame, its number has that binding, and each other number keeps its own
 abbrev pub BindsOneNumber : Type 0
-BindsOneNumber = (frame : Frame) (outer : Frames) (b : Bound) (n : ℕ) → innermost n (bound_in_front (frame ∷ outer) b) ≡ (if n == b.number then Some b else innermost n (frame ∷ outer))
+BindsOneNumber = (frame : Frame) (outer : Frames) (b : Bound) (n : ℕ) → innermost n (bound_innermost (frame ∷ outer) b) ≡ (if n == b.number then Some b else innermost n (frame ∷ outer))
 
 -- an empty frame as the new innermost one changes no look-up
 abbrev pub ChildAnswersAsParent : Type 0

@@ -14,13 +14,13 @@ cut_at_first c [] = None
 cut_at_first c (b ∷ bs) = if b == c then Some ([], bs) else option_map (λ p. (b ∷ p.0, p.1)) (cut_at_first c bs)
 
 -- the text up to and including the last occurrence of a byte, and the text after it
-abbrev pub behind_last : ℕ → ℕ → Text → Option (Text × Text) → Option (Text × Text)
-behind_last c b bs (Some p) = Some (b ∷ p.0, p.1)
-behind_last c b bs None = if b == c then Some (b ∷ [], bs) else None
+abbrev pub after_last : ℕ → ℕ → Text → Option (Text × Text) → Option (Text × Text)
+after_last c b bs (Some p) = Some (b ∷ p.0, p.1)
+after_last c b bs None = if b == c then Some (b ∷ [], bs) else None
 
-abbrev pub cut_behind_last : ℕ → Text → Option (Text × Text)
-cut_behind_last c [] = None
-cut_behind_last c (b ∷ bs) = behind_last c b bs (cut_behind_last c bs)
+abbrev pub cut_after_last : ℕ → Text → Option (Text × Text)
+cut_after_last c [] = None
+cut_after_last c (b ∷ bs) = after_last c b bs (cut_after_last c bs)
 
 -- an override, cut at its first `=`
 abbrev pub override_of : Text → Option (Text × Text)
@@ -32,7 +32,7 @@ is_dots word = bytes_eq word (codes ".") || bytes_eq word (codes "..")
 
 -- a directory, up to and including the last slash, and a tail
 abbrev pub directory_and_tail : Text → Option (Text × Text)
-directory_and_tail word = cut_behind_last 47 word
+directory_and_tail word = cut_after_last 47 word
 
 -- a tail before other words, if it is not empty
 abbrev pub tail_before : Text → List Text → List Text
@@ -45,13 +45,13 @@ with_directory word words (Some p) = record { arguments = tail_before p.1 words;
 with_directory word words None = record { arguments = word ∷ words; overrides = []; search_directory = None }
 
 -- the meaning of the words after the overrides
-abbrev pub behind_overrides : Text → List Text → Positional
-behind_overrides word words = if is_dots word then record { arguments = words; overrides = []; search_directory = Some word } else with_directory word words (directory_and_tail word)
+abbrev pub after_overrides : Text → List Text → Positional
+after_overrides word words = if is_dots word then record { arguments = words; overrides = []; search_directory = Some word } else with_directory word words (directory_and_tail word)
 
 -- the meaning of a word followed by others: it is an override, or the first word after the overrides
 abbrev pub with_first : Text → List Text → Positional → Option (Text × Text) → Positional
 with_first word words meant (Some override) = record { arguments = meant.arguments; overrides = override ∷ meant.overrides; search_directory = meant.search_directory }
-with_first word words meant None = behind_overrides word words
+with_first word words meant None = after_overrides word words
 
 -- The meaning of words: the longest prefix of words with `=` are overrides, then a directory, then arguments.
 abbrev pub positional : List Text → Positional
@@ -63,12 +63,12 @@ abbrev pub cut_directory : Text → List Text → Option (Text × Text) → List
 cut_directory word words (Some p) = p.0 ∷ tail_before p.1 words
 cut_directory word words None = word ∷ words
 
-abbrev pub cut_behind_overrides : Text → List Text → List Text
-cut_behind_overrides word words = if is_dots word then word ∷ words else cut_directory word words (directory_and_tail word)
+abbrev pub cut_after_overrides : Text → List Text → List Text
+cut_after_overrides word words = if is_dots word then word ∷ words else cut_directory word words (directory_and_tail word)
 
 abbrev pub cut_first : Text → List Text → List Text → Option (Text × Text) → List Text
 cut_first word words cut (Some override) = word ∷ cut
-cut_first word words cut None = cut_behind_overrides word words
+cut_first word words cut None = cut_after_overrides word words
 
 abbrev pub cut_words : List Text → List Text
 cut_words [] = []
@@ -93,7 +93,7 @@ SameExactlyIfCutAlike = (words others : List Text) → (positional words ≡ pos
 -- the meaning p with one more word, which is an override or the first word after the overrides
 abbrev pub with_override : Positional → Text → Option (Text × Text) → Positional
 with_override p word (Some override) = record p { overrides = p.overrides ++ override ∷ [] }
-with_override p word None = record (behind_overrides word []) { overrides = p.overrides }
+with_override p word None = record (after_overrides word []) { overrides = p.overrides }
 
 -- the same for any word; after a directory or an argument it is an argument
 abbrev pub with_next : Positional → Text → Option Text → List Text → Positional

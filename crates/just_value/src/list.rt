@@ -2,7 +2,7 @@
 
 ghost use Rattle.std.specs.Prelude.{◌≡◌, List, IfOk, map, codes, ◌<◌, ◌++◌};
 ghost use Rattle.just_syntax.specs.View.{enclosed};
-ghost use Rattle.just_value.specs.Items.{Ends, Gives};
+ghost use Rattle.just_value.specs.Items.{Ends, GivesItems};
 ghost use Rattle.just_value.specs.Listed.{before};
 ghost use Rattle.just_value.specs.View.{conjunction_of, items_of};
 
@@ -39,7 +39,7 @@ impl<T: Drop> List<T> {
     pub fn or<I: IntoIterator<Item = T>>(alloc: Global, items: I) -> Result<List<T>, OutOfMemory>
         requires { Ends I.into_iter_gives I.IntoIter.can_next I.IntoIter.remaining items }
         ensures conjunction { IfOk result (λ list. conjunction_of list ≡ codes "or") }
-        ensures items { IfOk result (λ list. Gives I.into_iter_gives I.IntoIter.next_gives items (items_of list)) }
+        ensures items { IfOk result (λ list. GivesItems I.into_iter_gives I.IntoIter.next_gives items (items_of list)) }
     {
         Ok(List::of("or", gathered(alloc, items)?))
     }
@@ -52,7 +52,7 @@ impl<T: Drop> List<T> {
     pub fn and<I: IntoIterator<Item = T>>(alloc: Global, items: I) -> Result<List<T>, OutOfMemory>
         requires { Ends I.into_iter_gives I.IntoIter.can_next I.IntoIter.remaining items }
         ensures conjunction { IfOk result (λ list. conjunction_of list ≡ codes "and") }
-        ensures items { IfOk result (λ list. Gives I.into_iter_gives I.IntoIter.next_gives items (items_of list)) }
+        ensures items { IfOk result (λ list. GivesItems I.into_iter_gives I.IntoIter.next_gives items (items_of list)) }
     {
         Ok(List::of("and", gathered(alloc, items)?))
     }
@@ -69,7 +69,7 @@ impl<T: Drop> List<T> {
     ) -> Result<List<Enclosure<T>>, OutOfMemory>
         requires { Ends I.into_iter_gives I.IntoIter.can_next I.IntoIter.remaining items }
         ensures conjunction { IfOk result (λ list. conjunction_of list ≡ codes "or") }
-        ensures items { IfOk result (λ list. Gives I.into_iter_gives I.IntoIter.next_gives items (map enclosed (items_of list))) }
+        ensures items { IfOk result (λ list. GivesItems I.into_iter_gives I.IntoIter.next_gives items (map enclosed (items_of list))) }
     {
         Ok(List::of("or", ticked(alloc, items)?))
     }
@@ -86,7 +86,7 @@ impl<T: Drop> List<T> {
     ) -> Result<List<Enclosure<T>>, OutOfMemory>
         requires { Ends I.into_iter_gives I.IntoIter.can_next I.IntoIter.remaining items }
         ensures conjunction { IfOk result (λ list. conjunction_of list ≡ codes "and") }
-        ensures items { IfOk result (λ list. Gives I.into_iter_gives I.IntoIter.next_gives items (map enclosed (items_of list))) }
+        ensures items { IfOk result (λ list. GivesItems I.into_iter_gives I.IntoIter.next_gives items (map enclosed (items_of list))) }
     {
         Ok(List::of("and", ticked(alloc, items)?))
     }
@@ -98,7 +98,7 @@ fn gathered<T: Drop, I: IntoIterator<Item = T>>(
     items: I,
 ) -> Result<Vec<T>, OutOfMemory>
     requires { Ends I.into_iter_gives I.IntoIter.can_next I.IntoIter.remaining items }
-    ensures { IfOk result (λ gathered. Gives I.into_iter_gives I.IntoIter.next_gives items gathered.items) }
+    ensures { IfOk result (λ gathered. GivesItems I.into_iter_gives I.IntoIter.next_gives items gathered.items) }
 {
     let gathered = items.into_iter().collect(alloc)?;
     Ok(gathered)
@@ -110,7 +110,7 @@ fn ticked<T: Drop, I: IntoIterator<Item = T>>(
     items: I,
 ) -> Result<Vec<Enclosure<T>>, OutOfMemory>
     requires { Ends I.into_iter_gives I.IntoIter.can_next I.IntoIter.remaining items }
-    ensures { IfOk result (λ ticked. Gives I.into_iter_gives I.IntoIter.next_gives items (map enclosed ticked.items)) }
+    ensures { IfOk result (λ ticked. GivesItems I.into_iter_gives I.IntoIter.next_gives items (map enclosed ticked.items)) }
 {
     let mut ticked = Vec::new(alloc);
     for item in items {

@@ -1,7 +1,7 @@
 // Positional words of a command line.
 
 ghost use Rattle.std.specs.Prelude.{◌≡◌, ◌++◌, [], ◌∷◌, List, None, IfOk, OnOk, map, string_bytes, codes};
-ghost use Rattle.just_value.specs.Items.{Ends, Gives};
+ghost use Rattle.just_value.specs.Items.{Ends, GivesItems};
 ghost use Rattle.just_value.specs.Positional.{positional, override_of, with_override, with_word};
 ghost use Rattle.just_value.specs.View.{positional_view};
 
@@ -32,7 +32,7 @@ impl Positional {
         values: I,
     ) -> Result<Positional, OutOfMemory>
         requires { Ends I.into_iter_gives I.IntoIter.can_next I.IntoIter.remaining values }
-        ensures { IfOk result (λ p. (words : List _) × Gives I.into_iter_gives I.IntoIter.next_gives values words × (positional_view p ≡ positional (map (λ word. word.now) words))) }
+        ensures { IfOk result (λ p. (words : List _) × GivesItems I.into_iter_gives I.IntoIter.next_gives values words × (positional_view p ≡ positional (map (λ word. word.now) words))) }
     {
         let mut positional = Positional {
             arguments: Vec::new(alloc),
@@ -60,12 +60,12 @@ impl Positional {
                 self.overrides.push((name, value))?;
                 Ok(())
             }
-            None => self.add_behind_overrides(alloc, word),
+            None => self.add_after_overrides(alloc, word),
         }
     }
 
     // Adds the first word after the overrides.
-    fn add_behind_overrides(&mut self, alloc: Global, word: &str) -> Result<(), OutOfMemory>
+    fn add_after_overrides(&mut self, alloc: Global, word: &str) -> Result<(), OutOfMemory>
         requires no_directory { (positional_view self.old).search_directory ≡ None }
         requires no_argument { (positional_view self.old).arguments ≡ [] }
         ensures { OnOk result (positional_view self.new ≡ with_override (positional_view self.old) word.now None) }

@@ -3,7 +3,7 @@
 ghost use Rattle.std.specs.Prelude.{◌≡◌, [], ◌∷◌, IfOk, OnOk, OnErr, map};
 ghost use Rattle.std.specs.Map.{values_of};
 ghost use Rattle.std.specs.Option.{option_map};
-ghost use Rattle.just_value.specs.Frames.{innermost, value_in, bound_in_front, constant_bound, with_constants, own_frame, outer_frames, IsRising};
+ghost use Rattle.just_value.specs.Frames.{innermost, value_in, bound_innermost, constant_bound, with_constants, own_frame, outer_frames, IsRising};
 ghost use Rattle.just_value.specs.View.{bindings_left, bound_view, constant_view, frame_view, frames_view};
 
 use crate::binding::Binding;
@@ -59,7 +59,7 @@ impl<'src, 'run> Scope<'src, 'run> {
     pub fn child<'inner>(&'inner self, alloc: Global) -> Result<Scope<'src, 'inner>, OutOfMemory>
         ensures { IfOk result (λ scope. frames_view scope ≡ [] ∷ frames_view self.now) }
     {
-        let outer = in_front(alloc, &self.frame, &self.outer)?;
+        let outer = prepended(alloc, &self.frame, &self.outer)?;
         Ok(Scope {
             frame: Frame::new(alloc),
             outer,
@@ -73,7 +73,7 @@ impl<'src, 'run> Scope<'src, 'run> {
     ///
     /// `OutOfMemory`, if an allocation fails: the scope is unchanged, and the binding is dropped.
     pub fn bind(&mut self, binding: Binding<'src>) -> Result<(), OutOfMemory>
-        ensures ok { OnOk result (frames_view self.new ≡ bound_in_front (frames_view self.old) (bound_view binding.entry)) }
+        ensures ok { OnOk result (frames_view self.new ≡ bound_innermost (frames_view self.old) (bound_view binding.entry)) }
         ensures err { OnErr result (frames_view self.new ≡ frames_view self.old) }
     {
         self.frame.bind(binding)
@@ -127,7 +127,7 @@ impl<'src, 'run> Scope<'src, 'run> {
 }
 
 // One value followed by others. The others are passed as a vector, so that the caller needs no call to borrow a slice.
-fn in_front<T: Copy>(alloc: Global, first: T, others: &Vec<T>) -> Result<Vec<T>, OutOfMemory>
+fn prepended<T: Copy>(alloc: Global, first: T, others: &Vec<T>) -> Result<Vec<T>, OutOfMemory>
     ensures { IfOk result (λ all. all.items ≡ first ∷ others.now.items) }
 {
     let mut all = Vec::with_capacity(alloc, others.len().saturating_add(1))?;

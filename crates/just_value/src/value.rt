@@ -7,7 +7,7 @@ ghost use Rattle.std.specs.Iterator.Adapters.{IterYieldsInOrder};
 ghost use Rattle.std.specs.Slice.Iter.{iter_rest};
 ghost use Rattle.just_syntax.specs.View.{token_view};
 ghost use Rattle.just_value.specs.Applied.{combined, paired};
-ghost use Rattle.just_value.specs.Items.{Ends, Gives};
+ghost use Rattle.just_value.specs.Items.{Ends, GivesItems};
 ghost use Rattle.just_value.specs.Outcome.{UnlessStopped};
 ghost use Rattle.just_value.specs.Shown.{quoted};
 ghost use Rattle.just_value.specs.Value.{from_condition, is_truthy, joined};
@@ -75,7 +75,7 @@ impl Value {
         elements: I,
     ) -> Result<Value, OutOfMemory>
         requires { Ends I.into_iter_gives I.IntoIter.can_next I.IntoIter.remaining elements }
-        ensures { IfOk result (λ v. (texts : List _) × Gives I.into_iter_gives I.IntoIter.next_gives elements texts × (v ≡ map string_bytes texts)) }
+        ensures { IfOk result (λ v. (texts : List _) × GivesItems I.into_iter_gives I.IntoIter.next_gives elements texts × (v ≡ map string_bytes texts)) }
     {
         let elements = elements.into_iter().collect(alloc)?;
         Ok(Value::from_elements(elements))

@@ -12,11 +12,11 @@ ghost use Rattle.just_meaning.specs.ResolvedOn.{IsResolvedOn};
 ghost use Rattle.just_meaning.specs.Settings.{text_in};
 ghost use Rattle.just_meaning.specs.Stage.{Staged, at_start, const_value};
 ghost use Rattle.just_meaning.specs.View.{constants_of};
-ghost use Rattle.just_eval.specs.View.{IsConst, OpensOrEnds, standing_of};
+ghost use Rattle.just_eval.specs.View.{IsConst, OpensOrEnds, stage_state_of};
 
 use super::Evaluator;
-use just_forms::text::one_text;
-use just_forms::{internal, variable};
+use just_expression::text::one_text;
+use just_expression::{internal, variable};
 use just_host::host::Host;
 use just_host::no_host::NoHost;
 use just_syntax::assignment::Assignment;
@@ -57,15 +57,15 @@ impl<'src, 'run> Evaluator<'src, 'run> {
     ) -> Result<Evaluator<'src, 'run>, CompileError<'src>>
         // The settled and the open numbers, or the refusal, are those of the const rules.
         ensures headline { let m = constants_of assignments.now evaluation_order.now overrides.now variable_references.now in
-            Staged m (at_start lists (frames_view scope.entry.now)) m.assignments.order (const_ended standing_of result) }
+            Staged m (at_start lists (frames_view scope.entry.now)) m.assignments.order (const_ended stage_state_of result) }
         ensures before_runs { IfOk result IsConst }
         ensures never_internal { let m = constants_of assignments.now evaluation_order.now overrides.now variable_references.now in
-            IsResolvedConst m.assignments (frames_view scope.entry.now) → IsNotInternal (const_ended standing_of result) }
+            IsResolvedConst m.assignments (frames_view scope.entry.now) → IsNotInternal (const_ended stage_state_of result) }
 
         // A refusal carries its own token.
         ensures token { IfErr result HasOwnToken }
     {
-        let mut evaluator = Evaluator::of_assignments(alloc, lists, scope.child(alloc)?);
+        let mut evaluator = Evaluator::of_assignments(alloc, None, lists, scope.child(alloc)?);
         for name in evaluation_order {
             evaluator.evaluate_const_named(
                 alloc,
@@ -89,7 +89,7 @@ impl<'src, 'run> Evaluator<'src, 'run> {
     ) -> Result<(), CompileError<'src>>
         requires start { IsConst self.old }
         ensures same { IsConst self.new }
-        ensures staged { (order : List Name) → Staged (constants_of assignments.now order overrides.now references.now) (standing_of self.old) (name_view name.now ∷ []) (const_ended (λ _. standing_of self.new) result) }
+        ensures staged { (order : List Name) → Staged (constants_of assignments.now order overrides.now references.now) (stage_state_of self.old) (name_view name.now ∷ []) (const_ended (λ _. stage_state_of self.new) result) }
         ensures token { IfErr result HasOwnToken }
     {
         let Some(assignment) = assignments.get(name.lexeme()) else {
@@ -115,7 +115,7 @@ impl<'src, 'run> Evaluator<'src, 'run> {
         requires start { IsConst self.old }
         requires few { ForSome (refusal error) IsConstEval }
         ensures same { IsConst self.new }
-        ensures ended { OpensOrEnds (refusal error.entry) (standing_of self.old) number (const_ended (λ _. standing_of self.new) result) }
+        ensures ended { OpensOrEnds (refusal error.entry) (stage_state_of self.old) number (const_ended (λ _. stage_state_of self.new) result) }
         ensures token { IfErr result HasOwnToken }
     {
         match error {
@@ -142,8 +142,8 @@ impl<'src, 'run> Evaluator<'src, 'run> {
         expression: &Expression<'src>,
     ) -> Result<Value, CompileError<'src>>
         requires before_runs { IsConst self.now }
-        ensures headline { UnlessStopped (const_ended (λ v. v) result) (const_value (standing_of self.now) (view expression.now)) }
-        ensures never_internal { IsResolvedOn (standing_of self.now) (view expression.now) → IsNotInternal (const_ended (λ v. v) result) }
+        ensures headline { UnlessStopped (const_ended (λ v. v) result) (const_value (stage_state_of self.now) (view expression.now)) }
+        ensures never_internal { IsResolvedOn (stage_state_of self.now) (view expression.now) → IsNotInternal (const_ended (λ v. v) result) }
         ensures token { IfErr result HasOwnToken }
     {
         match self.evaluate_value(alloc, &mut NoHost, expression) {
@@ -167,8 +167,8 @@ impl<'src, 'run> Evaluator<'src, 'run> {
     ) -> Result<String, CompileError<'src>>
         requires before_runs { IsConst self.now }
         ensures headline { UnlessStopped (const_ended string_bytes result)
-            (and_then (const_value (standing_of self.now) (view expression.now)) (text_in (string_context_view context.entry))) }
-        ensures never_internal { IsResolvedOn (standing_of self.now) (view expression.now) → IsNotInternal (const_ended string_bytes result) }
+            (and_then (const_value (stage_state_of self.now) (view expression.now)) (text_in (string_context_view context.entry))) }
+        ensures never_internal { IsResolvedOn (stage_state_of self.now) (view expression.now) → IsNotInternal (const_ended string_bytes result) }
         ensures token { IfErr result HasOwnToken }
     {
         let value = self.evaluate_value_const(alloc, expression)?;
@@ -180,7 +180,7 @@ impl<'src, 'run> Evaluator<'src, 'run> {
 
     /// The bindings: the settled values, in a child of the scope that the evaluator was created with.
     pub fn scope(&self) -> &Scope<'src, 'run>
-        ensures { frames_view result.now ≡ (standing_of self.now).frames }
+        ensures { frames_view result.now ≡ (stage_state_of self.now).frames }
     {
         &self.scope
     }
@@ -188,7 +188,7 @@ impl<'src, 'run> Evaluator<'src, 'run> {
     /// Whether an assignment's number is open: its expression reaches a call, a command or an open variable, so that
     /// only a run determines its value. It does not allocate.
     pub fn is_open(&self, number: Number) -> bool
-        ensures { result ≡ (standing_of self.now).is_open number }
+        ensures { result ≡ (stage_state_of self.now).is_open number }
     {
         variable::is_open(&self.non_const_assignments, number)
     }

@@ -7,14 +7,14 @@ ghost use Rattle.just_value.specs.View.{ended};
 ghost use Rattle.just_host.specs.Interaction.{GoesByAnswers, Runs, freely};
 ghost use Rattle.just_meaning.specs.Constant.{constant};
 ghost use Rattle.just_meaning.specs.Internal.{IfRefused, IsFinal, IsNotInternal};
-ghost use Rattle.just_meaning.specs.Line.{fragment as fragment_text, line as line_text, line_expressions, string};
+ghost use Rattle.just_meaning.specs.Line.{fragment as fragment_tree, line as line_tree, line_expressions, string};
 ghost use Rattle.just_meaning.specs.ResolvedOn.{AllResolvedOn, IsResolvedOn};
 ghost use Rattle.just_meaning.specs.Stage.{const_meaning};
-ghost use Rattle.just_eval.specs.View.{HasRoom, IsConst, IsInRun, Resolves, lexical_meaning, meaning, rules_of, standing_of};
+ghost use Rattle.just_eval.specs.View.{MayCall, IsConst, IsInRun, Resolves, lexical_meaning, dynamic_meaning, rules_of, stage_state_of};
 
 use super::Evaluator;
-use just_forms::line::written;
-use just_forms::text::one_text;
+use crate::line::fragment_text;
+use just_expression::text::one_text;
 use just_host::host::Host;
 use just_syntax::expression::Expression;
 use just_syntax::fragment::Fragment;
@@ -37,7 +37,7 @@ impl<'src, 'run> Evaluator<'src, 'run> {
         expression: &Expression<'src>,
         context: StringContext<'src>,
     ) -> Result<String, Error<'src>>
-        requires room { HasRoom self.now }
+        requires may_call { MayCall self.now }
 
         // In a run, if everything reached is resolved, the text or the refusal, and the questions asked, are those of
         // lexical scope.
@@ -46,7 +46,7 @@ impl<'src, 'run> Evaluator<'src, 'run> {
 
         // Resolved or not, they are those of dynamic scope.
         ensures dynamic { Runs (rules_of self.now) H.step host.old
-            (string (meaning self.now) (string_context_view context.entry) (view expression.now)) (ended string_bytes result) host.new }
+            (string (dynamic_meaning self.now) (string_context_view context.entry) (view expression.now)) (ended string_bytes result) host.new }
 
         // Resolved or not, the refusal in a run is never `Const`, and only answered questions change the host's state.
         ensures never_const { IsInRun self.now → IfRefused IsFinal (ended string_bytes result) }
@@ -54,25 +54,25 @@ impl<'src, 'run> Evaluator<'src, 'run> {
 
         // Before any run the result is that of the const rules, and nothing is asked. If each variable is bound or
         // open, the refusal is not `Internal`.
-        ensures constants { IsConst self.now → UnlessStopped (ended string_bytes result) (constant (standing_of self.now).is_open (string (const_meaning (standing_of self.now)) (string_context_view context.entry) (view expression.now))) }
+        ensures constants { IsConst self.now → UnlessStopped (ended string_bytes result) (constant (stage_state_of self.now).is_open (string (const_meaning (stage_state_of self.now)) (string_context_view context.entry) (view expression.now))) }
         ensures still { IsConst self.now → host.new ≡ host.old }
-        ensures resolved_constants { IsConst self.now → IsResolvedOn (standing_of self.now) (view expression.now) → IsNotInternal (ended string_bytes result) }
+        ensures resolved_constants { IsConst self.now → IsResolvedOn (stage_state_of self.now) (view expression.now) → IsNotInternal (ended string_bytes result) }
     {
-        self.evaluated_string(alloc, host, expression, context)
+        self.evaluate_string_by_dynamic_scoping(alloc, host, expression, context)
     }
 
     // The same under dynamic scope.
-    pub(crate) fn evaluated_string<H: Host>(
+    pub(crate) fn evaluate_string_by_dynamic_scoping<H: Host>(
         &self,
         alloc: Global,
         host: &mut H,
         expression: &Expression<'src>,
         context: StringContext<'src>,
     ) -> Result<String, Error<'src>>
-        requires room { HasRoom self.now }
-        ensures { Runs (rules_of self.now) H.step host.old (string (meaning self.now) (string_context_view context.entry) (view expression.now)) (ended string_bytes result) host.new }
+        requires may_call { MayCall self.now }
+        ensures { Runs (rules_of self.now) H.step host.old (string (dynamic_meaning self.now) (string_context_view context.entry) (view expression.now)) (ended string_bytes result) host.new }
     {
-        let value = self.evaluated(alloc, host, expression)?;
+        let value = self.evaluate_expression(alloc, host, expression)?;
         one_text(value, context)
     }
 
@@ -91,16 +91,16 @@ impl<'src, 'run> Evaluator<'src, 'run> {
         line: &Line<'src>,
         continued: bool,
     ) -> Result<String, Error<'src>>
-        requires room { HasRoom self.now }
+        requires may_call { MayCall self.now }
 
         // In a run, if everything reached is resolved, the text or the refusal, and the questions asked, are those of
         // lexical scope.
-        ensures headline { Resolves self.now (line_expressions (line_view line.now)) → Runs freely H.step host.old (line_text (lexical_meaning self.now) continued (line_view line.now)) (ended string_bytes result) host.new }
+        ensures headline { Resolves self.now (line_expressions (line_view line.now)) → Runs freely H.step host.old (line_tree (lexical_meaning self.now) continued (line_view line.now)) (ended string_bytes result) host.new }
         ensures never_internal { Resolves self.now (line_expressions (line_view line.now)) → IsNotInternal (ended string_bytes result) }
 
         // Resolved or not, they are those of dynamic scope.
         ensures dynamic { Runs (rules_of self.now) H.step host.old
-            (line_text (meaning self.now) continued (line_view line.now)) (ended string_bytes result) host.new }
+            (line_tree (dynamic_meaning self.now) continued (line_view line.now)) (ended string_bytes result) host.new }
 
         // Resolved or not, the refusal in a run is never `Const`, and only answered questions change the host's state.
         ensures never_const { IsInRun self.now → IfRefused IsFinal (ended string_bytes result) }
@@ -108,29 +108,29 @@ impl<'src, 'run> Evaluator<'src, 'run> {
 
         // Before any run the result is that of the const rules, and nothing is asked. If each variable is bound or
         // open, the refusal is not `Internal`.
-        ensures constants { IsConst self.now → UnlessStopped (ended string_bytes result) (constant (standing_of self.now).is_open (line_text (const_meaning (standing_of self.now)) continued (line_view line.now))) }
+        ensures constants { IsConst self.now → UnlessStopped (ended string_bytes result) (constant (stage_state_of self.now).is_open (line_tree (const_meaning (stage_state_of self.now)) continued (line_view line.now))) }
         ensures still { IsConst self.now → host.new ≡ host.old }
-        ensures resolved_constants { IsConst self.now → AllResolvedOn (standing_of self.now) (line_expressions (line_view line.now))
+        ensures resolved_constants { IsConst self.now → AllResolvedOn (stage_state_of self.now) (line_expressions (line_view line.now))
             → IsNotInternal (ended string_bytes result) }
     {
-        self.evaluated_line(alloc, host, line, continued)
+        self.evaluate_line_by_dynamic_scoping(alloc, host, line, continued)
     }
 
     // The same under dynamic scope.
-    fn evaluated_line<H: Host>(
+    fn evaluate_line_by_dynamic_scoping<H: Host>(
         &self,
         alloc: Global,
         host: &mut H,
         line: &Line<'src>,
         continued: bool,
     ) -> Result<String, Error<'src>>
-        requires room { HasRoom self.now }
-        ensures { Runs (rules_of self.now) H.step host.old (line_text (meaning self.now) continued (line_view line.now)) (ended string_bytes result) host.new }
+        requires may_call { MayCall self.now }
+        ensures { Runs (rules_of self.now) H.step host.old (line_tree (dynamic_meaning self.now) continued (line_view line.now)) (ended string_bytes result) host.new }
     {
         let mut text = String::new(alloc);
         let mut continues = continued;
         for fragment in &line.fragments {
-            let more = self.evaluated_fragment(alloc, host, fragment, continues)?;
+            let more = self.evaluate_fragment(alloc, host, fragment, continues)?;
             text.push_str(&more)?;
             continues = false;
         }
@@ -138,20 +138,20 @@ impl<'src, 'run> Evaluator<'src, 'run> {
     }
 
     // The text of a fragment.
-    fn evaluated_fragment<H: Host>(
+    fn evaluate_fragment<H: Host>(
         &self,
         alloc: Global,
         host: &mut H,
         fragment: &Fragment<'src>,
         continues: bool,
     ) -> Result<String, Error<'src>>
-        requires room { HasRoom self.now }
-        ensures { Runs (rules_of self.now) H.step host.old (fragment_text (meaning self.now) continues (fragment_view fragment.now)) (ended string_bytes result) host.new }
+        requires may_call { MayCall self.now }
+        ensures { Runs (rules_of self.now) H.step host.old (fragment_tree (dynamic_meaning self.now) continues (fragment_view fragment.now)) (ended string_bytes result) host.new }
     {
         match fragment {
-            Fragment::Text { token } => Ok(written(alloc, token.lexeme(), continues)?),
+            Fragment::Text { token } => Ok(fragment_text(alloc, token.lexeme(), continues)?),
             Fragment::Interpolation { expression } => {
-                let value = self.evaluated(alloc, host, expression)?;
+                let value = self.evaluate_expression(alloc, host, expression)?;
                 Ok(value.join(alloc)?)
             }
         }

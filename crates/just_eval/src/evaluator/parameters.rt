@@ -4,7 +4,7 @@ ghost use Rattle.std.specs.Prelude.{IfOk, List, OnOk, Some, [], false, is_some, 
 ghost use Rattle.std.specs.Option.{option_map};
 ghost use Rattle.just_syntax.specs.Plain.{Expr};
 ghost use Rattle.just_syntax.specs.View.{name_view, pairs_view, recipe_parameter_view, recipe_view};
-ghost use Rattle.just_value.specs.Frames.{bound_in_front, own_frame};
+ghost use Rattle.just_value.specs.Frames.{bound_innermost, own_frame};
 ghost use Rattle.just_value.specs.View.{ended, frames_view};
 ghost use Rattle.just_host.specs.Interaction.{GoesByAnswers, Runs, RunsChecked, freely};
 ghost use Rattle.just_meaning.specs.Here.{meanings};
@@ -12,12 +12,13 @@ ghost use Rattle.just_meaning.specs.Internal.{IfRefused, IsFinal, IsNotInternal}
 ghost use Rattle.just_meaning.specs.Parameters as meant;
 ghost use Rattle.just_meaning.specs.Parameters.{HaveOneElement, parameter_bound, with_variable, words_of};
 ghost use Rattle.just_meaning.specs.View.{IsResolvedWith, recipe_in};
-ghost use Rattle.just_forms.specs.Check.{Gives};
-ghost use Rattle.just_eval.specs.View.{HasRoom, IsInRun, IsSameBut, Resolves, arguments_view, dynamic_meanings, here, meaning, rules_of, situation_of, standing_of};
+ghost use Rattle.just_eval.specs.Check.{GivesVerdict};
+ghost use Rattle.just_eval.specs.View.{MayCall, IsInRun, IsSameButScopeAndEnvironment, Resolves, arguments_view, dynamic_meanings, here, dynamic_meaning, rules_of, situation_of, stage_state_of};
 
 use super::Evaluator;
-use just_forms::text::one_text;
-use just_forms::{argument, internal};
+use crate::argument;
+use just_expression::internal;
+use just_expression::text::one_text;
 use just_host::execution_context::ExecutionContext;
 use just_host::host::Host;
 use just_syntax::attribute::Attribute;
@@ -49,18 +50,18 @@ impl<'src, 'run> Evaluator<'src, 'run> {
         recipe: Option<Name<'src>>,
         scope: &'run Scope<'src, 'run>,
     ) -> Result<Evaluator<'src, 'run>, OutOfMemory>
-        requires room { 0 < context.now.recursion_limit }
+        requires may_call { 0 < context.now.recursion_limit }
         ensures here { IfOk result (λ e. here e ≡ recipe_in context.now (pairs_view env) is_dependency (option_map (λ n. (name_view n).lexeme) recipe.entry) ([] ∷ frames_view scope.entry.now)) }
         ensures resolved { IfOk result (λ e. (es : List Expr) → Resolves e es ↔ IsResolvedWith context.now ([] ∷ frames_view scope.entry.now) [] [] es) }
         ensures in_run { IfOk result IsInRun }
-        ensures room { IfOk result HasRoom }
-        ensures none_open { IfOk result (λ e. (n : ℕ) → (standing_of e).is_open n ≡ false) }
+        ensures may_call { IfOk result MayCall }
+        ensures none_open { IfOk result (λ e. (n : ℕ) → (stage_state_of e).is_open n ≡ false) }
     {
-        Evaluator::of_recipe(alloc, context, env, is_dependency, recipe, scope)
+        Evaluator::new_by_dynamic_scoping(alloc, context, env, is_dependency, recipe, scope)
     }
 
     // The same, with a clause about its situation.
-    fn of_recipe(
+    fn new_by_dynamic_scoping(
         alloc: Global,
         context: &ExecutionContext<'src, 'run>,
         env: BTreeMap<String, String>,
@@ -70,7 +71,7 @@ impl<'src, 'run> Evaluator<'src, 'run> {
     ) -> Result<Evaluator<'src, 'run>, OutOfMemory>
         ensures context { IfOk result (λ e. e.context ≡ Some context.now) }
         ensures base { IfOk result (λ e. is_some e.base ≡ true) }
-        ensures none_open { IfOk result (λ e. (n : ℕ) → (standing_of e).is_open n ≡ false) }
+        ensures none_open { IfOk result (λ e. (n : ℕ) → (stage_state_of e).is_open n ≡ false) }
         ensures situation { IfOk result (λ e. situation_of e ≡ (recipe_in context.now (pairs_view env) is_dependency (option_map (λ n. (name_view n).lexeme) recipe.entry) ([] ∷ frames_view scope.entry.now)).situation) }
     {
         Ok(Evaluator {
@@ -116,20 +117,20 @@ impl<'src, 'run> Evaluator<'src, 'run> {
     ) -> Result<(Scope<'src, 'run>, Vec<String>, BTreeMap<String, String>), Error<'src>>
     where
         C: Fn(&Recipe<'src>, &Parameter<'src>, &Value) -> Result<(), CheckFault>,
-        requires room { 0 < context.now.recursion_limit }
+        requires may_call { 0 < context.now.recursion_limit }
         requires callable { C.IsAlwaysCallable check.now }
 
         // If everything reached is resolved, the scope, the words and the environment, or the refusal, are those of
         // lexical scope, as are the questions asked; the verdicts are those of the check.
         ensures headline { let h = recipe_in context.entry.now [] is_dependency (Some (recipe_view recipe.entry.now).name.lexeme) ([] ∷ frames_view scope.entry.now) in
             IsResolvedWith context.entry.now h.situation.shown (recipe_view recipe.entry.now).attributes (map recipe_parameter_view parameters.entry.now) []
-            → RunsChecked freely H.step (Gives C.Fn check.entry.now recipe.entry.now) host.old (meant.parameters (meanings h) h.situation (recipe_view recipe.entry.now) (map recipe_parameter_view parameters.entry.now) arguments.entry.now) (ended arguments_view result) host.new }
+            → RunsChecked freely H.step (GivesVerdict C.Fn check.entry.now recipe.entry.now) host.old (meant.parameters (meanings h) h.situation (recipe_view recipe.entry.now) (map recipe_parameter_view parameters.entry.now) arguments.entry.now) (ended arguments_view result) host.new }
         ensures never_internal { IsResolvedWith context.entry.now ([] ∷ frames_view scope.entry.now) (recipe_view recipe.entry.now).attributes (map recipe_parameter_view parameters.entry.now) []
             → length arguments.entry.now ≡ length parameters.entry.now → IsNotInternal (ended arguments_view result) }
 
         // Resolved or not, they are those of dynamic scope.
         ensures dynamic { let h = recipe_in context.entry.now [] is_dependency (Some (recipe_view recipe.entry.now).name.lexeme) ([] ∷ frames_view scope.entry.now) in
-            RunsChecked freely H.step (Gives C.Fn check.entry.now recipe.entry.now) host.old (meant.parameters (dynamic_meanings (Some context.entry.now)) h.situation (recipe_view recipe.entry.now) (map recipe_parameter_view parameters.entry.now) arguments.entry.now) (ended arguments_view result) host.new }
+            RunsChecked freely H.step (GivesVerdict C.Fn check.entry.now recipe.entry.now) host.old (meant.parameters (dynamic_meanings (Some context.entry.now)) h.situation (recipe_view recipe.entry.now) (map recipe_parameter_view parameters.entry.now) arguments.entry.now) (ended arguments_view result) host.new }
 
         // Resolved or not, the refusal is never `Const`, and only answered questions change the host's state.
         ensures never_const { IfRefused IsFinal (ended arguments_view result) }
@@ -138,7 +139,7 @@ impl<'src, 'run> Evaluator<'src, 'run> {
         // Without lists each bound parameter has one element.
         ensures one_element { context.entry.now.module.now.settings.lists ≡ false → IfOk result (λ given. HaveOneElement (own_frame (frames_view given.0))) }
     {
-        Evaluator::evaluated_parameters(
+        Evaluator::evaluate_parameters_by_dynamic_scoping(
             alloc,
             host,
             check,
@@ -152,7 +153,7 @@ impl<'src, 'run> Evaluator<'src, 'run> {
     }
 
     // The same under dynamic scope.
-    fn evaluated_parameters<H: Host, C>(
+    fn evaluate_parameters_by_dynamic_scoping<H: Host, C>(
         alloc: Global,
         host: &mut H,
         check: &C,
@@ -165,14 +166,21 @@ impl<'src, 'run> Evaluator<'src, 'run> {
     ) -> Result<(Scope<'src, 'run>, Vec<String>, BTreeMap<String, String>), Error<'src>>
     where
         C: Fn(&Recipe<'src>, &Parameter<'src>, &Value) -> Result<(), CheckFault>,
-        requires room { 0 < context.now.recursion_limit }
+        requires may_call { 0 < context.now.recursion_limit }
         requires callable { C.IsAlwaysCallable check.now }
         ensures { let h = recipe_in context.entry.now [] is_dependency (Some (recipe_view recipe.entry.now).name.lexeme) ([] ∷ frames_view scope.entry.now) in
-            RunsChecked freely H.step (Gives C.Fn check.entry.now recipe.entry.now) host.old (meant.parameters (dynamic_meanings (Some context.entry.now)) h.situation (recipe_view recipe.entry.now) (map recipe_parameter_view parameters.entry.now) arguments.entry.now) (ended arguments_view result) host.new }
+            RunsChecked freely H.step (GivesVerdict C.Fn check.entry.now recipe.entry.now) host.old (meant.parameters (dynamic_meanings (Some context.entry.now)) h.situation (recipe_view recipe.entry.now) (map recipe_parameter_view parameters.entry.now) arguments.entry.now) (ended arguments_view result) host.new }
     {
         let env = BTreeMap::new(alloc);
         let name = Some(recipe.name);
-        let mut evaluator = Evaluator::of_recipe(alloc, context, env, is_dependency, name, scope)?;
+        let mut evaluator = Evaluator::new_by_dynamic_scoping(
+            alloc,
+            context,
+            env,
+            is_dependency,
+            name,
+            scope,
+        )?;
         evaluator.evaluate_attributes(alloc, host, recipe)?;
         if arguments.len() != parameters.len() {
             return Err(internal::mismatched(alloc, &recipe.name));
@@ -189,15 +197,15 @@ impl<'src, 'run> Evaluator<'src, 'run> {
         host: &mut H,
         recipe: &Recipe<'src>,
     ) -> Result<(), Error<'src>>
-        requires room { HasRoom self.old }
-        ensures same { IsSameBut self.old self.new × (self.new.scope ≡ self.old.scope) }
+        requires may_call { MayCall self.old }
+        ensures same { IsSameButScopeAndEnvironment self.old self.new × (self.new.scope ≡ self.old.scope) }
         ensures environment { Runs (rules_of self.old) H.step host.old (meant.environment (dynamic_meanings self.old.context) (situation_of self.old) (recipe_view recipe.now).attributes) (ended (λ _. pairs_view self.new.env) result) host.new }
     {
         for (attribute, name) in recipe.attributes.iter() {
             if let Attribute::Env(key, value) = attribute {
                 let context = StringContext::EnvKey(*name);
-                let key = self.evaluated_string(alloc, host, key, context)?;
-                let value = self.evaluated(alloc, host, value)?;
+                let key = self.evaluate_string_by_dynamic_scoping(alloc, host, key, context)?;
+                let value = self.evaluate_expression(alloc, host, value)?;
                 self.set_variable(alloc, key, value)?;
             }
         }
@@ -206,7 +214,7 @@ impl<'src, 'run> Evaluator<'src, 'run> {
 
     // Sets a variable to a joined value, if the value has an element.
     fn set_variable(&mut self, alloc: Global, key: String, value: Value) -> Result<(), OutOfMemory>
-        ensures same { IsSameBut self.old self.new × (self.new.scope ≡ self.old.scope) }
+        ensures same { IsSameButScopeAndEnvironment self.old self.new × (self.new.scope ≡ self.old.scope) }
         ensures set { OnOk result (pairs_view self.new.env ≡ with_variable (pairs_view self.old.env) (string_bytes key) value) }
     {
         if !value.is_empty() {
@@ -227,10 +235,10 @@ impl<'src, 'run> Evaluator<'src, 'run> {
     ) -> Result<Vec<String>, Error<'src>>
     where
         C: Fn(&Recipe<'src>, &Parameter<'src>, &Value) -> Result<(), CheckFault>,
-        requires room { HasRoom self.old }
+        requires may_call { MayCall self.old }
         requires based { is_some self.old.base ≡ true }
         requires callable { C.IsAlwaysCallable check.now }
-        ensures { RunsChecked (rules_of self.old) H.step (Gives C.Fn check.entry.now recipe.entry.now) host.old (meant.bindings (dynamic_meanings self.old.context) (recipe_view recipe.entry.now).name.lexeme (situation_of self.old) [] (map recipe_parameter_view parameters.entry.now) arguments.entry.now)
+        ensures { RunsChecked (rules_of self.old) H.step (GivesVerdict C.Fn check.entry.now recipe.entry.now) host.old (meant.bindings (dynamic_meanings self.old.context) (recipe_view recipe.entry.now).name.lexeme (situation_of self.old) [] (map recipe_parameter_view parameters.entry.now) arguments.entry.now)
             (ended (λ words. record { frames = frames_view self.new.scope; words = map string_bytes words.items; environment = pairs_view self.new.env }) result) host.new }
     {
         let mut words = Vec::new(alloc);
@@ -251,18 +259,18 @@ impl<'src, 'run> Evaluator<'src, 'run> {
         parameter: &Parameter<'src>,
         argument: &Value,
     ) -> Result<Value, Error<'src>>
-        requires room { HasRoom self.now }
-        ensures { Runs (rules_of self.now) H.step host.old (meant.valued (meaning self.now) self.now.is_dependency (recipe_view recipe.now).name.lexeme (recipe_parameter_view parameter.now) argument.now) (ended (λ v. v) result) host.new }
+        requires may_call { MayCall self.now }
+        ensures { Runs (rules_of self.now) H.step host.old (meant.valued (dynamic_meaning self.now) self.now.is_dependency (recipe_view recipe.now).name.lexeme (recipe_parameter_view parameter.now) argument.now) (ended (λ v. v) result) host.new }
     {
         if argument.is_empty() {
             return match &parameter.default {
-                Some(default) => self.evaluated(alloc, host, default),
+                Some(default) => self.evaluate_expression(alloc, host, default),
                 None => argument::no_element(alloc, parameter, recipe),
             };
         }
         match &parameter.value {
             Some(value) if !self.is_dependency => {
-                let value = self.evaluated(alloc, host, value)?;
+                let value = self.evaluate_expression(alloc, host, value)?;
                 Ok(argument::repeated(alloc, &value, argument.len())?)
             }
             _ => Ok(argument.try_clone(alloc)?),
@@ -277,9 +285,9 @@ impl<'src, 'run> Evaluator<'src, 'run> {
         parameter: &Parameter<'src>,
         value: Value,
     ) -> Result<(), OutOfMemory>
-        ensures same { IsSameBut self.old self.new × (self.new.env ≡ self.old.env) }
+        ensures same { IsSameButScopeAndEnvironment self.old self.new × (self.new.env ≡ self.old.env) }
         ensures words { OnOk result (map string_bytes words.new.items ≡ map string_bytes words.old.items ++ words_of (recipe_parameter_view parameter.now) value) }
-        ensures bound { OnOk result (frames_view self.new.scope ≡ bound_in_front (frames_view self.old.scope) (parameter_bound self.old.lists (recipe_parameter_view parameter.now) value)) }
+        ensures bound { OnOk result (frames_view self.new.scope ≡ bound_innermost (frames_view self.old.scope) (parameter_bound self.old.lists (recipe_parameter_view parameter.now) value)) }
     {
         argument::add_words(alloc, words, parameter, &value)?;
         let binding = argument::binding(alloc, self.lists, parameter, value)?;

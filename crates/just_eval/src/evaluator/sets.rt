@@ -10,10 +10,10 @@ ghost use Rattle.just_meaning.specs.ResolvedOn.{AllResolvedOn, interpreter_expre
 ghost use Rattle.just_meaning.specs.Settings as meant;
 ghost use Rattle.just_meaning.specs.Settings.{kept, with_setting};
 ghost use Rattle.just_meaning.specs.Stage.{const_value};
-ghost use Rattle.just_eval.specs.View.{IsConst, standing_of};
+ghost use Rattle.just_eval.specs.View.{IsConst, stage_state_of};
 
 use super::Evaluator;
-use just_forms::form;
+use just_expression::form;
 use just_host::settings::Settings;
 use just_syntax::expression::Expression;
 use just_syntax::interpreter::Interpreter;
@@ -43,8 +43,8 @@ impl<'src, 'run> Evaluator<'src, 'run> {
         sets: Table<Set<'src>>,
     ) -> Result<Settings, CompileError<'src>>
         requires before_runs { IsConst self.now }
-        ensures headline { UnlessStopped (const_ended settings_view result) (meant.settings (const_value (standing_of self.now)) (map set_view sets.entry)) }
-        ensures never_internal { AllResolvedOn (standing_of self.now) (set_expressions (map set_view sets.entry)) → IsNotInternal (const_ended settings_view result) }
+        ensures headline { UnlessStopped (const_ended settings_view result) (meant.settings (const_value (stage_state_of self.now)) (map set_view sets.entry)) }
+        ensures never_internal { AllResolvedOn (stage_state_of self.now) (set_expressions (map set_view sets.entry)) → IsNotInternal (const_ended settings_view result) }
         ensures token { IfErr result HasOwnToken }
     {
         let mut settings = Settings::new(alloc);
@@ -63,7 +63,7 @@ impl<'src, 'run> Evaluator<'src, 'run> {
     ) -> Result<(), CompileError<'src>>
         requires before_runs { IsConst self.now }
         ensures set { UnlessStopped (const_ended (λ _. settings_view settings.new) result)
-            (with_setting (const_value (standing_of self.now)) (settings_view settings.old) (set_view set.now).name (set_view set.now).value) }
+            (with_setting (const_value (stage_state_of self.now)) (settings_view settings.old) (set_view set.now).name (set_view set.now).value) }
         ensures token { IfErr result HasOwnToken }
     {
         let context = StringContext::Setting(set.name);
@@ -115,8 +115,8 @@ impl<'src, 'run> Evaluator<'src, 'run> {
     ) -> Result<Interpreter<String>, CompileError<'src>>
         requires before_runs { IsConst self.now }
         ensures headline { UnlessStopped (const_ended interpreter_view result)
-            (meant.interpreter (const_value (standing_of self.now)) (name_view setting.entry) (expression_interpreter_view interpreter.now)) }
-        ensures never_internal { AllResolvedOn (standing_of self.now) (interpreter_expressions (expression_interpreter_view interpreter.now))
+            (meant.interpreter (const_value (stage_state_of self.now)) (name_view setting.entry) (expression_interpreter_view interpreter.now)) }
+        ensures never_internal { AllResolvedOn (stage_state_of self.now) (interpreter_expressions (expression_interpreter_view interpreter.now))
             → IsNotInternal (const_ended interpreter_view result) }
         ensures token { IfErr result HasOwnToken }
     {

@@ -4,8 +4,8 @@ ghost use Rattle.std.specs.Prelude.{◌≡◌};
 
 use crate::bindings::with_flags;
 use crate::recipes::texts::{owned, push};
-use just_case_lines::line::Line;
 use just_case_reader::case::{Case, build};
+use just_case_reader::line::Line;
 use just_eval::evaluator::Evaluator;
 use just_host::config::Config;
 use just_host::execution_context::ExecutionContext;

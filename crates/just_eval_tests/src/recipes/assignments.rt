@@ -1,11 +1,11 @@
 // Assignments of a module in a run: the environment of their commands, and the flags of their bindings.
 
-use crate::bindings::tell_frame;
+use crate::bindings::report_frame;
 use crate::compared::same;
 use crate::recipes::around::Around;
 use crate::recipes::failing::NEVER;
-use crate::recipes::hosts::TellingHost;
-use just_case_lines::line::{Line as CaseLine, parse_lines};
+use crate::recipes::hosts::ReportingHost;
+use just_case_reader::line::{Line as CaseLine, parse_lines};
 use just_value::scope::Scope;
 use std::alloc::Global;
 use std::process::Abort;
@@ -42,18 +42,18 @@ const ASSIGNMENTS: &[(&str, bool, &str)] = &[
 #[test]
 fn assignments_in_a_run(rt: HostRuntime) {
     for (case, exports_all, wanted) in ASSIGNMENTS {
-        let mut host = TellingHost::new(rt.alloc(), NEVER);
-        tell_assignments(&rt, rt.alloc(), &mut host, case, *exports_all);
-        same(&rt, case, &host.told, wanted);
+        let mut host = ReportingHost::new(rt.alloc(), NEVER);
+        report_assignments(&rt, rt.alloc(), &mut host, case, *exports_all);
+        same(&rt, case, &host.reported, wanted);
         drop(host);
     }
 }
 
 // Reports what the assignments of a case ask and bind.
-fn tell_assignments(
+fn report_assignments(
     rt: &impl Abort,
     alloc: Global,
-    host: &mut TellingHost,
+    host: &mut ReportingHost,
     case: &str,
     exports_all: bool,
 ) {
@@ -66,7 +66,7 @@ fn evaluate<'src>(
     rt: &impl Abort,
     alloc: Global,
     lines: &'src [CaseLine<'src>],
-    host: &mut TellingHost,
+    host: &mut ReportingHost,
     exports_all: bool,
 ) {
     let mut around = Around::of_lines(rt, alloc, lines);
@@ -75,14 +75,14 @@ fn evaluate<'src>(
     }
     let outcome = Around::evaluate(alloc, host, &around);
     match &outcome {
-        Ok(scope) => tell_own(scope, rt, host),
-        Err(_error) => host.tell(rt, "refused"),
+        Ok(scope) => report_own(scope, rt, host),
+        Err(_error) => host.report(rt, "refused"),
     }
     drop(outcome);
     drop(around);
 }
 
 // Reports the own bindings of a scope.
-fn tell_own(scope: &Scope, rt: &impl Abort, host: &mut TellingHost) {
-    tell_frame(scope.frame(), &mut host.told).expect(rt, "no memory");
+fn report_own(scope: &Scope, rt: &impl Abort, host: &mut ReportingHost) {
+    report_frame(scope.frame(), &mut host.reported).expect(rt, "no memory");
 }

@@ -3,9 +3,9 @@
 ghost use Rattle.std.specs.Prelude.{◌<◌};
 
 use crate::recipes::RECIPE;
-use crate::recipes::hosts::TellingHost;
+use crate::recipes::hosts::ReportingHost;
 use crate::recipes::texts::{owned, push};
-use just_case_lines::token::name;
+use just_case_reader::token::name;
 use just_eval::evaluator::Evaluator;
 use just_host::execution_context::ExecutionContext;
 use just_syntax::expression::Expression;
@@ -71,15 +71,15 @@ impl<'src> Called<'src> {
     pub(crate) fn evaluate<'run>(
         &self,
         alloc: Global,
-        host: &mut TellingHost,
+        host: &mut ReportingHost,
         context: &ExecutionContext<'src, 'run>,
     ) -> Given<'src, 'run>
-        requires room { 0 < context.now.recursion_limit }
+        requires may_call { 0 < context.now.recursion_limit }
     {
         let way = self.check;
         let checked = &self.checked;
         let check = |recipe: &Recipe, parameter: &Parameter, value: &Value| {
-            tell_checked(checked, recipe, parameter, value)?;
+            report_checked(checked, recipe, parameter, value)?;
             way.check(alloc, value)
         };
         Evaluator::evaluate_parameters(
@@ -137,22 +137,22 @@ impl Check {
 }
 
 // Reports what is checked: a parameter of the recipe, and its value.
-fn tell_checked(
+fn report_checked(
     checked: &RefCell<String>,
     recipe: &Recipe,
     parameter: &Parameter,
     value: &Value,
 ) -> Result<(), CheckFault> {
     let name = parameter.name;
-    let Ok(mut told) = checked.try_borrow_mut() else {
+    let Ok(mut reported) = checked.try_borrow_mut() else {
         return Err(CheckFault::OutOfMemory);
     };
-    let told_all = if recipe.name() == RECIPE {
-        write!(told, "{name} = {value};")
+    let reported_all = if recipe.name() == RECIPE {
+        write!(reported, "{name} = {value};")
     } else {
-        write!(told, "another recipe;")
+        write!(reported, "another recipe;")
     };
-    match told_all {
+    match reported_all {
         Ok(()) => Ok(()),
         Err(_) => Err(CheckFault::OutOfMemory),
     }

@@ -3,11 +3,11 @@
 ghost use Rattle.std.specs.Prelude.{◌<◌};
 
 use crate::recipes::around::Around;
-use crate::recipes::evaluated::{Evaluated, tell_evaluated};
+use crate::recipes::evaluated::{Evaluated, report_evaluated};
 use crate::recipes::failing::{Failing, NEVER, WAYS, refusal as refused};
-use crate::recipes::hosts::TellingHost;
+use crate::recipes::hosts::ReportingHost;
 use crate::recipes::texts::{owned, same_failing};
-use just_case_lines::token::token;
+use just_case_reader::token::token;
 use just_eval::evaluator::Evaluator;
 use just_host::execution_context::ExecutionContext;
 use just_syntax::expression::Expression;
@@ -34,10 +34,10 @@ fn calls_and_their_refusals(rt: HostRuntime) {
 
 // With a host that fails in some way, the report on the calls is as expected.
 fn calls_fail(rt: &impl Abort, alloc: Global, command: &str, failing: Failing) {
-    let mut host = TellingHost::new(alloc, failing);
+    let mut host = ReportingHost::new(alloc, failing);
     call(rt, alloc, command, &mut host);
     let wanted = wanted(rt, alloc, command, failing);
-    same_failing(rt, "the calls", failing, &host.told, &wanted);
+    same_failing(rt, "the calls", failing, &host.reported, &wanted);
     drop(wanted);
     drop(host);
 }
@@ -61,7 +61,7 @@ fn wanted(rt: &impl Abort, alloc: Global, command: &str, (passed, how): Failing)
 }
 
 // Makes the calls, each with this command, in an environment of one variable.
-fn call<'src>(rt: &impl Abort, alloc: Global, text: &'src str, host: &mut TellingHost) {
+fn call<'src>(rt: &impl Abort, alloc: Global, text: &'src str, host: &mut ReportingHost) {
     let command = command(rt, alloc, text);
     let around = Around::of_submodule(rt, alloc, text);
     call_around(&around, rt, alloc, host, &command);
@@ -80,7 +80,7 @@ fn call_around<'src>(
     around: &Around<'src>,
     rt: &impl Abort,
     alloc: Global,
-    host: &mut TellingHost,
+    host: &mut ReportingHost,
     command: &Expression<'src>,
 ) {
     let context = around.context();
@@ -91,15 +91,15 @@ fn call_in<'src>(
     context: &ExecutionContext<'src, '_>,
     rt: &impl Abort,
     alloc: Global,
-    host: &mut TellingHost,
+    host: &mut ReportingHost,
     command: &Expression<'src>,
 )
-    requires room { 0 < context.now.recursion_limit }
+    requires may_call { 0 < context.now.recursion_limit }
 {
     run(context, rt, alloc, host, command);
     let env = env(rt, alloc);
     let evaluated = Evaluated::Command(command);
-    tell_evaluated(
+    report_evaluated(
         context,
         rt,
         alloc,
@@ -124,7 +124,7 @@ fn run<'src>(
     context: &ExecutionContext<'src, '_>,
     rt: &impl Abort,
     alloc: Global,
-    host: &mut TellingHost,
+    host: &mut ReportingHost,
     command: &Expression<'src>,
 ) {
     assert!(rt; !context.config.dry_run, "a dry run");
@@ -135,15 +135,15 @@ fn run<'src>(
     };
     let outcome = Evaluator::run_command(alloc, host, context, &env, context.scope, text, None);
     drop(env);
-    tell_run(rt, host, outcome);
+    report_run(rt, host, outcome);
 }
 
 // Reports the output of a command that was run, or its fault.
-fn tell_run(rt: &impl Abort, host: &mut TellingHost, outcome: Result<String, CommandFault>) {
+fn report_run(rt: &impl Abort, host: &mut ReportingHost, outcome: Result<String, CommandFault>) {
     match outcome {
-        Ok(text) => host.tell(rt, &text),
-        Err(CommandFault::OutOfMemory) => host.tell(rt, "no memory"),
-        Err(_fault) => host.tell(rt, "refused"),
+        Ok(text) => host.report(rt, &text),
+        Err(CommandFault::OutOfMemory) => host.report(rt, "no memory"),
+        Err(_fault) => host.report(rt, "refused"),
     }
-    host.tell(rt, ";");
+    host.report(rt, ";");
 }

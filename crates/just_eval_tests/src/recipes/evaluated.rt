@@ -1,11 +1,11 @@
 // What an evaluator evaluates: a line, or a command.
 
-ghost use Rattle.just_eval.specs.View.{HasRoom};
+ghost use Rattle.just_eval.specs.View.{MayCall};
 ghost use Rattle.std.specs.Prelude.{◌<◌};
 
 use crate::recipes::RECIPE;
-use crate::recipes::hosts::{TellingHost, refusal};
-use just_case_lines::token::name;
+use crate::recipes::hosts::{ReportingHost, refusal};
+use just_case_reader::token::name;
 use just_eval::evaluator::Evaluator;
 use just_host::execution_context::ExecutionContext;
 use just_syntax::expression::Expression;
@@ -29,17 +29,17 @@ pub(crate) enum Evaluated<'run, 'src> {
 
 /// Reports what is evaluated in a scope, for a recipe that may run as a dependency. Commands are run with the variables
 /// of an environment.
-pub(crate) fn tell_evaluated<'src>(
+pub(crate) fn report_evaluated<'src>(
     context: &ExecutionContext<'src, '_>,
     rt: &impl Abort,
     alloc: Global,
-    host: &mut TellingHost,
+    host: &mut ReportingHost,
     env: BTreeMap<String, String>,
     is_dependency: bool,
     scope: &Scope<'src, '_>,
     evaluated: Evaluated<'_, 'src>,
 )
-    requires room { 0 < context.now.recursion_limit }
+    requires may_call { 0 < context.now.recursion_limit }
 {
     let evaluator = Evaluator::new(
         alloc,
@@ -50,20 +50,20 @@ pub(crate) fn tell_evaluated<'src>(
         scope,
     );
     match &evaluator {
-        Ok(evaluator) => tell_by(evaluator, rt, alloc, host, evaluated),
-        Err(_error) => host.tell(rt, "no evaluator"),
+        Ok(evaluator) => report_by(evaluator, rt, alloc, host, evaluated),
+        Err(_error) => host.report(rt, "no evaluator"),
     }
     drop(evaluator);
 }
 
-fn tell_by<'src>(
+fn report_by<'src>(
     evaluator: &Evaluator<'src, '_>,
     rt: &impl Abort,
     alloc: Global,
-    host: &mut TellingHost,
+    host: &mut ReportingHost,
     evaluated: Evaluated<'_, 'src>,
 )
-    requires room { HasRoom evaluator.now }
+    requires may_call { MayCall evaluator.now }
 {
     match evaluated {
         Evaluated::Line(line, continued) => evaluate_line(
@@ -77,14 +77,14 @@ fn evaluate_line<'src>(
     evaluator: &Evaluator<'src, '_>,
     rt: &impl Abort,
     alloc: Global,
-    host: &mut TellingHost,
+    host: &mut ReportingHost,
     line: &Line<'src>,
     continued: bool,
 )
-    requires room { HasRoom evaluator.now }
+    requires may_call { MayCall evaluator.now }
 {
     let outcome = evaluator.evaluate_line(alloc, host, line, continued);
-    host.tell_outcome(rt, &outcome);
+    host.report_outcome(rt, &outcome);
     drop(outcome);
 }
 
@@ -93,10 +93,10 @@ fn evaluate_both<'src>(
     evaluator: &Evaluator<'src, '_>,
     rt: &impl Abort,
     alloc: Global,
-    host: &mut TellingHost,
+    host: &mut ReportingHost,
     command: &Expression<'src>,
 )
-    requires room { HasRoom evaluator.now }
+    requires may_call { MayCall evaluator.now }
 {
     evaluate_value(evaluator, rt, alloc, host, command);
     evaluate_text(evaluator, rt, alloc, host, command);
@@ -106,21 +106,21 @@ fn evaluate_value<'src>(
     evaluator: &Evaluator<'src, '_>,
     rt: &impl Abort,
     alloc: Global,
-    host: &mut TellingHost,
+    host: &mut ReportingHost,
     command: &Expression<'src>,
 )
-    requires room { HasRoom evaluator.now }
+    requires may_call { MayCall evaluator.now }
 {
     let outcome = evaluator.evaluate_value(alloc, host, command);
-    tell_value(&outcome, rt, &mut host.told);
+    report_value(&outcome, rt, &mut host.reported);
     drop(outcome);
 }
 
 // Reports a value that was evaluated, or its refusal.
-fn tell_value(outcome: &Result<Value, Error>, rt: &impl Abort, told: &mut String) {
+fn report_value(outcome: &Result<Value, Error>, rt: &impl Abort, reported: &mut String) {
     match outcome {
-        Ok(value) => write!(told, "{value};").expect(rt, "no memory"),
-        Err(error) => write!(told, "{};", refusal(error)).expect(rt, "no memory"),
+        Ok(value) => write!(reported, "{value};").expect(rt, "no memory"),
+        Err(error) => write!(reported, "{};", refusal(error)).expect(rt, "no memory"),
     }
 }
 
@@ -128,14 +128,14 @@ fn evaluate_text<'src>(
     evaluator: &Evaluator<'src, '_>,
     rt: &impl Abort,
     alloc: Global,
-    host: &mut TellingHost,
+    host: &mut ReportingHost,
     command: &Expression<'src>,
 )
-    requires room { HasRoom evaluator.now }
+    requires may_call { MayCall evaluator.now }
 {
     let place = StringContext::Setting(name("set"));
     let outcome = evaluator.evaluate_string(alloc, host, command, place);
-    host.tell_outcome(rt, &outcome);
+    host.report_outcome(rt, &outcome);
     drop(outcome);
-    host.tell(rt, ";");
+    host.report(rt, ";");
 }

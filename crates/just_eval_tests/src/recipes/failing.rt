@@ -15,9 +15,9 @@ pub(crate) const NEVER: Failing = (usize::MAX, How::Memory);
 pub(crate) const WAYS: &[How] = &[How::Fault, How::Memory];
 
 /// How many questions a report begins with.
-pub(crate) fn questions(told: &str) -> usize {
+pub(crate) fn questions(reported: &str) -> usize {
     let mut count = 0usize;
-    for piece in told.split(";") {
+    for piece in reported.split(";") {
         if !piece.starts_with("? ") {
             return count;
         }
@@ -28,18 +28,18 @@ pub(crate) fn questions(told: &str) -> usize {
 
 /// The report expected in place of another if its questions fail: the questions that are passed on, the first that is
 /// not, and a refusal.
-pub(crate) fn told_failing(
+pub(crate) fn reported_failing(
     rt: &impl Abort,
     alloc: Global,
-    told: &str,
+    reported: &str,
     (passed, how): Failing,
 ) -> String {
-    if passed >= questions(told) {
-        return owned(rt, alloc, told);
+    if passed >= questions(reported) {
+        return owned(rt, alloc, reported);
     }
     let mut expected = String::new(alloc);
     let mut left = passed;
-    for question in told.split(";") {
+    for question in reported.split(";") {
         add(rt, &mut expected, question);
         add(rt, &mut expected, ";");
         if left == 0 {

@@ -1,6 +1,6 @@
 // A host that reports what it is asked, and fails from some question on.
 
-use crate::bindings::tell_frame;
+use crate::bindings::report_frame;
 use crate::recipes::around::DIRECTORY;
 use crate::recipes::failing::Failing;
 use crate::recipes::texts::add;
@@ -54,35 +54,35 @@ impl Host for BracketHost {
 /// Asks another host, which may fail, and reports each command: its arguments, its environment, the bindings of the
 /// frames that it is shown, and what is fixed in a run, if that is not what a plain module has.
 #[derive(Drop)]
-pub(crate) struct TellingHost {
-    pub(crate) told: String,
+pub(crate) struct ReportingHost {
+    pub(crate) reported: String,
     host: FailAt<BracketHost>,
 }
 
-impl TellingHost {
+impl ReportingHost {
     /// A host that passes this many questions on, and then fails.
-    pub(crate) fn new(alloc: Global, (passed, how): Failing) -> TellingHost {
-        TellingHost {
-            told: String::new(alloc),
+    pub(crate) fn new(alloc: Global, (passed, how): Failing) -> ReportingHost {
+        ReportingHost {
+            reported: String::new(alloc),
             host: FailAt::new(BracketHost {}, passed, how),
         }
     }
 
     /// Adds a text to the report.
-    pub(crate) fn tell(&mut self, rt: &impl Abort, text: &str) {
-        add(rt, &mut self.told, text);
+    pub(crate) fn report(&mut self, rt: &impl Abort, text: &str) {
+        add(rt, &mut self.reported, text);
     }
 
     /// Reports a text that was evaluated, or its refusal.
-    pub(crate) fn tell_outcome(&mut self, rt: &impl Abort, outcome: &Result<String, Error>) {
+    pub(crate) fn report_outcome(&mut self, rt: &impl Abort, outcome: &Result<String, Error>) {
         match outcome {
-            Ok(text) => self.tell(rt, text),
-            Err(error) => self.tell(rt, refusal(error)),
+            Ok(text) => self.report(rt, text),
+            Err(error) => self.report(rt, refusal(error)),
         }
     }
 }
 
-impl Host for TellingHost {
+impl Host for ReportingHost {
     ghost use Rattle.std.specs.Prelude.{⊤};
 
     ghost step = { λ _ _ _ _. ⊤ };
@@ -92,7 +92,7 @@ impl Host for TellingHost {
         alloc: Global,
         question: &CommandQuestion,
     ) -> Result<String, CommandFault> {
-        tell_command(&mut self.told, question)?;
+        report_command(&mut self.reported, question)?;
         self.host.command(alloc, question)
     }
 
@@ -118,70 +118,73 @@ pub(crate) fn refusal(error: &Error) -> &'static str {
 }
 
 // Adds a command, its arguments, its environment, the frames, and what is fixed in a run.
-fn tell_command(told: &mut String, question: &CommandQuestion) -> Result<(), OutOfMemory> {
+fn report_command(reported: &mut String, question: &CommandQuestion) -> Result<(), OutOfMemory> {
     let command = question.command;
-    write!(told, "? {command}")?;
+    write!(reported, "? {command}")?;
     if let Some(arguments) = question.arguments {
-        tell_arguments(told, arguments)?;
+        report_arguments(reported, arguments)?;
     }
-    tell_environment(told, question.env)?;
-    tell_frames(question.scope, told)?;
-    tell_fixed(told, question)?;
-    told.push(';')?;
+    report_environment(reported, question.env)?;
+    report_frames(question.scope, reported)?;
+    report_fixed(reported, question)?;
+    reported.push(';')?;
     Ok(())
 }
 
 // Adds arguments in brackets, each in quotes.
-fn tell_arguments(told: &mut String, arguments: &[String]) -> Result<(), OutOfMemory> {
-    told.push_str(" [")?;
+fn report_arguments(reported: &mut String, arguments: &[String]) -> Result<(), OutOfMemory> {
+    reported.push_str(" [")?;
     for argument in arguments {
         let argument = Element(argument);
-        write!(told, "{argument}")?;
+        write!(reported, "{argument}")?;
     }
-    told.push(']')?;
+    reported.push(']')?;
     Ok(())
 }
 
 // Adds what is fixed in a run: the variables of dotenv files, the names that are not exported, and the directory that
 // commands are run in, unless that is the search's.
-fn tell_fixed(told: &mut String, question: &CommandQuestion) -> Result<(), OutOfMemory> {
+fn report_fixed(reported: &mut String, question: &CommandQuestion) -> Result<(), OutOfMemory> {
     if !question.dotenv.is_empty() {
-        told.push_str(" dotenv")?;
-        tell_environment(told, question.dotenv)?;
+        reported.push_str(" dotenv")?;
+        report_environment(reported, question.dotenv)?;
     }
     for name in question.unexports {
-        write!(told, " without {name}")?;
+        write!(reported, " without {name}")?;
     }
     if question.working_directory != DIRECTORY {
         let directory = question.working_directory;
-        write!(told, " in {directory}")?;
+        write!(reported, " in {directory}")?;
     }
     Ok(())
 }
 
 /// Adds the variables of an environment, each after a space.
-pub(crate) fn tell_environment(
-    told: &mut String,
+pub(crate) fn report_environment(
+    reported: &mut String,
     env: &BTreeMap<String, String>,
 ) -> Result<(), OutOfMemory> {
     for (key, value) in env {
-        write!(told, " {key}={value}")?;
+        write!(reported, " {key}={value}")?;
     }
     Ok(())
 }
 
 // Adds the frames, innermost first, each in parentheses.
-fn tell_frames(scope: &Scope, told: &mut String) -> Result<(), OutOfMemory> {
-    tell_frame(scope.frame(), told)?;
+fn report_frames(scope: &Scope, reported: &mut String) -> Result<(), OutOfMemory> {
+    report_frame(scope.frame(), reported)?;
     match scope.parent() {
-        Some(outer) => tell_outer(outer, told),
+        Some(outer) => report_outer(outer, reported),
         None => Ok(()),
     }
 }
 
-fn tell_outer<'call>(outer: &'call [&'call Frame], told: &mut String) -> Result<(), OutOfMemory> {
+fn report_outer<'call>(
+    outer: &'call [&'call Frame],
+    reported: &mut String,
+) -> Result<(), OutOfMemory> {
     for frame in outer {
-        tell_frame(frame, told)?;
+        report_frame(frame, reported)?;
     }
     Ok(())
 }

@@ -4,13 +4,13 @@ ghost use Rattle.std.specs.Prelude.{◌<◌};
 
 use crate::recipes::around::{Around, expressions_of};
 use crate::recipes::called::{Called, parameter};
-use crate::recipes::evaluated::{Evaluated, tell_evaluated};
-use crate::recipes::failing::{Failing, WAYS, questions, told_failing};
-use crate::recipes::hosts::{TellingHost, refusal};
+use crate::recipes::evaluated::{Evaluated, report_evaluated};
+use crate::recipes::failing::{Failing, WAYS, questions, reported_failing};
+use crate::recipes::hosts::{ReportingHost, refusal};
 use crate::recipes::parameters::add_attributes;
 use crate::recipes::texts::{push, same_failing};
-use just_case_lines::line::{Line as CaseLine, parse_lines};
-use just_case_lines::token::{name, token};
+use just_case_reader::line::{Line as CaseLine, parse_lines};
+use just_case_reader::token::{name, token};
 use just_eval::resolved_here;
 use just_host::execution_context::ExecutionContext;
 use just_syntax::expression::Expression;
@@ -146,27 +146,27 @@ fn row_fails_each_way(rt: &impl Abort, alloc: Global, row: &Row) {
 // With a host that fails in some way, the report on a line is as expected.
 fn row_fails(rt: &impl Abort, alloc: Global, row: &Row, failing: Failing) {
     let (case, _, _, _, whole) = *row;
-    let mut host = TellingHost::new(alloc, failing);
-    tell_case(rt, alloc, &mut host, row);
-    let wanted = told_failing(rt, alloc, whole, failing);
-    same_failing(rt, case, failing, &host.told, &wanted);
+    let mut host = ReportingHost::new(alloc, failing);
+    report_case(rt, alloc, &mut host, row);
+    let wanted = reported_failing(rt, alloc, whole, failing);
+    same_failing(rt, case, failing, &host.reported, &wanted);
     drop(wanted);
     drop(host);
 }
 
 // Reports a line of pieces, after the questions asked.
-fn tell_case(rt: &impl Abort, alloc: Global, host: &mut TellingHost, row: &Row) {
+fn report_case(rt: &impl Abort, alloc: Global, host: &mut ReportingHost, row: &Row) {
     let (case, _, _, _, _) = *row;
     let lines = parse_lines(alloc, case.as_bytes()).expect(rt, "no memory");
-    tell_pieces(rt, alloc, &lines, host, row);
+    report_pieces(rt, alloc, &lines, host, row);
     drop(lines);
 }
 
-fn tell_pieces<'src>(
+fn report_pieces<'src>(
     rt: &impl Abort,
     alloc: Global,
     lines: &'src [CaseLine<'src>],
-    host: &mut TellingHost,
+    host: &mut ReportingHost,
     row: &Row,
 ) {
     let (_, pieces, continued, is_dependency, _) = *row;
@@ -175,23 +175,23 @@ fn tell_pieces<'src>(
     called.is_dependency = is_dependency;
     add_attributes(&mut called, rt, alloc, lines);
     let line = line_of(rt, alloc, expressions_of(rt, alloc, lines), pieces);
-    tell_around(&around, rt, alloc, host, &called, &line, continued);
+    report_around(&around, rt, alloc, host, &called, &line, continued);
     drop(line);
     drop(called);
     drop(around);
 }
 
 /// Reports a line that calls no function of a file, after the questions asked.
-pub(crate) fn tell<'src>(
+pub(crate) fn report<'src>(
     line: &Line<'src>,
     rt: &impl Abort,
     alloc: Global,
     source: &'src str,
-    host: &mut TellingHost,
+    host: &mut ReportingHost,
 ) {
     let around = Around::of_nothing(rt, alloc, source);
     let called = called(rt, alloc);
-    tell_around(&around, rt, alloc, host, &called, line, false);
+    report_around(&around, rt, alloc, host, &called, line, false);
     drop(called);
     drop(around);
 }
@@ -204,30 +204,30 @@ fn called<'src>(rt: &impl Abort, alloc: Global) -> Called<'src> {
     called
 }
 
-fn tell_around<'src>(
+fn report_around<'src>(
     around: &Around<'src>,
     rt: &impl Abort,
     alloc: Global,
-    host: &mut TellingHost,
+    host: &mut ReportingHost,
     called: &Called<'src>,
     line: &Line<'src>,
     continued: bool,
 ) {
     let context = around.context();
-    tell_in(&context, rt, alloc, host, called, line, continued);
+    report_in(&context, rt, alloc, host, called, line, continued);
 }
 
 // Evaluates the recipe's attributes and parameters, and reports a line there.
-fn tell_in<'src>(
+fn report_in<'src>(
     context: &ExecutionContext<'src, '_>,
     rt: &impl Abort,
     alloc: Global,
-    host: &mut TellingHost,
+    host: &mut ReportingHost,
     called: &Called<'src>,
     line: &Line<'src>,
     continued: bool,
 )
-    requires room { 0 < context.now.recursion_limit }
+    requires may_call { 0 < context.now.recursion_limit }
 {
     match called.evaluate(alloc, host, context) {
         Ok((scope, words, env)) => {
@@ -235,11 +235,11 @@ fn tell_in<'src>(
             is_resolved(context, rt, alloc, host, &scope, line);
             let is_dependency = called.is_dependency;
             let line = Evaluated::Line(line, continued);
-            tell_evaluated(context, rt, alloc, host, env, is_dependency, &scope, line);
+            report_evaluated(context, rt, alloc, host, env, is_dependency, &scope, line);
             drop(scope);
         }
         Err(error) => {
-            host.tell(rt, refusal(&error));
+            host.report(rt, refusal(&error));
             drop(error);
         }
     }
@@ -250,13 +250,13 @@ fn is_resolved<'src>(
     context: &ExecutionContext<'src, '_>,
     rt: &impl Abort,
     alloc: Global,
-    host: &mut TellingHost,
+    host: &mut ReportingHost,
     scope: &Scope<'src, '_>,
     line: &Line<'src>,
 ) {
     let expressions = interpolated(rt, alloc, line);
     if !resolved_here(alloc, context, scope, None, &[], expressions).expect(rt, "no memory") {
-        host.tell(rt, "unresolved;");
+        host.report(rt, "unresolved;");
     }
 }
 

@@ -2,16 +2,16 @@
 
 ghost use Rattle.std.specs.Prelude.{◌<◌};
 
-use crate::bindings::tell_frame;
+use crate::bindings::report_frame;
 use crate::compared::same;
 use crate::recipes::around::{Around, expression_of};
 use crate::recipes::called::{Called, Check, Given};
-use crate::recipes::failing::{Failing, NEVER, WAYS, questions, told_failing};
-use crate::recipes::hosts::{TellingHost, refusal, tell_environment};
+use crate::recipes::failing::{Failing, NEVER, WAYS, questions, reported_failing};
+use crate::recipes::hosts::{ReportingHost, refusal, report_environment};
 use crate::recipes::parameter_rows::{ROWS, Row};
 use crate::recipes::texts::{push, same_failing};
-use just_case_lines::line::{Line as CaseLine, parse_lines};
-use just_case_lines::token::name;
+use just_case_reader::line::{Line as CaseLine, parse_lines};
+use just_case_reader::token::name;
 use just_eval::resolved_here;
 use just_host::execution_context::ExecutionContext;
 use just_syntax::attribute::Attribute;
@@ -57,10 +57,10 @@ fn row_fails_each_way(rt: &impl Abort, alloc: Global, row: &Row) {
 // With a host that fails in some way, the report on a recipe is as expected.
 fn row_fails(rt: &impl Abort, alloc: Global, row: &Row, failing: Failing) {
     let (case, _, _, _, _, checks, whole) = *row;
-    let mut host = TellingHost::new(alloc, failing);
-    let checked = tell_row(rt, alloc, &mut host, row, Check::RefusesNo, false);
-    let wanted = told_failing(rt, alloc, whole, failing);
-    same_failing(rt, case, failing, &host.told, &wanted);
+    let mut host = ReportingHost::new(alloc, failing);
+    let checked = report_row(rt, alloc, &mut host, row, Check::RefusesNo, false);
+    let wanted = reported_failing(rt, alloc, whole, failing);
+    same_failing(rt, case, failing, &host.reported, &wanted);
     if failing.0 < questions(whole) {
         assert!(rt; checks.starts_with(&checked), "{case}: {checked}");
     } else {
@@ -74,14 +74,14 @@ fn row_fails(rt: &impl Abort, alloc: Global, row: &Row, failing: Failing) {
 // parameter is checked, the report is the usual one.
 fn ends_at_first(rt: &impl Abort, alloc: Global, row: &Row, check: Check, end: &str) {
     let (case, _, _, _, before, checks, whole) = *row;
-    let mut host = TellingHost::new(alloc, NEVER);
-    let checked = tell_row(rt, alloc, &mut host, row, check, false);
+    let mut host = ReportingHost::new(alloc, NEVER);
+    let checked = report_row(rt, alloc, &mut host, row, check, false);
     match checks.split_once(';') {
         Some((first, _)) => {
             same(rt, case, checked.trim_end_matches(';'), first);
-            same(rt, case, behind(&host.told, before), end);
+            same(rt, case, after(&host.reported, before), end);
         }
-        None => same(rt, case, &host.told, whole),
+        None => same(rt, case, &host.reported, whole),
     }
     drop(host);
 }
@@ -90,15 +90,15 @@ fn ends_at_first(rt: &impl Abort, alloc: Global, row: &Row, check: Check, end: &
 // parameter.
 fn exports_by_itself(rt: &impl Abort, alloc: Global, row: &Row) {
     let (case, _, _, _, _, _, whole) = *row;
-    let mut host = TellingHost::new(alloc, NEVER);
-    drop(tell_row(rt, alloc, &mut host, row, Check::RefusesNo, true));
-    same(rt, case, &host.told, whole);
+    let mut host = ReportingHost::new(alloc, NEVER);
+    drop(report_row(rt, alloc, &mut host, row, Check::RefusesNo, true));
+    same(rt, case, &host.reported, whole);
     drop(host);
 }
 
 // The report after the questions asked.
-fn behind<'told>(told: &'told str, asked: &str) -> &'told str {
-    match told.strip_prefix(asked) {
+fn after<'reported>(reported: &'reported str, asked: &str) -> &'reported str {
+    match reported.strip_prefix(asked) {
         Some(rest) => rest,
         None => "something else is asked",
     }
@@ -106,26 +106,26 @@ fn behind<'told>(told: &'told str, asked: &str) -> &'told str {
 
 // Reports what a recipe's parameters evaluate to with this check, after the questions asked, and returns what was
 // checked.
-fn tell_row(
+fn report_row(
     rt: &impl Abort,
     alloc: Global,
-    host: &mut TellingHost,
+    host: &mut ReportingHost,
     row: &Row,
     check: Check,
     exports_all: bool,
 ) -> String {
     let (case, _, _, _, _, _, _) = *row;
     let lines = parse_lines(alloc, case.as_bytes()).expect(rt, "no memory");
-    let checked = tell_lines(rt, alloc, &lines, host, row, check, exports_all);
+    let checked = report_lines(rt, alloc, &lines, host, row, check, exports_all);
     drop(lines);
     checked
 }
 
-fn tell_lines<'src>(
+fn report_lines<'src>(
     rt: &impl Abort,
     alloc: Global,
     lines: &'src [CaseLine<'src>],
-    host: &mut TellingHost,
+    host: &mut ReportingHost,
     row: &Row,
     check: Check,
     exports_all: bool,
@@ -135,7 +135,7 @@ fn tell_lines<'src>(
         around.export_all();
     }
     let called = called_of(rt, alloc, lines, row, check);
-    tell_around(&around, rt, alloc, host, &called);
+    report_around(&around, rt, alloc, host, &called);
     let checked = called.checked(rt, alloc);
     drop(called);
     drop(around);
@@ -143,15 +143,15 @@ fn tell_lines<'src>(
 }
 
 /// Reports what the parameters of a recipe that calls no function of a file evaluate to.
-pub(crate) fn tell<'src>(
+pub(crate) fn report<'src>(
     called: &Called<'src>,
     rt: &impl Abort,
     alloc: Global,
     source: &'src str,
-    host: &mut TellingHost,
+    host: &mut ReportingHost,
 ) {
     let around = Around::of_nothing(rt, alloc, source);
-    tell_around(&around, rt, alloc, host, called);
+    report_around(&around, rt, alloc, host, called);
     drop(around);
 }
 
@@ -265,15 +265,15 @@ fn push_pair<'src>(
     pushed.expect(rt, "no memory");
 }
 
-fn tell_around<'src>(
+fn report_around<'src>(
     around: &Around<'src>,
     rt: &impl Abort,
     alloc: Global,
-    host: &mut TellingHost,
+    host: &mut ReportingHost,
     called: &Called<'src>,
 ) {
     let context = around.context();
-    tell_in(&context, rt, alloc, host, called);
+    report_in(&context, rt, alloc, host, called);
 }
 
 // The recipe must be resolved.
@@ -294,54 +294,54 @@ fn is_resolved<'src>(
 }
 
 // The same in a context. The recipe must be resolved.
-fn tell_in<'src>(
+fn report_in<'src>(
     context: &ExecutionContext<'src, '_>,
     rt: &impl Abort,
     alloc: Global,
-    host: &mut TellingHost,
+    host: &mut ReportingHost,
     called: &Called<'src>,
 )
-    requires room { 0 < context.now.recursion_limit }
+    requires may_call { 0 < context.now.recursion_limit }
 {
     if !is_resolved(alloc, context, called).expect(rt, "no memory") {
-        host.tell(rt, "unresolved;");
+        host.report(rt, "unresolved;");
     }
     let given = called.evaluate(alloc, host, context);
-    tell_outcome(&given, &mut host.told).expect(rt, "no memory");
+    report_outcome(&given, &mut host.reported).expect(rt, "no memory");
     drop(given);
 }
 
-fn tell_outcome(given: &Given, told: &mut String) -> Result<(), OutOfMemory> {
+fn report_outcome(given: &Given, reported: &mut String) -> Result<(), OutOfMemory> {
     match given {
-        Ok((scope, words, env)) => tell_given(scope, told, words, env),
-        Err(error) => tell_refusal(told, error),
+        Ok((scope, words, env)) => report_given(scope, reported, words, env),
+        Err(error) => report_refusal(reported, error),
     }
 }
 
-fn tell_given(
+fn report_given(
     scope: &Scope,
-    told: &mut String,
+    reported: &mut String,
     words: &[String],
     env: &BTreeMap<String, String>,
 ) -> Result<(), OutOfMemory> {
-    told.push_str("words")?;
+    reported.push_str("words")?;
     for word in words {
         let word = Element(word);
-        write!(told, " {word}")?;
+        write!(reported, " {word}")?;
     }
-    told.push(';')?;
-    tell_frame(scope.frame(), told)?;
-    told.push_str(" env")?;
-    tell_environment(told, env)?;
-    told.push(';')?;
+    reported.push(';')?;
+    report_frame(scope.frame(), reported)?;
+    reported.push_str(" env")?;
+    report_environment(reported, env)?;
+    reported.push(';')?;
     Ok(())
 }
 
 // Adds the message of a refusal. A command that fails is reported as everywhere.
-fn tell_refusal(told: &mut String, error: &Error) -> Result<(), OutOfMemory> {
+fn report_refusal(reported: &mut String, error: &Error) -> Result<(), OutOfMemory> {
     match error {
-        Error::Backtick { .. } | Error::OutOfMemory => told.push_str(refusal(error))?,
-        _ => write!(told, "{error}")?,
+        Error::Backtick { .. } | Error::OutOfMemory => reported.push_str(refusal(error))?,
+        _ => write!(reported, "{error}")?,
     }
     Ok(())
 }

@@ -5,8 +5,8 @@ use crate::recipes::around::{Around, expressions_of};
 use crate::recipes::called::Called;
 use crate::recipes::lines::{interpolated, line_of};
 use crate::recipes::parameters::{add_attributes, add_parameters};
-use just_case_lines::line::{Line as CaseLine, parse_lines};
-use just_case_lines::token::name;
+use just_case_reader::line::{Line as CaseLine, parse_lines};
+use just_case_reader::token::name;
 use just_eval::resolved_here;
 use just_host::execution_context::ExecutionContext;
 use just_syntax::attribute_set::AttributeSet;
@@ -241,12 +241,12 @@ fn resolved_or_not(rt: HostRuntime) {
     for row in ROWS {
         let (case, _, _, _, _, _) = *row;
         let lines = parse_lines(rt.alloc(), case.as_bytes()).expect(&rt, "no memory");
-        is_as_told(&rt, rt.alloc(), &lines, row);
+        is_as_reported(&rt, rt.alloc(), &lines, row);
         drop(lines);
     }
 }
 
-fn is_as_told<'src>(rt: &impl Abort, alloc: Global, lines: &'src [CaseLine<'src>], row: &Row) {
+fn is_as_reported<'src>(rt: &impl Abort, alloc: Global, lines: &'src [CaseLine<'src>], row: &Row) {
     let (_, parameters, pieces, base, _, _) = *row;
     let mut around = Around::of_lines(rt, alloc, lines);
     bind_all(&mut around.scope, rt, alloc, base);

@@ -4,10 +4,10 @@
 use crate::compared::same;
 use crate::recipes::called::{Called, parameter};
 use crate::recipes::failing::NEVER;
-use crate::recipes::hosts::TellingHost;
+use crate::recipes::hosts::ReportingHost;
 use crate::recipes::texts::{add, owned, push};
 use crate::recipes::{lines, parameters};
-use just_case_lines::token::{name, token};
+use just_case_reader::token::{name, token};
 use just_syntax::attribute::Attribute;
 use just_syntax::expression::Expression;
 use just_syntax::fragment::Fragment;
@@ -84,12 +84,12 @@ fn wanted_in_a_row(rt: &impl Abort, alloc: Global, count: u64) -> String {
 
 // The argument of the first parameter becomes the value of each.
 fn reads_the_one_before<'src>(rt: &impl Abort, alloc: Global, lexeme: &'src str, count: u64) {
-    let mut host = TellingHost::new(alloc, NEVER);
+    let mut host = ReportingHost::new(alloc, NEVER);
     let called = in_a_row(rt, alloc, lexeme, count);
-    parameters::tell(&called, rt, alloc, lexeme, &mut host);
+    parameters::report(&called, rt, alloc, lexeme, &mut host);
     drop(called);
     let wanted = wanted_in_a_row(rt, alloc, count);
-    same(rt, "parameters in a row", &host.told, &wanted);
+    same(rt, "parameters in a row", &host.reported, &wanted);
     drop(wanted);
     drop(host);
 }
@@ -119,13 +119,13 @@ fn push_pair<'src>(line: &mut Line<'src>, rt: &impl Abort, text: &'src str) {
 
 // A line of this many texts and interpolations consists of all of them.
 fn line_of_many<'src>(rt: &impl Abort, alloc: Global, text: &'src str, count: u64) {
-    let mut host = TellingHost::new(alloc, NEVER);
+    let mut host = ReportingHost::new(alloc, NEVER);
     let line = line_of(rt, alloc, text, count);
-    lines::tell(&line, rt, alloc, text, &mut host);
+    lines::report(&line, rt, alloc, text, &mut host);
     drop(line);
     let mut wanted = String::new(alloc);
     repeat(rt, &mut wanted, "{{xz", count);
-    same(rt, "a line of many", &host.told, &wanted);
+    same(rt, "a line of many", &host.reported, &wanted);
     drop(wanted);
     drop(host);
 }

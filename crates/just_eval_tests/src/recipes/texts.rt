@@ -9,10 +9,10 @@ pub(crate) fn same_failing(
     rt: &impl Abort,
     of: &str,
     (passed, how): Failing,
-    told: &str,
+    reported: &str,
     wanted: &str,
 ) {
-    assert_eq!(rt; told, wanted, "{of} {passed} {how:?}");
+    assert_eq!(rt; reported, wanted, "{of} {passed} {how:?}");
 }
 
 /// A copy of a text.

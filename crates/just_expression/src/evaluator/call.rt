@@ -9,20 +9,20 @@ ghost use Rattle.just_builtins.specs.Table.{function_named};
 ghost use Rattle.just_meaning.specs.Callee.{callee};
 ghost use Rattle.just_meaning.specs.Closings.{dynamic, inside};
 ghost use Rattle.just_meaning.specs.Meaning.{built_in_call, called, eval};
-ghost use Rattle.just_expression.specs.View.{Answers, context_of, deeper, program, row, situation};
+ghost use Rattle.just_expression.specs.View.{RunsTo, context_of, deeper, program, row, situation};
 
 use super::ExpressionEvaluator;
-use crate::stack;
+use crate::builtin;
+use crate::callee::{Callee, resolve_callee};
+use crate::parameters::called_scope;
 use just_builtins::function::Function;
-use just_forms::builtin;
-use just_forms::callee::{Callee, reached};
-use just_forms::parameters::called_scope;
 use just_host::execution_context::ExecutionContext;
 use just_host::function::Context;
 use just_host::host::Host;
 use just_syntax::expression::Expression;
 use just_syntax::function_definition::FunctionDefinition;
 use just_syntax::name::Name;
+use just_syntax::stack;
 use just_value::const_error::ConstError;
 use just_value::error::Error;
 use just_value::scope::Scope;
@@ -39,18 +39,18 @@ impl<'src, 'run, 'here> ExpressionEvaluator<'src, 'run, 'here> {
         host: &mut H,
         name: &Name<'src>,
         arguments: &[Expression<'src>],
-        room: usize,
+        budget: usize,
     ) -> Result<Value, Error<'src>>
         ensures { let t = name_view name.now in let p = program self.now in
-            Answers self.now H.step host.old (note (Entered t) (called p t (callee p.functions t.lexeme) (deeper self.now) (situation self.now) (length arguments.now) (row self.now arguments.now))) result host.new }
+            RunsTo self.now H.step host.old (note (Entered t) (called p t (callee p.functions t.lexeme) (deeper self.now) (situation self.now) (length arguments.now) (row self.now arguments.now))) result host.new }
     {
         let Some(context) = self.context else {
             return Err(Error::Const(ConstError::FunctionCall(*name)));
         };
-        let callee = reached(alloc, context, name, self.calls_left, arguments.len())?;
+        let callee = resolve_callee(alloc, context, name, self.calls_left, arguments.len())?;
         let mut values = Vec::with_capacity(alloc, arguments.len())?;
         for argument in arguments {
-            let value = self.evaluate_value(alloc, host, argument, room)?;
+            let value = self.evaluate_value(alloc, host, argument, budget)?;
             if !callee.takes(values.len(), &value) {
                 return builtin::refuse_list(name, value);
             }
@@ -58,10 +58,10 @@ impl<'src, 'run, 'here> ExpressionEvaluator<'src, 'run, 'here> {
         }
         match callee {
             Callee::BuiltIn(function) => {
-                self.call_builtin_function(alloc, host, context, name, function, values)
+                self.evaluate_builtin_function(alloc, host, context, name, function, values)
             }
             Callee::Defined(function, calls_left) => {
-                self.evaluate_body(alloc, host, function, calls_left, values, room)
+                self.evaluate_defined_function(alloc, host, function, calls_left, values, budget)
             }
         }
     }
@@ -70,26 +70,26 @@ impl<'src, 'run, 'here> ExpressionEvaluator<'src, 'run, 'here> {
     // the arguments, so that they nest without its frame.
     #[cycle(evaluate)]
     #[inline(never)]
-    fn evaluate_body<H: Host>(
+    fn evaluate_defined_function<H: Host>(
         &self,
         alloc: Global,
         host: &mut H,
         function: &FunctionDefinition<'src>,
         calls_left: usize,
         values: Vec<Value>,
-        room: usize,
+        budget: usize,
     ) -> Result<Value, Error<'src>>
         requires count { length function.now.parameters.items ≡ length values.items }
         ensures { let p = program self.now in let f = function_view function.now in let s = situation self.now in
-            Answers self.now H.step host.old (eval p (dynamic p calls_left) (inside (value_in s.below) s f values.items) f.body) result host.new }
+            RunsTo self.now H.step host.old (eval p (dynamic p calls_left) (inside (value_in s.below) s f values.items) f.body) result host.new }
     {
-        if room < stack::BODY {
+        if budget < stack::BODY {
             return Err(Error::OutOfMemory);
         }
-        let room = room - stack::BODY;
+        let budget = budget - stack::BODY;
         let scope = called_scope(alloc, &function.parameters, values, self.below)?;
         let evaluator = (&*self).in_body(calls_left, &scope);
-        evaluator.evaluate_value(alloc, host, &function.body, room)
+        evaluator.evaluate_value(alloc, host, &function.body, budget)
     }
 
     // An evaluator of a body in a scope, with this many further calls.
@@ -115,7 +115,7 @@ impl<'src, 'run, 'here> ExpressionEvaluator<'src, 'run, 'here> {
 
     // What a built-in function returns here.
     #[inline(never)]
-    fn call_builtin_function<H: Host>(
+    fn evaluate_builtin_function<H: Host>(
         &self,
         alloc: Global,
         host: &mut H,
@@ -128,14 +128,14 @@ impl<'src, 'run, 'here> ExpressionEvaluator<'src, 'run, 'here> {
         requires named { function_named (name_view name.now).lexeme ≡ Some function }
         requires count { IsExpected function (length values.items) }
         requires texts { HasTexts function values.items }
-        ensures { Answers self.now H.step host.old (built_in_call (program self.now) (situation self.now) (name_view name.now) function values.items) result host.new }
+        ensures { RunsTo self.now H.step host.old (built_in_call (program self.now) (situation self.now) (name_view name.now) function values.items) result host.new }
     {
-        let context = self.called_in(context, name);
+        let context = self.function_context(context, name);
         builtin::call(alloc, host, &context, function, &values)
     }
 
     // The context in which a built-in function of this name is called here.
-    fn called_in<'call>(
+    fn function_context<'call>(
         &'call self,
         context: &'call ExecutionContext<'src, 'run>,
         name: &Name<'src>,

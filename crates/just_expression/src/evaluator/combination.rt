@@ -2,7 +2,7 @@
 
 ghost use Rattle.just_syntax.specs.View.{token_view, view};
 ghost use Rattle.just_meaning.specs.Meaning.{combination};
-ghost use Rattle.just_expression.specs.View.{Answers, meaning};
+ghost use Rattle.just_expression.specs.View.{RunsTo, meaning};
 
 use super::ExpressionEvaluator;
 use just_host::host::Host;
@@ -25,12 +25,12 @@ impl<'src, 'run, 'here> ExpressionEvaluator<'src, 'run, 'here> {
         operator: ListOperator,
         token: &Token<'src>,
         rhs: &Expression<'src>,
-        room: usize,
+        budget: usize,
     ) -> Result<Value, Error<'src>>
-        ensures { Answers self.now H.step host.old (combination operator (meaning self.now (view lhs.now)) (token_view token.now) (meaning self.now (view rhs.now))) result host.new }
+        ensures { RunsTo self.now H.step host.old (combination operator (meaning self.now (view lhs.now)) (token_view token.now) (meaning self.now (view rhs.now))) result host.new }
     {
-        let left = self.evaluate_value(alloc, host, lhs, room)?;
-        let right = self.evaluate_value(alloc, host, rhs, room)?;
+        let left = self.evaluate_value(alloc, host, lhs, budget)?;
+        let right = self.evaluate_value(alloc, host, rhs, budget)?;
         left.apply(alloc, &right, operator, *token)
     }
 }

@@ -3,10 +3,10 @@
 ghost use Rattle.std.specs.Prelude.{◌≡◌};
 ghost use Rattle.just_syntax.specs.View.{name_view, token_view};
 ghost use Rattle.just_meaning.specs.Meaning.{command, variable};
-ghost use Rattle.just_expression.specs.View.{Answers, context_of, is_non_const, open_in, program, situation};
+ghost use Rattle.just_expression.specs.View.{RunsTo, context_of, is_non_const, open_in, program, situation};
 
 use super::ExpressionEvaluator;
-use just_forms::{command, internal, variable};
+use crate::{command, internal, variable};
 use just_host::host::Host;
 use just_syntax::name::Name;
 use just_syntax::number::Number;
@@ -26,7 +26,7 @@ impl<'src, 'run, 'here> ExpressionEvaluator<'src, 'run, 'here> {
         name: &Name<'src>,
         number: Option<Number>,
     ) -> Result<Value, Error<'src>>
-        ensures { Answers self.now H.step host.now (variable (name_view name.now) number (situation self.now).names) result host.now }
+        ensures { RunsTo self.now H.step host.now (variable (name_view name.now) number (situation self.now).names) result host.now }
     {
         let Some(number) = number else {
             return Err(internal::unresolved(alloc, name));
@@ -56,11 +56,11 @@ impl<'src, 'run, 'here> ExpressionEvaluator<'src, 'run, 'here> {
         contents: &str,
         token: &Token<'src>,
     ) -> Result<Value, Error<'src>>
-        ensures { Answers self.now H.step host.old (command (program self.now).fixed (situation self.now) contents.now (token_view token.now)) result host.new }
+        ensures { RunsTo self.now H.step host.old (command (program self.now).fixed (situation self.now) contents.now (token_view token.now)) result host.new }
     {
         match self.context {
             Some(context) => {
-                command::written(alloc, host, context, self.env, self.scope, contents, token)
+                command::command_value(alloc, host, context, self.env, self.scope, contents, token)
             }
             None => Err(Error::Const(ConstError::Backtick(*token))),
         }

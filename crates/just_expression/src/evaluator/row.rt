@@ -4,10 +4,10 @@ ghost use Rattle.std.specs.Prelude.{[], ◌∷◌};
 ghost use Rattle.just_syntax.specs.View.{literal_view, piece_views};
 ghost use Rattle.just_host.specs.Interaction.{bind, gives};
 ghost use Rattle.just_meaning.specs.Meaning.{as_it_is, eval_pieces, flatten, formatted};
-ghost use Rattle.just_expression.specs.View.{Answers, deeper, program, row, situation};
+ghost use Rattle.just_expression.specs.View.{RunsTo, deeper, program, row, situation};
 
 use super::ExpressionEvaluator;
-use just_forms::form;
+use crate::form;
 use just_host::host::Host;
 use just_syntax::expression::Expression;
 use just_syntax::string_literal::StringLiteral;
@@ -24,13 +24,13 @@ impl<'src, 'run, 'here> ExpressionEvaluator<'src, 'run, 'here> {
         alloc: Global,
         host: &mut H,
         elements: &[Expression<'src>],
-        room: usize,
+        budget: usize,
     ) -> Result<Value, Error<'src>>
-        ensures { Answers self.now H.step host.old (bind (row self.now elements.now as_it_is) (λ vs. gives (flatten vs))) result host.new }
+        ensures { RunsTo self.now H.step host.old (bind (row self.now elements.now as_it_is) (λ vs. gives (flatten vs))) result host.new }
     {
         let mut all = Value::new(alloc);
         for element in elements {
-            let value = self.evaluate_value(alloc, host, element, room)?;
+            let value = self.evaluate_value(alloc, host, element, budget)?;
             all = form::extended(all, value)?;
         }
         Ok(all)
@@ -45,13 +45,13 @@ impl<'src, 'run, 'here> ExpressionEvaluator<'src, 'run, 'here> {
         host: &mut H,
         start: &StringLiteral<'src>,
         expressions: &[(Expression<'src>, StringLiteral<'src>)],
-        room: usize,
+        budget: usize,
     ) -> Result<Value, Error<'src>>
-        ensures { Answers self.now H.step host.old (bind (eval_pieces (program self.now) (deeper self.now) (situation self.now) (piece_views expressions.now)) (λ text. gives (formatted (literal_view start.now) text ∷ []))) result host.new }
+        ensures { RunsTo self.now H.step host.old (bind (eval_pieces (program self.now) (deeper self.now) (situation self.now) (piece_views expressions.now)) (λ text. gives (formatted (literal_view start.now) text ∷ []))) result host.new }
     {
         let mut text = String::from_str(alloc, &start.cooked)?;
         for (expression, literal) in expressions {
-            let value = self.evaluate_value(alloc, host, expression, room)?;
+            let value = self.evaluate_value(alloc, host, expression, budget)?;
             text.push_str(&value.join(alloc)?)?;
             text.push_str(&literal.cooked)?;
         }

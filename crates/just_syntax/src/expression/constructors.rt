@@ -3,7 +3,7 @@
 ghost use Rattle.std.specs.Prelude.{◌≡◌, Some, IfOk, false};
 ghost use Rattle.std.specs.Option.{option_map};
 ghost use Rattle.just_syntax.specs.Plain as plain;
-ghost use Rattle.just_syntax.specs.View.{assertion, conditional, join, literal_view, name_view, piece_views, token_view, view, views};
+ghost use Rattle.just_syntax.specs.View.{assert_view, conditional, join, literal_view, name_view, piece_views, token_view, view, views};
 
 use crate::conditional_operator::ConditionalOperator;
 use crate::expression::Expression;
@@ -44,7 +44,7 @@ impl<'src> Expression<'src> {
         condition: Expression<'src>,
         message: Option<Expression<'src>>,
     ) -> Result<Expression<'src>, OutOfMemory>
-        ensures { IfOk result (λ e. view e ≡ assertion (view condition.entry) (option_map view message.entry) (name_view name.entry)) }
+        ensures { IfOk result (λ e. view e ≡ assert_view (view condition.entry) (option_map view message.entry) (name_view name.entry)) }
     {
         let (condition, message) = boxed_with(alloc, condition, message)?;
         Ok(Expression::Assert {

@@ -3,7 +3,7 @@ use Rattle.std.proofs.lemmas.Result.{IfOk-weaker}
 use Rattle.just_syntax.specs.View.{name_view, text_numbered}
 use Rattle.just_value.specs.View.{frames_view}
 use Rattle.just_host.specs.View.{inner_host, records_view}
-use Rattle.just_answer.specs.Answer.{order_line}
+use Rattle.just_bench.specs.Printed.{order_line}
 use Rattle.just_bench.specs.Blocks.{in_order}
 use Rattle.just_bench.specs.Taken.{taken_in, taken_view}
 use Rattle.just_bench.specs.View.{run_view}
@@ -14,8 +14,8 @@ use Rattle.just_bench.proofs.blocks.print_run.Goals as goal
 pub returns-clause-prints : goal.returns-clause-prints
 returns-clause-prints g c =
     let m = in_order (run_view c.args.run.now) (map name_view c.args.order.now) in
-    let told = rw (same_references c.as_ref-references.result c.args.run.now.references c.as_ref-references.ensures.value) at c.in_ok-taken.ensures in
-    let coming : map taken_view c.deref-2.result.now ≡ taken_in m.assignments m.assignments.order = ap (map taken_view) c.deref-2.ensures.value ∙ told in
+    let determined = rw (same_references c.as_ref-references.result c.args.run.now.references c.as_ref-references.ensures.value) at c.in_ok-taken.ensures in
+    let coming : map taken_view c.deref-2.result.now ≡ taken_in m.assignments m.assignments.order = ap (map taken_view) c.deref-2.ensures.value ∙ determined in
     IfOk-weaker c.print_turns.result _ _ (λ found w.
     order_prints (string_bytes c.args.text.now) (string_bytes c.print_order.new.text) (string_bytes c.print_turns.new.text) (inner_host c.args.host.now) (records_view c.args.host.now) (frames_view c.args.parent.now) (frames_view c.in_ok-child.field-0)
     (map taken_view c.deref-2.result.now) (text_numbered c.new.result) c.requires.fresh c.in_ok-child.ensures coming (none_asked c.new.result c.new.ensures.empty)

@@ -3,7 +3,7 @@ use Rattle.just_host.specs.View.{function_context_view}
 use Rattle.just_builtins.specs.Shape.{unasked_nullary}
 use Rattle.just_builtins.specs.declared.builtin.Builtin.TheVariants.{Arch, CacheDirectory, ConfigDirectory, ConfigLocalDirectory, DataDirectory, DataLocalDirectory, ExecutableDirectory, HomeDirectory, JustExecutable, JustPid, NumCpus, Os, OsFamily, RuntimeDirectory}
 use Rattle.just_builtins.specs.declared.function.Function.TheVariants.{Nullary}
-use Rattle.just_builtins.proofs.Calls.{of_builtin, told_among}
+use Rattle.just_builtins.proofs.Calls.{of_builtin, unasked_among}
 use Rattle.just_builtins.proofs.Unnamed.{unnamed, is_nullary}
 use Rattle.just_builtins.proofs.nullary.nullary.Goals as goal
 
@@ -51,6 +51,6 @@ returns-in-RuntimeDirectory g c = λ shown. of_builtin (Nullary c.args.builtin) 
 
 pub returns-in_default : goal.returns-in_default
 returns-in_default g c = λ shown.
-    told_among (Nullary c.args.builtin) unasked_nullary c.args.builtin shown _ _ c.nullary_unasked.ensures
+    unasked_among (Nullary c.args.builtin) unasked_nullary c.args.builtin shown _ _ c.nullary_unasked.ensures
     (λ none. unnamed is_nullary (Nullary c.args.builtin) refl
     ((λ e. c.in_default.not-Arch (cc)), ((λ e. c.in_default.not-CacheDirectory (cc)), ((λ e. c.in_default.not-ConfigDirectory (cc)), ((λ e. c.in_default.not-ConfigLocalDirectory (cc)), ((λ e. c.in_default.not-DataDirectory (cc)), ((λ e. c.in_default.not-DataLocalDirectory (cc)), ((λ e. c.in_default.not-ExecutableDirectory (cc)), ((λ e. c.in_default.not-HomeDirectory (cc)), ((λ e. none.0 (cc)), ((λ e. none.1.0 (cc)), ((λ e. c.in_default.not-JustExecutable (cc)), ((λ e. c.in_default.not-JustPid (cc)), ((λ e. none.1.1.0 (cc)), ((λ e. none.1.1.1.0 (cc)), ((λ e. none.1.1.1.1.0 (cc)), ((λ e. none.1.1.1.1.1.0 (cc)), ((λ e. none.1.1.1.1.1.1.0 (cc)), ((λ e. none.1.1.1.1.1.1.1.0 (cc)), ((λ e. c.in_default.not-NumCpus (cc)), ((λ e. c.in_default.not-Os (cc)), ((λ e. c.in_default.not-OsFamily (cc)), ((λ e. none.1.1.1.1.1.1.1.1.0 (cc)), ((λ e. c.in_default.not-RuntimeDirectory (cc)), ((λ e. none.1.1.1.1.1.1.1.1.1.0 (cc)), ((λ e. none.1.1.1.1.1.1.1.1.1.1.0 (cc)), tt))))))))))))))))))))))))))

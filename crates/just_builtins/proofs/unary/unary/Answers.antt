@@ -3,7 +3,7 @@ use Rattle.just_host.specs.View.{function_context_view}
 use Rattle.just_builtins.specs.Shape.{unasked_unary}
 use Rattle.just_builtins.specs.declared.builtin.Builtin.TheVariants.{Canonicalize, Read, Require}
 use Rattle.just_builtins.specs.declared.function.Function.TheVariants.{Unary}
-use Rattle.just_builtins.proofs.Calls.{of_builtin, told_among}
+use Rattle.just_builtins.proofs.Calls.{of_builtin, unasked_among}
 use Rattle.just_builtins.proofs.Unnamed.{unnamed, is_unary}
 use Rattle.just_builtins.proofs.unary.unary.Goals as goal
 
@@ -18,6 +18,6 @@ returns-in-Require g c = λ shown. of_builtin (Unary c.args.builtin) _ Require (
 
 pub returns-in_default : goal.returns-in_default
 returns-in_default g c = λ shown.
-    told_among (Unary c.args.builtin) unasked_unary c.args.builtin shown _ _ (c.unary_unasked.ensures (function_context_view c.args.context.now))
+    unasked_among (Unary c.args.builtin) unasked_unary c.args.builtin shown _ _ (c.unary_unasked.ensures (function_context_view c.args.context.now))
     (λ none. unnamed is_unary (Unary c.args.builtin) refl
     ((λ e. c.in_default.not-Canonicalize (cc)), ((λ e. none.0 (cc)), ((λ e. none.1.0 (cc)), ((λ e. none.1.1.0 (cc)), ((λ e. none.1.1.1.0 (cc)), ((λ e. none.1.1.1.1.0 (cc)), ((λ e. none.1.1.1.1.1.0 (cc)), ((λ e. none.1.1.1.1.1.1.0 (cc)), ((λ e. none.1.1.1.1.1.1.1.0 (cc)), ((λ e. c.in_default.not-Read (cc)), ((λ e. c.in_default.not-Require (cc)), ((λ e. none.1.1.1.1.1.1.1.1.0 (cc)), ((λ e. none.1.1.1.1.1.1.1.1.1.0 (cc)), ((λ e. none.1.1.1.1.1.1.1.1.1.1.0 (cc)), ((λ e. none.1.1.1.1.1.1.1.1.1.1.1.0 (cc)), ((λ e. none.1.1.1.1.1.1.1.1.1.1.1.1.0 (cc)), tt)))))))))))))))))

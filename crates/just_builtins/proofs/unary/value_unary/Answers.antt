@@ -3,7 +3,7 @@ use Rattle.just_host.specs.View.{function_context_view}
 use Rattle.just_builtins.specs.Shape.{unasked_value_unary}
 use Rattle.just_builtins.specs.declared.builtin.Builtin.TheVariants.{EnvVar}
 use Rattle.just_builtins.specs.declared.function.Function.TheVariants.{ValueUnary}
-use Rattle.just_builtins.proofs.Calls.{of_builtin, told_among}
+use Rattle.just_builtins.proofs.Calls.{of_builtin, unasked_among}
 use Rattle.just_builtins.proofs.Unnamed.{unnamed, is_value_unary}
 use Rattle.just_builtins.proofs.unary.value_unary.Goals as goal
 
@@ -12,6 +12,6 @@ returns-in-EnvVar g c = λ shown. of_builtin (ValueUnary c.args.builtin) _ EnvVa
 
 pub returns-in_default : goal.returns-in_default
 returns-in_default g c = λ shown.
-    told_among (ValueUnary c.args.builtin) unasked_value_unary c.args.builtin shown _ _ c.value_unary_unasked.ensures
+    unasked_among (ValueUnary c.args.builtin) unasked_value_unary c.args.builtin shown _ _ c.value_unary_unasked.ensures
     (λ none. unnamed is_value_unary (ValueUnary c.args.builtin) refl
     ((λ e. none.0 (cc)), ((λ e. c.in_default.not-EnvVar (cc)), ((λ e. none.1.0 (cc)), ((λ e. none.1.1.0 (cc)), tt)))))

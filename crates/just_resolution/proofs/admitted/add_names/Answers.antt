@@ -3,7 +3,7 @@ use Rattle.just_syntax.specs.Plain.{Text}
 use Rattle.just_resolution.specs.Seen.{site_view, sites_view, texts}
 use Rattle.just_resolution.specs.Sites.{Site, called_names, name_called}
 use Rattle.just_resolution.proofs.Sets.{taken_more}
-use Rattle.just_resolution.proofs.Standing.{called_more}
+use Rattle.just_resolution.proofs.Occurrences.{called_more}
 use Rattle.just_resolution.proofs.admitted.add_names.Goals as goal
 
 pub loop-site-preserved : goal.loop-site-preserved

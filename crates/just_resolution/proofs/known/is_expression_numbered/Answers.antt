@@ -6,7 +6,7 @@ use Rattle.just_resolution.specs.Admitted.{is_numbered}
 use Rattle.just_resolution.specs.Seen.{site_view}
 use Rattle.just_resolution.specs.Sites.{Site, sites_in}
 use Rattle.just_resolution.specs.declared.site.Site as declared
-use Rattle.just_resolution.proofs.Standing.{numbered_decided}
+use Rattle.just_resolution.proofs.Occurrences.{numbered_decided}
 use Rattle.just_resolution.proofs.known.is_expression_numbered.Goals as goal
 
 pub returns : goal.returns

@@ -6,7 +6,7 @@ use Rattle.just_value.specs.Frames.{Frames, value_in}
 use Rattle.just_value.specs.Value.{Value}
 use Rattle.just_value.specs.View.{frames_view}
 use Rattle.just_meaning.specs.Resolved.{HasValue}
-use Rattle.just_resolution.specs.Fault.{Fault, BoundParameter}
+use Rattle.just_resolution.specs.Fault.{ModuleFault, BoundParameter}
 use Rattle.just_resolution.proofs.Finding.{leads_end, leads_off, leads_on, some_seen}
 use Rattle.just_resolution.proofs.Ordering.{bound_if}
 use Rattle.just_resolution.proofs.Sets.{front}
@@ -16,7 +16,7 @@ use Rattle.just_resolution.proofs.numbers.parameter_fault.Goals as goal
 abbrev Sound : Frames → Token × ℕ → Type 0
 Sound outer p = HasValue (value_in outer) p.1 → ⊥
 
-abbrev Faulty : Frames → Token × ℕ → Fault → Type 0
+abbrev Faulty : Frames → Token × ℕ → ModuleFault → Type 0
 Faulty outer p f = (BoundParameter p.0 ≡ f) × HasValue (value_in outer) p.1
 
 -- whether the scope binds it

@@ -5,7 +5,7 @@ use Rattle.std.proofs.lemmas.List.{drop_all}
 use Rattle.just_syntax.specs.View.{function_view, name_view}
 use Rattle.just_value.specs.View.{frames_view}
 use Rattle.just_value.specs.declared.scope.Scope.{Scope}
-use Rattle.just_resolution.specs.Seen.{fault_view, is_name_in, is_readable, is_taken}
+use Rattle.just_resolution.specs.Seen.{module_fault_view, is_name_in, is_readable, is_taken}
 use Rattle.just_meaning.specs.View.{ordered_view}
 use Rattle.just_resolution.proofs.Ordering.{IsWalkedTo, reads_if, readable_if, spoils, walked_all, walks_from, walks_on}
 use Rattle.just_resolution.proofs.Finding.{some_seen}
@@ -50,7 +50,7 @@ loop-name-preserved c =
           (subst (λ l. IsWalkedTo functions assignments (frames_view c.args.outer.now) (is_taken c.loop-name.readable) (is_readable c.loop-name.readable) (is_name_in c.loop-name.admitted) l (map name_view names)) (left (goal.at.loop-name-preserved c).After-take_next) c.loop-name.invariant.walked)
           (is_taken c.take_next.new.readable) (is_readable c.take_next.new.readable) (is_name_in c.take_next.new.admitted) (c.in_ok-fault.ensures.taken (sym c.if-is_some.ensures))
           (readable_if c.take_next.new.readable (frames_view c.args.outer.now) same) (c.in_ok-fault.ensures.number (sym c.if-is_some.ensures))
-          (reads_if _ (option_map fault_view c.in_ok-fault.fault) c.in_ok-fault.ensures.exact (some_seen fault_view c.in_ok-fault.fault ∙ sym c.if-is_some.ensures));
+          (reads_if _ (option_map module_fault_view c.in_ok-fault.fault) c.in_ok-fault.ensures.exact (some_seen module_fault_view c.in_ok-fault.fault ∙ sym c.if-is_some.ensures));
     }
 
 pub returns-then-is_some : goal.returns-then-is_some
@@ -58,8 +58,8 @@ returns-then-is_some c =
     let names = c.args.evaluation_order.now in
     let item = next_name (goal.at.returns-then-is_some c).After-take_next in
     spoils (map function_view c.args.functions.now) (ordered_view c.args.assignments.now [] c.args.variable_references) (frames_view c.args.outer.now) (is_taken c.loop-name.readable) (is_readable c.loop-name.readable) (is_name_in c.loop-name.admitted)
-    (name_view item) (map name_view (drop (c.loop-name.name-index + 1) names)) (map name_view (drop c.loop-name.name-index names)) (map name_view names) (option_map fault_view c.in_ok-fault.fault)
-    (left (goal.at.returns-then-is_some c).After-take_next) c.loop-name.invariant.walked (some_seen fault_view c.in_ok-fault.fault ∙ sym c.if-is_some.ensures) c.in_ok-fault.ensures.exact
+    (name_view item) (map name_view (drop (c.loop-name.name-index + 1) names)) (map name_view (drop c.loop-name.name-index names)) (map name_view names) (option_map module_fault_view c.in_ok-fault.fault)
+    (left (goal.at.returns-then-is_some c).After-take_next) c.loop-name.invariant.walked (some_seen module_fault_view c.in_ok-fault.fault ∙ sym c.if-is_some.ensures) c.in_ok-fault.ensures.exact
 
 pub returns : goal.returns
 returns c =

@@ -3,7 +3,7 @@ use Rattle.std.proofs.lemmas.Result.{IfOk-weaker}
 use Rattle.just_syntax.specs.Plain.{Text}
 use Rattle.just_syntax.specs.View.{assignment_view, function_view, name_view}
 use Rattle.just_meaning.specs.Assignments.{assignment_at}
-use Rattle.just_resolution.specs.Seen.{fault_view, is_readable, is_taken}
+use Rattle.just_resolution.specs.Seen.{module_fault_view, is_readable, is_taken}
 use Rattle.just_meaning.specs.View.{ordered_view}
 use Rattle.just_resolution.proofs.Ordering.{all_three, comes_again, comes_again_takes_none, comes_now, comes_now_takes_one, more_readable, passed_over, passed_over_takes_none, reads_if, takes_one}
 use Rattle.just_resolution.proofs.Tables.{assignment_seen}
@@ -49,7 +49,7 @@ returns-then-has_taken-clause-taken c = λ h. c.requires.taken
 pub returns-else-has_taken-clause-exact : goal.returns-else-has_taken-clause-exact
 returns-else-has_taken-clause-exact c =
     IfOk-weaker c.take.result _ _
-    (λ fault. comes_now (map function_view c.args.functions.now) (ordered_view c.args.assignments.now [] c.args.variable_references) (name_view c.args.name.now) _ (found (goal.at.returns-else-has_taken-clause-exact c).In-Some) fault_view (is_readable c.args.readable.now) fault (sym c.if-not-is_referenced.ensures))
+    (λ fault. comes_now (map function_view c.args.functions.now) (ordered_view c.args.assignments.now [] c.args.variable_references) (name_view c.args.name.now) _ (found (goal.at.returns-else-has_taken-clause-exact c).In-Some) module_fault_view (is_readable c.args.readable.now) fault (sym c.if-not-is_referenced.ensures))
     c.take.ensures.exact
 
 pub returns-else-has_taken-clause-number : goal.returns-else-has_taken-clause-number

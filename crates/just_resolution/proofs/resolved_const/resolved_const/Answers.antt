@@ -5,7 +5,7 @@ use Rattle.just_value.specs.View.{frames_view}
 use Rattle.just_meaning.specs.View.{ordered_view}
 use Rattle.just_resolution.specs.Fault.{IsFaulty, IsSound, name_places}
 use Rattle.just_resolution.specs.First.{Finds}
-use Rattle.just_resolution.specs.Seen.{fault_view}
+use Rattle.just_resolution.specs.Seen.{module_fault_view}
 use Rattle.just_resolution.proofs.Deciding.{none_answers, order_decided}
 use Rattle.just_resolution.proofs.Resolving.{is_resolved_const, refuses}
 use Rattle.just_resolution.proofs.resolved_const.resolved_const.Goals as goal
@@ -21,8 +21,8 @@ returns c =
     let ordered = ordered_view c.args.assignments.now c.args.evaluation_order.now (Some c.args.variable_references) in
     let outer = frames_view c.args.scope.now in
     let found = subst
-    (λ (fs : List FunctionDefinition). Finds (IsSound (map function_view fs) ordered outer) (IsFaulty (map function_view fs) ordered outer) (name_places ordered [] ordered.order) (option_map fault_view c.in_ok-misplaced.misplaced))
+    (λ (fs : List FunctionDefinition). Finds (IsSound (map function_view fs) ordered outer) (IsFaulty (map function_view fs) ordered outer) (name_places ordered [] ordered.order) (option_map module_fault_view c.in_ok-misplaced.misplaced))
     c.new-functions.ensures c.in_ok-misplaced.ensures in
-    let decides = none_answers (is_some c.in_ok-misplaced.misplaced) c.is_none.result c.is_none.ensures (order_decided fault_view c.in_ok-misplaced.misplaced [] ordered outer ordered.order found) in
+    let decides = none_answers (is_some c.in_ok-misplaced.misplaced) c.is_none.result c.is_none.ensures (order_decided module_fault_view c.in_ok-misplaced.misplaced [] ordered outer ordered.order found) in
     let numbered = c.in_ok-are_numbered.ensures.0 c.if-not-branch.false in
     record { exact = is_resolved_const ordered outer (c.is_none.result ≡ true) numbered.0 numbered.1 decides }

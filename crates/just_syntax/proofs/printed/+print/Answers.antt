@@ -23,11 +23,11 @@ print_assert-returns g t c = λ flush ok.
           grind (arith, styled_steps, common_steps)
     ]
 
-pub print_conditional-returns-in_ok-print_behind-in-Some : goal.print_conditional-returns-in_ok-print_behind-in-Some
-print_conditional-returns-in_ok-print_behind-in-Some g t c = λ flush ok.
-    let a = c.in_ok-print_behind.ensures flush (refl {a = true}) in
-    let b = c.in_ok-print_behind-2.ensures a.flush (refl {a = true}) in
-    let d = c.in_ok-print_behind-in-Some.ensures b.flush (refl {a = true}) in
+pub print_conditional-returns-in_ok-print_after-in-Some : goal.print_conditional-returns-in_ok-print_after-in-Some
+print_conditional-returns-in_ok-print_after-in-Some g t c = λ flush ok.
+    let a = c.in_ok-print_after.ensures flush (refl {a = true}) in
+    let b = c.in_ok-print_after-2.ensures a.flush (refl {a = true}) in
+    let d = c.in_ok-print_after-in-Some.ensures b.flush (refl {a = true}) in
     styled_four g.W.Write.write_str_gives _ _ _ _ _ _ _ _ _ _ a b d (c.write_str.ensures.styled d.flush ok) (search (rules, append_assoc))
 
 pub print-returns-in-FormatString : goal.print-returns-in-FormatString

@@ -15,8 +15,8 @@ size_of (Some e) = size-Expression e.now
 abbrev pub decreases-print : goal.decreases-print
 decreases-print g l = 3 * size-Expression l.expression.now
 
-abbrev pub decreases-print_behind : goal.decreases-print_behind
-decreases-print_behind g l = suc (3 * size-Expression l.expression.now)
+abbrev pub decreases-print_after : goal.decreases-print_after
+decreases-print_after g l = suc (3 * size-Expression l.expression.now)
 
 abbrev pub decreases-print_between : goal.decreases-print_between
 decreases-print_between g l = suc (3 * max (size-Expression l.lhs.now) (size-Expression l.rhs.now))

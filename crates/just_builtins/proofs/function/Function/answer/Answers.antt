@@ -3,7 +3,7 @@ use Rattle.just_value.specs.View.{frames_view}
 use Rattle.just_host.specs.View.{function_context_view}
 use Rattle.just_builtins.specs.declared.function.Function.TheVariants.{BinaryOptToValue, BinaryOptValueStrToValue, Nullary, Unary, UnaryMap, UnaryToValue, ValueBinary, ValueBinaryOpt, ValueNullary, ValueUnary}
 use Rattle.just_builtins.proofs.Arguments.{none, one, two, first_of, read_at}
-use Rattle.just_builtins.proofs.Calls.{expected, internal, same_asked, same_told}
+use Rattle.just_builtins.proofs.Calls.{expected, internal, same_asked, same_unasked}
 use Rattle.just_builtins.proofs.Unnamed.{unnamed, is_of_no_builtin}
 use Rattle.just_builtins.proofs.function.Function.answer.Goals as goal
 
@@ -11,7 +11,7 @@ pub returns-in-Binary : goal.returns-in-Binary
 returns-in-Binary g c =
     let context = function_context_view c.args.context.now in
     let shown = frames_view c.args.context.now.scope.now in
-    same_told _ _ context _ _ shown _ c.in-Binary.is (refl {a = c.args.arguments.now}) (c.binary.ensures context)
+    same_unasked _ _ context _ _ shown _ c.in-Binary.is (refl {a = c.args.arguments.now}) (c.binary.ensures context)
 
 pub returns-in-BinaryOptToValue : goal.returns-in-BinaryOptToValue
 returns-in-BinaryOptToValue g c =
@@ -19,7 +19,7 @@ returns-in-BinaryOptToValue g c =
     let shown = frames_view c.args.context.now.scope.now in
     let count = expected c.args.self (BinaryOptToValue c.in-BinaryOptToValue.builtin) _ c.in-BinaryOptToValue.is c.requires.count in
     let alike = first_of c.args.arguments.now _ count.0 c.text_at.ensures ∙ ap (λ ws. (c.text_at.result.now ∷ []) ∷ ws) (sym c.second_text-separator.ensures) in
-    same_told _ _ context _ _ shown _ c.in-BinaryOptToValue.is alike (c.binary_opt_to_value.ensures context)
+    same_unasked _ _ context _ _ shown _ c.in-BinaryOptToValue.is alike (c.binary_opt_to_value.ensures context)
 
 pub returns-in-BinaryOptValueStrToValue : goal.returns-in-BinaryOptValueStrToValue
 returns-in-BinaryOptValueStrToValue g c =
@@ -28,19 +28,19 @@ returns-in-BinaryOptValueStrToValue g c =
     let count = expected c.args.self (BinaryOptValueStrToValue c.in-BinaryOptValueStrToValue.builtin) _ c.in-BinaryOptValueStrToValue.is c.requires.count in
     let there = read_at c.args.arguments.now 0 c.index-arguments-0.result (omega (arith, count.0)) c.index-arguments-0.is in
     let alike = first_of c.args.arguments.now _ count.0 there ∙ ap (λ ws. c.index-arguments-0.result ∷ ws) (sym c.second_text-separator-in-BinaryOptValueStrToValue.ensures) in
-    same_told _ _ context _ _ shown _ c.in-BinaryOptValueStrToValue.is alike (c.binary_opt_value_str_to_value.ensures context)
+    same_unasked _ _ context _ _ shown _ c.in-BinaryOptValueStrToValue.is alike (c.binary_opt_value_str_to_value.ensures context)
 
 pub returns-in-BinaryPlus : goal.returns-in-BinaryPlus
 returns-in-BinaryPlus g c =
     let context = function_context_view c.args.context.now in
     let shown = frames_view c.args.context.now.scope.now in
-    same_told _ _ context _ _ shown _ c.in-BinaryPlus.is (refl {a = c.args.arguments.now}) (c.binary_plus.ensures context)
+    same_unasked _ _ context _ _ shown _ c.in-BinaryPlus.is (refl {a = c.args.arguments.now}) (c.binary_plus.ensures context)
 
 pub returns-in-BinaryStrValue : goal.returns-in-BinaryStrValue
 returns-in-BinaryStrValue g c =
     let context = function_context_view c.args.context.now in
     let shown = frames_view c.args.context.now.scope.now in
-    same_told _ _ context _ _ shown _ c.in-BinaryStrValue.is (refl {a = c.args.arguments.now}) c.binary_str_value.ensures
+    same_unasked _ _ context _ _ shown _ c.in-BinaryStrValue.is (refl {a = c.args.arguments.now}) c.binary_str_value.ensures
 
 pub returns-in-Nullary : goal.returns-in-Nullary
 returns-in-Nullary g c =
@@ -54,7 +54,7 @@ pub returns-in-Ternary : goal.returns-in-Ternary
 returns-in-Ternary g c =
     let context = function_context_view c.args.context.now in
     let shown = frames_view c.args.context.now.scope.now in
-    same_told _ _ context _ _ shown _ c.in-Ternary.is (refl {a = c.args.arguments.now}) (c.ternary.ensures context)
+    same_unasked _ _ context _ _ shown _ c.in-Ternary.is (refl {a = c.args.arguments.now}) (c.ternary.ensures context)
 
 pub returns-in-Unary : goal.returns-in-Unary
 returns-in-Unary g c =
@@ -71,7 +71,7 @@ returns-in-UnaryMap g c =
     let count = expected c.args.self (UnaryMap c.in-UnaryMap.builtin) _ c.in-UnaryMap.is c.requires.count in
     let there = read_at c.args.arguments.now 0 c.index-arguments-0-in-UnaryMap.result (omega (arith, count.0)) c.index-arguments-0-in-UnaryMap.is in
     let alike = one c.args.arguments.now _ (omega (arith, count.0, count.1)) there in
-    same_told _ _ context _ _ shown _ c.in-UnaryMap.is alike (c.unary_map.ensures context)
+    same_unasked _ _ context _ _ shown _ c.in-UnaryMap.is alike (c.unary_map.ensures context)
 
 pub returns-in-UnaryPlus : goal.returns-in-UnaryPlus
 returns-in-UnaryPlus g c =
@@ -112,7 +112,7 @@ returns-in-ValueNullary g c =
     let shown = frames_view c.args.context.now.scope.now in
     let count = expected c.args.self (ValueNullary c.in-ValueNullary.builtin) _ c.in-ValueNullary.is c.requires.count in
     let alike = none c.args.arguments.now (omega (arith, count.1)) in
-    same_told _ _ context _ _ shown _ c.in-ValueNullary.is alike c.value_nullary.ensures
+    same_unasked _ _ context _ _ shown _ c.in-ValueNullary.is alike c.value_nullary.ensures
 
 pub returns-in-ValueUnary : goal.returns-in-ValueUnary
 returns-in-ValueUnary g c =

@@ -3,12 +3,12 @@ use Rattle.std.proofs.lemmas.List.{map-append}
 use Rattle.just_syntax.specs.Keyed.{with_value}
 use Rattle.just_syntax.specs.View.{assignment_view, name_view, view}
 use Rattle.just_syntax.specs.declared.assignment.Assignment.{Assignment}
-use Rattle.just_case_lines.specs.Token.{token_of}
-use Rattle.just_case_lines.specs.Numbering.{number_of}
+use Rattle.just_case_reader.specs.Token.{token_of}
+use Rattle.just_case_reader.specs.Numbering.{number_of}
 use Rattle.just_case_reader.specs.Reading.{assigned_name}
-use Rattle.just_case_lines.specs.View.{numbering_view}
+use Rattle.just_case_reader.specs.View.{numbering_view}
 use Rattle.just_case_reader.proofs.Counts.{seen_in}
-use Rattle.just_case_lines.proofs.Stacks.{done_new}
+use Rattle.just_case_reader.proofs.Stacks.{done_new}
 use Rattle.just_syntax.proofs.Maps.{seen_with}
 use Rattle.just_case_reader.proofs.builder.Builder.assign.Goals as goal
 

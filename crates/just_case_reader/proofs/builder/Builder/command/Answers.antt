@@ -1,7 +1,7 @@
-use Rattle.just_case_lines.specs.Line as lines
+use Rattle.just_case_reader.specs.Line as lines
 use Rattle.just_case_reader.specs.Reading.{with_stack}
 use Rattle.just_case_reader.specs.View.{reading_view}
-use Rattle.just_case_lines.proofs.Stacks.{done_with}
+use Rattle.just_case_reader.proofs.Stacks.{done_with}
 use Rattle.just_case_reader.proofs.builder.Builder.command.Goals as goal
 
 pub returns : goal.returns

@@ -1,8 +1,8 @@
 use Rattle.std.proofs.Common.{string_bytes}
-use Rattle.just_case_lines.specs.Line as lines
+use Rattle.just_case_reader.specs.Line as lines
 use Rattle.just_case_reader.specs.Reading.{with_stack}
 use Rattle.just_case_reader.specs.View.{reading_view}
-use Rattle.just_case_lines.proofs.Stacks.{done_with}
+use Rattle.just_case_reader.proofs.Stacks.{done_with}
 use Rattle.just_case_reader.proofs.builder.Builder.read.Goals as goal
 
 pub returns-in-Literal : goal.returns-in-Literal

@@ -5,7 +5,7 @@ use Rattle.std.specs.Slice.Iter.{iter_rest}
 use Rattle.std.proofs.lemmas.Result.{err_from_is_err_and}
 use Rattle.just_syntax.specs.View.{recipe_parameter_view}
 use Rattle.just_eval.proofs.Bindings.{check_ends, parameter_ends, parameter_next, parameter_stops, parameters_all, parameters_start, mapped_none}
-use Rattle.just_eval.proofs.Same.{same_on, same_room}
+use Rattle.just_eval.proofs.Same.{same_on, same_may_call}
 use Rattle.just_eval.proofs.evaluator.Evaluator.bind_parameters.Goals as goal
 
 pub loop-parameter-init : goal.loop-parameter-init
@@ -20,7 +20,7 @@ loop-parameter-init g c =
     }
 
 pub parameter_value-requires : goal.parameter_value-requires
-parameter_value-requires g c = record { room = same_room c.args.self.now c.loop-parameter.self c.loop-parameter.invariant.same c.requires.room }
+parameter_value-requires g c = record { may_call = same_may_call c.args.self.now c.loop-parameter.self c.loop-parameter.invariant.same c.requires.may_call }
 
 pub returns-in_err-value : goal.returns-in_err-value
 returns-in_err-value g c =

@@ -1,6 +1,6 @@
 use Rattle.std.proofs.Common.{◌∙◌, ap}
 use Rattle.std.proofs.lemmas.Result.{err_from_is_err_and}
-use Rattle.just_value.specs.Frames.{bound_in_front, innermost}
+use Rattle.just_value.specs.Frames.{bound_innermost, innermost}
 use Rattle.just_value.specs.View.{frames_view}
 use Rattle.just_eval.specs.View.{WasBound, IsBound}
 use Rattle.just_eval.proofs.Assigned.{assigned_cut, assigned_exit, assigned_none}
@@ -24,5 +24,5 @@ returns-in_err-bind-clause-assigned g c =
 
 pub returns-clause-assigned : goal.returns-clause-assigned
 returns-clause-assigned g c =
-    let made = c.in_ok-bind.ensures.ok ∙ ap (bound_in_front (frames_view c.args.self.now.scope)) c.bound-binding.ensures in
+    let made = c.in_ok-bind.ensures.ok ∙ ap (bound_innermost (frames_view c.args.self.now.scope)) c.binding_of-binding.ensures in
     rw made (IsBound _ (none_there (innermost c.args.assignment.now.number (frames_view c.args.self.now.scope)) cc) c.in_ok-value.ensures)

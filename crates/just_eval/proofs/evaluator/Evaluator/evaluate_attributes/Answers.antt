@@ -6,7 +6,7 @@ use Rattle.just_meaning.specs.Parameters.{environment}
 use Rattle.just_host.specs.Interaction.{Runs}
 use Rattle.just_eval.specs.View.{dynamic_meanings, rules_of, situation_of}
 use Rattle.just_eval.proofs.Attributes.{attribute_next, attribute_stops, attributes_all, key_ends, left_env, left_none, left_other, other_next, value_ends}
-use Rattle.just_eval.proofs.Same.{same_on, same_room}
+use Rattle.just_eval.proofs.Same.{same_on, same_may_call}
 use Rattle.just_eval.proofs.evaluator.Evaluator.evaluate_attributes.Goals as goal
 
 pub loop-attribute-init : goal.loop-attribute-init
@@ -18,8 +18,8 @@ loop-attribute-init g c =
       rest = λ o new r. subst (λ attributes. Runs (rules_of c.args.self.now) g.H.Host.step c.args.host.now (environment (dynamic_meanings c.args.self.now.context) (situation_of c.args.self.now) attributes) o new) left r;
     }
 
-pub evaluated_string-requires : goal.evaluated_string-requires
-evaluated_string-requires g c = record { room = same_room c.args.self.now c.loop-attribute.self c.loop-attribute.invariant.same c.requires.room }
+pub evaluate_string_by_dynamic_scoping-requires : goal.evaluate_string_by_dynamic_scoping-requires
+evaluate_string_by_dynamic_scoping-requires g c = record { may_call = same_may_call c.args.self.now c.loop-attribute.self c.loop-attribute.invariant.same c.requires.may_call }
 
 pub returns-in_err-key-clause-same : goal.returns-in_err-key-clause-same
 returns-in_err-key-clause-same g c = (c.loop-attribute.invariant.same, c.loop-attribute.invariant.scope)
@@ -30,8 +30,8 @@ returns-in_err-key-clause-environment g c =
     let is = left_env _ _ _ c.in-Env.key c.in-Env.value c.in-Some.ensures.steps c.in-Env.is in
     rw (p.1, p.2) (key_ends g.H.Host.step c.args.host.now c.args.self.now (attributes_view c.args.recipe.now.attributes) c.loop-attribute.self c.loop-attribute.invariant.same _ c.loop-attribute.host c.loop-attribute.invariant.rest (view c.in-Env.key) (view c.in-Env.value) _ _ is _ c.in_err-key.ensures)
 
-pub evaluated-requires : goal.evaluated-requires
-evaluated-requires g c = record { room = same_room c.args.self.now c.loop-attribute.self c.loop-attribute.invariant.same c.requires.room }
+pub evaluate_expression-requires : goal.evaluate_expression-requires
+evaluate_expression-requires g c = record { may_call = same_may_call c.args.self.now c.loop-attribute.self c.loop-attribute.invariant.same c.requires.may_call }
 
 pub returns-in_err-value-clause-same : goal.returns-in_err-value-clause-same
 returns-in_err-value-clause-same g c = (c.loop-attribute.invariant.same, c.loop-attribute.invariant.scope)

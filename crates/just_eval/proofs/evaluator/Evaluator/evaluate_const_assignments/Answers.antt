@@ -4,8 +4,8 @@ use Rattle.std.proofs.lemmas.Result.{err_from_is_err_and}
 use Rattle.just_syntax.specs.View.{name_view}
 use Rattle.just_meaning.specs.Stage.{Staged}
 use Rattle.just_meaning.specs.View.{constants_of}
-use Rattle.just_laws.proofs.ConstInternal.{resolved_stage_is_never_internal}
-use Rattle.just_eval.proofs.Assigned.{standing_start}
+use Rattle.just_soundness.proofs.ConstInternal.{resolved_stage_is_never_internal}
+use Rattle.just_eval.proofs.Assigned.{stage_state_start}
 use Rattle.just_eval.proofs.Stages.{staged_exit, staged_finished, staged_last, staged_next, staged_stops}
 use Rattle.just_eval.proofs.evaluator.Evaluator.evaluate_const_assignments.Goals as goal
 
@@ -18,9 +18,9 @@ pub loop-name-init : goal.loop-name-init
 loop-name-init c =
     let made = c.of_assignments-evaluator.ensures in
     record {
-      before = made.before_runs;
+      before = record { start = made.start; context = made.context };
       rest = λ o r. subst (λ s. Staged (constants_of c.args.assignments.now c.args.evaluation_order.now c.args.overrides.now c.args.variable_references.now) s (map name_view c.args.evaluation_order.now) o)
-          (standing_start c.of_assignments-evaluator.result c.args.lists _ made.lists (made.frames ∙ c.in_ok-child.ensures) made.none_open) r;
+          (stage_state_start c.of_assignments-evaluator.result c.args.lists _ made.lists (made.frames ∙ c.in_ok-child.ensures) made.none_open) r;
     }
 
 pub returns-in_err-evaluate_const_named-clause-headline :

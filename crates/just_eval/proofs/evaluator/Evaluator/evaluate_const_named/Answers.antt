@@ -7,8 +7,8 @@ use Rattle.just_value.specs.Outcome.{Gave}
 use Rattle.just_value.specs.View.{refusal}
 use Rattle.just_meaning.specs.Stage.{Staged}
 use Rattle.just_meaning.specs.View.{constants_of}
-use Rattle.just_eval.specs.View.{standing_of}
-use Rattle.just_eval.proofs.Assigned.{few_assigned, staged_gave, staged_refused, standing_kept, standing_same}
+use Rattle.just_eval.specs.View.{stage_state_of}
+use Rattle.just_eval.proofs.Assigned.{few_assigned, staged_gave, staged_refused, stage_state_kept, stage_state_same}
 use Rattle.just_eval.proofs.Constants.{for_some}
 use Rattle.just_eval.proofs.Here.{staged_here}
 use Rattle.just_eval.proofs.Stages.{staged_open, staged_passes, staged_unknown}
@@ -16,48 +16,48 @@ use Rattle.just_eval.proofs.evaluator.Evaluator.evaluate_const_named.Goals as go
 
 pub returns-in_default-clause-staged : goal.returns-in_default-clause-staged
 returns-in_default-clause-staged c = λ order.
-    rw c.unwrap_const.ensures.refusal (staged_unknown (standing_of c.args.self.now) (name_view c.args.name.now) _
+    rw c.unwrap_const.ensures.refusal (staged_unknown (stage_state_of c.args.self.now) (name_view c.args.name.now) _
     (found_at assignment_view (λ a. a.name.lexeme) _ _ _ None c.in_default.ensures (ap (λ l. l.now) c.lexeme.ensures)) c.unknown_assignment.ensures)
 
 pub returns-then-not-contains-clause-staged : goal.returns-then-not-contains-clause-staged
 returns-then-not-contains-clause-staged c = λ order.
     let b : list_any (nat_eq c.in-Some.assignment.now.number) c.args.references.now.keys ≡ false = cc in
-    staged_passes (standing_of c.args.self.now) (name_view c.args.name.now) (assignment_view c.in-Some.assignment.now)
+    staged_passes (stage_state_of c.args.self.now) (name_view c.args.name.now) (assignment_view c.in-Some.assignment.now)
     (found_at assignment_view (λ a. a.name.lexeme) _ _ _ (Some c.in-Some.assignment.now) c.in-Some.ensures (ap (λ l. l.now) c.lexeme.ensures)) b
 
 pub returns-then-is_open-clause-staged : goal.returns-then-is_open-clause-staged
 returns-then-is_open-clause-staged c = λ order.
     let b : list_any (nat_eq c.in-Some.assignment.now.number) c.args.references.now.keys ≡ true = cc in
     let open_ : list_any (nat_eq c.in-Some.assignment.now.number) c.args.self.now.non_const_assignments.keys ≡ true = cc in
-    staged_open (standing_of c.args.self.now) (name_view c.args.name.now) (assignment_view c.in-Some.assignment.now)
+    staged_open (stage_state_of c.args.self.now) (name_view c.args.name.now) (assignment_view c.in-Some.assignment.now)
     (found_at assignment_view (λ a. a.name.lexeme) _ _ _ (Some c.in-Some.assignment.now) c.in-Some.ensures (ap (λ l. l.now) c.lexeme.ensures)) b open_
 
 pub open_or_end-requires : goal.open_or_end-requires
 open_or_end-requires c = record {
   start = record { start = c.in-Err.ensures.same.1; context = c.in-Err.ensures.same.0.context ∙ c.requires.start.context };
   few = for_some IsConstEval (refusal c.in-Err.error)
-      (few_assigned (constants_of c.args.assignments.now [] c.args.overrides.now c.args.references.now) (standing_of c.args.self.now) (assignment_view c.in-Some.assignment.now) (refusal c.in-Err.error)
+      (few_assigned (constants_of c.args.assignments.now [] c.args.overrides.now c.args.references.now) (stage_state_of c.args.self.now) (assignment_view c.in-Some.assignment.now) (refusal c.in-Err.error)
       (staged_here c.args.self.now c.requires.start (text_numbered c.args.overrides.now c.in-Some.assignment.now.number) (view c.in-Some.assignment.now.value) c.in-Err.ensures.assigned));
 }
 
 pub returns-in-Ok-clause-staged : goal.returns-in-Ok-clause-staged
 returns-in-Ok-clause-staged c = λ order.
     let m = constants_of c.args.assignments.now order c.args.overrides.now c.args.references.now in
-    let s = standing_of c.args.self.now in
+    let s = stage_state_of c.args.self.now in
     let b : list_any (nat_eq c.in-Some.assignment.now.number) c.args.references.now.keys ≡ true = cc in
     let closed : list_any (nat_eq c.in-Some.assignment.now.number) c.args.self.now.non_const_assignments.keys ≡ false = cc in
-    subst (λ x. Staged m s (name_view c.args.name.now ∷ []) (Gave x)) (sym (standing_same _ _ c.in-Ok.ensures.same.0))
+    subst (λ x. Staged m s (name_view c.args.name.now ∷ []) (Gave x)) (sym (stage_state_same _ _ c.in-Ok.ensures.same.0))
     (staged_gave m s (assignment_view c.in-Some.assignment.now) (name_view c.args.name.now)
     (found_at assignment_view (λ a. a.name.lexeme) _ _ _ (Some c.in-Some.assignment.now) c.in-Some.ensures (ap (λ l. l.now) c.lexeme.ensures)) b closed
     (staged_here c.args.self.now c.requires.start (text_numbered c.args.overrides.now c.in-Some.assignment.now.number) (view c.in-Some.assignment.now.value) c.in-Ok.ensures.assigned))
 
 pub returns-in-Err-clause-staged : goal.returns-in-Err-clause-staged
 returns-in-Err-clause-staged c = λ order.
-    let s = standing_of c.args.self.now in
+    let s = stage_state_of c.args.self.now in
     let b : list_any (nat_eq c.in-Some.assignment.now.number) c.args.references.now.keys ≡ true = cc in
     let closed : list_any (nat_eq c.in-Some.assignment.now.number) c.args.self.now.non_const_assignments.keys ≡ false = cc in
     staged_refused (constants_of c.args.assignments.now order c.args.overrides.now c.args.references.now) s (assignment_view c.in-Some.assignment.now) (name_view c.args.name.now)
     (found_at assignment_view (λ a. a.name.lexeme) _ _ _ (Some c.in-Some.assignment.now) c.in-Some.ensures (ap (λ l. l.now) c.lexeme.ensures)) b closed
     (refusal c.in-Err.error) _
     (staged_here c.args.self.now c.requires.start (text_numbered c.args.overrides.now c.in-Some.assignment.now.number) (view c.in-Some.assignment.now.value) c.in-Err.ensures.assigned)
-    (rw (standing_kept c.args.self.now c.evaluate_assignment.new.self c.in-Err.ensures.same.0 c.in-Err.ensures.kept) at c.open_or_end.ensures.ended)
+    (rw (stage_state_kept c.args.self.now c.evaluate_assignment.new.self c.in-Err.ensures.same.0 c.in-Err.ensures.kept) at c.open_or_end.ensures.ended)

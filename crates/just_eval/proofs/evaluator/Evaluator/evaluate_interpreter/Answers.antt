@@ -5,10 +5,10 @@ use Rattle.just_value.specs.Outcome.{UnlessStopped}
 use Rattle.just_value.specs.View.{const_ended}
 use Rattle.just_meaning.specs.Settings.{interpreter}
 use Rattle.just_meaning.specs.Stage.{const_value}
-use Rattle.just_laws.proofs.ConstInternal.{IsOther}
-use Rattle.just_laws.proofs.Constants.{unless_such}
-use Rattle.just_laws.proofs.SettingsInternal.{interpreter_not}
-use Rattle.just_eval.specs.View.{standing_of}
+use Rattle.just_soundness.proofs.ConstInternal.{IsOther}
+use Rattle.just_soundness.proofs.Constants.{unless_such}
+use Rattle.just_soundness.proofs.SettingsInternal.{interpreter_not}
+use Rattle.just_eval.specs.View.{stage_state_of}
 use Rattle.just_eval.proofs.Constants.{elements_next}
 use Rattle.just_eval.proofs.evaluator.Evaluator.evaluate_interpreter.Goals as goal
 
@@ -19,6 +19,6 @@ loop-argument-preserved c = λ o h. c.loop-argument.invariant o
 
 pub returns-in_err-value-clause-never_internal : goal.returns-in_err-value-clause-never_internal
 returns-in_err-value-clause-never_internal c = λ resolved.
-    let told : UnlessStopped (const_ended (interpreter_view {A = Global}) c.from_residual-in_err-value.result)
-    (interpreter (const_value (standing_of c.args.self.now)) (name_view c.args.setting) (expression_interpreter_view c.args.interpreter.now)) = grind (arith, common_steps) in
-    unless_such IsOther _ _ told (interpreter_not (standing_of c.args.self.now) (name_view c.args.setting) (expression_interpreter_view c.args.interpreter.now) resolved)
+    let determined : UnlessStopped (const_ended (interpreter_view {A = Global}) c.from_residual-in_err-value.result)
+    (interpreter (const_value (stage_state_of c.args.self.now)) (name_view c.args.setting) (expression_interpreter_view c.args.interpreter.now)) = grind (arith, common_steps) in
+    unless_such IsOther _ _ determined (interpreter_not (stage_state_of c.args.self.now) (name_view c.args.setting) (expression_interpreter_view c.args.interpreter.now) resolved)

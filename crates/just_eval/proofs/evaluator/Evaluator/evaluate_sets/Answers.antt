@@ -6,10 +6,10 @@ use Rattle.just_host.specs.Settings.{unset}
 use Rattle.just_host.specs.View.{settings_view}
 use Rattle.just_meaning.specs.Settings.{settings}
 use Rattle.just_meaning.specs.Stage.{const_value}
-use Rattle.just_laws.proofs.ConstInternal.{IsOther}
-use Rattle.just_laws.proofs.Constants.{unless_such}
-use Rattle.just_laws.proofs.SettingsInternal.{settings_not}
-use Rattle.just_eval.specs.View.{standing_of}
+use Rattle.just_soundness.proofs.ConstInternal.{IsOther}
+use Rattle.just_soundness.proofs.Constants.{unless_such}
+use Rattle.just_soundness.proofs.SettingsInternal.{settings_not}
+use Rattle.just_eval.specs.View.{stage_state_of}
 use Rattle.just_eval.proofs.evaluator.Evaluator.evaluate_sets.Goals as goal
 
 pub returns-clause-headline : goal.returns-clause-headline
@@ -17,5 +17,5 @@ returns-clause-headline c = c.loop-set.invariant (Gave (settings_view c.loop-set
 
 pub returns-in_err-evaluate_set-clause-never_internal : goal.returns-in_err-evaluate_set-clause-never_internal
 returns-in_err-evaluate_set-clause-never_internal c = λ resolved.
-    let told : UnlessStopped (const_ended settings_view c.from_residual.result) (settings (const_value (standing_of c.args.self.now)) (map set_view c.args.sets)) = search rules in
-    unless_such IsOther _ _ told (settings_not (standing_of c.args.self.now) unset (map set_view c.args.sets) resolved)
+    let determined : UnlessStopped (const_ended settings_view c.from_residual.result) (settings (const_value (stage_state_of c.args.self.now)) (map set_view c.args.sets)) = search rules in
+    unless_such IsOther _ _ determined (settings_not (stage_state_of c.args.self.now) unset (map set_view c.args.sets) resolved)

@@ -4,26 +4,26 @@ use Rattle.just_eval.proofs.Here.{answered, constants, few, headline, never_cons
 use Rattle.just_eval.proofs.evaluator.Evaluator.evaluate_value.Goals as goal
 
 pub returns-clause-headline : goal.returns-clause-headline
-returns-clause-headline g c = headline c.args.self.now _ _ (value_made (view c.args.expression.now)) c.evaluated.ensures
+returns-clause-headline g c = headline c.args.self.now _ _ (value_made (view c.args.expression.now)) c.evaluate_expression.ensures
 
 pub returns-clause-never_internal : goal.returns-clause-never_internal
-returns-clause-never_internal g c = never_internal c.args.self.now _ _ (value_made (view c.args.expression.now)) c.evaluated.ensures
+returns-clause-never_internal g c = never_internal c.args.self.now _ _ (value_made (view c.args.expression.now)) c.evaluate_expression.ensures
 
 pub returns-clause-never_const : goal.returns-clause-never_const
-returns-clause-never_const g c = never_const c.args.self.now _ _ (value_made (view c.args.expression.now)) c.evaluated.ensures
+returns-clause-never_const g c = never_const c.args.self.now _ _ (value_made (view c.args.expression.now)) c.evaluate_expression.ensures
 
 pub returns-clause-answered : goal.returns-clause-answered
-returns-clause-answered g c = answered c.args.self.now _ _ (value_made (view c.args.expression.now)) c.evaluated.ensures
+returns-clause-answered g c = answered c.args.self.now _ _ (value_made (view c.args.expression.now)) c.evaluate_expression.ensures
 
 pub returns-clause-constants : goal.returns-clause-constants
-returns-clause-constants g c = λ before. constants c.args.self.now _ _ (value_made (view c.args.expression.now)) before c.evaluated.ensures
+returns-clause-constants g c = λ before. constants c.args.self.now _ _ (value_made (view c.args.expression.now)) before c.evaluate_expression.ensures
 
 pub returns-clause-few : goal.returns-clause-few
-returns-clause-few g c = λ before. few_ended _ (few c.args.self.now _ _ (value_made (view c.args.expression.now)) before c.evaluated.ensures)
+returns-clause-few g c = λ before. few_ended _ (few c.args.self.now _ _ (value_made (view c.args.expression.now)) before c.evaluate_expression.ensures)
 
 pub returns-clause-still : goal.returns-clause-still
-returns-clause-still g c = λ before. still c.args.self.now _ _ (value_made (view c.args.expression.now)) before c.evaluated.ensures
+returns-clause-still g c = λ before. still c.args.self.now _ _ (value_made (view c.args.expression.now)) before c.evaluate_expression.ensures
 
 pub returns-clause-resolved_constants : goal.returns-clause-resolved_constants
 returns-clause-resolved_constants g c = λ before resolved.
-    resolved_constants c.args.self.now _ _ (value_made (view c.args.expression.now)) before c.evaluated.ensures (resolved, tt)
+    resolved_constants c.args.self.now _ _ (value_made (view c.args.expression.now)) before c.evaluate_expression.ensures (resolved, tt)

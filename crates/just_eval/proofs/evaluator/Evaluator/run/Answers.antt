@@ -1,4 +1,4 @@
-use Rattle.std.proofs.Common.{◌∙◌, refl}
+use Rattle.std.proofs.Common.{◌∙◌}
 use Rattle.std.proofs.lemmas.List.{drop_all}
 use Rattle.std.proofs.lemmas.Result.{err_from_is_err_and}
 use Rattle.just_syntax.specs.View.{name_view}
@@ -13,11 +13,10 @@ returns-in_err-scope g c =
 pub loop-name-init : goal.loop-name-init
 loop-name-init g c =
     let made = c.of_assignments-evaluator.ensures in
-    let start = made.before_runs.start in
     record {
-      here = refl;
+      here = made.context;
       lists = made.lists;
-      start = record { base = start.base; environment = start.environment; dependency = start.dependency; recipe = start.recipe; room = c.requires.room };
+      start = made.start;
       rest = λ o new r. rw (made.frames, c.in_ok-scope.ensures) at r;
     }
 

@@ -12,7 +12,7 @@ use Rattle.just_value.specs.View.{frames_view}
 use Rattle.just_host.proofs.Paths.{runs_done, runs_else, runs_ends, runs_exit, runs_gives, runs_on, runs_shut, runs_stopped, runs_then}
 use Rattle.just_meaning.specs.Closings.{with_parameters}
 use Rattle.just_meaning.specs.Meaning.{as_it_is, is_regex, unindented_if}
-use Rattle.just_forms.specs.Call.{BuiltIn, Defined, look, reached_view, wants_text}
+use Rattle.just_expression.specs.Call.{BuiltIn, Defined, look, reached_view, requires_text}
 use Rattle.just_expression.specs.View.{meaning, program, row, situation}
 use Rattle.just_expression.proofs.Calls.{body_runs, call_ends, call_refused, call_runs, inside_is, looked_at}
 use Rattle.just_expression.proofs.Leaves.{not_both}
@@ -382,13 +382,13 @@ evaluate_call-loop-argument-preserved g t c =
     let len : c.len.result ≡ length made = c.len.ensures ∙ c.loop-argument.values.ok.0 in
     record {
       count = rw c.in_ok-push.ensures.items (grind (arith, common_steps));
-      texts = rw c.in_ok-push.ensures.items (more_texts (wants_text r) value made c.loop-argument.invariant.texts (subst (λ i. wants_text r i ≡ true → length value ≡ 1) len (c.takes.ensures.text c.if-not-takes.false)));
+      texts = rw c.in_ok-push.ensures.items (more_texts (requires_text r) value made c.loop-argument.invariant.texts (subst (λ i. requires_text r i ≡ true → length value ≡ 1) len (c.takes.ensures.text c.if-not-takes.false)));
       rest = rw c.in_ok-push.ensures.items (row_next _ self c.args.host.now (look r name) c.args.arguments.now c.loop-argument.argument-index c.argument-item.result c.loop-argument-test.true c.argument-item.is made c.loop-argument.invariant.rest value
           (looked_at _ (look r name) _ _ value _ (len ∙ c.loop-argument.invariant.count) c.in_ok-value.ensures (c.takes.ensures.given c.if-not-takes.false name)));
     }
 
-pub evaluate_call-evaluate_body-requires : goal.evaluate_call-evaluate_body-requires
-evaluate_call-evaluate_body-requires g t c κs within =
+pub evaluate_call-evaluate_defined_function-requires : goal.evaluate_call-evaluate_defined_function-requires
+evaluate_call-evaluate_defined_function-requires g t c κs within =
     let fits = rw c.in-Defined.is at c.in_ok-callee.ensures.fits in
     (omega arith, (within, omega (arith, fits.2, c.loop-argument.invariant.count)))
 
@@ -398,7 +398,7 @@ evaluate_call-returns-in-BuiltIn g t c =
     let name = name_view c.args.name.now in
     let r = BuiltIn c.in-BuiltIn.function in
     call_runs _ self c.in-Some.context c.in-Some.is name c.args.arguments.now r (rw c.in-BuiltIn.is at c.in_ok-callee.ensures.enters) c.loop-argument.values.items _
-    (row_all _ self c.args.host.now (look r name) c.args.arguments.now c.loop-argument.argument-index c.loop-argument.values.items c.loop-argument-test.false (rw c.in-BuiltIn.is at c.loop-argument.invariant.rest)) c.call_builtin_function.ensures
+    (row_all _ self c.args.host.now (look r name) c.args.arguments.now c.loop-argument.argument-index c.loop-argument.values.items c.loop-argument-test.false (rw c.in-BuiltIn.is at c.loop-argument.invariant.rest)) c.evaluate_builtin_function.ensures
 
 pub evaluate_call-returns-in-Defined : goal.evaluate_call-returns-in-Defined
 evaluate_call-returns-in-Defined g t c =
@@ -406,21 +406,21 @@ evaluate_call-returns-in-Defined g t c =
     let name = name_view c.args.name.now in
     let r = Defined (function_view c.in-Defined.function.now) c.in-Defined.calls_left in
     call_runs _ self c.in-Some.context c.in-Some.is name c.args.arguments.now r (rw c.in-Defined.is at c.in_ok-callee.ensures.enters) c.loop-argument.values.items _
-    (row_all _ self c.args.host.now (look r name) c.args.arguments.now c.loop-argument.argument-index c.loop-argument.values.items c.loop-argument-test.false (rw c.in-Defined.is at c.loop-argument.invariant.rest)) c.evaluate_body.ensures
+    (row_all _ self c.args.host.now (look r name) c.args.arguments.now c.loop-argument.argument-index c.loop-argument.values.items c.loop-argument-test.false (rw c.in-Defined.is at c.loop-argument.invariant.rest)) c.evaluate_defined_function.ensures
 
-pub evaluate_value-returns-then-room-lt-FORM : goal.evaluate_value-returns-then-room-lt-FORM
-evaluate_value-returns-then-room-lt-FORM g t c = runs_stopped _
+pub evaluate_value-returns-then-budget-lt-FORM : goal.evaluate_value-returns-then-budget-lt-FORM
+evaluate_value-returns-then-budget-lt-FORM g t c = runs_stopped _
 
-pub evaluate_body-returns-then-room-lt-BODY : goal.evaluate_body-returns-then-room-lt-BODY
-evaluate_body-returns-then-room-lt-BODY g t c = runs_stopped _
+pub evaluate_defined_function-returns-then-budget-lt-BODY : goal.evaluate_defined_function-returns-then-budget-lt-BODY
+evaluate_defined_function-returns-then-budget-lt-BODY g t c = runs_stopped _
 
-pub evaluate_body-returns-in_err-scope : goal.evaluate_body-returns-in_err-scope
-evaluate_body-returns-in_err-scope g t c =
+pub evaluate_defined_function-returns-in_err-scope : goal.evaluate_defined_function-returns-in_err-scope
+evaluate_defined_function-returns-in_err-scope g t c =
     let p = err_from_is_err_and c.from_residual.result c.from_residual.ensures.1 in
     rw (p.1, p.2) (runs_stopped _)
 
-pub evaluate_body-returns : goal.evaluate_body-returns
-evaluate_body-returns g t c =
+pub evaluate_defined_function-returns : goal.evaluate_defined_function-returns
+evaluate_defined_function-returns g t c =
     let self = c.args.self.now in
     let function = c.args.function.now in
     let bound : frames_view c.in_ok-scope.scope ≡ with_parameters [] (map parameter_view function.parameters.items) c.args.values.items ∷ frames_view self.below.now = rw (c.in_ok-scope.ensures, c.deref.ensures.value) refl in

@@ -3,7 +3,7 @@ use Rattle.just_syntax.specs.Plain.{Text}
 use Rattle.just_syntax.specs.View.{name_view}
 use Rattle.just_value.specs.Value.{Value}
 use Rattle.just_meaning.specs.Meaning.{as_it_is, flatten}
-use Rattle.just_forms.specs.Call.{look, reached_view, wants_text}
+use Rattle.just_expression.specs.Call.{look, reached_view, requires_text}
 use Rattle.just_expression.proofs.Rows.{PiecesLeft, RowLeft}
 use Rattle.just_expression.proofs.Texts.{AreTexts}
 use Rattle.just_expression.proofs.evaluator.ExpressionEvaluator.+evaluate.Given as goal
@@ -11,49 +11,49 @@ use Rattle.just_expression.proofs.evaluator.ExpressionEvaluator.+evaluate.Given 
 -- The measure of the recursion. Each level uses up some of its stack budget. Within a level the form comes after the
 -- entry, and a body after both.
 abbrev pub decreases-evaluate_value : goal.decreases-evaluate_value
-decreases-evaluate_value g l = 3 * l.room
+decreases-evaluate_value g l = 3 * l.budget
 
-abbrev pub decreases-evaluate_body : goal.decreases-evaluate_body
-decreases-evaluate_body g l = suc (3 * l.room)
+abbrev pub decreases-evaluate_defined_function : goal.decreases-evaluate_defined_function
+decreases-evaluate_defined_function g l = suc (3 * l.budget)
 
 abbrev pub decreases-evaluate_and : goal.decreases-evaluate_and
-decreases-evaluate_and g l = suc (suc (3 * l.room))
+decreases-evaluate_and g l = suc (suc (3 * l.budget))
 
 abbrev pub decreases-evaluate_assert : goal.decreases-evaluate_assert
-decreases-evaluate_assert g l = suc (suc (3 * l.room))
+decreases-evaluate_assert g l = suc (suc (3 * l.budget))
 
 abbrev pub decreases-evaluate_call : goal.decreases-evaluate_call
-decreases-evaluate_call g l = suc (suc (3 * l.room))
+decreases-evaluate_call g l = suc (suc (3 * l.budget))
 
 abbrev pub decreases-evaluate_comparison : goal.decreases-evaluate_comparison
-decreases-evaluate_comparison g l = suc (suc (3 * l.room))
+decreases-evaluate_comparison g l = suc (suc (3 * l.budget))
 
 abbrev pub decreases-evaluate_combination : goal.decreases-evaluate_combination
-decreases-evaluate_combination g l = suc (suc (3 * l.room))
+decreases-evaluate_combination g l = suc (suc (3 * l.budget))
 
 abbrev pub decreases-evaluate_conditional : goal.decreases-evaluate_conditional
-decreases-evaluate_conditional g l = suc (suc (3 * l.room))
+decreases-evaluate_conditional g l = suc (suc (3 * l.budget))
 
 abbrev pub decreases-evaluate_format_string : goal.decreases-evaluate_format_string
-decreases-evaluate_format_string g l = suc (suc (3 * l.room))
+decreases-evaluate_format_string g l = suc (suc (3 * l.budget))
 
 abbrev pub decreases-evaluate_group : goal.decreases-evaluate_group
-decreases-evaluate_group g l = suc (suc (3 * l.room))
+decreases-evaluate_group g l = suc (suc (3 * l.budget))
 
 abbrev pub decreases-evaluate_root : goal.decreases-evaluate_root
-decreases-evaluate_root g l = suc (suc (3 * l.room))
+decreases-evaluate_root g l = suc (suc (3 * l.budget))
 
 abbrev pub decreases-evaluate_list : goal.decreases-evaluate_list
-decreases-evaluate_list g l = suc (suc (3 * l.room))
+decreases-evaluate_list g l = suc (suc (3 * l.budget))
 
 abbrev pub decreases-evaluate_list_concatenation : goal.decreases-evaluate_list_concatenation
-decreases-evaluate_list_concatenation g l = suc (suc (3 * l.room))
+decreases-evaluate_list_concatenation g l = suc (suc (3 * l.budget))
 
 abbrev pub decreases-evaluate_not : goal.decreases-evaluate_not
-decreases-evaluate_not g l = suc (suc (3 * l.room))
+decreases-evaluate_not g l = suc (suc (3 * l.budget))
 
 abbrev pub decreases-evaluate_or : goal.decreases-evaluate_or
-decreases-evaluate_or g l = suc (suc (3 * l.room))
+decreases-evaluate_or g l = suc (suc (3 * l.budget))
 
 -- the elements of the values so far
 abbrev pub invariant-evaluate_list-loop-element : goal.invariant-evaluate_list-loop-element
@@ -63,7 +63,7 @@ invariant-evaluate_list-loop-element g l = (made : List Value) × (l.all ≡ fla
 abbrev pub invariant-evaluate_call-loop-argument : goal.invariant-evaluate_call-loop-argument
 invariant-evaluate_call-loop-argument g l = record {
   count : length l.values.items ≡ l.argument-index;
-  texts : AreTexts (wants_text (reached_view l.callee)) l.values.items;
+  texts : AreTexts (requires_text (reached_view l.callee)) l.values.items;
   rest : RowLeft g.H.Host.step l.self l.fn.host (look (reached_view l.callee) (name_view l.name)) l.arguments l.argument-index l.host l.values.items;
 }
 

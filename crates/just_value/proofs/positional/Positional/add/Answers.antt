@@ -21,4 +21,4 @@ returns-in-None c =
     let empty : map string_bytes c.args.self.now.arguments.items ≡ [] = no_element string_bytes c.args.self.now.arguments.items (omega (arith, eqb-true _ 0 (sym c.is_empty.ensures ∙ c.if-not-is_empty.false), c.args.self.now.arguments.ok.0)) in
     let cut = first_missed 61 c.args.word.now (omega arith) c.in-None.ensures.cases in
     let e = first_next (positional_view c.args.self.now) c.args.word.now None none empty cut in
-    rw e c.add_behind_overrides.ensures
+    rw e c.add_after_overrides.ensures

@@ -1,5 +1,0 @@
-use Rattle.just_agreement.proofs.Constants.{const_agrees}
-use Rattle.just_agreement.proofs.laws.const_agrees.Goals as goal
-
-pub returns : goal.returns
-returns c = const_agrees

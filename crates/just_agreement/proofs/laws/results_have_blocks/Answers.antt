@@ -1,5 +1,0 @@
-use Rattle.just_agreement.proofs.Results.{results_have_blocks}
-use Rattle.just_agreement.proofs.laws.results_have_blocks.Goals as goal
-
-pub returns : goal.returns
-returns c = results_have_blocks

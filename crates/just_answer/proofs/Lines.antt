@@ -1,8 +1,0 @@
--- Two texts on a line.
-use Rattle.std.proofs.Common.{◌≡◌, ◌++◌, codes, sym, ◌∙◌, append_assoc}
-use Rattle.just_syntax.specs.Plain.{Text}
-use Rattle.just_answer.specs.Answer.{line, words}
-
--- two texts with a space between them, grouped to the right and to the left
-pub between : (one other : Text) → one ++ (codes " " ++ (other ++ codes "\n")) ≡ line (words one other)
-between one other = sym (append_assoc (one ++ codes " ") other (codes "\n") ∙ append_assoc one (codes " ") (other ++ codes "\n"))

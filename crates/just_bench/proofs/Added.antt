@@ -1,0 +1,8 @@
+-- Two texts on a line.
+use Rattle.std.proofs.Common.{◌≡◌, ◌++◌, codes, sym, ◌∙◌, append_assoc}
+use Rattle.just_syntax.specs.Plain.{Text}
+use Rattle.just_bench.specs.Printed.{with_newline, words}
+
+-- two texts with a space between them, grouped to the right and to the left
+pub between : (one other : Text) → one ++ (codes " " ++ (other ++ codes "\n")) ≡ with_newline (words one other)
+between one other = sym (append_assoc (one ++ codes " ") other (codes "\n") ∙ append_assoc one (codes " ") (other ++ codes "\n"))

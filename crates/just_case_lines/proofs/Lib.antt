@@ -1,6 +1,0 @@
-mod Split
-pub mod Stacks
-pub mod Lines
-pub mod Texts
-pub mod Names
-pub mod Numbers

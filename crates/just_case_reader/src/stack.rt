@@ -1,0 +1,337 @@
+// The expressions that are not yet assigned.
+
+ghost use Rattle.std.specs.Prelude.{◌≡◌, ◌∷◌, ◌++◌, ◌==◌, [], Some, None, IfErr, IfOk, OnOk, codes, length, map, option_map};
+ghost use Rattle.just_syntax.specs.Plain as plain;
+ghost use Rattle.just_syntax.specs.View.{assert_view, view, views};
+ghost use Rattle.just_case_reader.specs.Token.{token_of};
+ghost use Rattle.just_case_reader.specs.Done.{Done, IfBad};
+ghost use Rattle.just_case_reader.specs.Line as lines;
+ghost use Rattle.just_case_reader.specs.Numbering.{KnownNames, number_of};
+ghost use Rattle.just_case_reader.specs.Stack.{of_operand, several, stack_after, together};
+ghost use Rattle.just_case_reader.specs.View.{stack_view};
+
+use crate::line_error::LineError;
+use crate::operator::{BinaryOperator, UnaryOperator};
+use crate::token::{name, token};
+use just_syntax::conditional_operator::ConditionalOperator;
+use just_syntax::expression::Expression;
+use just_syntax::number::Number;
+use just_syntax::out_of_memory::OutOfMemory;
+use just_syntax::stack::MOST_LEVELS;
+use std::alloc::Global;
+
+/// The expressions that are not yet assigned. A line takes its operands from the top; the uppermost is the rightmost.
+/// Its contents are unspecified after an error.
+#[derive(Debug, Drop)]
+pub struct Stack<'src> {
+    expressions: Vec<Nested<Expression<'src>>>,
+}
+
+// A part, and its depth of nesting. It is generic, so that a failing push needs no code that drops an expression.
+#[derive(Debug, Drop)]
+struct Nested<T> {
+    part: T,
+    levels: usize,
+}
+
+impl<'src> Stack<'src> {
+    /// An empty stack. It allocates nothing.
+    pub fn new(alloc: Global) -> Stack<'src>
+        ensures { stack_view result ≡ [] }
+    {
+        Stack {
+            expressions: Vec::new(alloc),
+        }
+    }
+
+    /// Whether each expression is assigned.
+    pub fn is_empty(&self) -> bool
+        ensures { result ≡ (length (stack_view self.now) == 0) }
+    {
+        self.expressions.is_empty()
+    }
+
+    /// Takes the expression on top.
+    ///
+    /// # Errors
+    ///
+    /// `Bad`, if there is none.
+    pub fn pop(&mut self) -> Result<Expression<'src>, LineError>
+        ensures ok { IfOk result (λ e. stack_view self.old ≡ view e ∷ stack_view self.new) }
+        ensures bad { IfErr result (λ e. IfBad e (stack_view self.old ≡ [])) }
+    {
+        match self.expressions.pop() {
+            Some(nested) => Ok(nested.part),
+            None => Err(LineError::Bad),
+        }
+    }
+
+    /// Pushes a literal.
+    ///
+    /// # Errors
+    ///
+    /// `OutOfMemory`, if an allocation fails.
+    pub fn literal(&mut self, alloc: Global, text: &str, lexeme: &'src str) -> Result<(), LineError>
+        ensures { (names : KnownNames) → Done result (stack_after (lines.Literal text.now lexeme.now) names (stack_view self.old)) (stack_view self.new) }
+    {
+        self.push(Expression::literal(alloc, text, lexeme)?, 0)
+    }
+
+    /// Pushes a command.
+    ///
+    /// # Errors
+    ///
+    /// `OutOfMemory`, if an allocation fails.
+    pub fn command(&mut self, alloc: Global, text: &str, lexeme: &'src str) -> Result<(), LineError>
+        ensures { (names : KnownNames) → Done result (stack_after (lines.Command text.now lexeme.now) names (stack_view self.old)) (stack_view self.new) }
+    {
+        self.push(Expression::backtick(alloc, text, token(lexeme))?, 0)
+    }
+
+    /// Pushes a variable.
+    ///
+    /// # Errors
+    ///
+    /// `OutOfMemory`, if an allocation fails.
+    pub fn variable(&mut self, lexeme: &'src str, number: Number) -> Result<(), LineError>
+        ensures { (names : KnownNames) → number ≡ number_of names lexeme.now → Done result (stack_after (lines.Variable lexeme.now) names (stack_view self.old)) (stack_view self.new) }
+    {
+        self.push(Expression::variable(name(lexeme), number), 0)
+    }
+
+    /// Replaces the expression on top by the operator applied to it.
+    ///
+    /// # Errors
+    ///
+    /// `Bad`, if there is none; `OutOfMemory`, if an allocation fails or the expression would nest too deeply for the
+    /// stack. In either case the expressions taken from the top may be lost.
+    pub fn unary(&mut self, alloc: Global, operator: UnaryOperator) -> Result<(), LineError>
+        ensures { (names : KnownNames) → Done result (stack_after (lines.Unary operator) names (stack_view self.old)) (stack_view self.new) }
+    {
+        let (operand, levels) = self.pop_boxed(alloc)?;
+        self.push(of_operand(operator, operand), deeper(levels))
+    }
+
+    /// Combines the two expressions on top; the uppermost is the right operand.
+    ///
+    /// # Errors
+    ///
+    /// As for `unary`, but `Bad` if there are fewer than two.
+    pub fn binary(&mut self, alloc: Global, operator: BinaryOperator) -> Result<(), LineError>
+        ensures { (names : KnownNames) → Done result (stack_after (lines.Binary operator) names (stack_view self.old)) (stack_view self.new) }
+    {
+        let (rhs, right) = self.pop_boxed(alloc)?;
+        let (lhs, left) = self.pop_boxed(alloc)?;
+        self.push(together(operator, lhs, rhs), deeper(left.max(right)))
+    }
+
+    /// Combines a condition, a consequence and, on top, an `otherwise`.
+    ///
+    /// # Errors
+    ///
+    /// As for `unary`, but `Bad` if there are fewer than three.
+    pub fn conditional(&mut self, alloc: Global) -> Result<(), LineError>
+        ensures { (names : KnownNames) → Done result (stack_after lines.If names (stack_view self.old)) (stack_view self.new) }
+    {
+        let (otherwise, third) = self.pop_boxed(alloc)?;
+        let (consequence, second) = self.pop_boxed(alloc)?;
+        let (condition, first) = self.pop_boxed(alloc)?;
+        let conditional = Expression::Conditional {
+            condition,
+            consequence,
+            otherwise: Some(otherwise),
+        };
+        self.push(conditional, deeper(first.max(second).max(third)))
+    }
+
+    /// Builds a list of `count` expressions from the top, in the order in which they were pushed.
+    ///
+    /// # Errors
+    ///
+    /// As for `unary`, but `Bad` if there are fewer than `count`.
+    pub fn list(&mut self, alloc: Global, count: usize) -> Result<(), LineError>
+        ensures { (names : KnownNames) → Done result (stack_after (lines.ListOf count) names (stack_view self.old)) (stack_view self.new) }
+    {
+        let (elements, levels) = self.pop_several(alloc, count)?;
+        self.push(Expression::list(elements, token("[")), deeper(levels))
+    }
+
+    /// Builds a call whose arguments are `count` expressions from the top, in the order in which they were pushed.
+    ///
+    /// # Errors
+    ///
+    /// As for `unary`, but `Bad` if there are fewer than `count`.
+    pub fn call(&mut self, alloc: Global, lexeme: &'src str, count: usize) -> Result<(), LineError>
+        ensures { (names : KnownNames) → Done result (stack_after (lines.Call lexeme.now count) names (stack_view self.old)) (stack_view self.new) }
+    {
+        let (arguments, levels) = self.pop_several(alloc, count)?;
+        self.push(Expression::call(name(lexeme), arguments), deeper(levels))
+    }
+
+    // Takes `count` expressions from the top, in the order in which they were pushed, and returns the depth of the
+    // deepest too.
+    fn pop_several(
+        &mut self,
+        alloc: Global,
+        count: usize,
+    ) -> Result<(Vec<Expression<'src>>, usize), LineError>
+        ensures ok { IfOk result (λ taken. several count plain.Nil (stack_view self.old) ≡ Some (views taken.0.items, stack_view self.new)) }
+        ensures bad { IfErr result (λ e. IfBad e (several count plain.Nil (stack_view self.old) ≡ None)) }
+    {
+        if self.expressions.len() < count {
+            return Err(LineError::Bad);
+        }
+        let taken = self.expressions.split_off(self.expressions.len() - count)?;
+        Ok(split_parts(alloc, taken)?)
+    }
+
+    // Pushes an expression of this depth, if it is not too great.
+    fn push(&mut self, expression: Expression<'src>, levels: usize) -> Result<(), LineError>
+        ensures { Done result (Some (view expression.entry ∷ stack_view self.old)) (stack_view self.new) }
+    {
+        nest(&mut self.expressions, expression, levels)?;
+        Ok(())
+    }
+
+    // Takes the expression on top, to become a part of another, and returns its depth too.
+    fn pop_boxed(&mut self, alloc: Global) -> Result<(Box<Expression<'src>>, usize), LineError>
+        ensures ok { IfOk result (λ taken. stack_view self.old ≡ view taken.0.value ∷ stack_view self.new) }
+        ensures bad { IfErr result (λ e. IfBad e (stack_view self.old ≡ [])) }
+    {
+        pop_boxed(alloc, &mut self.expressions)
+    }
+}
+
+// Pushes a part of this depth, if it is not too great.
+fn nest<T: Drop>(parts: &mut Vec<Nested<T>>, part: T, levels: usize) -> Result<(), OutOfMemory>
+    ensures { OnOk result (parts.new.items ≡ parts.old.items ++ record { part = part; levels = levels } ∷ []) }
+{
+    if levels > MOST_LEVELS {
+        return Err(OutOfMemory);
+    }
+    parts.push(Nested { part, levels })?;
+    Ok(())
+}
+
+// Takes the part on top, in a box, and returns its depth too.
+fn pop_boxed<T: Drop>(
+    alloc: Global,
+    parts: &mut Vec<Nested<T>>,
+) -> Result<(Box<T>, usize), LineError>
+    ensures ok { IfOk result (λ taken. parts.old.items ≡ parts.new.items ++ record { part = taken.0.value; levels = taken.1 } ∷ []) }
+    ensures bad { IfErr result (λ e. IfBad e (parts.old.items ≡ [])) }
+{
+    match parts.pop() {
+        Some(Nested { part, levels }) => Ok((Box::new(alloc, part)?, levels)),
+        None => Err(LineError::Bad),
+    }
+}
+
+// The parts, and the depth of the deepest.
+fn split_parts<T: Drop>(
+    alloc: Global,
+    taken: Vec<Nested<T>>,
+) -> Result<(Vec<T>, usize), OutOfMemory>
+    ensures { IfOk result (λ parts. parts.0.items ≡ map (λ nested. nested.part) taken.items) }
+{
+    let mut parts = Vec::with_capacity(alloc, taken.len())?;
+    let mut levels = 0;
+    for nested in taken {
+        levels = levels.max(nested.levels);
+        parts.push(nested.part)?;
+    }
+    Ok((parts, levels))
+}
+
+// The depth of a form whose deepest part has this depth.
+fn deeper(levels: usize) -> usize {
+    levels.saturating_add(1)
+}
+
+// An operator applied to one expression.
+fn of_operand<'src>(operator: UnaryOperator, operand: Box<Expression<'src>>) -> Expression<'src>
+    ensures { view result ≡ of_operand operator (view operand.entry.value) }
+{
+    match operator {
+        UnaryOperator::Root => Expression::Join {
+            lhs: None,
+            operator: token("/"),
+            rhs: operand,
+        },
+        UnaryOperator::Not => Expression::Not { operand },
+        UnaryOperator::Group => Expression::Group { contents: operand },
+        UnaryOperator::Assert => assertion(operand, None),
+    }
+}
+
+// Two expressions combined by an operator.
+fn together<'src>(
+    operator: BinaryOperator,
+    lhs: Box<Expression<'src>>,
+    rhs: Box<Expression<'src>>,
+) -> Expression<'src>
+    ensures { view result ≡ together operator (view lhs.entry.value) (view rhs.entry.value) }
+{
+    match operator {
+        BinaryOperator::Add => Expression::Concatenation {
+            lhs,
+            operator: token("+"),
+            rhs,
+        },
+        BinaryOperator::Join => Expression::Join {
+            lhs: Some(lhs),
+            operator: token("/"),
+            rhs,
+        },
+        BinaryOperator::Cat => Expression::ListConcatenation {
+            lhs,
+            operator: token("++"),
+            rhs,
+        },
+        BinaryOperator::And => Expression::And { lhs, rhs },
+        BinaryOperator::Or => Expression::Or { lhs, rhs },
+        BinaryOperator::Equal => comparison(lhs, ConditionalOperator::Equality, "==", rhs),
+        BinaryOperator::NotEqual => comparison(lhs, ConditionalOperator::Inequality, "!=", rhs),
+        BinaryOperator::Match => comparison(lhs, ConditionalOperator::RegexMatch, "=~", rhs),
+        BinaryOperator::Mismatch => {
+            comparison(lhs, ConditionalOperator::RegexMismatch, "!~", rhs)
+        }
+        BinaryOperator::AssertMessage => assertion(lhs, Some(rhs)),
+        BinaryOperator::When => Expression::Conditional {
+            condition: lhs,
+            consequence: rhs,
+            otherwise: None,
+        },
+    }
+}
+
+// A comparison whose operator has this lexeme.
+fn comparison<'src>(
+    lhs: Box<Expression<'src>>,
+    operator: ConditionalOperator,
+    lexeme: &'src str,
+    rhs: Box<Expression<'src>>,
+) -> Expression<'src>
+    ensures { view result ≡ plain.Comparison (view lhs.entry.value) operator (view rhs.entry.value) (token_of lexeme.now) }
+{
+    Expression::Comparison {
+        lhs,
+        operator,
+        rhs,
+        token: token(lexeme),
+    }
+}
+
+// An assertion.
+fn assertion<'src>(
+    condition: Box<Expression<'src>>,
+    message: Option<Box<Expression<'src>>>,
+) -> Expression<'src>
+    ensures { view result ≡ assert_view (view condition.entry.value) (option_map (λ b. view b.value) message.entry) (token_of (codes "assert")) }
+{
+    Expression::Assert {
+        condition,
+        message,
+        name: name("assert"),
+    }
+}

@@ -1,0 +1,7 @@
+use Rattle.std.proofs.Common.{◌≡◌}
+use Rattle.just_meaning.specs.Parameters.{repeated}
+use Rattle.just_eval.proofs.argument.repeated.Given as goal
+
+-- the value so far
+abbrev pub invariant-loop : goal.invariant-loop
+invariant-loop l = l.all ≡ repeated l.counter l.value

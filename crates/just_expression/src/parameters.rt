@@ -1,0 +1,68 @@
+// What a called function's parameters are bound to.
+
+ghost use Rattle.std.specs.Prelude.{IfOk, OnOk, [], length, map, ◌∷◌, ◌≡◌};
+ghost use Rattle.just_syntax.specs.View.{name_view, parameter_view};
+ghost use Rattle.just_value.specs.Frames.{plainly_bound};
+ghost use Rattle.just_value.specs.View.{bound_view, frames_view};
+ghost use Rattle.just_meaning.specs.Closings.{with_parameters};
+ghost use Rattle.just_expression.specs.Parameter.{parameters_innermost};
+
+use just_syntax::attribute_set::AttributeSet;
+use just_syntax::name::Name;
+use just_syntax::number::Number;
+use just_syntax::out_of_memory::OutOfMemory;
+use just_value::binding::Binding;
+use just_value::scope::Scope;
+use just_value::value::Value;
+use std::alloc::Global;
+
+// A child of a scope, in which parameters are bound to as many values, in order.
+pub(crate) fn called_scope<'src, 'inner>(
+    alloc: Global,
+    parameters: &[(Name<'src>, Number)],
+    values: Vec<Value>,
+    outer: &'inner Scope<'src, 'inner>,
+) -> Result<Scope<'src, 'inner>, OutOfMemory>
+    requires count { length parameters.now ≡ length values.items }
+    ensures { IfOk result (λ scope. frames_view scope ≡ with_parameters [] (map parameter_view parameters.now) values.items ∷ frames_view outer.now) }
+{
+    let mut scope = outer.child(alloc)?;
+    bind_parameters(alloc, &mut scope, parameters, values)?;
+    Ok(scope)
+}
+
+// Binds parameters to as many values, in order.
+fn bind_parameters<'src>(
+    alloc: Global,
+    scope: &mut Scope<'src, '_>,
+    parameters: &[(Name<'src>, Number)],
+    values: Vec<Value>,
+) -> Result<(), OutOfMemory>
+    requires count { length parameters.now ≡ length values.items }
+    ensures { OnOk result (frames_view scope.new ≡ parameters_innermost (frames_view scope.old) (map parameter_view parameters.now) values.items) }
+{
+    let mut index = 0;
+    for value in values {
+        let (name, number) = parameters[index];
+        scope.bind(plain_binding(alloc, name, number, value))?;
+        index += 1;
+    }
+    Ok(())
+}
+
+// A binding with no attributes and no marks.
+fn plain_binding(alloc: Global, name: Name, number: Number, value: Value) -> Binding
+    ensures { bound_view result ≡ plainly_bound (name_view name.entry) number value }
+{
+    Binding {
+        attributes: AttributeSet::new(alloc),
+        eager: false,
+        export: false,
+        file_depth: 0,
+        name,
+        number,
+        prelude: false,
+        private: false,
+        value,
+    }
+}

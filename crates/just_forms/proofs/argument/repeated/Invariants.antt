@@ -1,7 +1,0 @@
-use Rattle.std.proofs.Common.{◌≡◌}
-use Rattle.just_meaning.specs.Parameters.{repeated}
-use Rattle.just_forms.proofs.argument.repeated.Given as goal
-
--- the value so far
-abbrev pub invariant-loop : goal.invariant-loop
-invariant-loop l = l.all ≡ repeated l.counter l.value

@@ -1,5 +1,0 @@
-use Rattle.just_laws.proofs.Alike.{frames_do_not_matter}
-use Rattle.just_laws.proofs.laws.frames_do_not_matter.Goals as goal
-
-pub returns : goal.returns
-returns c = frames_do_not_matter

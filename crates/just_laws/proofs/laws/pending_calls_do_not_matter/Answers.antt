@@ -1,5 +1,0 @@
-use Rattle.just_laws.proofs.Lexical.{pending_calls_do_not_matter}
-use Rattle.just_laws.proofs.laws.pending_calls_do_not_matter.Goals as goal
-
-pub returns : goal.returns
-returns c = pending_calls_do_not_matter

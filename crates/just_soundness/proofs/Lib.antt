@@ -1,0 +1,16 @@
+pub mod Ends
+pub mod Forms
+pub mod Refused
+pub mod Bound
+pub mod Overlays
+pub mod Reached
+pub mod Alike
+pub mod Lexical
+pub mod Internal
+pub mod Constants
+pub mod ConstInternal
+pub mod Final
+pub mod Here
+pub mod Recipe
+pub mod OneElement
+pub mod SettingsInternal

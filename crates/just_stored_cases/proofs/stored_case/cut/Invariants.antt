@@ -1,0 +1,6 @@
+use Rattle.just_stored_cases.specs.Stored.{UnseparatedTo}
+use Rattle.just_stored_cases.proofs.stored_case.cut.Given as goal
+
+-- no separator begins before the loop's offset
+abbrev pub invariant-loop-at : goal.invariant-loop-at
+invariant-loop-at l = UnseparatedTo l.file l.at

@@ -1,0 +1,96 @@
+// Cases that are cut after a byte.
+
+use crate::difference::Difference;
+use crate::stored_case::StoredCase;
+use crate::tally::Tally;
+use just_bench::program::run;
+use just_syntax::out_of_memory::OutOfMemory;
+use std::alloc::Global;
+
+// Longer cases are skipped.
+const LONGEST: usize = 600;
+
+/// Cuts a case after each byte. Returns the first cut whose answer is neither a bad line at the cut nor that of a whole
+/// case.
+pub(crate) fn check_cuts(
+    alloc: Global,
+    tally: &mut Tally,
+    stored: &StoredCase,
+) -> Result<Option<Difference>, OutOfMemory> {
+    let case = stored.case;
+    if case.len() > LONGEST {
+        return Ok(None);
+    }
+    for length in 0..case.len() {
+        let is_expected = is_cut_expected(alloc, stored, &case[..length])?;
+        tally.count(!is_expected);
+        if !is_expected {
+            return Ok(Some(Difference::Cut { length }));
+        }
+    }
+    Ok(None)
+}
+
+// Whether the rest of a cut case has an answer that the stored answer allows.
+fn is_cut_expected(alloc: Global, stored: &StoredCase, left: &[u8]) -> Result<bool, OutOfMemory> {
+    let mut case = left;
+    let mut answer = Vec::new(alloc);
+    let status = run(alloc, &mut case, &mut answer);
+    if status != 1 {
+        return is_whole(alloc, stored, left, status, &answer);
+    }
+    if stored.status == 1 && answer.as_slice() == stored.answer {
+        return Ok(true);
+    }
+    is_bad_at_end(alloc, left, &answer)
+}
+
+// Whether an answer reports as bad the line in which a text ends, or the line after it.
+fn is_bad_at_end(alloc: Global, left: &[u8], answer: &[u8]) -> Result<bool, OutOfMemory> {
+    let mut last = 1usize;
+    for byte in left {
+        if *byte == b'\n' {
+            last = last.saturating_add(1);
+        }
+    }
+    let expected = format!(in alloc; "bad line {last}\n")?;
+    if answer == expected.as_bytes() {
+        return Ok(true);
+    }
+    let next = last.saturating_add(1);
+    let expected = format!(in alloc; "bad line {next}\n")?;
+    Ok(!left.is_empty() && !left.ends_with(b"\n") && answer == expected.as_bytes())
+}
+
+// Whether an answer is that of a whole case. The case must have the same answer with a newline after it, since its last
+// line may lack one. If the uncut case is not bad and evaluates in one order, the answer must also be that case's.
+fn is_whole(
+    alloc: Global,
+    stored: &StoredCase,
+    left: &[u8],
+    status: u8,
+    answer: &[u8],
+) -> Result<bool, OutOfMemory> {
+    let mut whole = Vec::new(alloc);
+    whole.extend_from_slice(left)?;
+    whole.push(b'\n')?;
+    let mut again = Vec::new(alloc);
+    let status_again = run(alloc, &mut whole.as_slice(), &mut again);
+    if status_again != status || again.as_slice() != answer {
+        return Ok(false);
+    }
+    if stored.status == 1 || is_in_two_orders(left) {
+        return Ok(true);
+    }
+    Ok(status == stored.status && answer == stored.answer)
+}
+
+// Whether a line of a text begins with `blocks `. A cut of that line may drop names.
+fn is_in_two_orders(text: &[u8]) -> bool {
+    for line in text.split(|byte| *byte == b'\n') {
+        if line.starts_with(b"blocks ") {
+            return true;
+        }
+    }
+    false
+}

@@ -1,0 +1,29 @@
+// The program's answer to a case with another ending.
+
+use just_bench::program::run;
+use just_syntax::out_of_memory::OutOfMemory;
+use std::alloc::Global;
+
+/// Returns the program's answer to a case that ends with these lines. An answer that is not UTF-8 counts as empty.
+pub(crate) fn evaluated(alloc: Global, described: &str, end: &str) -> Result<String, OutOfMemory> {
+    let case = format!(in alloc; "{described}\n{end}")?;
+    let mut answer = Vec::new(alloc);
+    run(alloc, &mut case.as_bytes(), &mut answer);
+    Ok(String::from_utf8(answer).unwrap_or(String::new(alloc)))
+}
+
+/// Whether a text contains this line.
+pub(crate) fn contains_line(text: &str, sought: &str) -> bool {
+    for line in text.lines() {
+        if line == sought {
+            return true;
+        }
+    }
+    false
+}
+
+/// The first of two runs in an answer to `blocks`.
+pub(crate) fn first_run(blocks: &str) -> &str {
+    let runs = blocks.strip_prefix("unresolved\n").unwrap_or(blocks);
+    runs.split("\norder").next().unwrap_or(runs)
+}

@@ -1,0 +1,42 @@
+// A count of what was tried and of what differs.
+
+use std::io;
+
+/// How many uses of one kind were tried, and how many of them differ.
+#[derive(Clone, Copy, Debug, PartialEq, Eq)]
+pub(crate) struct Tally {
+    tried: usize,
+    differing: usize,
+}
+
+impl Tally {
+    /// A tally of nothing.
+    pub(crate) fn new() -> Tally {
+        Tally {
+            tried: 0,
+            differing: 0,
+        }
+    }
+
+    /// Counts one use that was tried.
+    pub(crate) fn count(&mut self, differs: bool) {
+        self.tried = self.tried.saturating_add(1);
+        if differs {
+            self.differing = self.differing.saturating_add(1);
+        }
+    }
+
+    /// Whether one differs.
+    pub(crate) fn has_differing(&self) -> bool {
+        self.differing > 0
+    }
+
+    /// Prints one line: how many were tried, what they are, and how many differ.
+    pub(crate) fn print<R: Print>(&self, rt: &R, what: &str) -> io::Result<()> {
+        let tried = self.tried;
+        match self.differing {
+            0 => println!(rt; "{tried} {what}, none differs"),
+            differing => println!(rt; "{tried} {what}, {differing} differ"),
+        }
+    }
+}

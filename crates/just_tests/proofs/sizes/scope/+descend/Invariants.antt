@@ -1,4 +1,0 @@
-use Rattle.just_tests.proofs.sizes.scope.+descend.Given as goal
-
-abbrev pub decreases-descend : goal.decreases-descend
-decreases-descend g l = l.levels
