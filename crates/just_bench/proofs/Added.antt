@@ -1,7 +1,6 @@
 -- Two texts on a line.
 use Rattle.std.proofs.Common.{◌≡◌, ◌++◌, codes, sym, ◌∙◌, append_assoc}
-use Rattle.just_syntax.specs.Plain.{Text}
-use Rattle.just_bench.specs.Printed.{with_newline, words}
+use Rattle.just_bench.specs.Prelude.{Text, with_newline, words}
 
 -- two texts with a space between them, grouped to the right and to the left
 pub between : (one other : Text) → one ++ (codes " " ++ (other ++ codes "\n")) ≡ with_newline (words one other)

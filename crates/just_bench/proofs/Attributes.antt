@@ -1,16 +1,12 @@
 -- The bindings of a run have no attributes.
-use Rattle.std.proofs.Common.{◌≡◌, List, [], ◌∷◌, Some, refl, sym, ap}
+use Rattle.std.proofs.Common.{◌≡◌, List, [], ◌∷◌, Some, refl, sym, ap, All, option_map}
 use Rattle.std.proofs.lemmas.List.Elements.{All-head, All-nil}
 use Rattle.std.proofs.lemmas.Map.Views.{All-values-insert_entry}
-use Rattle.std.specs.List.{All}
 use Rattle.std.specs.Map.{values_of}
-use Rattle.std.specs.Option.{option_map}
 use Rattle.std.specs.Ordering.{nat_cmp}
-use Rattle.just_syntax.specs.Plain.{Token}
-use Rattle.just_value.specs.Frames.{Bound, Frames, bound_innermost, own_frame}
-use Rattle.just_value.specs.Outcome.{Outcome, Gave, Refused, Stopped}
-use Rattle.just_meaning.specs.Module.{Block, Closing, Module, Run, Finished, Stops, Unknown, Passes, Skips, Binds, Breaks, Halts, bound_in}
-use Rattle.just_bench.specs.FirstBinding.{first_bound, without_attributes}
+use Rattle.just_bench.specs.Prelude.{Binds, Block, Bound, Closing, Frames, Gave, Halts, Module, Outcome, Refused, Stopped, Token, bound_in, bound_innermost}
+use Rattle.just_bench.specs.Prelude.{first_bound, own_frame, without_attributes}
+use Rattle.just_meaning.specs.Module.{Run, Finished, Stops, Unknown, Passes, Skips, Breaks}
 
 abbrev HasNone : Bound → Type 0
 HasNone b = b.attributes ≡ []
@@ -27,7 +23,8 @@ one_more : (frames : Frames) (b : Bound) → HasNone b → HaveNone frames → H
 one_more [] b e h = h
 one_more (frame ∷ outer) b e h = All-values-insert_entry nat_cmp b.number b HasNone frame h e
 
-given_none : {closing : Closing} {m : Module} {frames : Frames} {left : List Token} {bs : List Block} {o : Outcome Frames} → HaveNone frames → Run closing m frames left bs o → GivenNone o
+given_none : {closing : Closing} {m : Module} {frames : Frames} {left : List Token} {bs : List Block} {o : Outcome Frames} → HaveNone frames
+    → Run closing m frames left bs o → GivenNone o
 given_none h Finished = h
 given_none h Stops = tt
 given_none h (Unknown f) = tt
@@ -42,5 +39,7 @@ first_none [] h = refl
 first_none (b ∷ bs) h = ap (λ attributes. Some (record b { attributes = attributes })) (sym (All-head HasNone b bs h))
 
 -- removing the attributes from the first binding of a run in an empty scope does not change it
-pub first_given : {closing : Closing} {m : Module} (outer : Frames) {left : List Token} {bs : List Block} (given : Frames) → Run closing m ([] ∷ outer) left bs (Gave given) → option_map without_attributes (first_bound (values_of (own_frame given))) ≡ first_bound (values_of (own_frame given))
+pub first_given : {closing : Closing} {m : Module} (outer : Frames) {left : List Token} {bs : List Block} (given : Frames)
+    → Run closing m ([] ∷ outer) left bs (Gave given) → option_map without_attributes (first_bound (values_of (own_frame given)))
+    ≡ first_bound (values_of (own_frame given))
 first_given outer given r = first_none (values_of (own_frame given)) (given_none (All-nil HasNone) r)

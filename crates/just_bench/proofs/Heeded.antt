@@ -1,19 +1,20 @@
 -- A question answered by `NoMemory` stops the one who asked it.
-use Rattle.std.proofs.Common.{◌≡◌, ◌≢◌, ◌-◌, ℕ, zero, suc, Bool, true, false, List, [], ◌∷◌, ◌++◌, Option, Some, None, Result, Ok, Err, if◌then◌else◌, map, length, nat_eq, slice_get, refl, ap, subst, ◌∙◌}
-use Rattle.just_syntax.specs.Plain.{Text, Token, Assignment, Expr, Function, count}
+use Rattle.std.proofs.Common.{◌≡◌, ◌≢◌, ◌-◌, ℕ, zero, suc, Bool, true, false, List, [], ◌∷◌, ◌++◌, Option, Some, None, Result, Ok, Err, if◌then◌else◌, map}
+use Rattle.std.proofs.Common.{length, nat_eq, slice_get, refl, ap, subst, ◌∙◌}
+use Rattle.just_bench.specs.Prelude.{Answer, Assignment, Binds, Blind, Block, Event, Frames, Gave, Halts, Module, NoMemory, Outcome, Refused, Stopped, Text}
+use Rattle.just_bench.specs.Prelude.{Token, Value, dynamically, events_of}
+use Rattle.just_syntax.specs.Plain.{Expr, Function, count}
 use Rattle.just_text.specs.Case.{capitalize, lowercase, uppercase}
 use Rattle.just_text.specs.Path as path
-use Rattle.just_value.specs.Frames.{Frames}
-use Rattle.just_value.specs.Outcome.{Outcome, Gave, Refused, Stopped}
-use Rattle.just_value.specs.Refusal.{Code, Message, NoMemory}
-use Rattle.just_value.specs.Value.{Value}
+use Rattle.just_value.specs.Refusal.{Code, Message}
 use Rattle.just_host.specs.Function.{Context}
 use Rattle.just_host.specs.Interaction as interaction
-use Rattle.just_host.specs.Interaction.{Event, Tree, Verdict, done, ask, note, check, bind, Path, Ends, Asks, Notes, Checks, Shuts, freely}
-use Rattle.just_host.specs.Question.{Blind, Answer, Failed, Absent, Found, Numbered, Executable}
+use Rattle.just_host.specs.Interaction.{Tree, Verdict, done, ask, note, check, bind, Path, Ends, Asks, Notes, Checks, Shuts, freely}
+use Rattle.just_host.specs.Question.{Failed, Absent, Found, Numbered, Executable}
 use Rattle.just_host.specs.declared.number_question.NumberQuestion.TheVariants.{Cpus}
 use Rattle.just_builtins.specs.Argument.{argument_at, text_at, first}
-use Rattle.just_builtins.specs.Asking.{asks_environment, asks_existence, asks_number, asks_shell, asks_text, command_answered, entry, existence_answered, first_set, number_answered, or_asks, text_answered, none_set}
+use Rattle.just_builtins.specs.Asking.{asks_environment, asks_existence, asks_number, asks_shell, asks_text, command_answered, entry, existence_answered}
+use Rattle.just_builtins.specs.Asking.{first_set, number_answered, or_asks, text_answered, none_set}
 use Rattle.just_builtins.specs.Called.{Called, Returned, Said, tree}
 use Rattle.just_builtins.specs.Meaning.{has_lists, or_fails, reply, says_truth, truth, value_truth}
 use Rattle.just_builtins.specs.Reply as replies
@@ -24,8 +25,9 @@ use Rattle.just_builtins.specs.declared.builtin.Builtin.TheVariants as builtin
 use Rattle.just_meaning.specs.Callee.{Callee, Defined, BuiltIn, LeftOut, Unknown, accepts, callee}
 use Rattle.just_meaning.specs.Closings.{dynamic, inside}
 use Rattle.just_meaning.specs.Meaning as reads
-use Rattle.just_meaning.specs.Meaning.{Program, Situation, Deeper, AtLimit, WithinLimit, Row, answered, argument, as_it_is, built_in_call, built_in_context, called, eval, eval_row, returned, texts_of}
-use Rattle.just_meaning.specs.Module.{Module, Block, Run, Finished, Stops as StopsRun, Unknown as UnknownName, Passes, Skips, Binds, Breaks, Halts, assigned, dynamically, events_of, or_override, situation_at}
+use Rattle.just_meaning.specs.Meaning.{Program, Situation, Deeper, AtLimit, WithinLimit, Row, answered, argument, as_it_is, built_in_call, built_in_context}
+use Rattle.just_meaning.specs.Meaning.{called, eval, eval_row, returned, texts_of}
+use Rattle.just_meaning.specs.Module.{Run, Finished, Stops as StopsRun, Unknown as UnknownName, Passes, Skips, Breaks, assigned, or_override, situation_at}
 use Rattle.just_soundness.proofs.Forms.{holds_eval}
 
 -- no question was answered by `NoMemory`
@@ -59,7 +61,8 @@ stopped interaction.Stops = refl
 all_answered : {A : Type 0} {t : Tree A} {es : List Event} {o : Outcome A} → Path freely t es o → Heeds A t → o ≢ Stopped → AllAnswered es
 all_answered Ends h some = tt
 all_answered interaction.Stops h some = tt
-all_answered {o = o} (Asks {next = next} {a = a} {es = es} p) h some = (λ none. some (stopped (subst (λ t. Path freely t es o) (ap next none ∙ h.0) p)), all_answered p (h.1 a) some)
+all_answered {o = o} (Asks {next = next} {a = a} {es = es} p) h some =
+    (λ none. some (stopped (subst (λ t. Path freely t es o) (ap next none ∙ h.0) p)), all_answered p (h.1 a) some)
 all_answered (Notes e p) h some = all_answered p h some
 all_answered (Checks {a = a} p) h some = all_answered p (h a) some
 all_answered (Shuts e) h some = tt
@@ -175,7 +178,8 @@ reply_heeds builtin.RecipeName c vs = says_heeds c.recipe _
 reply_heeds builtin.Require c vs = text_heeds _ _ _ tt
 reply_heeds builtin.RuntimeDirectory c vs = text_heeds _ _ _ tt
 reply_heeds builtin.Shell c vs = shell_heeds c (map first vs)
-reply_heeds builtin.SourceDirectory c vs = or_heeds (path.parent c.fixed.justfile) _ _ (λ directory. says_heeds (path.parent (path.joined_paths directory c.name.path)) _)
+reply_heeds builtin.SourceDirectory c vs =
+    or_heeds (path.parent c.fixed.justfile) _ _ (λ directory. says_heeds (path.parent (path.joined_paths directory c.name.path)) _)
 reply_heeds builtin.SourceFile c vs = or_heeds (path.parent c.fixed.justfile) _ _ (λ directory. tt)
 reply_heeds builtin.Uppercase c vs = says_heeds (uppercase (text_at vs 0)) _
 reply_heeds builtin.Which c vs = text_heeds _ _ _ tt
@@ -209,13 +213,16 @@ if_heeds : (b : Bool) (x y : Tree Value) → Heeds Value x → Heeds Value y →
 if_heeds true x y h k = h
 if_heeds false x y h k = k
 
-called_heeds : (c : Program) (t : Token) (what : Callee) (d : Deeper) (s : Situation) (n : ℕ) (row : Row) → HeedsDeeper d → HeedsRow row → Heeds Value (called c t what d s n row)
+called_heeds : (c : Program) (t : Token) (what : Callee) (d : Deeper) (s : Situation) (n : ℕ) (row : Row) → HeedsDeeper d → HeedsRow row
+    → Heeds Value (called c t what d s n row)
 called_heeds c t (Defined f) AtLimit s n row h k = tt
-called_heeds c t (Defined f) (WithinLimit run) s n row h k = if_heeds (nat_eq n (length f.parameters)) _ _ (heeds_bind _ _ (row as_it_is) (run f s) (k as_it_is (λ i v. tt)) (h f s)) tt
+called_heeds c t (Defined f) (WithinLimit run) s n row h k =
+    if_heeds (nat_eq n (length f.parameters)) _ _ (heeds_bind _ _ (row as_it_is) (run f s) (k as_it_is (λ i v. tt)) (h f s)) tt
 called_heeds c t (BuiltIn f) d s n row h k =
     if_heeds (accepts (BuiltIn f) n) _ _
     (heeds_bind _ _ (row (texts_of f t)) (built_in_call c s t f) (k (texts_of f t) (λ i v. argument_heeds (is_text f i) t v))
-    (λ vs. heeds_bind _ _ (tree s.shown (reply (builtin_of f) (built_in_context c s t) vs)) (returned t) (heeds_tree s.shown _ (reply_heeds (builtin_of f) (built_in_context c s t) vs)) (returned_heeds t)))
+    (λ vs. heeds_bind _ _ (tree s.shown (reply (builtin_of f) (built_in_context c s t) vs)) (returned t)
+    (heeds_tree s.shown _ (reply_heeds (builtin_of f) (built_in_context c s t) vs)) (returned_heeds t)))
     tt
 called_heeds c t LeftOut d s n row h k = tt
 called_heeds c t Unknown d s n row h k = tt
@@ -239,7 +246,8 @@ dynamic_heeds c (suc k) = λ f s vs. eval_heeds c (dynamic c k) (dynamic_heeds c
 assigned_heeds : (m : Module) (frames : Frames) (a : Assignment) → Heeds Value (assigned dynamically m frames a)
 assigned_heeds m frames a = by (m.overrides a.number)
   where
-    by : (text : Option Text) → Heeds Value (or_override text (eval m.program (dynamically m frames) (situation_at m.program.fixed.settings.lists frames) a.value))
+    by : (text : Option Text)
+        → Heeds Value (or_override text (eval m.program (dynamically m frames) (situation_at m.program.fixed.settings.lists frames) a.value))
     by (Some text) = tt
     by None = eval_heeds m.program (dynamically m frames) (dynamic_heeds m.program (m.limit - 1)) (situation_at m.program.fixed.settings.lists frames) a.value
 
@@ -250,12 +258,14 @@ append_answered (interaction.Noted x ∷ es) fs h k = append_answered es fs h k
 append_answered (interaction.Checked p v a ∷ es) fs h k = append_answered es fs h k
 
 -- in a run that is not stopped, no answer is `NoMemory`
-pub run_answered : {m : Module} {frames : Frames} {names : List Token} {bs : List Block} {o : Outcome Frames} → Run dynamically m frames names bs o → o ≢ Stopped → AllAnswered (events_of bs)
+pub run_answered : {m : Module} {frames : Frames} {names : List Token} {bs : List Block} {o : Outcome Frames} → Run dynamically m frames names bs o
+    → o ≢ Stopped → AllAnswered (events_of bs)
 run_answered Finished some = tt
 run_answered StopsRun some = tt
 run_answered (UnknownName none) some = tt
 run_answered (Passes a f e r) some = run_answered r some
 run_answered (Skips a b f e g r) some = run_answered r some
-run_answered {m = m} {frames = frames} (Binds a es v k p r) some = append_answered es _ (all_answered p (assigned_heeds m frames a) (λ e. absurd (cc))) (run_answered r some)
+run_answered {m = m} {frames = frames} (Binds a es v k p r) some =
+    append_answered es _ (all_answered p (assigned_heeds m frames a) (λ e. absurd (cc))) (run_answered r some)
 run_answered {m = m} {frames = frames} (Breaks a es r k p) some = append_answered es [] (all_answered p (assigned_heeds m frames a) (λ e. absurd (cc))) tt
 run_answered (Halts a es k p) some = absurd (some refl)

@@ -1,23 +1,25 @@
 -- On a resolved module, a name-by-name run with dynamic scope is also one with lexical scope.
 use Rattle.std.proofs.Common.{List, [], ◌∷◌}
-use Rattle.just_syntax.specs.Plain.{Token}
-use Rattle.just_value.specs.Frames.{Frames}
-use Rattle.just_value.specs.Outcome.{Outcome}
-use Rattle.just_host.specs.Recorded.{Kept}
-use Rattle.just_host.specs.Interaction.{Step}
-use Rattle.just_meaning.specs.Module.{Module, dynamically, lexically, IsResolvedModule}
+use Rattle.just_bench.specs.Prelude.{Extends, Frames, Goes, IsResolvedModule, Kept, Module, Outcome, Step, Token, Turn, Turns, dynamically, in_order, lexically}
 use Rattle.just_soundness.proofs.Lexical.{AreApart, are_apart, run_lexical}
-use Rattle.just_bench.specs.Blocks.{Extends, Finished, Goes, Breaks, Turn, Turns, in_order}
+use Rattle.just_bench.specs.Blocks.{Finished, Breaks}
 
 module _ (m : Module) where
-  extends_lexical : {S : Type 0} {step : Step S} {old new : S} {frames : Frames} {outcome : Outcome Frames} → AreApart m.program.functions m.assignments m.assignments.order → Extends dynamically step old m frames outcome new → Extends lexically step old m frames outcome new
-  extends_lexical h e = record { given = e.given; ran = record { blocks = e.ran.blocks; run = run_lexical m h e.ran.run; chain = e.ran.chain }; bound = e.bound }
+  extends_lexical : {S : Type 0} {step : Step S} {old new : S} {frames : Frames} {outcome : Outcome Frames}
+      → AreApart m.program.functions m.assignments m.assignments.order → Extends dynamically step old m frames outcome new
+      → Extends lexically step old m frames outcome new
+  extends_lexical h e =
+      record { given = e.given; ran = record { blocks = e.ran.blocks; run = run_lexical m h e.ran.run; chain = e.ran.chain }; bound = e.bound }
 
-each_lexical : {S : Type 0} {step : Step S} {m : Module} {old new : S × List Kept} {frames : Frames} {left : List Token} {turns : List Turn} {outcome : Outcome Frames} → AreApart m.program.functions m.assignments left → Turns dynamically step m old frames left turns outcome new → Turns lexically step m old frames left turns outcome new
+each_lexical : {S : Type 0} {step : Step S} {m : Module} {old new : S × List Kept} {frames : Frames} {left : List Token} {turns : List Turn}
+    {outcome : Outcome Frames} → AreApart m.program.functions m.assignments left → Turns dynamically step m old frames left turns outcome new
+    → Turns lexically step m old frames left turns outcome new
 each_lexical h Finished = Finished
 each_lexical {m = m} {left = t ∷ left} h (Goes e rest) = Goes (extends_lexical (in_order m (t ∷ [])) (h.0, tt) e) (each_lexical h.1 rest)
 each_lexical {m = m} {left = t ∷ left} h (Breaks r e) = Breaks r (extends_lexical (in_order m (t ∷ [])) (h.0, tt) e)
 
-pub turns_lexical : {S : Type 0} {step : Step S} {m : Module} {old new : S × List Kept} {frames : Frames} {turns : List Turn} {outcome : Outcome Frames} (outer : Frames) → IsResolvedModule m outer
+pub turns_lexical : {S : Type 0} {step : Step S} {m : Module} {old new : S × List Kept} {frames : Frames} {turns : List Turn} {outcome : Outcome Frames}
+    (outer : Frames) → IsResolvedModule m outer
     → Turns dynamically step m old frames m.assignments.order turns outcome new → Turns lexically step m old frames m.assignments.order turns outcome new
-turns_lexical {m = m} outer resolved walk = each_lexical (are_apart m.program.functions m.assignments outer resolved [] m.assignments.order (λ n none. absurd none) resolved.in_order) walk
+turns_lexical {m = m} outer resolved walk =
+    each_lexical (are_apart m.program.functions m.assignments outer resolved [] m.assignments.order (λ n none. absurd none) resolved.in_order) walk

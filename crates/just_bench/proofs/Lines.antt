@@ -1,17 +1,10 @@
 -- The text printed before the end of an answer consists of whole lines.
-use Rattle.std.proofs.Common.{◌≡◌, inl, inr, Bool, true, false, List, [], ◌∷◌, ◌++◌, Option, Some, None, codes, refl, sym, ap, subst, ◌∙◌, append_assoc}
-use Rattle.std.specs.List.{flat_map}
+use Rattle.std.proofs.Common.{inl, inr, Bool, true, false, List, [], ◌∷◌, ◌++◌, Option, Some, None, codes, refl, sym, ap, subst, ◌∙◌, append_assoc, flat_map}
 use Rattle.std.proofs.lemmas.List.{append-nil}
-use Rattle.just_syntax.specs.Plain.{Text, Token}
-use Rattle.just_value.specs.Frames.{Frames}
-use Rattle.just_value.specs.Refusal.{Refusal}
-use Rattle.just_value.specs.Outcome.{Outcome, Gave, Refused, Stopped}
+use Rattle.just_bench.specs.Prelude.{AreLines, Frames, Gave, Kept, Outcome, PrintedBlock, Refusal, Refused, Stopped, Text, Token, block_lines, end_line}
+use Rattle.just_bench.specs.Prelude.{name_words, order_line, question_lines, refusal_line, unresolved_line, with_newline, words}
 use Rattle.just_host.specs.Printed.{kept_printed}
-use Rattle.just_host.specs.Recorded.{Kept}
-use Rattle.just_bench.specs.Printed.{with_newline, name_words, order_line, question_line, question_lines, refusal_line, refused_text, words}
-use Rattle.just_bench.specs.Blocks.{PrintedBlock, block_lines, end_line}
-use Rattle.just_bench.specs.Laws.{AreLines}
-use Rattle.just_bench.specs.Run.{unresolved_line}
+use Rattle.just_bench.specs.Printed.{question_line, refused_text}
 
 are_line : (text : Text) → AreLines (with_newline text)
 are_line text = inr (text, refl)
@@ -35,7 +28,8 @@ pub are_questions : (kept : List Kept) → AreLines (question_lines kept)
 are_questions = flat_lines question_line (λ k. are_line (codes "? " ++ kept_printed k))
 
 pub are_blocks : (blocks : List PrintedBlock) → AreLines (flat_map block_lines blocks)
-are_blocks = flat_lines block_lines (λ b. let name = codes "block " ++ b.name.lexeme in lines_after (with_newline name) (question_lines b.asked) (are_line name) (are_questions b.asked))
+are_blocks = flat_lines block_lines (λ b. let name = codes "block " ++ b.name.lexeme in lines_after (with_newline name) (question_lines b.asked) (are_line name)
+    (are_questions b.asked))
 
 pub are_unresolved : (resolved : Bool) → AreLines (unresolved_line resolved)
 are_unresolved true = inl refl

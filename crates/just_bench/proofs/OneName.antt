@@ -1,13 +1,9 @@
 -- A run of one name in an empty scope binds nothing, or one number.
 use Rattle.std.proofs.Common.{◌≡◌, ◌⊎◌, inl, inr, List, [], ◌∷◌, Option, Some, None, refl, ap, ◌∙◌, sym, subst}
 use Rattle.std.specs.Map.{values_of}
-use Rattle.just_syntax.specs.Plain.{Token}
-use Rattle.just_value.specs.Frames.{Bound, Frames, bound_innermost, own_frame}
-use Rattle.just_value.specs.Outcome.{Outcome, Gave, Refused, Stopped, and_then}
-use Rattle.just_host.specs.Interaction.{Step}
-use Rattle.just_meaning.specs.Module.{Block, Closing, Module, Ran, Run, Finished, Passes, Skips, Binds, bound_in}
-use Rattle.just_bench.specs.Blocks.{Extends, grown, in_order}
-use Rattle.just_bench.specs.FirstBinding.{first_bound, first_given}
+use Rattle.just_bench.specs.Prelude.{Binds, Block, Bound, Closing, Extends, Frames, Gave, Module, Outcome, Ran, Refused, Step, Stopped, Token, and_then}
+use Rattle.just_bench.specs.Prelude.{bound_in, bound_innermost, first_bound, first_given, grown, in_order, own_frame}
+use Rattle.just_meaning.specs.Module.{Run, Finished, Passes, Skips}
 
 -- frames with an optional binding added
 abbrev pub with_one : Frames → Option Bound → Frames
@@ -30,14 +26,19 @@ first_is_all : (frames own : Frames) → BindsOne own → with_one frames (first
 first_is_all frames own (inl none) = rw none refl
 first_is_all frames own (inr (b, one)) = rw one refl
 
-given_all : {closing : Closing} {m : Module} {frames : Frames} {t : Token} {bs : List Block} (given : Outcome Frames) → Run closing m ([] ∷ frames) (t ∷ []) bs given → and_then (first_given given) (λ b. Gave (with_one frames b)) ≡ and_then given (λ own. Gave (grown frames (values_of (own_frame own))))
+given_all : {closing : Closing} {m : Module} {frames : Frames} {t : Token} {bs : List Block} (given : Outcome Frames)
+    → Run closing m ([] ∷ frames) (t ∷ []) bs given → and_then (first_given given) (λ b. Gave (with_one frames b))
+    ≡ and_then given (λ own. Gave (grown frames (values_of (own_frame own))))
 given_all {frames = frames} (Gave own) run = ap Gave (first_is_all frames own (binds_one run))
 given_all (Refused r) run = refl
 given_all Stopped run = refl
 
 -- adding the first binding of the run to the frames adds all its bindings
-pub extends_first : {closing : Closing} {S : Type 0} {step : Step S} {old new : S} {frames : Frames} (m : Module) (order : List Token) (t : Token) (given : Outcome Frames) (found : Outcome (Option Bound)) (outcome : Outcome Frames) → order ≡ t ∷ []
-    → Ran step old closing (in_order m order) ([] ∷ frames) order given new → found ≡ first_given given → outcome ≡ and_then found (λ b. Gave (with_one frames b)) → Extends closing step old (in_order m (t ∷ [])) frames outcome new
+pub extends_first : {closing : Closing} {S : Type 0} {step : Step S} {old new : S} {frames : Frames} (m : Module) (order : List Token) (t : Token)
+    (given : Outcome Frames) (found : Outcome (Option Bound)) (outcome : Outcome Frames) → order ≡ t ∷ []
+    → Ran step old closing (in_order m order) ([] ∷ frames) order given new → found ≡ first_given given
+    → outcome ≡ and_then found (λ b. Gave (with_one frames b)) → Extends closing step old (in_order m (t ∷ [])) frames outcome new
 extends_first {closing = closing} {step = step} {old = old} {new = new} {frames = frames} m order t given found outcome same ran found_is is =
-    let one : Ran step old closing (in_order m (t ∷ [])) ([] ∷ frames) (t ∷ []) given new = subst (λ order. Ran step old closing (in_order m order) ([] ∷ frames) order given new) same ran in
+    let one : Ran step old closing (in_order m (t ∷ [])) ([] ∷ frames) (t ∷ []) given new =
+    subst (λ order. Ran step old closing (in_order m order) ([] ∷ frames) order given new) same ran in
     record { given = given; ran = one; bound = is ∙ ap (λ found. and_then found (λ b. Gave (with_one frames b))) found_is ∙ given_all given one.run }

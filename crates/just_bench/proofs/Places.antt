@@ -1,12 +1,12 @@
 -- First occurrences of numbers, and sets with one number added.
 use Rattle.std.proofs.Common.{◌≡◌, ℕ, Bool, true, false, cond, ◌||◌, nat_eq, List, [], ◌∷◌, ◌++◌, append_assoc, refl, sym, ap, ◌∙◌}
 use Rattle.std.specs.List.{list_any}
-use Rattle.just_syntax.specs.Plain.{Token}
+use Rattle.just_bench.specs.Prelude.{Token, first_places}
 use Rattle.just_syntax.proofs.Maps.{number_with}
-use Rattle.just_bench.specs.Taken.{first_places}
 
 -- one number was added
-pub one_more : (old new : List ℕ) (k : ℕ) → ((n : ℕ) → list_any (nat_eq n) new ≡ cond (nat_eq k n) true (list_any (nat_eq n) old)) → (n : ℕ) → list_any (nat_eq n) new ≡ list_any (nat_eq n) (k ∷ old)
+pub one_more : (old new : List ℕ) (k : ℕ) → ((n : ℕ) → list_any (nat_eq n) new ≡ cond (nat_eq k n) true (list_any (nat_eq n) old)) → (n : ℕ)
+    → list_any (nat_eq n) new ≡ list_any (nat_eq n) (k ∷ old)
 one_more old new k put n = put n ∙ number_with k n (list_any (nat_eq n) old)
 
 -- sets with the same numbers give the same first occurrences
@@ -16,7 +16,8 @@ places_same a b (x ∷ xs) same =
     rw (same x.1, places_same a b xs same, places_same (x.1 ∷ a) (x.1 ∷ b) xs (λ n. ap (λ t. nat_eq n x.1 || t) (same n))) refl
 
 -- a number that did not occur before
-pub new_place : (before rest : List (Token × ℕ)) (x : Token × ℕ) (old new : List ℕ) → list_any (nat_eq x.1) old ≡ false → ((n : ℕ) → list_any (nat_eq n) new ≡ cond (nat_eq x.1 n) true (list_any (nat_eq n) old)) →
+pub new_place : (before rest : List (Token × ℕ)) (x : Token × ℕ) (old new : List ℕ) → list_any (nat_eq x.1) old ≡ false
+    → ((n : ℕ) → list_any (nat_eq n) new ≡ cond (nat_eq x.1 n) true (list_any (nat_eq n) old)) →
     (before ++ x ∷ []) ++ first_places new rest ≡ before ++ first_places old (x ∷ rest)
 new_place before rest x old new fresh put =
     append_assoc before (x ∷ []) (first_places new rest)
@@ -24,11 +25,13 @@ new_place before rest x old new fresh put =
     ∙ ap (λ t. before ++ cond t (first_places old rest) (x ∷ first_places (x.1 ∷ old) rest)) (sym fresh)
 
 -- a number that did
-pub old_place : (before rest : List (Token × ℕ)) (x : Token × ℕ) (old new : List ℕ) → list_any (nat_eq x.1) old ≡ true → new ≡ old → before ++ first_places new rest ≡ before ++ first_places old (x ∷ rest)
+pub old_place : (before rest : List (Token × ℕ)) (x : Token × ℕ) (old new : List ℕ) → list_any (nat_eq x.1) old ≡ true → new ≡ old
+    → before ++ first_places new rest ≡ before ++ first_places old (x ∷ rest)
 old_place before rest x old new known same = rw (same, known) refl
 
 -- the added number was one of the remaining ones
-pub one_fewer : (old new : List ℕ) (k n : ℕ) (rest all : Bool) → list_any (nat_eq n) new ≡ cond (nat_eq k n) true (list_any (nat_eq n) old) → (list_any (nat_eq n) old || (nat_eq n k || rest)) ≡ all → (list_any (nat_eq n) new || rest) ≡ all
+pub one_fewer : (old new : List ℕ) (k n : ℕ) (rest all : Bool) → list_any (nat_eq n) new ≡ cond (nat_eq k n) true (list_any (nat_eq n) old)
+    → (list_any (nat_eq n) old || (nat_eq n k || rest)) ≡ all → (list_any (nat_eq n) new || rest) ≡ all
 one_fewer old new k n rest all put is = rw (put, number_with k n (list_any (nat_eq n) old)) (swapped (nat_eq n k) (list_any (nat_eq n) old) rest ∙ is)
   where
     swapped : (x y z : Bool) → ((x || y) || z) ≡ (y || (x || z))

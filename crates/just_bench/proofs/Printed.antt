@@ -1,30 +1,21 @@
 -- The output of a run.
 use Rattle.std.proofs.Common.{◌≡◌, ◌↔◌, ℕ, Bool, IsTrue, List, [], ◌∷◌, ◌++◌, Result, Ok, Err, IfOk, OnOk, append_assoc, refl, subst, ◌∙◌, ap}
-use Rattle.just_syntax.specs.Plain.{Text}
-use Rattle.just_value.specs.Frames.{Frames}
-use Rattle.just_value.specs.Outcome.{Outcome}
-use Rattle.just_host.specs.Recorded.{Kept}
-use Rattle.just_host.specs.Interaction.{Step}
-use Rattle.just_meaning.specs.Module.{Module, Ran, dynamically, lexically, IsResolvedModule}
-use Rattle.just_bench.specs.Printed.{question_lines}
-use Rattle.just_case_reader.specs.Case.{Case}
-use Rattle.just_script.specs.View.{script_view}
-use Rattle.just_script.specs.declared.scripted_host.ScriptedHost.{ScriptedHost}
-use Rattle.just_bench.specs.Hosts.{MadeOf, case_script, without_answers}
-use Rattle.just_bench.specs.Run.{CaseRuns, RunPrints, outcome_lines, recording, status_of, unresolved_line}
-use Rattle.just_bench.specs.Written.{Added}
-use Rattle.just_bench.specs.Module.{case_module}
+use Rattle.just_bench.specs.Prelude.{Added, Case, CaseRuns, Frames, IsResolvedModule, Kept, MadeOf, Module, Outcome, Ran, RunPrints, ScriptedHost, Step, Text}
+use Rattle.just_bench.specs.Prelude.{case_module, case_script, dynamically, lexically, outcome_lines, question_lines, recording, script_view, status_of}
+use Rattle.just_bench.specs.Prelude.{unresolved_line, without_answers}
 
 -- three texts in a row
 pub three : (a b c d x y z : Text) → b ≡ a ++ x → c ≡ b ++ y → d ≡ c ++ z → d ≡ a ++ (x ++ (y ++ z))
 three a b c d x y z p q r = r ∙ ap (λ t. t ++ z) (q ∙ ap (λ t. t ++ y) p) ∙ append_assoc (a ++ x) y z ∙ append_assoc a x (y ++ z)
 
 -- the output of a run, by its parts
-pub run_printed : {E S : Type 0} (step : Step S) (old : S) (m : Module) (outer : Frames) (resolved : Bool) (kept : List Kept) (outcome : Outcome Frames) (new : S) (asked : List Kept) (a b c d : Text) (result : Result ℕ E)
+pub run_printed : {E S : Type 0} (step : Step S) (old : S) (m : Module) (outer : Frames) (resolved : Bool) (kept : List Kept) (outcome : Outcome Frames)
+    (new : S) (asked : List Kept) (a b c d : Text) (result : Result ℕ E)
     → (IsTrue resolved ↔ IsResolvedModule m outer)
     → (IsResolvedModule m outer → Ran (recording step) (old, []) lexically m ([] ∷ outer) m.assignments.order outcome (new, kept))
     → Ran (recording step) (old, []) dynamically m ([] ∷ outer) m.assignments.order outcome (new, kept)
-    → b ≡ a ++ unresolved_line resolved → c ≡ b ++ question_lines asked → asked ≡ kept → OnOk result (d ≡ c ++ outcome_lines outcome) → IfOk result (λ status. status ≡ status_of outcome)
+    → b ≡ a ++ unresolved_line resolved → c ≡ b ++ question_lines asked → asked ≡ kept → OnOk result (d ≡ c ++ outcome_lines outcome)
+    → IfOk result (λ status. status ≡ status_of outcome)
     → IfOk result (λ status. Added a d (λ printed. RunPrints step old m outer printed status))
 run_printed step old m outer resolved kept outcome new asked a b c d (Err e) test lexical dynamic p q same r ends = tt
 run_printed step old m outer resolved kept outcome new asked a b c d (Ok status) test lexical dynamic p q same r ends = record {
@@ -44,9 +35,11 @@ run_printed step old m outer resolved kept outcome new asked a b c d (Ok status)
 }
 
 -- the output for a case, given that of its module's run with a host around its own
-pub case_printed : {E S : Type 0} (step : Step S) (gives : ScriptedHost → S → Type 0) (c rest : Case) (outer : Frames) (host : ScriptedHost) (made old : S) (m : Module) (a b : Text) (result : Result ℕ E)
+pub case_printed : {E S : Type 0} (step : Step S) (gives : ScriptedHost → S → Type 0) (c rest : Case) (outer : Frames) (host : ScriptedHost) (made old : S)
+    (m : Module) (a b : Text) (result : Result ℕ E)
     → script_view host ≡ case_script c → gives host made → old ≡ made → rest ≡ without_answers c → m ≡ case_module rest
-    → IfOk result (λ status. Added a b (λ printed. RunPrints step old m outer printed status)) → IfOk result (λ status. Added a b (λ printed. CaseRuns step (MadeOf gives) c outer printed status))
+    → IfOk result (λ status. Added a b (λ printed. RunPrints step old m outer printed status))
+    → IfOk result (λ status. Added a b (λ printed. CaseRuns step (MadeOf gives) c outer printed status))
 case_printed step gives c rest outer host made old m a b (Err e) says given same without is printed = tt
 case_printed step gives c rest outer host made old m a b (Ok status) says given same without is p = record {
   printed = p.printed;
@@ -54,6 +47,7 @@ case_printed step gives c rest outer host made old m a b (Ok status) says given 
   is = record {
     host = made;
     starts = (host, says, given);
-    prints = subst (λ h. RunPrints step h (case_module c) outer p.printed status) same (subst (λ n. RunPrints step old n outer p.printed status) (is ∙ ap case_module without) p.is);
+    prints = subst (λ h. RunPrints step h (case_module c) outer p.printed status) same
+        (subst (λ n. RunPrints step old n outer p.printed status) (is ∙ ap case_module without) p.is);
   };
 }

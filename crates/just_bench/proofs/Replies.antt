@@ -2,7 +2,7 @@
 use Rattle.std.proofs.Common.{◌≡◌, List, [], ◌∷◌, map, Result, Ok, Err, refl}
 use Rattle.std.specs.declared.string.String.{String}
 use Rattle.just_value.specs.declared.error.CommandFault.{CommandFault}
-use Rattle.just_case_reader.specs.View.{reply_view}
+use Rattle.just_bench.specs.Prelude.{reply_view}
 use Rattle.just_host.specs.View.{replied}
 use Rattle.just_bench.specs.Hosts.{answer_of}
 

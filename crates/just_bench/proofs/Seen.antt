@@ -1,16 +1,8 @@
 -- Hosts viewed as other hosts.
 use Rattle.std.proofs.Common.{◌≡◌, inl, inr, List, [], ◌∷◌, ap, subst}
-use Rattle.just_syntax.specs.Plain.{Token}
-use Rattle.just_value.specs.Frames.{Frames}
-use Rattle.just_value.specs.Outcome.{Outcome}
-use Rattle.just_host.specs.Interaction.{Event, Asked, Noted, Checked, Chain, Step}
-use Rattle.just_host.specs.Question.{Question, Answer}
-use Rattle.just_host.specs.Recorded.{Kept, RecordsAndAsks}
-use Rattle.just_host.specs.View.{inner_host, records_view}
+use Rattle.just_bench.specs.Prelude.{Answer, Asked, Chain, Checked, Closing, Event, Extends, Frames, Kept, Module, Noted, Outcome, Question, Ran}
+use Rattle.just_bench.specs.Prelude.{RecordsAndAsks, Step, Token, events_of, inner_host, recording, records_view}
 use Rattle.just_host.specs.declared.recorder.Recorder.{Recorder}
-use Rattle.just_meaning.specs.Module.{Closing, Module, Ran, events_of}
-use Rattle.just_bench.specs.Blocks.{Extends}
-use Rattle.just_bench.specs.Run.{recording}
 
 -- a transition of the first host is a transition of the second
 abbrev pub Carries : {S T : Type 0} → Step S → Step T → (S → T) → Type 0
@@ -24,11 +16,13 @@ module _ {S T : Type 0} (step : Step S) (other : Step T) (see : S → T) (carrie
   chain_seen a (Checked x v y ∷ es) b p = absurd p
 
   -- a run of the first host is a run of the second
-  pub ran_seen : {closing : Closing} {m : Module} {frames : Frames} {names : List Token} {outcome : Outcome Frames} (a b : S) → Ran step a closing m frames names outcome b → Ran other (see a) closing m frames names outcome (see b)
+  pub ran_seen : {closing : Closing} {m : Module} {frames : Frames} {names : List Token} {outcome : Outcome Frames} (a b : S)
+      → Ran step a closing m frames names outcome b → Ran other (see a) closing m frames names outcome (see b)
   ran_seen a b r = record { blocks = r.blocks; run = r.run; chain = chain_seen a (events_of r.blocks) b r.chain }
 
   -- the same for a run whose bindings are added to frames
-  pub extends_seen : {closing : Closing} {m : Module} {frames : Frames} {outcome : Outcome Frames} (a b : S) → Extends closing step a m frames outcome b → Extends closing other (see a) m frames outcome (see b)
+  pub extends_seen : {closing : Closing} {m : Module} {frames : Frames} {outcome : Outcome Frames} (a b : S) → Extends closing step a m frames outcome b
+      → Extends closing other (see a) m frames outcome (see b)
   extends_seen a b e = record { given = e.given; ran = ran_seen a b e.ran; bound = e.bound }
 
 -- the same, together with the questions so far
@@ -36,11 +30,14 @@ abbrev pub beside : {S T : Type 0} → (S → T) → S × List Kept → T × Lis
 beside see a = (see a.0, a.1)
 
 -- a recorder without questions is its inner host, together with no questions
-pub recorder_seen : {H : Type 0} (step : Step H) {closing : Closing} {m : Module} {frames : Frames} {names : List Token} {outcome : Outcome Frames} (old new : Recorder H) → records_view old ≡ []
-    → Ran (λ a q x b. RecordsAndAsks step (inner_host a) (records_view a) q x (inner_host b) (records_view b)) old closing m frames names outcome new → Ran (recording step) (inner_host old, []) closing m frames names outcome (inner_host new, records_view new)
+pub recorder_seen : {H : Type 0} (step : Step H) {closing : Closing} {m : Module} {frames : Frames} {names : List Token} {outcome : Outcome Frames}
+    (old new : Recorder H) → records_view old ≡ []
+    → Ran (λ a q x b. RecordsAndAsks step (inner_host a) (records_view a) q x (inner_host b) (records_view b)) old closing m frames names outcome new
+    → Ran (recording step) (inner_host old, []) closing m frames names outcome (inner_host new, records_view new)
 recorder_seen step {closing = closing} {m = m} {frames = frames} {names = names} {outcome = outcome} old new fresh ran =
     subst (λ kept. Ran (recording step) (inner_host old, kept) closing m frames names outcome (inner_host new, records_view new)) fresh
-    (ran_seen (λ a q x b. RecordsAndAsks step (inner_host a) (records_view a) q x (inner_host b) (records_view b)) (recording step) (λ r. (inner_host r, records_view r)) (λ a q x b s. s) old new ran)
+    (ran_seen (λ a q x b. RecordsAndAsks step (inner_host a) (records_view a) q x (inner_host b) (records_view b)) (recording step)
+    (λ r. (inner_host r, records_view r)) (λ a q x b s. s) old new ran)
 
 module _ {S T : Type 0} (step : Step S) (other : Step T) (see : S → T) (carried : Carries step other see) where
   pub recording_carried : Carries (recording step) (recording other) (beside see)

@@ -21,8 +21,10 @@ Evaluated step Starts c (Blocks second) outer printed status = BlocksPrints step
 -- the case that the lines describe is evaluated in an empty scope; or the index of the first bad line is printed
 abbrev pub AnswersLines : {S : Type 0} → Step S → (Script → S → Type 0) → Described → Text → ℕ → Type 0
 AnswersLines step Starts (Describes c) printed status = Evaluated step Starts c c.evaluation ([] ∷ []) printed status
-AnswersLines step Starts (BadLine n) printed status = (printed ≡ with_newline (codes "bad line " ++ decimal n)) × (status ≡ 1)
+AnswersLines step Starts (BadLine n) printed status =
+    (printed ≡ with_newline (codes "bad line " ++ decimal n)) × (status ≡ 1)
 
 -- the answer to the bytes of a case: a text and a status
 abbrev pub AnswersCase : {S : Type 0} → Step S → (Script → S → Type 0) → Text → Text → ℕ → Type 0
-AnswersCase step Starts case printed status = AnswersLines step Starts (described (map line_of (lines_of case))) printed status
+AnswersCase step Starts case printed status =
+    AnswersLines step Starts (described (map line_of (lines_of case))) printed status

@@ -1,5 +1,6 @@
 -- The output for a case that is evaluated in two runs, name by name.
-use Rattle.std.specs.Prelude.{◌≡◌, ◌↔◌, ℕ, Bool, true, false, IsTrue, List, [], ◌∷◌, ◌++◌, ◌&&◌, drop, length, map, nat_eq, Option, Some, None, if◌then◌else◌, codes}
+use Rattle.std.specs.Prelude.{◌≡◌, ◌↔◌, ℕ, Bool, true, false, IsTrue, List, [], ◌∷◌, ◌++◌, ◌&&◌, drop, length, map}
+use Rattle.std.specs.Prelude.{nat_eq, Option, Some, None, if◌then◌else◌, codes}
 use Rattle.std.specs.List.{flat_map, list_all}
 use Rattle.std.specs.Map.{values_of}
 use Rattle.std.specs.Option.{option_eq}
@@ -32,7 +33,8 @@ grown frames [] = frames
 grown frames (b ∷ bs) = grown (bound_innermost frames b) bs
 
 -- A module is run in a scope on these frames, and its bindings are added to them.
-pub record Extends (closing : Closing) {S : Type 0} (step : Step S) (old : S) (m : Module) (frames : Frames) (outcome : Outcome Frames) (new : S) : Type 0 where
+pub record Extends (closing : Closing) {S : Type 0} (step : Step S) (old : S) (m : Module) (frames : Frames)
+    (outcome : Outcome Frames) (new : S) : Type 0 where
   pub given : Outcome Frames
   pub ran : Ran step old closing m ([] ∷ frames) m.assignments.order given new
   pub bound : outcome ≡ and_then given (λ own. Gave (grown frames (values_of (own_frame own))))
@@ -54,11 +56,15 @@ turn t old new = record { name = t; asked = asked_since old new }
 
 -- The names of an order are evaluated in turn, starting from some frames: each in a run of its own, on the frames that
 -- the names before it left. A refusal ends it.
-pub data Turns (closing : Closing) {S : Type 0} (step : Step S) (m : Module) : S × List Kept → Frames → List Token → List Turn → Outcome Frames → S × List Kept → Type 0 where
+pub data Turns (closing : Closing) {S : Type 0} (step : Step S) (m : Module) : S × List Kept → Frames → List Token
+    → List Turn → Outcome Frames → S × List Kept → Type 0 where
   Finished : {h : S × List Kept} {frames : Frames} → Turns closing step m h frames [] [] (Gave frames) h
-  Goes : {h mid new : S × List Kept} {frames more : Frames} {t : Token} {left : List Token} {turns : List Turn} {o : Outcome Frames} → Extends closing (recording step) h (in_order m (t ∷ [])) frames (Gave more) mid
-      → Turns closing step m mid more left turns o new → Turns closing step m h frames (t ∷ left) (turn t h mid ∷ turns) o new
-  Breaks : {h new : S × List Kept} {frames : Frames} {t : Token} {left : List Token} (r : Option Refusal) → Extends closing (recording step) h (in_order m (t ∷ [])) frames (without_value r) new
+  Goes : {h mid new : S × List Kept} {frames more : Frames} {t : Token} {left : List Token} {turns : List Turn}
+      {o : Outcome Frames} → Extends closing (recording step) h (in_order m (t ∷ [])) frames (Gave more) mid
+      → Turns closing step m mid more left turns o new
+      → Turns closing step m h frames (t ∷ left) (turn t h mid ∷ turns) o new
+  Breaks : {h new : S × List Kept} {frames : Frames} {t : Token} {left : List Token} (r : Option Refusal)
+      → Extends closing (recording step) h (in_order m (t ∷ [])) frames (without_value r) new
       → Turns closing step m h frames (t ∷ left) (turn t h new ∷ []) (without_value r) new
 
 -- ---- its output
@@ -87,7 +93,8 @@ still_coming coming (Some n) = drop 1 coming
 -- the blocks of the remaining variables, each at the next turn of its name
 abbrev pub blocks_in : List Turn → List (Token × ℕ) → List PrintedBlock
 blocks_in [] coming = []
-blocks_in (turn ∷ turns) coming = block_of turn (next_number coming turn.name) ++ blocks_in turns (still_coming coming (next_number coming turn.name))
+blocks_in (turn ∷ turns) coming =
+    block_of turn (next_number coming turn.name) ++ blocks_in turns (still_coming coming (next_number coming turn.name))
 
 -- a variable, and a line for each of its questions
 abbrev pub block_lines : PrintedBlock → Text
@@ -120,7 +127,8 @@ found_by Stopped asked = None
 
 -- The names of an order are evaluated with dynamic scope (by the chain of frames). The output is the blocks of the
 -- remaining variables and the reason for the end.
-pub record Walks {S : Type 0} (step : Step S) (m : Module) (old : S × List Kept) (frames : Frames) (order : List Token) (coming : List (Token × ℕ)) (asked : ℕ → Option Text) (printed : Text) (found : Option RunResult) : Type 0 where
+pub record Walks {S : Type 0} (step : Step S) (m : Module) (old : S × List Kept) (frames : Frames) (order : List Token)
+    (coming : List (Token × ℕ)) (asked : ℕ → Option Text) (printed : Text) (found : Option RunResult) : Type 0 where
   pub turns : List Turn
   pub outcome : Outcome Frames
   pub new : S × List Kept
@@ -133,10 +141,13 @@ names_of = map (λ variable. variable.0)
 
 -- A module is run in its order, name by name: always with dynamic scope (by the chain of frames), and also with lexical
 -- scope if it is resolved. The output is the taken variables, followed by their blocks.
-pub record OrderPrints {S : Type 0} (step : Step S) (old : S) (m : Module) (outer : Frames) (printed : Text) (found : Option RunResult) : Type 0 where
+pub record OrderPrints {S : Type 0} (step : Step S) (old : S) (m : Module) (outer : Frames) (printed : Text)
+    (found : Option RunResult) : Type 0 where
   pub lines : Text
-  pub walks : Walks step m (old, []) ([] ∷ outer) m.assignments.order (taken_in m.assignments m.assignments.order) (λ n. None) lines found
-  pub lexical : IsResolvedModule m outer → Turns lexically step m (old, []) ([] ∷ outer) m.assignments.order walks.turns walks.outcome walks.new
+  pub walks : Walks step m (old, []) ([] ∷ outer) m.assignments.order (taken_in m.assignments m.assignments.order)
+      (λ n. None) lines found
+  pub lexical : IsResolvedModule m outer
+      → Turns lexically step m (old, []) ([] ∷ outer) m.assignments.order walks.turns walks.outcome walks.new
   pub text : printed ≡ order_line (names_of (taken_in m.assignments m.assignments.order)) ++ lines
 
 -- ---- two runs
@@ -144,26 +155,34 @@ pub record OrderPrints {S : Type 0} (step : Step S) (old : S) (m : Module) (oute
 -- a binding of the first run, and the binding of the same number in the second, if there is one
 abbrev pub is_alike : Option Text → Option Text → Bound → Option Bound → Bool
 is_alike one_asked other_asked one None = true
-is_alike one_asked other_asked one (Some other) = is_same other.value one.value && option_eq bytes_eq one_asked other_asked
+is_alike one_asked other_asked one (Some other) =
+    is_same other.value one.value && option_eq bytes_eq one_asked other_asked
 
 -- each variable bound by both has the same value and the same questions in both
 abbrev pub agree : RunResult → RunResult → Bool
-agree one other = list_all (λ (b : Bound). is_alike (one.asked b.number) (other.asked b.number) b (bound_at b.number (own_frame other.frames))) (values_of (own_frame one.frames))
+agree one other =
+    list_all (λ (b : Bound). is_alike (one.asked b.number) (other.asked b.number) b
+    (bound_at b.number (own_frame other.frames))) (values_of (own_frame one.frames))
 
 abbrev pub agreement_line : Bool → Text
 agreement_line true = codes "same\n"
 agreement_line false = codes "different\n"
 
 -- The output of two runs: the second run follows if the first is not refused, and whether they agree if neither is.
-pub data BothPrint {S : Type 0} (step : Step S) (one_host other_host : S) (first second : Module) (outer : Frames) : Text → ℕ → Type 0 where
-  FirstRefused : {text : Text} → OrderPrints step one_host first outer text None → BothPrint step one_host other_host first second outer text 2
-  SecondRefused : {text more : Text} {one : RunResult} → OrderPrints step one_host first outer text (Some one) → OrderPrints step other_host second outer more None
+pub data BothPrint {S : Type 0} (step : Step S) (one_host other_host : S) (first second : Module)
+    (outer : Frames) : Text → ℕ → Type 0 where
+  FirstRefused : {text : Text} → OrderPrints step one_host first outer text None
+      → BothPrint step one_host other_host first second outer text 2
+  SecondRefused : {text more : Text} {one : RunResult} → OrderPrints step one_host first outer text (Some one)
+      → OrderPrints step other_host second outer more None
       → BothPrint step one_host other_host first second outer (text ++ more) 2
-  Compared : {text more : Text} {one other : RunResult} → OrderPrints step one_host first outer text (Some one) → OrderPrints step other_host second outer more (Some other)
+  Compared : {text more : Text} {one other : RunResult} → OrderPrints step one_host first outer text (Some one)
+      → OrderPrints step other_host second outer more (Some other)
       → BothPrint step one_host other_host first second outer (text ++ (more ++ agreement_line (agree one other))) 0
 
 -- the same after a line that reports whether both are resolved
-pub record BothResolvedPrint {S : Type 0} (step : Step S) (one_host other_host : S) (first second : Module) (outer : Frames) (printed : Text) (status : ℕ) : Type 0 where
+pub record BothResolvedPrint {S : Type 0} (step : Step S) (one_host other_host : S) (first second : Module)
+    (outer : Frames) (printed : Text) (status : ℕ) : Type 0 where
   pub resolved : Bool
   pub test : IsTrue resolved ↔ IsResolvedModule first outer × IsResolvedModule second outer
   pub lines : Text
@@ -172,9 +191,11 @@ pub record BothResolvedPrint {S : Type 0} (step : Step S) (one_host other_host :
 
 -- A case is evaluated in two runs, in its order and then in another, each with a host that starts by the script of the
 -- case.
-pub record BlocksPrints {S : Type 0} (step : Step S) (Starts : Script → S → Type 0) (c : Case) (second : List Token) (outer : Frames) (printed : Text) (status : ℕ) : Type 0 where
+pub record BlocksPrints {S : Type 0} (step : Step S) (Starts : Script → S → Type 0) (c : Case) (second : List Token)
+    (outer : Frames) (printed : Text) (status : ℕ) : Type 0 where
   pub one_host : S
   pub other_host : S
   pub one_starts : Starts (case_script c) one_host
   pub other_starts : Starts (case_script c) other_host
-  pub prints : BothResolvedPrint step one_host other_host (case_module c) (in_order (case_module c) second) outer printed status
+  pub prints : BothResolvedPrint step one_host other_host (case_module c) (in_order (case_module c) second)
+      outer printed status

@@ -14,7 +14,8 @@ answer_of (Broken fault) = Failed fault
 
 -- a host that answers commands and has no answer to any other question
 abbrev pub script_of : List (Text × Text) → List CommandReply → Script
-script_of always replies = record { always = always; replies = map answer_of replies; texts = []; exists = []; numbers = [] }
+script_of always replies =
+    record { always = always; replies = map answer_of replies; texts = []; exists = []; numbers = [] }
 
 -- the script of a case
 abbrev pub case_script : Case → Script

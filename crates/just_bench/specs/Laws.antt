@@ -12,10 +12,12 @@ AreLines text = (text ≡ []) ⊎ ((front : Text) × (text ≡ with_newline fron
 
 -- the last line does not report `OutOfMemory`, neither in a run nor before any
 abbrev pub HadMemory : Text → Type 0
-HadMemory text = (front : Text) → AreLines front → (text ≢ front ++ refusal_line None) × (text ≢ front ++ const_refusal_line None)
+HadMemory text =
+    (front : Text) → AreLines front → (text ≢ front ++ refusal_line None) × (text ≢ front ++ const_refusal_line None)
 
 -- Two answers of the program to the same case, neither of which ends with such a line, are the same text with the same
 -- status.
 abbrev pub OneAnswer : Type 0
 OneAnswer = let Starts = λ (script state : Script). state ≡ script in
-    (case p q : Text) (s t : ℕ) → AnswersCase by_script Starts case p s → AnswersCase by_script Starts case q t → HadMemory p → HadMemory q → (p ≡ q) × (s ≡ t)
+    (case p q : Text) (s t : ℕ) → AnswersCase by_script Starts case p s → AnswersCase by_script Starts case q t
+    → HadMemory p → HadMemory q → (p ≡ q) × (s ≡ t)

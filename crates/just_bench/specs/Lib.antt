@@ -11,3 +11,4 @@ pub mod Taken
 pub mod View
 pub mod Written
 pub mod Printed
+pub mod Prelude

@@ -1,10 +1,12 @@
 -- The lines of a case's answer. Each ends with a newline.
-use Rattle.std.specs.Prelude.{List, [], ◌∷◌, ◌++◌, Option, Some, None, codes}
+use Rattle.std.specs.Prelude.{List, [], ◌++◌, Option, Some, None, codes}
 use Rattle.std.specs.List.{flat_map}
 use Rattle.just_syntax.specs.ListOperator.{operator_text}
 use Rattle.just_syntax.specs.Plain.{Text, Token}
 use Rattle.just_value.specs.Frames.{Bound}
-use Rattle.just_value.specs.Refusal.{Refusal, Assert, Backtick, Check, Const, EmptyInterpreter, EmptyListArgument, FunctionCall, Internal, LeftOut, LeftOutRegex, ListInStringContext, ListOperation, RecursionLimit}
+use Rattle.just_value.specs.Refusal.{Refusal, Assert, Backtick, Check, Const, EmptyInterpreter, EmptyListArgument}
+use Rattle.just_value.specs.Refusal.{FunctionCall, Internal, LeftOut, LeftOutRegex, ListInStringContext, ListOperation}
+use Rattle.just_value.specs.Refusal.{RecursionLimit}
 use Rattle.just_value.specs.Said.{error_text}
 use Rattle.just_value.specs.Shown.{quoted, shown}
 use Rattle.just_value.specs.Value.{Value}
@@ -52,12 +54,14 @@ run_refusal_text (Assert message t) = words (codes "1 Assert") (quoted message)
 run_refusal_text (Backtick t fault) = words (codes "2 Backtick") (quoted (fault_text fault))
 run_refusal_text (Const c) = codes "3 Const"
 run_refusal_text (EmptyListArgument parameter recipe) = words (words (codes "4 EmptyListArgument") parameter) recipe
-run_refusal_text (FunctionCall function message) = words (words (codes "5 FunctionCall") function.lexeme) (quoted message)
+run_refusal_text (FunctionCall function message) =
+    words (words (codes "5 FunctionCall") function.lexeme) (quoted message)
 run_refusal_text (Internal message t) = words (codes "6 Internal") (quoted message)
 run_refusal_text (LeftOut function) = words (codes "7 LeftOut") function.lexeme
 run_refusal_text (LeftOutRegex t) = codes "8 LeftOutRegex"
 run_refusal_text (ListInStringContext context value) = words (codes "9 ListInStringContext") (shown value)
-run_refusal_text (ListOperation l operator r t) = words (words (words (codes "10 ListOperation") (shown l)) (operator_text operator)) (shown r)
+run_refusal_text (ListOperation l operator r t) =
+    words (words (words (codes "10 ListOperation") (shown l)) (operator_text operator)) (shown r)
 run_refusal_text (RecursionLimit last) = words (codes "11 RecursionLimit") last.lexeme
 run_refusal_text (Check parameter message) = words (codes "13 Check") (quoted message)
 run_refusal_text (EmptyInterpreter t) = []

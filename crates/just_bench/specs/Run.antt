@@ -41,19 +41,22 @@ status_of Stopped = 2
 -- The output says whether the module is resolved, then the questions of its run, and then the bindings or the refusal.
 -- The run always has dynamic scope (by the chain of frames), and also lexical scope if the module is resolved. The host
 -- starts in the old state.
-pub record RunPrints {S : Type 0} (step : Step S) (old : S) (m : Module) (outer : Frames) (printed : Text) (status : ℕ) : Type 0 where
+pub record RunPrints {S : Type 0} (step : Step S) (old : S) (m : Module) (outer : Frames) (printed : Text)
+    (status : ℕ) : Type 0 where
   pub resolved : Bool
   pub test : IsTrue resolved ↔ IsResolvedModule m outer
   pub kept : List Kept
   pub outcome : Outcome Frames
   pub new : S
-  pub lexical : IsTrue resolved → Ran (recording step) (old, []) lexically m ([] ∷ outer) m.assignments.order outcome (new, kept)
+  pub lexical : IsTrue resolved
+      → Ran (recording step) (old, []) lexically m ([] ∷ outer) m.assignments.order outcome (new, kept)
   pub dynamic : Ran (recording step) (old, []) dynamically m ([] ∷ outer) m.assignments.order outcome (new, kept)
   pub text : printed ≡ unresolved_line resolved ++ (question_lines kept ++ outcome_lines outcome)
   pub ends : status ≡ status_of outcome
 
 -- A case is evaluated in a run, with a host that starts by the script of the case.
-pub record CaseRuns {S : Type 0} (step : Step S) (Starts : Script → S → Type 0) (c : Case) (outer : Frames) (printed : Text) (status : ℕ) : Type 0 where
+pub record CaseRuns {S : Type 0} (step : Step S) (Starts : Script → S → Type 0) (c : Case) (outer : Frames)
+    (printed : Text) (status : ℕ) : Type 0 where
   pub host : S
   pub starts : Starts (case_script c) host
   pub prints : RunPrints step host (case_module c) outer printed status

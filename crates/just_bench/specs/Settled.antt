@@ -23,7 +23,12 @@ const_references (Some referenced) assignments = referenced
 
 abbrev pub case_constants : Case → Constants
 case_constants c = record {
-  assignments = record { all = c.assignments; order = c.evaluation_order; referenced = const_references c.references c.assignments };
+  assignments = record {
+    all = c.assignments;
+    order = c.evaluation_order;
+    referenced =
+        const_references c.references c.assignments;
+  };
   overrides = c.overrides;
 }
 
@@ -34,7 +39,8 @@ settled_line t (Some v) = value_line t v
 
 -- the line of a variable: its value, or that it is open
 abbrev pub variable_line : StageState → Token × ℕ → Text
-variable_line s taken = if s.is_open taken.1 then open_line taken.0 else settled_line taken.0 (value_in s.frames taken.1)
+variable_line s taken =
+    if s.is_open taken.1 then open_line taken.0 else settled_line taken.0 (value_in s.frames taken.1)
 
 -- the lines of the taken variables, or that of the refusal
 abbrev pub stage_lines : Constants → Outcome StageState → Text

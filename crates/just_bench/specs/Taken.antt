@@ -32,7 +32,8 @@ referenced_names m (t ∷ ts) = with_number t (referenced_number m t) (reference
 -- the first occurrence of each number that did not occur before
 abbrev pub first_places : List ℕ → List (Token × ℕ) → List (Token × ℕ)
 first_places came [] = []
-first_places came (x ∷ xs) = if list_any (nat_eq x.1) came then first_places came xs else x ∷ first_places (x.1 ∷ came) xs
+first_places came (x ∷ xs) =
+    if list_any (nat_eq x.1) came then first_places came xs else x ∷ first_places (x.1 ∷ came) xs
 
 -- the names of an order whose assignments are referenced, each at its first occurrence, with their numbers
 abbrev pub taken_in : Assignments → List Token → List (Token × ℕ)

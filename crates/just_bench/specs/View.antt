@@ -32,7 +32,13 @@ run_view run = record {
     };
     functions = map function_view run.module.functions;
   };
-  assignments = record { all = map assignment_view run.module.assignments; order = map name_view run.module.evaluation_order.items; referenced = referenced_in (option_map number_set_view run.references) };
+  assignments = record {
+    all = map assignment_view run.module.assignments;
+    order =
+        map name_view run.module.evaluation_order.items;
+    referenced =
+        referenced_in (option_map number_set_view run.references);
+  };
   limit = max run.recursion_limit 1;
   overrides = text_numbered run.overrides;
 }
@@ -47,6 +53,11 @@ found_view blocks = record { frames = frames_view blocks.scope; asked = text_num
 
 abbrev pub stage_view : Stage → Constants
 stage_view stage = record {
-  assignments = record { all = map assignment_view stage.assignments; order = map name_view stage.evaluation_order.items; referenced = number_set_view stage.references };
+  assignments = record {
+    all = map assignment_view stage.assignments;
+    order =
+        map name_view stage.evaluation_order.items;
+    referenced = number_set_view stage.references;
+  };
   overrides = text_numbered stage.overrides;
 }

@@ -20,7 +20,8 @@ pub record AppendsFront (old new : Option Text) (text : Text) : Type 0 where
 -- writer failed, or nothing.
 pub data Written (old new : Option Text) (status : ℕ) (Is : Text → ℕ → Type 0) : Type 0 where
   Whole : (text : Text) → Is text status → Appends old new text → Written old new status Is
-  Part : (part rest : Text) (whole : ℕ) → status ≡ 1 → Is (part ++ rest) whole → Appends old new part → Written old new status Is
+  Part : (part rest : Text) (whole : ℕ) → status ≡ 1 → Is (part ++ rest) whole → Appends old new part
+      → Written old new status Is
   Nothing : status ≡ 1 → Keeps old new → Written old new status Is
 
 -- the status, or 1 if there is none

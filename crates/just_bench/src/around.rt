@@ -1,8 +1,7 @@
 // Wrappers around the hosts of cases.
 
 ghost use Rattle.std.specs.Prelude.{◌≡◌};
-ghost use Rattle.just_script.specs.View.{failing_view};
-ghost use Rattle.just_script.specs.declared.scripted_host.ScriptedHost.{ScriptedHost};
+ghost use Rattle.just_bench.specs.Prelude.{ScriptedHost, failing_view};
 
 use just_host::host::Host;
 use just_script::fail_at::{FailAt, How};

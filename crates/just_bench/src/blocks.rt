@@ -1,27 +1,20 @@
 // Two runs of a case in two orders, and the questions that each asks for each variable.
 
-ghost use Rattle.std.specs.Prelude.{◌≡◌, ◌++◌, ◌∷◌, ◌↔◌, ◌<◌, ◌≤◌, [], IfOk, IfSome, IsTrue, OnOk, codes, drop, length, map, string_bytes};
-ghost use Rattle.std.specs.List.{flat_map};
-ghost use Rattle.std.specs.Option.{option_map};
-ghost use Rattle.just_syntax.specs.View.{name_view, text_numbered};
-ghost use Rattle.just_value.specs.Frames.{bound_at, own_frame};
-ghost use Rattle.just_value.specs.View.{bound_view, ended, frames_view};
-ghost use Rattle.just_host.specs.View.{inner_host, recorded_view, records_view};
-ghost use Rattle.just_case_reader.specs.View.{case_view};
-ghost use Rattle.just_meaning.specs.Module.{IsResolvedModule, dynamically};
+ghost use Rattle.std.specs.Prelude.{IfOk, IfSome, IsTrue, OnOk, [], drop, flat_map, length, map, option_map};
+ghost use Rattle.std.specs.Prelude.{string_bytes, ◌++◌, ◌<◌, ◌↔◌, ◌∷◌, ◌≡◌, ◌≤◌};
+ghost use Rattle.just_bench.specs.Prelude.{Added, BlocksPrints, BothResolvedPrint, Extends, IsResolvedModule, MadeOf};
+ghost use Rattle.just_bench.specs.Prelude.{OrderPrints, Walks, agreement_line, block_lines, block_of, bound_at};
+ghost use Rattle.just_bench.specs.Prelude.{bound_view, case_view, dynamically, ended, found_view, frames_view};
+ghost use Rattle.just_bench.specs.Prelude.{in_order, inner_host, name_view, own_frame, recorded_view, recording};
+ghost use Rattle.just_bench.specs.Prelude.{records_view, run_view, seen, still_coming, taken_view, text_numbered, turn};
+ghost use Rattle.just_bench.specs.Prelude.{with_block, with_blocks};
 ghost use Rattle.just_bench.specs.Printed as answer;
-ghost use Rattle.just_bench.specs.Hosts.{MadeOf};
-ghost use Rattle.just_bench.specs.Run.{recording};
-ghost use Rattle.just_bench.specs.Written.{Added};
 ghost use Rattle.just_bench.specs.Blocks as plain;
-ghost use Rattle.just_bench.specs.Blocks.{BlocksPrints, BothResolvedPrint, Extends, OrderPrints, Walks, agreement_line, block_lines, block_of, in_order, still_coming, turn, with_block, with_blocks};
-ghost use Rattle.just_bench.specs.Taken.{taken_view};
-ghost use Rattle.just_bench.specs.View.{found_view, run_view, seen};
 
 use crate::around::Around;
 use crate::module_run::ModuleRun;
 use crate::print::{print_order, print_questions, print_refusal};
-use crate::run::print_resolved;
+use crate::run::print_unless_resolved;
 use crate::script::{case_script, script_copy};
 use crate::taken::taken_variables;
 use just_case_reader::case::Case;
@@ -56,7 +49,8 @@ pub(crate) fn evaluate_blocks<'src, A: Around>(
 ) -> Result<u8, OutOfMemory>
     ensures status { IfOk result (λ status. status ≤ 2) }
     ensures answer { IfOk result (λ status. Added (string_bytes text.old) (string_bytes text.new) (λ printed.
-        BlocksPrints A.Made.step (MadeOf (A.gives around.now)) (case_view case.entry) (map name_view second.entry.items) (frames_view parent.now) printed status)) }
+        BlocksPrints A.Made.step (MadeOf (A.gives around.now)) (case_view case.entry) (map name_view second.entry.items)
+        (frames_view parent.now) printed status)) }
 {
     let mut one_host = Recorder::new(alloc, around.around(script_copy(alloc, &case)?));
     let mut other_host = Recorder::new(alloc, around.around(case_script(alloc, &mut case)));
@@ -87,10 +81,11 @@ fn print_runs<'call, 'src, H: Host>(
     requires other_fresh { records_view other_host.old ≡ [] }
     ensures status { IfOk result (λ status. status ≤ 2) }
     ensures answer { IfOk result (λ status. Added (string_bytes text.old) (string_bytes text.new) (λ printed.
-        BothResolvedPrint H.step (inner_host one_host.old) (inner_host other_host.old) (run_view run.old) (in_order (run_view run.old) (map name_view second.entry.items)) (frames_view parent.now) printed status)) }
+        BothResolvedPrint H.step (inner_host one_host.old) (inner_host other_host.old) (run_view run.old)
+        (in_order (run_view run.old) (map name_view second.entry.items)) (frames_view parent.now) printed status)) }
 {
     let resolved = are_resolved(alloc, run, &mut second, parent)?;
-    print_resolved(text, resolved)?;
+    print_unless_resolved(text, resolved)?;
     let first = run.replace_order(Vec::new(alloc));
     print_both(
         alloc, text, run, one_host, other_host, &first, &second, parent,
@@ -105,7 +100,8 @@ fn are_resolved<'src>(
     second: &mut Vec<Name<'src>>,
     parent: &Scope<'src, '_>,
 ) -> Result<bool, OutOfMemory>
-    ensures answer { let m = run_view run.old in let other = in_order m (map name_view second.old.items) in let outer = frames_view parent.now in
+    ensures answer { let m = run_view run.old in let other = in_order m (map name_view second.old.items) in let outer =
+        frames_view parent.now in
         IfOk result (λ answer. IsTrue answer ↔ IsResolvedModule m outer × IsResolvedModule other outer) }
     ensures run { OnOk result (run_view run.new ≡ run_view run.old) }
     ensures order { OnOk result (map name_view second.new.items ≡ map name_view second.old.items) }
@@ -132,7 +128,9 @@ fn print_both<'call, 'src, H: Host>(
     requires other_fresh { records_view other_host.old ≡ [] }
     ensures status { IfOk result (λ status. status ≤ 2) }
     ensures answer { IfOk result (λ status. Added (string_bytes text.old) (string_bytes text.new) (λ printed.
-        plain.BothPrint H.step (inner_host one_host.old) (inner_host other_host.old) (in_order (run_view run.old) (map name_view first.now)) (in_order (run_view run.old) (map name_view second.now)) (frames_view parent.now) printed status)) }
+        plain.BothPrint H.step (inner_host one_host.old) (inner_host other_host.old)
+        (in_order (run_view run.old) (map name_view first.now))
+        (in_order (run_view run.old) (map name_view second.now)) (frames_view parent.now) printed status)) }
 {
     let Some(one) = print_run(alloc, text, run, one_host, first, parent)? else {
         return Ok(2);
@@ -158,7 +156,8 @@ fn print_run<'call, 'src, 'run, H: Host>(
 ) -> Result<Option<Blocks<'src, 'run>>, OutOfMemory>
     requires fresh { records_view host.old ≡ [] }
     ensures prints { IfOk result (λ found. Added (string_bytes text.old) (string_bytes text.new) (λ printed.
-        OrderPrints H.step (inner_host host.old) (in_order (run_view run.old) (map name_view order.now)) (frames_view parent.entry.now) printed (option_map found_view found))) }
+        OrderPrints H.step (inner_host host.old) (in_order (run_view run.old) (map name_view order.now))
+        (frames_view parent.entry.now) printed (option_map found_view found))) }
     ensures run { OnOk result (in_order (run_view run.new) [] ≡ in_order (run_view run.old) []) }
 {
     let references = run.references.as_ref();
@@ -183,7 +182,9 @@ fn print_turns<'call, 'src, 'run, H: Host>(
     mut blocks: Blocks<'src, 'run>,
 ) -> Result<Option<Blocks<'src, 'run>>, OutOfMemory>
     ensures walks { IfOk result (λ found. Added (string_bytes text.old) (string_bytes text.new) (λ printed.
-        Walks H.step (in_order (run_view run.old) (map name_view order.now)) (seen host.old) (frames_view blocks.entry.scope) (map name_view order.now) (map taken_view taken.now) (text_numbered blocks.entry.questions) printed (option_map found_view found))) }
+        Walks H.step (in_order (run_view run.old) (map name_view order.now)) (seen host.old)
+        (frames_view blocks.entry.scope) (map name_view order.now) (map taken_view taken.now)
+        (text_numbered blocks.entry.questions) printed (option_map found_view found))) }
     ensures run { OnOk result (in_order (run_view run.new) [] ≡ in_order (run_view run.old) []) }
 {
     let mut at: usize = 0;
@@ -212,13 +213,21 @@ fn print_turn<'call, 'src, H: Host>(
     blocks: &mut Blocks<'src, '_>,
 ) -> Result<Result<usize, Error<'src>>, OutOfMemory>
     ensures run { OnOk result (run_view run.new ≡ in_order (run_view run.old) (name_view name.entry ∷ [])) }
-    ensures extends { IfOk result (λ next. Extends dynamically (recording H.step) (seen host.old) (in_order (run_view run.old) (name_view name.entry ∷ [])) (frames_view blocks.old.scope) (ended (λ _. frames_view blocks.new.scope) next) (seen host.new)) }
+    ensures extends { IfOk result (λ next. Extends dynamically (recording H.step) (seen host.old)
+        (in_order (run_view run.old) (name_view name.entry ∷ [])) (frames_view blocks.old.scope)
+        (ended (λ _. frames_view blocks.new.scope) next) (seen host.new)) }
     ensures rest { let coming = drop at (map taken_view taken.now) in
-        IfOk result (λ next. IfOk next (λ next. drop next (map taken_view taken.now) ≡ still_coming coming (plain.next_number coming (name_view name.entry)))) }
+        IfOk result
+        (λ next. IfOk next (λ next. drop next (map taken_view taken.now)
+        ≡ still_coming coming (plain.next_number coming (name_view name.entry)))) }
     ensures text { let coming = drop at (map taken_view taken.now) in
-        OnOk result (string_bytes text.new ≡ string_bytes text.old ++ flat_map block_lines (block_of (turn (name_view name.entry) (seen host.old) (seen host.new)) (plain.next_number coming (name_view name.entry)))) }
+        OnOk result (string_bytes text.new ≡ string_bytes text.old ++ flat_map block_lines
+        (block_of (turn (name_view name.entry) (seen host.old) (seen host.new))
+        (plain.next_number coming (name_view name.entry)))) }
     ensures asked { let coming = drop at (map taken_view taken.now) in
-        OnOk result (text_numbered blocks.new.questions ≡ with_blocks (text_numbered blocks.old.questions) (block_of (turn (name_view name.entry) (seen host.old) (seen host.new)) (plain.next_number coming (name_view name.entry)))) }
+        OnOk result (text_numbered blocks.new.questions ≡ with_blocks (text_numbered blocks.old.questions)
+        (block_of (turn (name_view name.entry) (seen host.old) (seen host.new))
+        (plain.next_number coming (name_view name.entry)))) }
 {
     let before = count(host);
     let bound = run.extend(alloc, host, name, &mut blocks.scope)?;
@@ -241,11 +250,16 @@ fn add_block(
     questions: &mut HashMap<Number, String>,
 ) -> Result<usize, OutOfMemory>
     ensures rest { let coming = drop at (map taken_view taken.now) in
-        IfOk result (λ next. drop next (map taken_view taken.now) ≡ still_coming coming (plain.next_number coming (name_view name.now))) }
+        IfOk result (λ next. drop next (map taken_view taken.now)
+        ≡ still_coming coming (plain.next_number coming (name_view name.now))) }
     ensures text { let coming = drop at (map taken_view taken.now) in
-        OnOk result (string_bytes text.new ≡ string_bytes text.old ++ flat_map block_lines (block_of (record { name = name_view name.now; asked = map recorded_view asked.now }) (plain.next_number coming (name_view name.now)))) }
+        OnOk result (string_bytes text.new ≡ string_bytes text.old ++ flat_map block_lines
+        (block_of (record { name = name_view name.now; asked = map recorded_view asked.now })
+        (plain.next_number coming (name_view name.now)))) }
     ensures asked { let coming = drop at (map taken_view taken.now) in
-        OnOk result (text_numbered questions.new ≡ with_blocks (text_numbered questions.old) (block_of (record { name = name_view name.now; asked = map recorded_view asked.now }) (plain.next_number coming (name_view name.now)))) }
+        OnOk result (text_numbered questions.new ≡ with_blocks (text_numbered questions.old)
+        (block_of (record { name = name_view name.now; asked = map recorded_view asked.now })
+        (plain.next_number coming (name_view name.now)))) }
 {
     match number_at(taken, at, name) {
         Some(number) => {
@@ -288,8 +302,10 @@ fn print_block(
     asked: &[Recorded],
     questions: &mut HashMap<Number, String>,
 ) -> Result<(), OutOfMemory>
-    ensures text { OnOk result (string_bytes text.new ≡ string_bytes text.old ++ block_lines (record { number = number; name = name_view name.now; asked = map recorded_view asked.now })) }
-    ensures asked { OnOk result (text_numbered questions.new ≡ with_block (text_numbered questions.old) (record { number = number; name = name_view name.now; asked = map recorded_view asked.now })) }
+    ensures text { OnOk result (string_bytes text.new ≡ string_bytes text.old ++ block_lines
+        (record { number = number; name = name_view name.now; asked = map recorded_view asked.now })) }
+    ensures asked { OnOk result (text_numbered questions.new ≡ with_block (text_numbered questions.old)
+        (record { number = number; name = name_view name.now; asked = map recorded_view asked.now })) }
 {
     let lines = question_lines(alloc, asked)?;
     writeln!(text, "block {name}")?;
@@ -349,7 +365,8 @@ fn agree<'src>(one: &Blocks<'src, '_>, other: &Blocks<'src, '_>) -> bool
 // Whether a variable has the same questions and the same value in both runs, or is not bound in the other.
 fn is_alike<'src>(one: &Blocks<'src, '_>, other: &Blocks<'src, '_>, binding: &Binding<'src>) -> bool
     ensures { let number = binding.now.number in
-        result ≡ plain.is_alike (text_numbered one.now.questions number) (text_numbered other.now.questions number) (bound_view binding.now) (bound_at number (own_frame (frames_view other.now.scope))) }
+        result ≡ plain.is_alike (text_numbered one.now.questions number) (text_numbered other.now.questions number)
+        (bound_view binding.now) (bound_at number (own_frame (frames_view other.now.scope))) }
 {
     match other.scope.frame().binding(binding.number) {
         Some(bound) => {

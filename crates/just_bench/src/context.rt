@@ -1,8 +1,8 @@
 // The context of a case.
 
-ghost use Rattle.std.specs.Prelude.{◌≡◌, [], IfOk, codes, false, map};
-ghost use Rattle.just_syntax.specs.View.{assignment_view, function_view, name_view};
-ghost use Rattle.just_host.specs.View.{config_view, justfile_view, search_view};
+ghost use Rattle.std.specs.Prelude.{IfOk, [], codes, false, map, ◌≡◌};
+ghost use Rattle.just_bench.specs.Prelude.{assignment_view, config_view, function_view, justfile_view, name_view};
+ghost use Rattle.just_bench.specs.Prelude.{search_view};
 ghost use Rattle.just_bench.specs.Module as cases;
 
 use just_host::config::Config;
@@ -67,7 +67,10 @@ pub(crate) fn case_config(alloc: Global, dry_run: bool) -> Result<Config, OutOfM
 
 /// What the search is assumed to have found.
 pub(crate) fn case_search(alloc: Global) -> Result<Search, OutOfMemory>
-    ensures { IfOk result (λ search. search_view search ≡ record { justfile = codes "/work/justfile"; working_directory = codes "/work" }) }
+    ensures { IfOk result (λ search. search_view search ≡ record {
+      justfile = codes "/work/justfile";
+      working_directory = codes "/work";
+    }) }
 {
     Search::new(alloc, JUSTFILE, DIRECTORY)
 }

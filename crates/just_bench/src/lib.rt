@@ -7,7 +7,7 @@ mod around;
 mod blocks;
 mod context;
 pub mod laws;
-mod module_run;
+pub mod module_run;
 pub mod print;
 pub mod program;
 mod run;

@@ -1,19 +1,11 @@
-// Runs of a case's module.
+// Runs of a case's module, with any host and in any scope.
 
-ghost use Rattle.std.specs.Prelude.{◌≡◌, ◌∷◌, [], ◌↔◌, IfOk, OnOk, IsTrue, map};
-ghost use Rattle.std.specs.Option.{option_map};
-ghost use Rattle.just_syntax.specs.View.{name_view};
+ghost use Rattle.std.specs.Prelude.{IfOk, IsTrue, OnOk, [], map, option_map, ◌↔◌, ◌∷◌, ◌≡◌};
+ghost use Rattle.just_bench.specs.Prelude.{Extends, IsResolved, IsResolvedModule, Outcome, Ran, bound_view};
+ghost use Rattle.just_bench.specs.Prelude.{case_module, case_view, dynamically, ended, first_bound, first_given};
+ghost use Rattle.just_bench.specs.Prelude.{frames_view, in_order, lexically, name_view, own_frame, run_view};
+ghost use Rattle.just_bench.specs.Prelude.{without_attributes};
 ghost use Rattle.std.specs.Map.{values_of};
-ghost use Rattle.just_value.specs.Frames.{own_frame};
-ghost use Rattle.just_value.specs.Outcome.{Outcome};
-ghost use Rattle.just_value.specs.View.{bound_view, ended, frames_view};
-ghost use Rattle.just_meaning.specs.Module.{IsResolvedModule, Ran, dynamically, lexically};
-ghost use Rattle.just_meaning.specs.Resolved.{IsResolved};
-ghost use Rattle.just_case_reader.specs.View.{case_view};
-ghost use Rattle.just_bench.specs.Blocks.{Extends, in_order};
-ghost use Rattle.just_bench.specs.FirstBinding.{first_bound, first_given, without_attributes};
-ghost use Rattle.just_bench.specs.Module.{case_module};
-ghost use Rattle.just_bench.specs.View.{run_view};
 
 use crate::context::{case_config, case_module, case_search};
 use just_case_reader::case::Case;
@@ -36,7 +28,7 @@ use std::mem;
 
 /// The arguments of runs of a case's module, except the host and the scope.
 #[derive(Drop)]
-pub(crate) struct ModuleRun<'src> {
+pub struct ModuleRun<'src> {
     config: Config,
     dotenv: BTreeMap<String, String>,
     pub(crate) module: Justfile<'src>,
@@ -50,7 +42,7 @@ pub(crate) struct ModuleRun<'src> {
 
 impl<'src> ModuleRun<'src> {
     /// The run of a case's module, in the order of the case.
-    pub(crate) fn of_case(alloc: Global, case: Case<'src>) -> Result<ModuleRun<'src>, OutOfMemory>
+    pub fn of_case(alloc: Global, case: Case<'src>) -> Result<ModuleRun<'src>, OutOfMemory>
         ensures { IfOk result (λ run. run_view run ≡ case_module (case_view case.entry)) }
     {
         let order = case.evaluation_order;
@@ -66,12 +58,9 @@ impl<'src> ModuleRun<'src> {
     }
 
     /// Whether the module is resolved in a scope.
-    pub(crate) fn is_resolved(
-        &self,
-        alloc: Global,
-        parent: &Scope<'src, '_>,
-    ) -> Result<bool, OutOfMemory>
-        ensures { IfOk result (λ answer. IsTrue answer ↔ IsResolved (run_view self.now).program.functions (run_view self.now).assignments (frames_view parent.now)) }
+    pub fn is_resolved(&self, alloc: Global, parent: &Scope<'src, '_>) -> Result<bool, OutOfMemory>
+        ensures { IfOk result (λ answer. IsTrue answer ↔ IsResolved (run_view self.now).program.functions
+            (run_view self.now).assignments (frames_view parent.now)) }
     {
         resolved(alloc, &self.module, parent, self.references.as_ref())
     }
@@ -104,16 +93,18 @@ impl<'src> ModuleRun<'src> {
     }
 
     /// Evaluates the module in its order, in a scope whose bindings it can read.
-    pub(crate) fn evaluate<'run, H: Host>(
+    pub fn evaluate<'run, H: Host>(
         &'run self,
         alloc: Global,
         host: &mut H,
         parent: &'run Scope<'src, 'run>,
     ) -> Result<Scope<'src, 'run>, Error<'src>>
         ensures headline { let m = run_view self.entry.now in let outer = frames_view parent.entry.now in
-            IsResolvedModule m outer → Ran H.step host.old lexically m ([] ∷ outer) m.assignments.order (ended frames_view result) host.new }
+            IsResolvedModule m outer
+            → Ran H.step host.old lexically m ([] ∷ outer) m.assignments.order (ended frames_view result) host.new }
         ensures dynamic { let m = run_view self.entry.now in
-            Ran H.step host.old dynamically m ([] ∷ frames_view parent.entry.now) m.assignments.order (ended frames_view result) host.new }
+            Ran H.step host.old dynamically m ([] ∷ frames_view parent.entry.now) m.assignments.order
+            (ended frames_view result) host.new }
     {
         Evaluator::evaluate_assignments(
             alloc,
@@ -139,7 +130,9 @@ impl<'src> ModuleRun<'src> {
         scope: &mut Scope<'src, '_>,
     ) -> Result<Result<(), Error<'src>>, OutOfMemory>
         ensures run { OnOk result (run_view self.new ≡ in_order (run_view self.old) (name_view name.entry ∷ [])) }
-        ensures extends { IfOk result (λ bound. Extends dynamically H.step host.old (in_order (run_view self.old) (name_view name.entry ∷ [])) (frames_view scope.old) (ended (λ _. frames_view scope.new) bound) host.new) }
+        ensures extends { IfOk result
+            (λ bound. Extends dynamically H.step host.old (in_order (run_view self.old) (name_view name.entry ∷ []))
+            (frames_view scope.old) (ended (λ _. frames_view scope.new) bound) host.new) }
     {
         self.module.evaluation_order = vec![in alloc; name]?;
         match self.next_binding(alloc, host, scope)? {
@@ -159,7 +152,9 @@ impl<'src> ModuleRun<'src> {
         host: &mut H,
         scope: &Scope<'src, '_>,
     ) -> Result<Result<Option<Binding<'src>>, Error<'src>>, OutOfMemory>
-        ensures { IfOk result (λ found. (given : Outcome _) × Ran H.step host.old dynamically (run_view self.now) ([] ∷ frames_view scope.now) (run_view self.now).assignments.order given host.new × (ended (option_map bound_view) found ≡ first_given given)) }
+        ensures { IfOk result (λ found. (given : Outcome _) × Ran H.step host.old dynamically (run_view self.now)
+            ([] ∷ frames_view scope.now) (run_view self.now).assignments.order given host.new
+            × (ended (option_map bound_view) found ≡ first_given given)) }
     {
         match self.evaluate(alloc, host, scope) {
             Ok(bound) => Ok(Ok(first_binding(alloc, &bound)?)),
@@ -173,7 +168,8 @@ fn first_binding<'src>(
     alloc: Global,
     scope: &Scope<'src, '_>,
 ) -> Result<Option<Binding<'src>>, OutOfMemory>
-    ensures { IfOk result (λ found. option_map bound_view found ≡ option_map without_attributes (first_bound (values_of (own_frame (frames_view scope.now))))) }
+    ensures { IfOk result (λ found. option_map bound_view found ≡ option_map without_attributes
+        (first_bound (values_of (own_frame (frames_view scope.now))))) }
 {
     match scope.bindings().next() {
         Some(binding) => Ok(Some(copied(alloc, binding)?)),

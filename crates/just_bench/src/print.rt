@@ -1,15 +1,11 @@
 // Prints the result of an evaluation.
 
-ghost use Rattle.std.specs.Prelude.{◌≡◌, ◌++◌, OnOk, Some, codes, map, string_bytes};
+ghost use Rattle.std.specs.Prelude.{OnOk, Some, codes, map, string_bytes, ◌++◌, ◌≡◌};
 ghost use Rattle.std.specs.Map.{values_of};
-ghost use Rattle.just_syntax.specs.Plain.{Text};
-ghost use Rattle.just_syntax.specs.View.{name_view};
-ghost use Rattle.just_value.specs.Frames.{own_frame};
-ghost use Rattle.just_value.specs.Refusal.{FunctionCall};
-ghost use Rattle.just_value.specs.Shown.{quoted};
-ghost use Rattle.just_value.specs.View.{compile_refusal, frames_view, refusal};
-ghost use Rattle.just_host.specs.View.{recorded_view};
-ghost use Rattle.just_bench.specs.Printed.{binding_lines, const_refusal_line, open_line, order_line, question_lines, refusal_line, value_line, with_newline, words};
+ghost use Rattle.just_bench.specs.Prelude.{FunctionCall, binding_lines, compile_refusal, const_refusal_line};
+ghost use Rattle.just_bench.specs.Prelude.{frames_view, name_view, open_line, order_line, own_frame, question_lines};
+ghost use Rattle.just_bench.specs.Prelude.{quoted, recorded_view, refusal, refusal_line, value_line, with_newline};
+ghost use Rattle.just_bench.specs.Prelude.{words};
 
 use just_host::fault::fault_text;
 use just_host::recorded::Recorded;
@@ -25,7 +21,8 @@ use std::alloc::Global;
 
 /// Adds the questions, each on a line after `? `.
 pub fn print_questions(text: &mut String, questions: &[Recorded]) -> Result<(), OutOfMemory>
-    ensures { OnOk result (string_bytes text.new ≡ string_bytes text.old ++ question_lines (map recorded_view questions.now)) }
+    ensures { OnOk result (string_bytes text.new ≡ string_bytes text.old ++ question_lines
+        (map recorded_view questions.now)) }
 {
     for question in questions {
         writeln!(text, "? {question}")?;
@@ -35,7 +32,8 @@ pub fn print_questions(text: &mut String, questions: &[Recorded]) -> Result<(), 
 
 /// Adds the line of an order: `order`, and each variable that is taken.
 pub fn print_order(text: &mut String, taken: &[(Name, Number)]) -> Result<(), OutOfMemory>
-    ensures { OnOk result (string_bytes text.new ≡ string_bytes text.old ++ order_line (map (λ taken. name_view taken.0) taken.now)) }
+    ensures { OnOk result (string_bytes text.new ≡ string_bytes text.old
+        ++ order_line (map (λ taken. name_view taken.0) taken.now)) }
 {
     text.push_str("order")?;
     for (name, _) in taken {
@@ -50,7 +48,8 @@ pub fn print_bindings<'call>(
     text: &'call mut String,
     scope: &'call Scope,
 ) -> Result<(), OutOfMemory>
-    ensures { OnOk result (string_bytes text.new ≡ string_bytes text.old ++ binding_lines (values_of (own_frame (frames_view scope.now)))) }
+    ensures { OnOk result (string_bytes text.new ≡ string_bytes text.old ++ binding_lines
+        (values_of (own_frame (frames_view scope.now)))) }
 {
     for binding in scope.bindings() {
         print_value(text, &binding.name, &binding.value)?;
@@ -76,7 +75,8 @@ pub fn print_open(text: &mut String, name: &Name) -> Result<(), OutOfMemory>
 
 /// Adds a line with the reason why assignments were refused before any run.
 pub fn print_const_refusal(text: &mut String, refusal: &CompileError) -> Result<(), OutOfMemory>
-    ensures { OnOk result (string_bytes text.new ≡ string_bytes text.old ++ const_refusal_line (compile_refusal refusal.now)) }
+    ensures { OnOk result (string_bytes text.new ≡ string_bytes text.old ++ const_refusal_line
+        (compile_refusal refusal.now)) }
 {
     match refusal {
         CompileError::ConstEval { error, .. } => writeln!(text, "refused: {error}")?,
@@ -121,7 +121,8 @@ pub fn print_refusal(alloc: Global, text: &mut String, error: &Error) -> Result<
 
 // Adds the line of a refusal with this number and name, and a quoted text.
 fn print_said(text: &mut String, refusal: &str, said: &str) -> Result<(), OutOfMemory>
-    ensures { OnOk result (string_bytes text.new ≡ string_bytes text.old ++ with_newline (words (words (codes "refused") refusal.now) (quoted said.now))) }
+    ensures { OnOk result (string_bytes text.new ≡ string_bytes text.old ++ with_newline
+        (words (words (codes "refused") refusal.now) (quoted said.now))) }
 {
     let said = Element(said);
     writeln!(text, "refused {refusal} {said}")?;
@@ -130,7 +131,8 @@ fn print_said(text: &mut String, refusal: &str, said: &str) -> Result<(), OutOfM
 
 // Adds the line of a built-in function's own fault.
 fn print_fault(text: &mut String, function: &Name, message: &str) -> Result<(), OutOfMemory>
-    ensures { OnOk result (string_bytes text.new ≡ string_bytes text.old ++ refusal_line (Some (FunctionCall (name_view function.now) message.now))) }
+    ensures { OnOk result (string_bytes text.new ≡ string_bytes text.old ++ refusal_line
+        (Some (FunctionCall (name_view function.now) message.now))) }
 {
     let function = function.lexeme();
     let message = Element(message);

@@ -1,14 +1,8 @@
 // The program: it reads a case from a reader, and writes its answer to a writer.
 
-ghost use Rattle.std.specs.Prelude.{◌≡◌, ◌∷◌, ◌<◌, ◌≤◌, [], IfOk, IfSome, IsErr, length, string_bytes};
-ghost use Rattle.just_value.specs.View.{frames_view};
-ghost use Rattle.just_case_reader.specs.View.{case_view};
-ghost use Rattle.just_script.specs.Failing.{PassesOrFails};
-ghost use Rattle.just_bench.specs.Answer.{AnswersCase, Evaluated};
-ghost use Rattle.just_bench.specs.Hosts.{MadeOf};
-ghost use Rattle.just_bench.specs.Run.{by_script};
-ghost use Rattle.just_bench.specs.Written.{Added, Written, or_one};
-ghost use Rattle.just_bench.specs.declared.stream.TheConstants.{LIMIT};
+ghost use Rattle.std.specs.Prelude.{IfOk, IfSome, IsErr, [], length, string_bytes, ◌<◌, ◌∷◌, ◌≡◌, ◌≤◌};
+ghost use Rattle.just_bench.specs.Prelude.{Added, AnswersCase, Evaluated, LIMIT, MadeOf, PassesOrFails, Written};
+ghost use Rattle.just_bench.specs.Prelude.{by_script, case_view, frames_view, or_one};
 
 use crate::around::{Around, Bare, Failing};
 use crate::blocks::evaluate_blocks;
@@ -30,13 +24,14 @@ use std::mem;
 /// write, or a failed allocation outside the evaluation. The answer is written only once it is complete. So nothing is
 /// written if a read fails, the case is too long, or an allocation outside the evaluation fails.
 pub fn run<R: Read, W: Write>(alloc: Global, reader: &mut R, writer: &mut W) -> u8
-    ensures answer { IfSome (R.remaining reader.old) (λ case. Written (W.contents writer.old) (W.contents writer.new) result (
+    ensures answer { IfSome (R.remaining reader.old)
+        (λ case. Written (W.contents writer.old) (W.contents writer.new) result (
         AnswersCase by_script (λ script state. state ≡ script) case)) }
     ensures too_long { IfSome (R.remaining reader.old) (λ case. LIMIT < length case → result ≡ 1) }
     ensures unwritten { IfSome (R.remaining reader.old) (λ case. LIMIT < length case → writer.new ≡ writer.old) }
     ensures status { result ≤ 2 }
 {
-    exit_status(answer_case(alloc, reader, writer, &Bare {}))
+    exit_status(answer_stream(alloc, reader, writer, &Bare {}))
 }
 
 /// As [`run`], but the host passes on only the first `passed` questions of a run, and fails at each later one in the
@@ -48,13 +43,15 @@ pub fn run_failing<R: Read, W: Write>(
     passed: usize,
     how: How,
 ) -> u8
-    ensures answer { IfSome (R.remaining reader.old) (λ case. Written (W.contents writer.old) (W.contents writer.new) result (
-        AnswersCase (PassesOrFails by_script) (λ script state. state ≡ record { host = script; left = passed; how = how }) case)) }
+    ensures answer { IfSome (R.remaining reader.old)
+        (λ case. Written (W.contents writer.old) (W.contents writer.new) result (
+        AnswersCase (PassesOrFails by_script)
+        (λ script state. state ≡ record { host = script; left = passed; how = how }) case)) }
     ensures too_long { IfSome (R.remaining reader.old) (λ case. LIMIT < length case → result ≡ 1) }
     ensures unwritten { IfSome (R.remaining reader.old) (λ case. LIMIT < length case → writer.new ≡ writer.old) }
     ensures status { result ≤ 2 }
 {
-    exit_status(answer_case(alloc, reader, writer, &Failing { passed, how }))
+    exit_status(answer_stream(alloc, reader, writer, &Failing { passed, how }))
 }
 
 /// Evaluates a case that is already built, in a scope whose bindings it can read. Adds what [`run`] would write for it,
@@ -70,8 +67,10 @@ pub fn evaluate_in_scope<'src>(
     parent: &Scope<'src, '_>,
 ) -> Result<u8, OutOfMemory>
     ensures status { IfOk result (λ status. status ≤ 2) }
-    ensures answer { let c = case_view case.entry in IfOk result (λ status. Added (string_bytes text.old) (string_bytes text.new) (λ printed.
-        Evaluated by_script (λ script state. state ≡ script) c c.evaluation (frames_view parent.entry.now) printed status)) }
+    ensures answer { let c = case_view case.entry in
+        IfOk result (λ status. Added (string_bytes text.old) (string_bytes text.new) (λ printed.
+        Evaluated by_script (λ script state. state ≡ script) c c.evaluation (frames_view parent.entry.now) printed
+        status)) }
 {
     evaluate_in(alloc, text, case, parent, &Bare {})
 }
@@ -87,27 +86,28 @@ fn exit_status(answered: Result<u8, StreamError>) -> u8
 }
 
 // The bytes and the lines, which the texts of a case's expressions borrow, outlive them here.
-fn answer_case<R: Read, W: Write, A: Around>(
+fn answer_stream<R: Read, W: Write, A: Around>(
     alloc: Global,
     reader: &mut R,
     writer: &mut W,
     around: &A,
 ) -> Result<u8, StreamError>
     ensures status { IfOk result (λ status. status ≤ 2) }
-    ensures written { IfSome (R.remaining reader.old) (λ case. Written (W.contents writer.old) (W.contents writer.new) (or_one result) (
+    ensures written { IfSome (R.remaining reader.old)
+        (λ case. Written (W.contents writer.old) (W.contents writer.new) (or_one result) (
         AnswersCase A.Made.step (MadeOf (A.gives around.now)) case)) }
     ensures too_long { IfSome (R.remaining reader.old) (λ case. LIMIT < length case → IsErr result) }
     ensures unwritten { IfSome (R.remaining reader.old) (λ case. LIMIT < length case → writer.new ≡ writer.old) }
 {
     let bytes = read_case(alloc, reader)?;
     let mut text = String::new(alloc);
-    let status = print_answer(alloc, &mut text, &bytes, around)?;
+    let status = answer_case(alloc, &mut text, &bytes, around)?;
     write_text(writer, &text)?;
     Ok(status)
 }
 
 // Adds the answer to a case, and returns the exit status.
-fn print_answer<A: Around>(
+fn answer_case<A: Around>(
     alloc: Global,
     text: &mut String,
     bytes: &[u8],
@@ -136,7 +136,8 @@ fn evaluate<A: Around>(
     around: &A,
 ) -> Result<u8, OutOfMemory>
     ensures status { IfOk result (λ status. status ≤ 2) }
-    ensures answer { let c = case_view case.entry in IfOk result (λ status. Added (string_bytes text.old) (string_bytes text.new) (λ printed.
+    ensures answer { let c = case_view case.entry in
+        IfOk result (λ status. Added (string_bytes text.old) (string_bytes text.new) (λ printed.
         Evaluated A.Made.step (MadeOf (A.gives around.now)) c c.evaluation ([] ∷ []) printed status)) }
 {
     let parent = Scope::root(alloc, &[])?;
@@ -152,8 +153,10 @@ fn evaluate_in<'src, A: Around>(
     around: &A,
 ) -> Result<u8, OutOfMemory>
     ensures status { IfOk result (λ status. status ≤ 2) }
-    ensures answer { let c = case_view case.entry in IfOk result (λ status. Added (string_bytes text.old) (string_bytes text.new) (λ printed.
-        Evaluated A.Made.step (MadeOf (A.gives around.now)) c c.evaluation (frames_view parent.entry.now) printed status)) }
+    ensures answer { let c = case_view case.entry in
+        IfOk result (λ status. Added (string_bytes text.old) (string_bytes text.new) (λ printed.
+        Evaluated A.Made.step (MadeOf (A.gives around.now)) c c.evaluation (frames_view parent.entry.now) printed
+        status)) }
 {
     match mem::replace(&mut case.evaluation, Evaluation::Run) {
         Evaluation::Run => evaluate_run(alloc, text, case, parent, around),

@@ -1,13 +1,9 @@
 // Evaluation of a case in a run.
 
-ghost use Rattle.std.specs.Prelude.{◌≡◌, ◌≤◌, ◌++◌, [], IfOk, OnOk, string_bytes};
-ghost use Rattle.just_value.specs.View.{ended, frames_view};
-ghost use Rattle.just_host.specs.View.{inner_host, records_view};
-ghost use Rattle.just_case_reader.specs.View.{case_view};
-ghost use Rattle.just_bench.specs.Hosts.{MadeOf};
-ghost use Rattle.just_bench.specs.Run.{CaseRuns, RunPrints, outcome_lines, status_of, unresolved_line};
-ghost use Rattle.just_bench.specs.Written.{Added};
-ghost use Rattle.just_bench.specs.View.{run_view};
+ghost use Rattle.std.specs.Prelude.{IfOk, OnOk, [], string_bytes, ◌++◌, ◌≡◌, ◌≤◌};
+ghost use Rattle.just_bench.specs.Prelude.{Added, CaseRuns, MadeOf, RunPrints, case_view, ended, frames_view};
+ghost use Rattle.just_bench.specs.Prelude.{inner_host, outcome_lines, records_view, run_view, status_of};
+ghost use Rattle.just_bench.specs.Prelude.{unresolved_line};
 
 use crate::around::Around;
 use crate::module_run::ModuleRun;
@@ -31,16 +27,17 @@ pub(crate) fn evaluate_run<'src, A: Around>(
 ) -> Result<u8, OutOfMemory>
     ensures status { IfOk result (λ status. status ≤ 2) }
     ensures answer { IfOk result (λ status. Added (string_bytes text.old) (string_bytes text.new) (λ printed.
-        CaseRuns A.Made.step (MadeOf (A.gives around.now)) (case_view case.entry) (frames_view parent.now) printed status)) }
+        CaseRuns A.Made.step (MadeOf (A.gives around.now)) (case_view case.entry)
+        (frames_view parent.now) printed status)) }
 {
     let mut host = Recorder::new(alloc, around.around(case_script(alloc, &mut case)));
     let run = ModuleRun::of_case(alloc, case)?;
-    print_evaluation(alloc, text, &run, &mut host, parent)
+    evaluate_module(alloc, text, &run, &mut host, parent)
 }
 
 // Runs a module with a host that has no records. Adds `unresolved` if it is unresolved, the questions that the host was
 // asked, and the bindings or the refusal, and returns the exit status.
-fn print_evaluation<'call, 'src, H: Host>(
+fn evaluate_module<'call, 'src, H: Host>(
     alloc: Global,
     text: &'call mut String,
     run: &'call ModuleRun<'src>,
@@ -53,14 +50,14 @@ fn print_evaluation<'call, 'src, H: Host>(
         RunPrints H.step (inner_host host.old) (run_view run.now) (frames_view parent.now) printed status)) }
 {
     let resolved = run.is_resolved(alloc, parent)?;
-    print_resolved(text, resolved)?;
+    print_unless_resolved(text, resolved)?;
     let outcome = run.evaluate(alloc, host, parent);
     print_questions(text, host.questions())?;
     print_outcome(alloc, text, &outcome)
 }
 
 /// Adds `unresolved`, unless all is resolved.
-pub(crate) fn print_resolved(text: &mut String, resolved: bool) -> Result<(), OutOfMemory>
+pub(crate) fn print_unless_resolved(text: &mut String, resolved: bool) -> Result<(), OutOfMemory>
     ensures { OnOk result (string_bytes text.new ≡ string_bytes text.old ++ unresolved_line resolved) }
 {
     if !resolved {
@@ -75,7 +72,8 @@ fn print_outcome<'call, 'src>(
     text: &'call mut String,
     outcome: &'call Result<Scope<'src, '_>, Error<'src>>,
 ) -> Result<u8, OutOfMemory>
-    ensures printed { OnOk result (string_bytes text.new ≡ string_bytes text.old ++ outcome_lines (ended frames_view outcome.now)) }
+    ensures printed { OnOk result (string_bytes text.new ≡ string_bytes text.old ++ outcome_lines
+        (ended frames_view outcome.now)) }
     ensures status { IfOk result (λ status. status ≤ 2) }
     ensures ends { IfOk result (λ status. status ≡ status_of (ended frames_view outcome.now)) }
 {

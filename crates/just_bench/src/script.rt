@@ -1,11 +1,8 @@
 // The hosts of a case.
 
-ghost use Rattle.std.specs.Prelude.{◌≡◌, IfOk, map};
-ghost use Rattle.just_syntax.specs.View.{pair_view};
-ghost use Rattle.just_case_reader.specs.View.{case_view, reply_view};
-ghost use Rattle.just_script.specs.View.{script_view};
+ghost use Rattle.std.specs.Prelude.{IfOk, map, ◌≡◌};
+ghost use Rattle.just_bench.specs.Prelude.{case_view, pair_view, reply_view, script_of, script_view, without_answers};
 ghost use Rattle.just_bench.specs.Hosts as cases;
-ghost use Rattle.just_bench.specs.Hosts.{script_of, without_answers};
 
 use just_case_reader::case::Case;
 use just_script::scripted_host::ScriptedHost;

@@ -1,22 +1,13 @@
 // The output of a stage before any run.
 
-ghost use Rattle.std.specs.Prelude.{◌≡◌, ◌↔◌, ◌++◌, ◌≤◌, IfOk, IsTrue, OnOk, map, string_bytes};
-ghost use Rattle.std.specs.List.{flat_map};
-ghost use Rattle.std.specs.Option.{option_map};
-ghost use Rattle.just_syntax.specs.View.{assignment_view, name_view};
-ghost use Rattle.just_value.specs.View.{const_ended, frames_view};
-ghost use Rattle.just_meaning.specs.Resolved.{IsResolvedConst};
-ghost use Rattle.just_meaning.specs.Stage.{Staged, at_start};
-ghost use Rattle.just_eval.specs.View.{stage_state_of};
-ghost use Rattle.just_case_reader.specs.View.{case_view, number_set_view};
-ghost use Rattle.just_bench.specs.Run.{status_of};
-ghost use Rattle.just_bench.specs.Written.{Added};
-ghost use Rattle.just_bench.specs.Settled.{ConstPrints, assigned_in, case_constants, const_references, stage_lines, variable_line};
-ghost use Rattle.just_bench.specs.Taken.{taken_view};
-ghost use Rattle.just_bench.specs.View.{stage_view};
+ghost use Rattle.std.specs.Prelude.{IfOk, IsTrue, OnOk, flat_map, map, option_map, string_bytes, ◌++◌, ◌↔◌, ◌≡◌, ◌≤◌};
+ghost use Rattle.just_bench.specs.Prelude.{Added, ConstPrints, IsResolvedConst, Staged, assigned_in, assignment_view};
+ghost use Rattle.just_bench.specs.Prelude.{at_start, case_constants, case_view, const_ended, const_references};
+ghost use Rattle.just_bench.specs.Prelude.{frames_view, name_view, number_set_view, stage_lines, stage_state_of};
+ghost use Rattle.just_bench.specs.Prelude.{stage_view, status_of, taken_view, variable_line};
 
 use crate::print::{print_const_refusal, print_open, print_value};
-use crate::run::print_resolved;
+use crate::run::print_unless_resolved;
 use crate::taken::taken_variables;
 use just_case_reader::case::Case;
 use just_eval::evaluator::Evaluator;
@@ -55,7 +46,7 @@ pub(crate) fn evaluate_const<'src>(
 {
     let stage = Stage::of_case(alloc, case)?;
     let resolved = stage.is_resolved(alloc, parent)?;
-    print_resolved(text, resolved)?;
+    print_unless_resolved(text, resolved)?;
     let outcome = stage.evaluate(alloc, parent);
     stage.print_outcome(alloc, text, &outcome)
 }
@@ -78,7 +69,8 @@ impl<'src> Stage<'src> {
 
     // Whether the stage is resolved in a scope.
     fn is_resolved(&self, alloc: Global, parent: &Scope<'src, '_>) -> Result<bool, OutOfMemory>
-        ensures { IfOk result (λ answer. IsTrue answer ↔ IsResolvedConst (stage_view self.now).assignments (frames_view parent.now)) }
+        ensures { IfOk result (λ answer. IsTrue answer ↔ IsResolvedConst (stage_view self.now).assignments
+            (frames_view parent.now)) }
     {
         resolved_const(
             alloc,
@@ -96,7 +88,8 @@ impl<'src> Stage<'src> {
         parent: &'run Scope<'src, 'run>,
     ) -> Result<Evaluator<'src, 'run>, CompileError<'src>>
         ensures { let m = stage_view self.now in
-            Staged m (at_start self.now.lists (frames_view parent.entry.now)) m.assignments.order (const_ended stage_state_of result) }
+            Staged m (at_start self.now.lists (frames_view parent.entry.now)) m.assignments.order
+            (const_ended stage_state_of result) }
     {
         Evaluator::evaluate_const_assignments(
             alloc,
@@ -116,7 +109,8 @@ impl<'src> Stage<'src> {
         text: &mut String,
         outcome: &Result<Evaluator<'src, '_>, CompileError<'src>>,
     ) -> Result<u8, OutOfMemory>
-        ensures printed { OnOk result (string_bytes text.new ≡ string_bytes text.old ++ stage_lines (stage_view self.now) (const_ended stage_state_of outcome.now)) }
+        ensures printed { OnOk result (string_bytes text.new ≡ string_bytes text.old ++ stage_lines
+            (stage_view self.now) (const_ended stage_state_of outcome.now)) }
         ensures status { IfOk result (λ status. status ≤ 2) }
         ensures ends { IfOk result (λ status. status ≡ status_of (const_ended stage_state_of outcome.now)) }
     {
@@ -142,7 +136,8 @@ fn case_references(
     determined: Option<HashSet<Number>>,
     assignments: &Table<Assignment>,
 ) -> Result<HashSet<Number>, OutOfMemory>
-    ensures { IfOk result (λ references. number_set_view references ≡ const_references (option_map number_set_view determined) (map assignment_view assignments.now)) }
+    ensures { IfOk result (λ references. number_set_view references
+        ≡ const_references (option_map number_set_view determined) (map assignment_view assignments.now)) }
 {
     match determined {
         Some(references) => Ok(references),
@@ -170,7 +165,8 @@ fn print_settled(
     text: &mut String,
     taken: &[(Name, Number)],
 ) -> Result<(), OutOfMemory>
-    ensures { OnOk result (string_bytes text.new ≡ string_bytes text.old ++ flat_map (variable_line (stage_state_of evaluator.now)) (map taken_view taken.now)) }
+    ensures { OnOk result (string_bytes text.new ≡ string_bytes text.old
+        ++ flat_map (variable_line (stage_state_of evaluator.now)) (map taken_view taken.now)) }
 {
     for (name, number) in taken {
         print_variable(evaluator, text, name, *number)?;
@@ -185,7 +181,8 @@ fn print_variable(
     name: &Name,
     number: Number,
 ) -> Result<(), OutOfMemory>
-    ensures { OnOk result (string_bytes text.new ≡ string_bytes text.old ++ variable_line (stage_state_of evaluator.now) (name_view name.now, number)) }
+    ensures { OnOk result (string_bytes text.new ≡ string_bytes text.old ++ variable_line (stage_state_of evaluator.now)
+        (name_view name.now, number)) }
 {
     if evaluator.is_open(number) {
         print_open(text, name)?;

@@ -1,9 +1,8 @@
 // Reads cases, and writes their output.
 
-ghost use Rattle.std.specs.Prelude.{◌≡◌, ◌<◌, ◌≤◌, IfOk, OnErr, OnOk, IfSome, length, vec_len};
+ghost use Rattle.std.specs.Prelude.{IfOk, IfSome, OnErr, OnOk, length, vec_len, ◌<◌, ◌≡◌, ◌≤◌};
 ghost use Rattle.std.specs.Io.KnownBytes.{Appends};
-ghost use Rattle.just_bench.specs.Written.{AppendsFront};
-ghost use Rattle.just_bench.specs.declared.stream.StreamError.TheVariants.{Failed, OutOfMemory as Wanted};
+ghost use Rattle.just_bench.specs.Prelude.{AppendsFront, Failed, Wanted};
 
 use just_syntax::out_of_memory::OutOfMemory;
 use just_syntax::unstyled::write_unstyled;
@@ -82,7 +81,8 @@ impl From<io::Error> for StreamError {
 pub fn read_case<R: Read>(alloc: Global, reader: &mut R) -> Result<Vec<u8>, StreamError>
     ensures within { IfOk result (λ bytes. vec_len bytes ≤ LIMIT) }
     ensures whole { IfOk result (λ bytes. IfSome (R.remaining reader.old) (λ rest. bytes.items ≡ rest)) }
-    ensures too_long { result ≡ Err StreamError.TooLong → IfSome (R.remaining reader.old) (λ rest. LIMIT < length rest) }
+    ensures too_long { result ≡ Err StreamError.TooLong
+        → IfSome (R.remaining reader.old) (λ rest. LIMIT < length rest) }
 {
     let mut bytes = Vec::new(alloc);
     // Most cases are shorter.

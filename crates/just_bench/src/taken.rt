@@ -1,10 +1,8 @@
 // The variables that are taken from an order.
 
-ghost use Rattle.std.specs.Prelude.{◌≡◌, ◌∷◌, ◌++◌, ℕ, [], IfOk, List, OnOk, map};
-ghost use Rattle.just_syntax.specs.Plain.{Token};
-ghost use Rattle.just_syntax.specs.View.{name_view};
-ghost use Rattle.just_meaning.specs.View.{ordered_view};
-ghost use Rattle.just_bench.specs.Taken.{first_places, referenced_number, taken_in, taken_view};
+ghost use Rattle.std.specs.Prelude.{IfOk, List, OnOk, [], map, ℕ, ◌++◌, ◌∷◌, ◌≡◌};
+ghost use Rattle.just_bench.specs.Prelude.{Token, first_places, name_view, ordered_view, referenced_number, taken_in};
+ghost use Rattle.just_bench.specs.Prelude.{taken_view};
 
 use just_resolution::references::is_referenced;
 use just_syntax::assignment::Assignment;
@@ -23,7 +21,8 @@ pub(crate) fn taken_variables<'src>(
     order: &[Name<'src>],
     references: Option<&HashSet<Number>>,
 ) -> Result<Vec<(Name<'src>, Number)>, OutOfMemory>
-    ensures { IfOk result (λ taken. map taken_view taken.items ≡ taken_in (ordered_view assignments.now order.now references.entry) (map name_view order.now)) }
+    ensures { IfOk result (λ taken. map taken_view taken.items
+        ≡ taken_in (ordered_view assignments.now order.now references.entry) (map name_view order.now)) }
 {
     let mut seen = HashSet::new(alloc);
     let mut taken = Vec::new(alloc);
@@ -60,7 +59,8 @@ fn take_once<'src>(
     number: Number,
 ) -> Result<(), OutOfMemory>
     // Also for the names after it.
-    ensures { OnOk result ((rest : List (Token × ℕ)) → map taken_view taken.new.items ++ first_places seen.new.keys rest ≡ map taken_view taken.old.items ++ first_places seen.old.keys ((name_view name.entry, number) ∷ rest)) }
+    ensures { OnOk result ((rest : List (Token × ℕ)) → map taken_view taken.new.items ++ first_places seen.new.keys rest
+        ≡ map taken_view taken.old.items ++ first_places seen.old.keys ((name_view name.entry, number) ∷ rest)) }
 {
     if !seen.insert(number)? {
         return Ok(());

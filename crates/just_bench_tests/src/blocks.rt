@@ -1,7 +1,6 @@
 // What two runs under `blocks` ask, compared with each run alone, and with outer bindings.
 
 use crate::evaluations::answers_outside_nothing;
-use crate::fakes::{whole_reader, whole_writer};
 use crate::texts::{is_so, same};
 use just_bench::program::run;
 use std::alloc::{AllocError, Global};
@@ -11,9 +10,9 @@ use std::str;
 // What a case with these last lines asks, one question per line.
 fn asked(rt: &impl Abort, alloc: Global, case: &str, end: &str) -> String {
     let case = format!(in alloc; "{case}\n{end}\n").expect(rt, "no memory");
-    let mut out = whole_writer(alloc);
-    run(alloc, &mut whole_reader(case.as_bytes()), &mut out);
-    let answer = str::from_utf8(&out.written).expect(rt, "no text");
+    let mut out = Vec::new(alloc);
+    run(alloc, &mut case.as_bytes(), &mut out);
+    let answer = str::from_utf8(&out).expect(rt, "no text");
     questions_in(alloc, answer).expect(rt, "no memory")
 }
 

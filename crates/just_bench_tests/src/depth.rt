@@ -1,12 +1,12 @@
-// How deep forms and calls may nest. These tests take the stack of 8 MiB that the program has. `rt try` compiles them with
-// checks, whose frames are several times as large, and ends them by a signal: `rt test` runs them.
+// How deep forms and calls may nest. These tests take the stack of 8 MiB that the program has. `rt try` compiles them
+// with checks, whose frames are several times as large, and ends them by a signal: `rt test` runs them.
 
 mod budgets;
 mod pending;
 mod silent;
 mod towers;
 
-use crate::case_run::CaseRun;
+use just_bench::module_run::ModuleRun;
 use just_case_reader::case::{Case, build};
 use just_case_reader::line::parse_lines;
 use just_host::host::Host;
@@ -15,7 +15,7 @@ use just_value::scope::Scope;
 use std::alloc::Global;
 use std::process::Abort;
 
-// Whether a case ends out of memory with this host. A limit stands in place of the case's own.
+// Whether a case ends out of memory with this host. This limit replaces the case's own.
 fn is_stopped<H: Host>(
     rt: &impl Abort,
     alloc: Global,
@@ -40,7 +40,7 @@ fn is_stopped_in<'src, H: Host>(
     case: Case<'src>,
     parent: &Scope<'src, '_>,
 ) -> bool {
-    let run = CaseRun::new(rt, alloc, case);
+    let run = ModuleRun::of_case(alloc, case).expect(rt, "no memory");
     let outcome = run.evaluate(alloc, host, parent);
     let is_stopped = matches!(outcome, Err(Error::OutOfMemory));
     drop(outcome);

@@ -2,16 +2,14 @@
 
 mod sizes;
 
+use crate::evaluations::outer;
 use just_case_reader::case::{Case, build};
 use just_case_reader::line::{Line, parse_lines};
-use just_case_reader::token::name;
 use just_changes::changed::changed;
 use just_host::justfile::Justfile;
 use just_host::settings::Settings;
-use just_syntax::attribute_set::AttributeSet;
 use just_syntax::number::Number;
 use just_syntax::out_of_memory::OutOfMemory;
-use just_value::binding::Binding;
 use just_value::scope::Scope;
 use just_value::value::Value;
 use std::alloc::Global;
@@ -296,25 +294,9 @@ fn each_reports(
 
 #[test]
 fn bound_outside(rt: HostRuntime) -> Result<(), Fail> {
-    let mut outer = Scope::root(rt.alloc(), &[])?;
-    let bound = outer.bind(binding(rt.alloc()));
-    bound.expect(&rt, "no memory");
+    // `a` has no element.
+    let outer = outer(&rt, rt.alloc(), "a", Value::new(rt.alloc()));
     let reported = each_reports(&rt, rt.alloc(), BOUND_OUTSIDE, &outer);
     drop(outer);
     reported
-}
-
-// Binds `a` to no element.
-fn binding<'src>(alloc: Global) -> Binding<'src> {
-    Binding {
-        attributes: AttributeSet::new(alloc),
-        eager: false,
-        export: false,
-        file_depth: 0,
-        name: name("a"),
-        number: Number::new(0),
-        prelude: false,
-        private: false,
-        value: Value::new(alloc),
-    }
 }

@@ -1,7 +1,7 @@
 // Evaluations in a scope that binds something, and of expressions that no lines describe.
 
-use crate::case_run::CaseRun;
 use crate::texts::{ends, is_so, owned, same};
+use just_bench::module_run::ModuleRun;
 use just_bench::program::evaluate_in_scope;
 use just_case_reader::case::{Case, build};
 use just_case_reader::evaluation::Evaluation;
@@ -23,22 +23,27 @@ use std::alloc::Global;
 use std::collections::{BTreeMap, HashMap};
 use std::process::Abort;
 
-/// A scope that binds the first name of a case, `o`, to a value.
-pub(crate) fn outer<'src, 'run>(rt: &impl Abort, alloc: Global, value: Value) -> Scope<'src, 'run> {
+/// A scope that binds the first name of a case to a value.
+pub(crate) fn outer<'src, 'run>(
+    rt: &impl Abort,
+    alloc: Global,
+    first: &'src str,
+    value: Value,
+) -> Scope<'src, 'run> {
     let mut scope = Scope::root(alloc, &[]).expect(rt, "no memory");
-    let bound = scope.bind(binding(alloc, value));
+    let bound = scope.bind(binding(alloc, first, value));
     bound.expect(rt, "no memory");
     scope
 }
 
-// The binding of `o`, whose number is 0, to a value.
-fn binding<'src>(alloc: Global, value: Value) -> Binding<'src> {
+// The binding of a name, whose number is 0, to a value.
+fn binding<'src>(alloc: Global, lexeme: &'src str, value: Value) -> Binding<'src> {
     Binding {
         attributes: AttributeSet::new(alloc),
         eager: false,
         export: false,
         file_depth: 0,
-        name: name("o"),
+        name: name(lexeme),
         number: Number::new(0),
         prelude: false,
         private: false,
@@ -71,7 +76,7 @@ pub(crate) fn answers_outside_nothing(
 ) {
     let lines = parse_lines(alloc, case.as_bytes()).expect(rt, "no memory");
     let case = build(alloc, &lines).expect(rt, "no case");
-    let parent = outer(rt, alloc, Value::new(alloc));
+    let parent = outer(rt, alloc, "o", Value::new(alloc));
     answers_in(rt, alloc, case, &parent, answer, status);
     drop(parent);
 }
@@ -132,7 +137,7 @@ fn bound_outside(rt: HostRuntime) {
     let lines = parse_lines(alloc, case).expect(&rt, "no memory");
     let case = build(alloc, &lines).expect(&rt, "no case");
     let value = Value::from_text(alloc, "o").expect(&rt, "no memory");
-    let parent = outer(&rt, alloc, value);
+    let parent = outer(&rt, alloc, "o", value);
     keeps_the_outer_value(&rt, alloc, case, &parent);
     drop(parent);
 }
@@ -156,7 +161,7 @@ fn keeps_the_outer_value<'src>(
     case: Case<'src>,
     parent: &Scope<'src, '_>,
 ) {
-    let run = CaseRun::new(rt, alloc, case);
+    let run = ModuleRun::of_case(alloc, case).expect(rt, "no memory");
     let mut host = Recorder::new(alloc, NoHost);
     let outcome = run.evaluate(alloc, &mut host, parent);
     has_the_outer_value_alone(rt, alloc, &outcome);
@@ -253,10 +258,8 @@ fn literal(
 // A command in backticks, or a list of the parts between `|`.
 fn interpolated(rt: &impl Abort, alloc: Global, written: &'static str) -> Expression<'static> {
     if written.starts_with('`') {
-        return Expression::Backtick {
-            contents: owned(rt, alloc, written.trim_matches('`')),
-            token: token(written),
-        };
+        let command = Expression::backtick(alloc, written.trim_matches('`'), token(written));
+        return command.expect(rt, "no memory");
     }
     let mut elements = Vec::new(alloc);
     for text in written.split('|') {
@@ -264,10 +267,7 @@ fn interpolated(rt: &impl Abort, alloc: Global, written: &'static str) -> Expres
         let pushed = elements.push(Expression::StringLiteral { string_literal });
         pushed.expect(rt, "no memory");
     }
-    Expression::List {
-        elements,
-        token: token("["),
-    }
+    Expression::list(elements, token("["))
 }
 
 #[test]

@@ -1,6 +1,5 @@
 // Cases whose questions fail from some question on.
 
-use crate::fakes::{whole_reader, whole_writer};
 use crate::stored_case::STORED_CASE;
 use crate::texts::{ends, same_bytes};
 use just_bench::program::run_failing;
@@ -92,9 +91,9 @@ fn answers_failing(
     answer: &str,
     status: u8,
 ) {
-    let mut out = whole_writer(alloc);
-    let mut reader = whole_reader(case.as_bytes());
+    let mut out = Vec::new(alloc);
+    let mut reader = case.as_bytes();
     let answered = run_failing(alloc, &mut reader, &mut out, passed, how);
     ends(rt, answer, answered, status);
-    same_bytes(rt, answer, &out.written, answer.as_bytes());
+    same_bytes(rt, answer, &out, answer.as_bytes());
 }

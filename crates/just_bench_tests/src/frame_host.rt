@@ -1,11 +1,7 @@
 // A host that inspects the frames that its commands are shown.
 
 use just_host::command_question::CommandQuestion;
-use just_host::host::Host;
-use just_host::no_host::NoHost;
-use just_host::number_question::NumberQuestion;
-use just_host::text_answer::TextAnswer;
-use just_host::text_question::TextQuestion;
+use just_script::commands::{CommandHost, Commands};
 use just_syntax::out_of_memory::OutOfMemory;
 use just_value::error::CommandFault;
 use just_value::frame::Frame;
@@ -15,30 +11,22 @@ use std::alloc::Global;
 /// Answers each command with the number of bindings of the innermost frame that it is shown, and records the bindings
 /// of all of them.
 #[derive(Drop)]
-pub(crate) struct FrameHost {
-    shown: String,
+pub(crate) struct FrameCounter {
+    /// The bindings of the frames that its commands were shown: each frame in parentheses, innermost first.
+    pub(crate) shown: String,
 }
 
-impl FrameHost {
-    /// A host that was shown nothing yet.
-    pub(crate) fn new(alloc: Global) -> FrameHost {
-        FrameHost {
+/// A host whose commands were shown nothing yet.
+pub(crate) fn frame_host(alloc: Global) -> CommandHost<FrameCounter> {
+    CommandHost {
+        commands: FrameCounter {
             shown: String::new(alloc),
-        }
-    }
-
-    /// The bindings of the frames that it was shown: each frame in parentheses, innermost first.
-    pub(crate) fn shown(&self) -> &str {
-        &self.shown
+        },
     }
 }
 
-impl Host for FrameHost {
-    ghost use Rattle.std.specs.Prelude.{⊤};
-
-    ghost step = { λ _ _ _ _. ⊤ };
-
-    fn command(
+impl Commands for FrameCounter {
+    fn answer(
         &mut self,
         alloc: Global,
         question: &CommandQuestion,
@@ -46,18 +34,6 @@ impl Host for FrameHost {
         keep_frames(&mut self.shown, question.scope)?;
         let count = question.scope.bindings().count();
         Ok(format!(in alloc; "{count}")?)
-    }
-
-    fn text(&mut self, alloc: Global, question: TextQuestion) -> TextAnswer {
-        NoHost.text(alloc, question)
-    }
-
-    fn exists(&mut self, alloc: Global, path: &str) -> Result<bool, OutOfMemory> {
-        NoHost.exists(alloc, path)
-    }
-
-    fn number(&mut self, alloc: Global, question: NumberQuestion) -> Result<u64, OutOfMemory> {
-        NoHost.number(alloc, question)
     }
 }
 

@@ -2,7 +2,7 @@
 
 use crate::case_run::reported_by_run;
 use crate::evaluations::{answers_outside_nothing, outer};
-use crate::frame_host::FrameHost;
+use crate::frame_host::frame_host;
 use crate::texts::same;
 use just_case_reader::case::build;
 use just_case_reader::line::parse_lines;
@@ -26,11 +26,11 @@ fn parameter_bound_outside(rt: HostRuntime) {
 fn shows_frames(rt: &impl Abort, alloc: Global, case: &str, shown: &str) {
     let lines = parse_lines(alloc, case.as_bytes()).expect(rt, "no memory");
     let described = build(alloc, &lines).expect(rt, "no case");
-    let parent = outer(rt, alloc, Value::new(alloc));
-    let mut host = FrameHost::new(alloc);
+    let parent = outer(rt, alloc, "o", Value::new(alloc));
+    let mut host = frame_host(alloc);
     reported_by_run(rt, alloc, &mut host, described, &parent);
     drop(parent);
-    same(rt, case, host.shown(), shown);
+    same(rt, case, &host.commands.shown, shown);
 }
 
 // A case whose command is asked while a call is pending, and the frames that it is shown.

@@ -1,6 +1,5 @@
 // Hosts that answer by a script, that record, and that fail.
 
-use crate::case_run::{DIRECTORY, config};
 use crate::texts::{owned, questions_of, same};
 use just_host::command_question::CommandQuestion;
 use just_host::config::Config;
@@ -19,6 +18,9 @@ use std::alloc::{AllocError, Global};
 use std::collections::BTreeMap;
 use std::process::Abort;
 
+// The directory that commands are run in.
+const DIRECTORY: &str = "/work";
+
 // The context of commands here.
 #[derive(Drop)]
 struct Asking {
@@ -36,7 +38,7 @@ impl Asking {
             inserted.expect(rt, "no memory");
         }
         Asking {
-            config: config(rt, alloc, false),
+            config: Config::new(alloc, DIRECTORY).expect(rt, "no memory"),
             env,
             scope: Scope::root(alloc, &[]).expect(rt, "no memory"),
             settings: Settings::new(alloc),

@@ -16,8 +16,6 @@ mod evaluations;
 #[cfg(test)]
 mod failing;
 #[cfg(test)]
-mod fakes;
-#[cfg(test)]
 mod frame_host;
 #[cfg(test)]
 mod functions;

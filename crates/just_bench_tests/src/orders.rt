@@ -1,7 +1,7 @@
 // Runs of one module in two orders.
 
 use crate::case_run::reported_by_run;
-use crate::frame_host::FrameHost;
+use crate::frame_host::frame_host;
 use crate::texts::{owned, questions_of, same};
 use just_case_reader::case::build;
 use just_case_reader::line::parse_lines;
@@ -95,5 +95,5 @@ fn binds_by_frames(rt: &impl Abort, alloc: Global, order: &str, bound: &str) {
         rt,
         "no memory",
     );
-    binds(rt, alloc, &mut FrameHost::new(alloc), &case, bound);
+    binds(rt, alloc, &mut frame_host(alloc), &case, bound);
 }

@@ -1,7 +1,6 @@
 // The stored case, and its prefixes.
 
-use crate::fakes::{whole_reader, whole_writer};
-use crate::texts::{ends, is_so, same_bytes};
+use crate::texts::{answers, is_so};
 use just_bench::program::run;
 use std::alloc::Global;
 use std::process::Abort;
@@ -14,20 +13,13 @@ pub(crate) const STORED_ANSWER: &str = "? command \"one\"\n? command \"two\"\na 
 // The same without its last line.
 const ENDLESS: &[u8] = b"cmd one\ncmd two\nand\nassign a\nreply\nreply x\n";
 
-// A case has this answer and this status.
-fn answers(rt: &impl Abort, alloc: Global, case: &[u8], answer: &str, status: u8) {
-    let mut out = whole_writer(alloc);
-    let answered = run(alloc, &mut whole_reader(case), &mut out);
-    ends(rt, answer, answered, status);
-    same_bytes(rt, answer, &out.written, answer.as_bytes());
-}
-
 // A case is bad at one of its lines.
 fn is_bad(rt: &impl Abort, alloc: Global, case: &[u8]) {
-    let mut out = whole_writer(alloc);
-    let answered = run(alloc, &mut whole_reader(case), &mut out);
+    let mut reader = case;
+    let mut out = Vec::new(alloc);
+    let answered = run(alloc, &mut reader, &mut out);
     assert_eq!(rt; answered, 1, "{}", case.len());
-    is_so(rt, "a bad line", out.written.starts_with(b"bad line "));
+    is_so(rt, "a bad line", out.starts_with(b"bad line "));
 }
 
 // Cut after any byte, the stored case runs as a whole or is bad at the line that was cut.
@@ -39,6 +31,6 @@ fn stored_case_cut(rt: HostRuntime) {
     for length in 0..whole {
         is_bad(&rt, alloc, &case[..length]);
     }
-    answers(&rt, alloc, &case[..whole], STORED_ANSWER, 0);
-    answers(&rt, alloc, ENDLESS, "bad line 7\n", 1);
+    answers(&rt, alloc, "whole", &case[..whole], STORED_ANSWER, 0);
+    answers(&rt, alloc, "endless", ENDLESS, "bad line 7\n", 1);
 }

@@ -1,11 +1,12 @@
 // Readers and writers that fail, how often they are called, and what is read and written for long and endless cases.
 
-use crate::fakes::{EndlessReader, PieceReader, PieceWriter, whole_reader, whole_writer};
 use crate::stored_case::{STORED_ANSWER, STORED_CASE};
 use crate::texts::{ends, is_so, same_bytes};
 use just_bench::program::run;
 use just_bench::stream::{StreamError, read_case, write_text};
+use just_script::pieces::{PieceReader, PieceWriter};
 use std::alloc::Global;
+use std::io::{self, Read};
 use std::process::Abort;
 
 // The largest size of a case, in bytes.
@@ -13,14 +14,14 @@ const LONGEST: usize = 1_000_000;
 
 // The stored case; each read gives this many bytes.
 fn stored_in_pieces<'t>(piece: usize) -> PieceReader<'t> {
-    let mut case = whole_reader(STORED_CASE.as_bytes());
+    let mut case = PieceReader::whole(STORED_CASE.as_bytes());
     case.piece = piece;
     case
 }
 
 // A writer; each write takes this many bytes.
 fn writer_of_pieces(alloc: Global, piece: usize) -> PieceWriter {
-    let mut out = whole_writer(alloc);
+    let mut out = PieceWriter::whole(alloc);
     out.piece = piece;
     out
 }
@@ -33,7 +34,7 @@ fn answers(
     of: &str,
     (case, out): (&mut PieceReader, &mut PieceWriter),
     status: u8,
-    flushes: u64,
+    flushes: usize,
 ) {
     let answered = run(alloc, case, out);
     ends(rt, of, answered, status);
@@ -61,7 +62,7 @@ fn streams_in_pieces(rt: HostRuntime) {
 
 #[test]
 fn stops_reading_after_a_failed_read(rt: HostRuntime) {
-    let reads = STORED_CASE.len() as u64 + 1;
+    let reads = STORED_CASE.len() + 1;
     for good_reads in 0..reads + 3 {
         ends_at_a_failed_read(&rt, rt.alloc(), good_reads, reads);
     }
@@ -69,10 +70,10 @@ fn stops_reading_after_a_failed_read(rt: HostRuntime) {
 
 // After this many good reads, fewer than the stored case takes, nothing is written, and nothing is read after the first
 // read that failed.
-fn ends_at_a_failed_read(rt: &impl Abort, alloc: Global, good_reads: u64, reads: u64) {
+fn ends_at_a_failed_read(rt: &impl Abort, alloc: Global, good_reads: usize, reads: usize) {
     let mut case = stored_in_pieces(1);
     case.good_reads = good_reads;
-    let mut out = whole_writer(alloc);
+    let mut out = PieceWriter::whole(alloc);
     let fails = good_reads < reads;
     let (status, flushes) = if fails { (1, 0) } else { (0, 1) };
     answers(
@@ -88,14 +89,14 @@ fn ends_at_a_failed_read(rt: &impl Abort, alloc: Global, good_reads: u64, reads:
 
 #[test]
 fn ends_at_a_failed_write(rt: HostRuntime) {
-    let writes = STORED_ANSWER.len() as u64;
+    let writes = STORED_ANSWER.len();
     for good_writes in 0..writes + 3 {
         writes_no_further(&rt, rt.alloc(), good_writes, writes);
     }
 }
 
 // After this many good writes, fewer than the stored answer takes, nothing more is written.
-fn writes_no_further(rt: &impl Abort, alloc: Global, good_writes: u64, writes: u64) {
+fn writes_no_further(rt: &impl Abort, alloc: Global, good_writes: usize, writes: usize) {
     let mut case = stored_in_pieces(usize::MAX);
     let mut out = writer_of_pieces(alloc, 1);
     out.good_writes = good_writes;
@@ -108,7 +109,7 @@ fn writes_no_further(rt: &impl Abort, alloc: Global, good_writes: u64, writes: u
         status,
         flushes,
     );
-    assert_eq!(rt; out.written.len() as u64, good_writes.min(writes));
+    assert_eq!(rt; out.written.len(), good_writes.min(writes));
     let is_front = STORED_ANSWER.as_bytes().starts_with(&out.written);
     is_so(rt, "the front of the answer", is_front);
 }
@@ -153,16 +154,30 @@ fn is_flushed(
     can_flush: bool,
     status: u8,
 ) {
-    let mut case = whole_reader(text.as_bytes());
+    let mut case = PieceReader::whole(text.as_bytes());
     let mut out = writer_of_pieces(alloc, 3);
     out.can_flush = can_flush;
     answers(rt, alloc, text, (&mut case, &mut out), status, 1);
     same_bytes(rt, text, &out.written, answer.as_bytes());
 }
 
+// Gives `#` without end, and counts the bytes.
+#[derive(Drop)]
+struct EndlessReader {
+    given: usize,
+}
+
+impl Read for EndlessReader {
+    fn read(&mut self, buf: &mut [u8]) -> io::Result<usize> {
+        buf.fill(b'#');
+        self.given = self.given.saturating_add(buf.len());
+        Ok(buf.len())
+    }
+}
+
 #[test]
 fn reads_an_endless_case_to_its_limit(rt: HostRuntime) {
-    let mut out = whole_writer(rt.alloc());
+    let mut out = PieceWriter::whole(rt.alloc());
     let mut case = EndlessReader { given: 0 };
     let answered = run(rt.alloc(), &mut case, &mut out);
     ends(&rt, "an endless case", answered, 1);
@@ -193,10 +208,10 @@ fn longest_case(rt: HostRuntime) {
 }
 
 // A case of this many bytes is answered with this status, and nothing is written.
-fn long_case_ends(rt: &impl Abort, alloc: Global, length: usize, status: u8, flushes: u64) {
+fn long_case_ends(rt: &impl Abort, alloc: Global, length: usize, status: u8, flushes: usize) {
     let case = long_case(rt, alloc, length);
-    let mut reader = whole_reader(&case);
-    let mut out = whole_writer(alloc);
+    let mut reader = PieceReader::whole(&case);
+    let mut out = PieceWriter::whole(alloc);
     answers(
         rt,
         alloc,
@@ -206,7 +221,7 @@ fn long_case_ends(rt: &impl Abort, alloc: Global, length: usize, status: u8, flu
         flushes,
     );
     is_so(rt, "nothing is written", out.written.is_empty());
-    let is_read = read_case(alloc, &mut whole_reader(&case)).is_ok();
+    let is_read = read_case(alloc, &mut PieceReader::whole(&case)).is_ok();
     is_so(rt, "a long case", is_read == (status == 0));
 }
 
@@ -217,7 +232,7 @@ fn reads_and_writes(rt: HostRuntime) {
 }
 
 fn reads(rt: &impl Abort, alloc: Global) {
-    let bytes = read_case(alloc, &mut whole_reader(b"a case")).expect(rt, "no case");
+    let bytes = read_case(alloc, &mut PieceReader::whole(b"a case")).expect(rt, "no case");
     same_bytes(rt, "a case", &bytes, b"a case");
     let mut endless = EndlessReader { given: 0 };
     let too_long = read_case(alloc, &mut endless);
@@ -226,14 +241,14 @@ fn reads(rt: &impl Abort, alloc: Global) {
         "too long",
         matches!(too_long, Err(StreamError::TooLong)),
     );
-    let mut failing = whole_reader(b"a case");
+    let mut failing = PieceReader::whole(b"a case");
     failing.good_reads = 1;
     let failed = read_case(alloc, &mut failing);
     is_so(rt, "failed", matches!(failed, Err(StreamError::Failed)));
 }
 
 fn writes(rt: &impl Abort, alloc: Global) {
-    let mut out = whole_writer(alloc);
+    let mut out = PieceWriter::whole(alloc);
     write_text(&mut out, "an ").expect(rt, "no answer");
     write_text(&mut out, "answer").expect(rt, "no answer");
     same_bytes(rt, "an answer", &out.written, b"an answer");

@@ -1,6 +1,7 @@
 // Texts, and comparisons of results with what is expected. A test ends if memory runs out.
 
 use just_bench::print::print_questions;
+use just_bench::program::run;
 use just_host::recorder::Recorder;
 use std::alloc::Global;
 use std::process::Abort;
@@ -18,6 +19,21 @@ pub(crate) fn same_bytes(rt: &impl Abort, of: &str, given: &[u8], wanted: &[u8])
 /// A status is as expected.
 pub(crate) fn ends(rt: &impl Abort, of: &str, given: u8, wanted: u8) {
     assert_eq!(rt; given, wanted, "{of}");
+}
+
+/// A case has this answer and this status.
+pub(crate) fn answers(
+    rt: &impl Abort,
+    alloc: Global,
+    of: &str,
+    case: &[u8],
+    answer: &str,
+    status: u8,
+) {
+    let mut reader = case;
+    let mut out = Vec::new(alloc);
+    ends(rt, of, run(alloc, &mut reader, &mut out), status);
+    same_bytes(rt, of, &out, answer.as_bytes());
 }
 
 /// A condition holds.

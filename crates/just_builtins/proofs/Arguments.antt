@@ -1,8 +1,8 @@
 -- The arguments of a call.
-use Rattle.std.proofs.Common.{◌≡◌, ℕ, ◌<◌, ◌≤◌, List, [], ◌∷◌, refl, sym, ap, ◌∙◌, arith, length, drop, map, get_or, unwrap_or, Option, Some, None, Bor, option_map, slice_get}
+use Rattle.std.proofs.Common.{◌≡◌, ℕ, ◌<◌, ◌≤◌, List, [], ◌∷◌, refl, sym, ap, ◌∙◌, arith, length, drop, map, get_or, unwrap_or, Option, Some, None, Bor}
+use Rattle.std.proofs.Common.{option_map, slice_get}
 use Rattle.std.proofs.lemmas.Option.{slice_get-get_or}
-use Rattle.just_value.specs.Value.{Value}
-use Rattle.just_builtins.specs.Argument.{argument_at, values_given}
+use Rattle.just_builtins.specs.Prelude.{Value, argument_at, values_given}
 
 -- a value with exactly one element is the view of that element
 pub only : {A : Type 0} (f : A → List ℕ) (xs : List A) (x : A) (v : Value) (t : List ℕ) → map f xs ≡ v → length v ≡ 1 → x ≡ get_or xs 0 x → t ≡ f x → v ≡ t ∷ []
@@ -31,10 +31,6 @@ pub one : (vs : List Value) (v : Value) → length vs ≡ 1 → argument_at vs 0
 one [] v n a = absurd (omega arith)
 one (x ∷ []) v n a = ap (λ y. y ∷ []) a
 one (x ∷ y ∷ ys) v n a = absurd (omega arith)
-
-pub none : (vs : List Value) → length vs ≡ 0 → vs ≡ []
-none [] n = refl
-none (x ∷ xs) n = absurd (omega arith)
 
 -- the first argument, and the others
 pub first_of : (vs : List Value) (v : Value) → 1 ≤ length vs → argument_at vs 0 ≡ v → vs ≡ v ∷ drop 1 vs

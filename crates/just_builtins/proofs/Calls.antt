@@ -1,24 +1,18 @@
 -- Calls, and the interaction trees of their replies.
 use Rattle.std.proofs.Common.{◌≡◌, ◌≢◌, ℕ, refl, sym, List, [], ◌∷◌, Option, Some, None, Result, Ok, Err, string_bytes, subst, inl, inr}
-use Rattle.just_syntax.specs.Plain.{Text}
-use Rattle.just_value.specs.Value.{Value}
-use Rattle.just_value.specs.Frames.{Frames}
-use Rattle.just_value.specs.Outcome.{Gave}
+use Rattle.std.specs.List.{AllByRecursion}
+use Rattle.just_builtins.specs.Prelude.{Answer, Asked, AskedBy, AskedOr, Asks, AsksOnce, Called, Context, Frames, Gave, GivesOr, Internal, IsExpected, IsReply}
+use Rattle.just_builtins.specs.Prelude.{IsUnnamed, Replies, RepliesAmong, Reply, Returned, Runs, Step, Text, TextOf, Value, asks_text, builtin_of, frameless}
+use Rattle.just_builtins.specs.Prelude.{frames_view, freely, function_context_view, outcome, reply, text_answered, tree}
 use Rattle.just_value.specs.Refusal.{NoMemory}
-use Rattle.just_host.specs.Question.{Answer, Blind, Failed, TextOf, TextQuestion, frameless}
-use Rattle.just_host.specs.Interaction.{Asked as answered, Tree, Path, Ends, Stops, Asks as asks, Runs, AsksOnce, freely, Step}
+use Rattle.just_host.specs.Question.{Blind, Failed, TextQuestion}
+use Rattle.just_host.specs.Interaction.{Asked as answered, Tree, Path, Ends, Stops, Asks as asks}
 use Rattle.just_builtins.specs.declared.builtin.Builtin.{Builtin}
 use Rattle.just_builtins.specs.declared.call_fault.CallFault.{CallFault}
-use Rattle.just_builtins.specs.declared.call_fault.CallFault.TheVariants.{Internal, Message, OutOfMemory}
+use Rattle.just_builtins.specs.declared.call_fault.CallFault.TheVariants.{Message, OutOfMemory}
 use Rattle.just_builtins.specs.declared.function.Function.{Function}
-use Rattle.just_host.specs.Function.{Context}
-use Rattle.just_builtins.specs.Argument.{IsExpected}
-use Rattle.just_builtins.specs.Asking.{asks_text, text_answered}
-use Rattle.just_builtins.specs.Meaning.{reply}
-use Rattle.just_builtins.specs.Reply.{Reply, Asks}
-use Rattle.just_builtins.specs.Shape.{builtin_of}
-use Rattle.just_builtins.specs.Called.{Called, Returned, Said, tree, frames_for, outcome, Asked, AskedBy, AskedOr, IsReply, GivesOr, IsNoneOf, Replies, RepliesAmong}
-use Rattle.just_builtins.specs.Table.{IsUnnamed}
+use Rattle.just_host.specs.declared.function.Context as declared
+use Rattle.just_builtins.specs.Called.{Said, frames_for}
 
 -- a reply without a question has a path without events
 path : (shown : Frames) (reply : Reply) (result : Result Value CallFault) → IsReply reply result → Path freely (tree shown reply) [] (outcome result)
@@ -41,7 +35,8 @@ gives_err next OutOfMemory is rest = tt
 gives_err next Internal is rest = absurd is
 
 -- a call of the same function with the same arguments
-pub same_call : (f g : Function) (c : Context) (vs ws : List Value) (result : Result Value CallFault) → f ≡ g → vs ≡ ws → Replies g (reply (builtin_of g) c ws) result → Replies f (reply (builtin_of f) c vs) result
+pub same_call : (f g : Function) (c : Context) (vs ws : List Value) (result : Result Value CallFault) → f ≡ g → vs ≡ ws
+    → Replies g (reply (builtin_of g) c ws) result → Replies f (reply (builtin_of f) c vs) result
 same_call f g c vs ws result same alike is = rw (same, alike) is
 
 -- equal functions expect the same number of arguments
@@ -55,17 +50,22 @@ module _ {S : Type 0} {step : Step S} where
   unasked shown reply result is = (record { events = []; path = path shown reply result is; chain = refl }, named reply result is)
 
   -- memory runs out before the first question
-  pub at_once : {h : S} {t : Tree Called} (result : Result Value CallFault) → result ≡ Err OutOfMemory → Runs freely step h t (outcome result) h × (result ≢ Err Internal)
-  at_once {h = h} {t = t} result is = (subst (λ r. Runs freely step h t (outcome r) h) (sym is) (record { events = []; path = Stops; chain = refl }), λ e. absurd (cc))
+  pub at_once : {h : S} {t : Tree Called} (result : Result Value CallFault) → result ≡ Err OutOfMemory → Runs freely step h t (outcome result) h
+      × (result ≢ Err Internal)
+  at_once {h = h} {t = t} result is =
+      (subst (λ r. Runs freely step h t (outcome r) h) (sym is) (record { events = []; path = Stops; chain = refl }), λ e. absurd (cc))
 
-  pub unasked_by : {h : S} (f : Function) (shown : Frames) (reply : Reply) (result : Result Value CallFault) → Replies f reply result → AskedBy f step h shown reply result h
+  pub unasked_by : {h : S} (f : Function) (shown : Frames) (reply : Reply) (result : Result Value CallFault) → Replies f reply result
+      → AskedBy f step h shown reply result h
   unasked_by f shown reply (Ok v) is = (record { events = []; path = path shown reply (Ok v) is; chain = refl }, λ e. absurd (cc))
-  unasked_by f shown reply (Err (Message message)) is = (record { events = []; path = path shown reply (Err (Message message)) is; chain = refl }, λ e. absurd (cc))
+  unasked_by f shown reply (Err (Message message)) is =
+      (record { events = []; path = path shown reply (Err (Message message)) is; chain = refl }, λ e. absurd (cc))
   unasked_by f shown reply (Err OutOfMemory) is = (record { events = []; path = Stops; chain = refl }, λ e. absurd (cc))
   unasked_by f shown reply (Err Internal) is = (record { events = []; path = Stops; chain = refl }, λ e. (is, refl))
 
   -- the same for the functions of a shape that ask nothing
-  pub unasked_among : {h : S} (f : Function) (those : List Builtin) (b : Builtin) (shown : Frames) (reply : Reply) (result : Result Value CallFault) → RepliesAmong those b reply result → (IsNoneOf those b → IsUnnamed f) → AskedBy f step h shown reply result h
+  pub unasked_among : {h : S} (f : Function) (those : List Builtin) (b : Builtin) (shown : Frames) (reply : Reply) (result : Result Value CallFault)
+      → RepliesAmong those b reply result → (AllByRecursion (λ other. other ≢ b) those → IsUnnamed f) → AskedBy f step h shown reply result h
   unasked_among f those b shown reply (Ok v) is unnamed = unasked_by f shown reply (Ok v) is
   unasked_among f those b shown reply (Err (Message message)) is unnamed = unasked_by f shown reply (Err (Message message)) is
   unasked_among f those b shown reply (Err OutOfMemory) is unnamed = unasked_by f shown reply (Err OutOfMemory) tt
@@ -74,16 +74,22 @@ module _ {S : Type 0} {step : Step S} where
   -- ---- functions that ask
 
   -- a question, and the result for its answer
-  pub asked : {old new : S} (shown : Frames) (q : Blind) (next : Answer → Reply) (a : Answer) (result : Result Value CallFault) → step old (record { blind = q; shown = frames_for q shown }) a new → IsReply (next a) result → Asked step old shown (Asks q next) result new
-  asked shown q next a result taken is = (record { events = answered _ a ∷ []; path = asks (path shown (next a) result is); chain = (_, taken, refl) }, named (next a) result is)
+  pub asked : {old new : S} (shown : Frames) (q : Blind) (next : Answer → Reply) (a : Answer) (result : Result Value CallFault)
+      → step old (record { blind = q; shown = frames_for q shown }) a new → IsReply (next a) result → Asked step old shown (Asks q next) result new
+  asked shown q next a result taken is =
+      (record { events = answered _ a ∷ []; path = asks (path shown (next a) result is); chain = (_, taken, refl) }, named (next a) result is)
 
   -- the same for a text
-  pub asked_text : {old new : S} (shown : Frames) (q wanted : TextQuestion) (absent : Reply) (odd faulty : Text → Text) (a : Answer) (result : Result Value CallFault) → q ≡ wanted → step old (frameless (TextOf q)) a new → IsReply (text_answered absent odd faulty a) result → Asked step old shown (asks_text wanted absent odd faulty) result new
+  pub asked_text : {old new : S} (shown : Frames) (q wanted : TextQuestion) (absent : Reply) (odd faulty : Text → Text) (a : Answer)
+      (result : Result Value CallFault) → q ≡ wanted → step old (frameless (TextOf q)) a new → IsReply (text_answered absent odd faulty a) result
+      → Asked step old shown (asks_text wanted absent odd faulty) result new
   asked_text {old = old} {new = new} shown q wanted absent odd faulty a result same taken is =
       asked shown (TextOf wanted) (text_answered absent odd faulty) a result (subst (λ x. step old (frameless (TextOf x)) a new) same taken) is
 
   -- the same, if memory may run out before the question is asked
-  pub asked_once : {old new : S} (shown : Frames) (q : Blind) (next : Answer → Reply) (a : Answer) (result : Result Value CallFault) → AsksOnce step old (record { blind = q; shown = frames_for q shown }) a new → IsReply (next a) result → (a ≡ Failed NoMemory → result ≡ Err OutOfMemory) → Asked step old shown (Asks q next) result new
+  pub asked_once : {old new : S} (shown : Frames) (q : Blind) (next : Answer → Reply) (a : Answer) (result : Result Value CallFault)
+      → AsksOnce step old (record { blind = q; shown = frames_for q shown }) a new → IsReply (next a) result → (a ≡ Failed NoMemory → result ≡ Err OutOfMemory)
+      → Asked step old shown (Asks q next) result new
   asked_once shown q next a result (inl taken) is wanting = asked shown q next a result taken is
   asked_once {old = old} {new = new} shown q next a result (inr without) is wanting =
       subst (λ h. Asked step old shown (Asks q next) result h) without.1 (at_once result (wanting without.0))
@@ -91,25 +97,38 @@ module _ {S : Type 0} {step : Step S} where
   -- ---- by the shapes of arguments
 
   -- a built-in function that has the shape
-  pub of_builtin : {old new : S} (f : Function) (b other : Builtin) (c : Context) (vs : List Value) (shown : Frames) (result : Result Value CallFault) → b ≡ other → Asked step old shown (reply other c vs) result new → AskedBy f step old shown (reply b c vs) result new
-  of_builtin {old = old} {new = new} f b other c vs shown result is (run, not_internal) = (subst (λ x. Runs freely step old (tree shown (reply x c vs)) (outcome result) new) (sym is) run, λ e. absurd (not_internal e))
+  pub of_builtin : {old new : S} (f : Function) (b other : Builtin) (c : Context) (vs : List Value) (shown : Frames) (result : Result Value CallFault)
+      → b ≡ other → Asked step old shown (reply other c vs) result new → AskedBy f step old shown (reply b c vs) result new
+  of_builtin {old = old} {new = new} f b other c vs shown result is (run, not_internal) =
+      (subst (λ x. Runs freely step old (tree shown (reply x c vs)) (outcome result) new) (sym is) run, λ e. absurd (not_internal e))
 
   -- a function without a name
   pub internal : {h : S} (f : Function) (shown : Frames) (reply : Reply) → IsUnnamed f → AskedBy f step h shown reply (Err Internal) h
   internal f shown reply unnamed = unasked_by f shown reply (Err Internal) unnamed
 
   -- a call of the same function with the same arguments
-  pub same_asked : {old new : S} (f g : Function) (c : Context) (vs ws : List Value) (shown : Frames) (result : Result Value CallFault) → f ≡ g → vs ≡ ws → AskedBy g step old shown (reply (builtin_of g) c ws) result new → AskedBy f step old shown (reply (builtin_of f) c vs) result new
-  same_asked f g c vs ws shown result same alike is = rw (same, alike) is
+  module _ (context : declared.Context) (f g : Function) (vs ws : List Value) (result : Result Value CallFault) (same : f ≡ g) (alike : vs ≡ ws) where
+    pub same_asked : {old new : S} → AskedBy g step old (frames_view context.scope.now) (reply (builtin_of g) (function_context_view context) ws) result new
+        → AskedBy f step old (frames_view context.scope.now) (reply (builtin_of f) (function_context_view context) vs) result new
+    same_asked is = rw (same, alike) is
 
-  -- the same, if it asks nothing
-  pub same_unasked : {h : S} (f g : Function) (c : Context) (vs ws : List Value) (shown : Frames) (result : Result Value CallFault) → f ≡ g → vs ≡ ws → Replies g (reply (builtin_of g) c ws) result → AskedBy f step h shown (reply (builtin_of f) c vs) result h
-  same_unasked f g c vs ws shown result same alike is = unasked_by f shown (reply (builtin_of f) c vs) result (same_call f g c vs ws result same alike is)
+    -- the same, if it asks nothing
+    pub same_unasked : {h : S} → Replies g (reply (builtin_of g) (function_context_view context) ws) result
+        → AskedBy f step h (frames_view context.scope.now) (reply (builtin_of f) (function_context_view context) vs) result h
+    same_unasked is = unasked_by f (frames_view context.scope.now) (reply (builtin_of f) (function_context_view context) vs) result
+        (same_call f g (function_context_view context) vs ws result same alike is)
 
 module _ {S : Type 0} (step : Step S) where
   -- a question whose answer gives a result, or leaves it to the rest
-  pub asked_or : {old new : S} (shown : Frames) (q : Blind) (next : Reply → Answer → Reply) (a : Answer) (result : Result (Option Value) CallFault) → step old (record { blind = q; shown = frames_for q shown }) a new → GivesOr (λ rest. next rest a) result → AskedOr step old shown (λ rest. Asks q (next rest)) result new
+  pub asked_or : {old new : S} (shown : Frames) (q : Blind) (next : Reply → Answer → Reply) (a : Answer) (result : Result (Option Value) CallFault)
+      → step old (record { blind = q; shown = frames_for q shown }) a new → GivesOr (λ rest. next rest a) result
+      → AskedOr step old shown (λ rest. Asks q (next rest)) result new
   asked_or shown q next a (Ok (Some v)) taken is = λ rest. (asked shown q (next rest) a (Ok v) taken (is rest)).0
   asked_or shown q next a (Ok None) taken is = λ rest o last r.
-      record { events = answered _ a ∷ r.events; path = asks (subst (λ t. Path freely (tree shown t) r.events o) (sym (is rest)) r.path); chain = (_, taken, r.chain) }
+      record {
+        events = answered _ a ∷ r.events;
+        path = asks (subst (λ t. Path freely (tree shown t) r.events o) (sym (is rest)) r.path);
+        chain =
+            (_, taken, r.chain);
+      }
   asked_or shown q next a (Err e) taken is = λ rest. asked shown q (next rest) a (Err e) taken (gives_err (λ other. next other a) e is rest)

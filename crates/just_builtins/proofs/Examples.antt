@@ -1,8 +1,7 @@
 -- The table applied to literal names.
 use Rattle.std.proofs.Common.{◌≡◌, Some, None, true, codes, refl}
 use Rattle.just_builtins.specs.declared.builtin.Builtin.TheVariants.{JustfileDirectory, InvocationDirectoryNative}
-use Rattle.just_builtins.specs.declared.function.Function.TheVariants.{Nullary}
-use Rattle.just_builtins.specs.Table.{function_named, is_left_out}
+use Rattle.just_builtins.specs.Prelude.{Nullary, function_named, is_left_out}
 
 short : function_named (codes "justfile_dir") ≡ Some (Nullary JustfileDirectory)
 unfolding function_named

@@ -1,5 +1,6 @@
 -- The questions of built-in functions to the host, and the reply for each answer.
-use Rattle.std.specs.Prelude.{Bool, false, ◌++◌, List, [], ◌∷◌, Option, Some, None, option_map, if◌then◌else◌, bytes_eq, codes, decimal, find, map}
+use Rattle.std.specs.Prelude.{Bool, false, ◌++◌, List, [], ◌∷◌, Option, Some, None, option_map, if◌then◌else◌, bytes_eq}
+use Rattle.std.specs.Prelude.{codes, decimal, find, map}
 use Rattle.std.specs.List.{join_by}
 use Rattle.just_syntax.specs.Plain.{Text}
 use Rattle.just_text.specs.Path.{joined_paths}
@@ -10,10 +11,15 @@ use Rattle.just_host.specs.Fault.{fault_text}
 use Rattle.just_host.specs.Fixed.{working_directory}
 use Rattle.just_host.specs.Function.{Context}
 use Rattle.just_host.specs.Printed.{directory_word}
-use Rattle.just_host.specs.Question.{Answer, Replied, Failed, Absent, NotText, Found, Numbered, TextQuestion, Variable, Directory, Canonicalize, Read, Which, Executable, TextOf, ExistsAt, NumberOf, command_question}
+use Rattle.just_host.specs.Question.{Answer, Replied, Failed, Absent, NotText, Found, Numbered, TextQuestion, Variable}
+use Rattle.just_host.specs.Question.{Directory, Canonicalize, Read, Which, Executable, TextOf, ExistsAt, NumberOf}
+use Rattle.just_host.specs.Question.{command_question}
 use Rattle.just_host.specs.declared.directory_kind.DirectoryKind.{DirectoryKind}
 use Rattle.just_host.specs.declared.number_question.NumberQuestion.{NumberQuestion}
-use Rattle.just_builtins.specs.Message.{no_answer, no_directory, directory_not_unicode, directory_unreadable, not_canonicalized, canonical_not_unicode, not_read, executable_unknown, executable_not_unicode, variable_not_unicode, variable_unreadable, no_variable, not_found}
+use Rattle.just_builtins.specs.Message.{no_answer, no_directory, directory_not_unicode, directory_unreadable}
+use Rattle.just_builtins.specs.Message.{not_canonicalized, canonical_not_unicode, not_read, executable_unknown}
+use Rattle.just_builtins.specs.Message.{executable_not_unicode, variable_not_unicode, variable_unreadable, no_variable}
+use Rattle.just_builtins.specs.Message.{not_found}
 use Rattle.just_builtins.specs.Reply.{Reply, Answers, Fails, Asks, Stops, says}
 
 -- The reply for an answer to a question for a text: the text; `absent`, if there is none; a message for something that
@@ -41,7 +47,8 @@ asks_executable = asks_text Executable (Fails (executable_unknown not_found)) ex
 -- one of the user's directories
 abbrev pub asks_directory : DirectoryKind → Reply
 asks_directory kind =
-    asks_text (Directory kind) (Fails (no_directory (directory_word kind))) (directory_not_unicode (directory_word kind)) (directory_unreadable (directory_word kind))
+    asks_text (Directory kind) (Fails (no_directory (directory_word kind)))
+    (directory_not_unicode (directory_word kind)) (directory_unreadable (directory_word kind))
 
 -- the reply for an answer to a question for a number: its decimal digits
 abbrev pub number_answered : Answer → Reply
@@ -59,11 +66,13 @@ in_working_directory c path = joined_paths (working_directory c.fixed) path
 -- the canonical path, free of links, of the file at a path
 abbrev pub asks_canonical : Context → Text → Reply
 asks_canonical c path =
-    asks_text (Canonicalize (in_working_directory c path)) (Fails (not_canonicalized path not_found)) canonical_not_unicode (not_canonicalized path)
+    asks_text (Canonicalize (in_working_directory c path)) (Fails (not_canonicalized path not_found))
+    canonical_not_unicode (not_canonicalized path)
 
 -- the contents of a file
 abbrev pub asks_contents : Context → Text → Reply
-asks_contents c path = asks_text (Read (in_working_directory c path)) (Fails (not_read path not_found)) (not_read path) (not_read path)
+asks_contents c path =
+    asks_text (Read (in_working_directory c path)) (Fails (not_read path not_found)) (not_read path) (not_read path)
 
 -- the path of the executable with this name, searched for from the working directory
 abbrev pub asks_which : Context → Text → Reply → Reply
@@ -92,7 +101,8 @@ or_asks None other = other
 
 -- the dotenv map's text for a key, otherwise the host's, and `rest` if there is none
 abbrev pub variable_reply : List (Text × Text) → Text → Reply → Reply
-variable_reply dotenv key rest = or_asks (entry dotenv key) (asks_text (Variable key) rest (variable_not_unicode key) (variable_unreadable key))
+variable_reply dotenv key rest =
+    or_asks (entry dotenv key) (asks_text (Variable key) rest (variable_not_unicode key) (variable_unreadable key))
 
 -- the value of the first of these variables that is set
 abbrev pub first_set : List (Text × Text) → Reply → List Text → Reply

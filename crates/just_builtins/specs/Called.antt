@@ -1,5 +1,6 @@
 -- The result of a call of a built-in function, and the interaction tree of its questions.
-use Rattle.std.specs.Prelude.{◌≡◌, ◌≢◌, ⊤, Option, Some, None, Result, Ok, Err, List, [], ◌∷◌, string_bytes}
+use Rattle.std.specs.Prelude.{◌≡◌, ◌≢◌, ⊤, Option, Some, None, Result, Ok, Err, List, [], string_bytes}
+use Rattle.std.specs.List.{AllByRecursion}
 use Rattle.just_syntax.specs.Plain.{Text}
 use Rattle.just_value.specs.Value.{Value}
 use Rattle.just_value.specs.Frames.{Frames}
@@ -37,11 +38,6 @@ outcome (Err (Message message)) = Gave (Said (string_bytes message))
 outcome (Err OutOfMemory) = Stopped
 outcome (Err Internal) = Stopped
 
--- the built-in function is none of these
-abbrev pub IsNoneOf : List Builtin → Builtin → Type 0
-IsNoneOf [] builtin = ⊤
-IsNoneOf (other ∷ others) builtin = (other ≢ builtin) × IsNoneOf others builtin
-
 -- the result is the reply, which asks nothing, unless memory runs out
 abbrev pub IsReply : Reply → Result Value CallFault → Type 0
 IsReply reply (Ok v) = reply ≡ Answers v
@@ -61,7 +57,7 @@ abbrev pub RepliesAmong : List Builtin → Builtin → Reply → Result Value Ca
 RepliesAmong those builtin reply (Ok v) = reply ≡ Answers v
 RepliesAmong those builtin reply (Err (Message message)) = reply ≡ Fails (string_bytes message)
 RepliesAmong those builtin reply (Err OutOfMemory) = ⊤
-RepliesAmong those builtin reply (Err Internal) = IsNoneOf those builtin
+RepliesAmong those builtin reply (Err Internal) = AllByRecursion (λ other. other ≢ builtin) those
 
 -- the result is the reply's, or there is none yet and the reply is `rest`, unless memory runs out
 abbrev pub GivesOr : (Reply → Reply) → Result (Option Value) CallFault → Type 0
@@ -75,14 +71,18 @@ GivesOr reply (Err Internal) = ⊥
 
 -- the call is a run of the reply's interaction tree, and its result is not `Internal`
 abbrev pub Asked : {S : Type 0} → Step S → S → Frames → Reply → Result Value CallFault → S → Type 0
-Asked step old shown reply result new = Runs freely step old (tree shown reply) (outcome result) new × (result ≢ Err Internal)
+Asked step old shown reply result new =
+    Runs freely step old (tree shown reply) (outcome result) new × (result ≢ Err Internal)
 
 -- the same, but it is `Internal` if the function has no name; then nothing is asked
 abbrev pub AskedBy : {S : Type 0} → Function → Step S → S → Frames → Reply → Result Value CallFault → S → Type 0
-AskedBy f step old shown reply result new = Runs freely step old (tree shown reply) (outcome result) new × (result ≡ Err Internal → IsUnnamed f × (new ≡ old))
+AskedBy f step old shown reply result new =
+    Runs freely step old (tree shown reply) (outcome result) new × (result ≡ Err Internal → IsUnnamed f × (new ≡ old))
 
 -- If there is a result, it is the reply's. If there is none yet, any run of `rest` from here is a run of the reply.
 abbrev pub AskedOr : {S : Type 0} → Step S → S → Frames → (Reply → Reply) → Result (Option Value) CallFault → S → Type 0
-AskedOr step old shown reply (Ok (Some v)) new = (rest : Reply) → Runs freely step old (tree shown (reply rest)) (Gave (Returned v)) new
-AskedOr {S} step old shown reply (Ok None) new = (rest : Reply) (o : Outcome Called) (last : S) → Runs freely step new (tree shown rest) o last → Runs freely step old (tree shown (reply rest)) o last
+AskedOr step old shown reply (Ok (Some v)) new =
+    (rest : Reply) → Runs freely step old (tree shown (reply rest)) (Gave (Returned v)) new
+AskedOr {S} step old shown reply (Ok None) new = (rest : Reply) (o : Outcome Called) (last : S)
+    → Runs freely step new (tree shown rest) o last → Runs freely step old (tree shown (reply rest)) o last
 AskedOr step old shown reply (Err e) new = (rest : Reply) → Asked step old shown (reply rest) (Err e) new

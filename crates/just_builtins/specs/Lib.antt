@@ -9,3 +9,4 @@ pub mod Said
 pub mod Shape
 pub mod Table
 pub mod View
+pub mod Prelude

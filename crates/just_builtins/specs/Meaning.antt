@@ -1,5 +1,6 @@
 -- The reply of each built-in function: its value, message or questions. One line per function.
-use Rattle.std.specs.Prelude.{ℕ, ◌++◌, Bool, true, false, ◌||◌, List, [], ◌∷◌, Option, Some, None, Result, Ok, Err, unwrap_or, if◌then◌else◌, bytes_eq, codes, decimal, length, map, slice_get}
+use Rattle.std.specs.Prelude.{ℕ, ◌++◌, Bool, true, false, ◌||◌, List, [], ◌∷◌, Option, Some, None, Result, Ok, Err}
+use Rattle.std.specs.Prelude.{unwrap_or, if◌then◌else◌, bytes_eq, codes, decimal, length, map, slice_get}
 use Rattle.std.specs.List.{join_by}
 use Rattle.std.specs.Str.{trim, trim_start, trim_end}
 use Rattle.just_syntax.specs.Plain.{Text}
@@ -17,8 +18,10 @@ use Rattle.just_host.specs.Question.{Arch, Os, OsFamily}
 use Rattle.just_host.specs.declared.directory_kind.DirectoryKind.TheVariants as kinds
 use Rattle.just_host.specs.declared.number_question.NumberQuestion.TheVariants.{ProcessId, Cpus}
 use Rattle.just_builtins.specs.Argument.{argument_at, text_at, text_given, first}
-use Rattle.just_builtins.specs.Asking.{asks_canonical, asks_contents, asks_directory, asks_environment, asks_executable, asks_existence, asks_number, asks_shell, asks_system, asks_which}
-use Rattle.just_builtins.specs.Message.{not_extracted, no_parent, no_justfile_directory, not_boolean, many_for_boolean, past_ascii, outside_recipe, no_executable}
+use Rattle.just_builtins.specs.Asking.{asks_canonical, asks_contents, asks_directory, asks_environment, asks_executable}
+use Rattle.just_builtins.specs.Asking.{asks_existence, asks_number, asks_shell, asks_system, asks_which}
+use Rattle.just_builtins.specs.Message.{not_extracted, no_parent, no_justfile_directory, not_boolean, many_for_boolean}
+use Rattle.just_builtins.specs.Message.{past_ascii, outside_recipe, no_executable}
 use Rattle.just_builtins.specs.Reply.{Reply, Answers, Fails, says}
 use Rattle.just_builtins.specs.declared.builtin.Builtin.{Builtin}
 use Rattle.just_builtins.specs.declared.builtin.Builtin.TheVariants as builtin
@@ -78,7 +81,8 @@ or_dot [] = codes "."
 or_dot (b ∷ bs) = b ∷ bs
 
 abbrev pub parent_directory : Text → Reply
-parent_directory p = or_fails (path.parent p) (not_extracted (codes "parent directory") p) (λ directory. says (or_dot directory))
+parent_directory p =
+    or_fails (path.parent p) (not_extracted (codes "parent directory") p) (λ directory. says (or_dot directory))
 
 abbrev pub without_extension : Text → Reply
 without_extension p =

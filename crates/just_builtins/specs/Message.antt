@@ -1,5 +1,6 @@
 -- Messages of built-in functions that return no value.
 use Rattle.std.specs.Prelude.{◌++◌, List, [], ◌∷◌, codes, map}
+use Rattle.just_syntax.specs.Enclosure.{ticked}
 use Rattle.just_syntax.specs.Plain.{Text}
 use Rattle.just_value.specs.Listed.{listed}
 
@@ -10,7 +11,8 @@ abbrev pub no_parent : Text → Text
 no_parent path = codes "path `" ++ (path ++ codes "` has no parent")
 
 abbrev pub no_justfile_directory : Text → Text
-no_justfile_directory path = codes "could not resolve justfile directory, justfile `" ++ (path ++ codes "` had no parent")
+no_justfile_directory path =
+    codes "could not resolve justfile directory, justfile `" ++ (path ++ codes "` had no parent")
 
 abbrev pub not_boolean : Text → Text
 not_boolean text = codes "`" ++ (text ++ codes "` is not a valid boolean string")
@@ -59,14 +61,11 @@ abbrev pub executable_not_unicode : Text → Text
 executable_not_unicode text = codes "executable path is not valid unicode: " ++ text
 
 abbrev pub variable_not_unicode : Text → Text → Text
-variable_not_unicode key text = codes "environment variable `" ++ (key ++ (codes "` is not unicode: `" ++ (text ++ codes "`")))
+variable_not_unicode key text =
+    codes "environment variable `" ++ (key ++ (codes "` is not unicode: `" ++ (text ++ codes "`")))
 
 abbrev pub variable_unreadable : Text → Text → Text
 variable_unreadable key text = codes "environment variable `" ++ (key ++ (codes "` cannot be read: " ++ text))
-
--- a text in backticks
-abbrev pub ticked : Text → Text
-ticked text = codes "`" ++ (text ++ codes "`")
 
 -- none of these variables is set
 abbrev pub no_variable : List Text → Text

@@ -1,9 +1,21 @@
 -- The arguments of each shape.
 use Rattle.std.specs.Prelude.{ℕ, Bool as Truth, true, false, ◌==◌, ◌^◌, ◌-◌, List, [], ◌∷◌}
 use Rattle.just_builtins.specs.declared.builtin.Builtin.{Builtin}
-use Rattle.just_builtins.specs.declared.builtin.Builtin.TheVariants.{Bool, Capitalize, EncodeUriComponent, Error, Extension, FileName, FileStem, InvocationDirectory, InvocationDirectoryNative, JustVersion, Justfile, JustfileDirectory, Len, Lowercase, ModuleDirectory, ModuleFile, ModulePath, ParentDirectory, RecipeName, Show, SourceDirectory, SourceFile, Trim, TrimEnd, TrimStart, Uppercase, WithoutExtension}
+use Rattle.just_builtins.specs.declared.builtin.Builtin.TheVariants.{Bool, Capitalize, EncodeUriComponent, Error}
+use Rattle.just_builtins.specs.declared.builtin.Builtin.TheVariants.{Extension, FileName, FileStem, InvocationDirectory}
+use Rattle.just_builtins.specs.declared.builtin.Builtin.TheVariants.{InvocationDirectoryNative, JustVersion, Justfile}
+use Rattle.just_builtins.specs.declared.builtin.Builtin.TheVariants.{JustfileDirectory, Len, Lowercase, ModuleDirectory}
+use Rattle.just_builtins.specs.declared.builtin.Builtin.TheVariants.{ModuleFile, ModulePath, ParentDirectory}
+use Rattle.just_builtins.specs.declared.builtin.Builtin.TheVariants.{RecipeName, Show, SourceDirectory, SourceFile}
+use Rattle.just_builtins.specs.declared.builtin.Builtin.TheVariants.{Trim, TrimEnd, TrimStart, Uppercase}
+use Rattle.just_builtins.specs.declared.builtin.Builtin.TheVariants.{WithoutExtension}
 use Rattle.just_builtins.specs.declared.function.Function.{Function}
-use Rattle.just_builtins.specs.declared.function.Function.TheVariants.{Binary, BinaryOptToValue, BinaryOptValueStr, BinaryOptValueStrToValue, BinaryPlus, BinaryStrValue, BinaryToValue, Nullary, Ternary, Unary, UnaryMap, UnaryPlus, UnaryToValue, ValueBinary, ValueBinaryOpt, ValueNullary, ValueUnary}
+use Rattle.just_builtins.specs.declared.function.Function.TheVariants.{Binary, BinaryOptToValue, BinaryOptValueStr}
+use Rattle.just_builtins.specs.declared.function.Function.TheVariants.{BinaryOptValueStrToValue, BinaryPlus}
+use Rattle.just_builtins.specs.declared.function.Function.TheVariants.{BinaryStrValue, BinaryToValue, Nullary, Ternary}
+use Rattle.just_builtins.specs.declared.function.Function.TheVariants.{Unary, UnaryMap, UnaryPlus, UnaryToValue}
+use Rattle.just_builtins.specs.declared.function.Function.TheVariants.{ValueBinary, ValueBinaryOpt, ValueNullary}
+use Rattle.just_builtins.specs.declared.function.Function.TheVariants.{ValueUnary}
 
 -- the least number of arguments of a call
 abbrev pub fewest_arguments : Function → ℕ

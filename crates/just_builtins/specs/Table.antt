@@ -1,10 +1,31 @@
 -- The table of built-in functions: the name, the shape and the tag of each.
-use Rattle.std.specs.Prelude.{◌≢◌, ℕ, ◌++◌, ◌-◌, List, [], ◌∷◌, Bool as Truth, Option, Some, length, take, if◌then◌else◌, codes, nat_eq, bytes_eq, find, option_map}
+use Rattle.std.specs.Prelude.{◌≢◌, ℕ, ◌++◌, ◌-◌, List, [], ◌∷◌, Bool as Truth, Option, Some, length, take}
+use Rattle.std.specs.Prelude.{if◌then◌else◌, codes, nat_eq, bytes_eq, find, option_map}
 use Rattle.std.specs.List.{ends_with, list_any}
 use Rattle.just_syntax.specs.Plain.{Text}
 use Rattle.just_builtins.specs.declared.function.Function.{Function}
-use Rattle.just_builtins.specs.declared.function.Function.TheVariants.{Binary, BinaryOptToValue, BinaryOptValueStrToValue, BinaryPlus, BinaryStrValue, Nullary, Ternary, Unary, UnaryMap, UnaryPlus, UnaryToValue, ValueBinary, ValueBinaryOpt, ValueNullary, ValueUnary}
-use Rattle.just_builtins.specs.declared.builtin.Builtin.TheVariants.{Append, Arch, Bool, CacheDirectory, Canonicalize, Capitalize, ConfigDirectory, ConfigLocalDirectory, DataDirectory, DataLocalDirectory, EncodeUriComponent, Env, EnvVar, EnvVarOrDefault, Error, ExecutableDirectory, Extension, FileName, FileStem, HomeDirectory, InvocationDirectory, InvocationDirectoryNative, IsDependency, Join, JoinList, JustExecutable, JustPid, JustVersion, Justfile, JustfileDirectory, Len, Lowercase, ModuleDirectory, ModuleFile, ModulePath, NumCpus, NumJobs, Os, OsFamily, ParentDirectory, PathExists, Prepend, Quote, Read, RecipeName, Replace, Require, RuntimeDirectory, Shell, Show, SourceDirectory, SourceFile, Split, Trim, TrimEnd, TrimEndMatch, TrimEndMatches, TrimStart, TrimStartMatch, TrimStartMatches, Uppercase, Which, WithoutExtension}
+use Rattle.just_builtins.specs.declared.function.Function.TheVariants.{Binary, BinaryOptToValue}
+use Rattle.just_builtins.specs.declared.function.Function.TheVariants.{BinaryOptValueStrToValue, BinaryPlus}
+use Rattle.just_builtins.specs.declared.function.Function.TheVariants.{BinaryStrValue, Nullary, Ternary, Unary}
+use Rattle.just_builtins.specs.declared.function.Function.TheVariants.{UnaryMap, UnaryPlus, UnaryToValue, ValueBinary}
+use Rattle.just_builtins.specs.declared.function.Function.TheVariants.{ValueBinaryOpt, ValueNullary, ValueUnary}
+use Rattle.just_builtins.specs.declared.builtin.Builtin.TheVariants.{Append, Arch, Bool, CacheDirectory, Canonicalize}
+use Rattle.just_builtins.specs.declared.builtin.Builtin.TheVariants.{Capitalize, ConfigDirectory, ConfigLocalDirectory}
+use Rattle.just_builtins.specs.declared.builtin.Builtin.TheVariants.{DataDirectory, DataLocalDirectory}
+use Rattle.just_builtins.specs.declared.builtin.Builtin.TheVariants.{EncodeUriComponent, Env, EnvVar, EnvVarOrDefault}
+use Rattle.just_builtins.specs.declared.builtin.Builtin.TheVariants.{Error, ExecutableDirectory, Extension, FileName}
+use Rattle.just_builtins.specs.declared.builtin.Builtin.TheVariants.{FileStem, HomeDirectory, InvocationDirectory}
+use Rattle.just_builtins.specs.declared.builtin.Builtin.TheVariants.{InvocationDirectoryNative, IsDependency, Join}
+use Rattle.just_builtins.specs.declared.builtin.Builtin.TheVariants.{JoinList, JustExecutable, JustPid, JustVersion}
+use Rattle.just_builtins.specs.declared.builtin.Builtin.TheVariants.{Justfile, JustfileDirectory, Len, Lowercase}
+use Rattle.just_builtins.specs.declared.builtin.Builtin.TheVariants.{ModuleDirectory, ModuleFile, ModulePath, NumCpus}
+use Rattle.just_builtins.specs.declared.builtin.Builtin.TheVariants.{NumJobs, Os, OsFamily, ParentDirectory, PathExists}
+use Rattle.just_builtins.specs.declared.builtin.Builtin.TheVariants.{Prepend, Quote, Read, RecipeName, Replace, Require}
+use Rattle.just_builtins.specs.declared.builtin.Builtin.TheVariants.{RuntimeDirectory, Shell, Show, SourceDirectory}
+use Rattle.just_builtins.specs.declared.builtin.Builtin.TheVariants.{SourceFile, Split, Trim, TrimEnd, TrimEndMatch}
+use Rattle.just_builtins.specs.declared.builtin.Builtin.TheVariants.{TrimEndMatches, TrimStart, TrimStartMatch}
+use Rattle.just_builtins.specs.declared.builtin.Builtin.TheVariants.{TrimStartMatches, Uppercase, Which}
+use Rattle.just_builtins.specs.declared.builtin.Builtin.TheVariants.{WithoutExtension}
 
 abbrev pub table : List (Text × Function)
 table =

@@ -1,7 +1,7 @@
 // The arguments of a call.
 
-ghost use Rattle.std.specs.Prelude.{◌≡◌, ◌<◌, ◌≤◌, ◌∷◌, [], drop, length};
-ghost use Rattle.just_builtins.specs.Argument.{texts_given, argument_at, values_given};
+ghost use Rattle.std.specs.Prelude.{[], drop, length, ◌<◌, ◌∷◌, ◌≡◌, ◌≤◌};
+ghost use Rattle.just_builtins.specs.Prelude.{argument_at, texts_given, values_given};
 
 use just_value::value::Value;
 

@@ -1,13 +1,11 @@
 // The built-in functions that take two arguments, one or two, or at least two.
 
-ghost use Rattle.std.specs.Prelude.{◌≡◌, ◌<◌, ◌∷◌, ◌++◌, [], IfOk, length, option_map, string_bytes};
-ghost use Rattle.just_value.specs.Frames.{Frames};
+ghost use Rattle.std.specs.Prelude.{IfOk, [], length, string_bytes, ◌<◌, ◌∷◌, ◌≡◌};
+ghost use Rattle.just_builtins.specs.Prelude.{AskedBy, Binary, BinaryOptToValue, BinaryOptValueStrToValue, BinaryPlus};
+ghost use Rattle.just_builtins.specs.Prelude.{BinaryStrValue, Frames, HasOneEach, Replies, ValueBinary, ValueBinaryOpt};
+ghost use Rattle.just_builtins.specs.Prelude.{all_joined, argument_at, function_context_view, reply, texts_given};
+ghost use Rattle.just_builtins.specs.Prelude.{values_given};
 ghost use Rattle.just_host.specs.Function as function;
-ghost use Rattle.just_host.specs.View.{function_context_view};
-ghost use Rattle.just_builtins.specs.Argument.{HasOneEach, texts_given, argument_at, values_given};
-ghost use Rattle.just_builtins.specs.Called.{AskedBy, Replies};
-ghost use Rattle.just_builtins.specs.Meaning.{all_joined, reply};
-ghost use Rattle.just_builtins.specs.declared.function.Function.TheVariants.{Binary, BinaryOptToValue, BinaryOptValueStrToValue, BinaryPlus, BinaryStrValue, ValueBinary, ValueBinaryOpt};
 
 use crate::argument::text_at;
 use crate::builtin::Builtin;
@@ -34,7 +32,8 @@ pub fn binary(alloc: Global, builtin: Builtin, arguments: &[Value]) -> Result<Va
 
 // The first text with the second removed at one end.
 fn trimmed(alloc: Global, builtin: Builtin, text: &str, pattern: &str) -> Result<Value, CallFault>
-    ensures { (c : function.Context) → Replies (Binary builtin) (reply builtin c ((text.now ∷ []) ∷ (pattern.now ∷ []) ∷ [])) result }
+    ensures { (c : function.Context)
+        → Replies (Binary builtin) (reply builtin c ((text.now ∷ []) ∷ (pattern.now ∷ []) ∷ [])) result }
 {
     let text = match builtin {
         Builtin::TrimEndMatch => pattern::trim_end_match(text, pattern),
@@ -53,7 +52,9 @@ pub fn binary_opt_to_value(
     text: &str,
     separator: Option<&str>,
 ) -> Result<Value, CallFault>
-    ensures { (c : function.Context) → Replies (BinaryOptToValue builtin) (reply builtin c ((text.now ∷ []) ∷ texts_given separator.entry)) result }
+    ensures { (c : function.Context)
+        → Replies (BinaryOptToValue builtin) (reply builtin c ((text.now ∷ []) ∷ texts_given separator.entry))
+        result }
 {
     match builtin {
         Builtin::Split => {
@@ -74,7 +75,9 @@ pub fn binary_opt_value_str_to_value(
     value: &Value,
     separator: Option<&str>,
 ) -> Result<Value, CallFault>
-    ensures { (c : function.Context) → Replies (BinaryOptValueStrToValue builtin) (reply builtin c (value.now ∷ texts_given separator.entry)) result }
+    ensures { (c : function.Context)
+        → Replies (BinaryOptValueStrToValue builtin) (reply builtin c (value.now ∷ texts_given separator.entry))
+        result }
 {
     match builtin {
         Builtin::JoinList => {
@@ -121,7 +124,8 @@ pub fn binary_str_value(
 ) -> Result<Value, CallFault>
     requires count { length arguments.now ≡ 2 }
     requires text { length (argument_at arguments.now 0) ≡ 1 }
-    ensures { Replies (BinaryStrValue builtin) (reply builtin (function_context_view context.now) arguments.now) result }
+    ensures { Replies (BinaryStrValue builtin) (reply builtin (function_context_view context.now) arguments.now)
+        result }
 {
     let text = text_at(arguments, 0);
     extended(alloc, context, builtin, text, &arguments[1])
@@ -135,7 +139,8 @@ fn extended(
     text: &str,
     value: &Value,
 ) -> Result<Value, CallFault>
-    ensures { Replies (BinaryStrValue builtin) (reply builtin (function_context_view context.now) ((text.now ∷ []) ∷ value.now ∷ [])) result }
+    ensures { Replies (BinaryStrValue builtin)
+        (reply builtin (function_context_view context.now) ((text.now ∷ []) ∷ value.now ∷ [])) result }
 {
     let lists = context.execution_context.module.settings.lists;
     match builtin {
@@ -154,7 +159,9 @@ pub fn value_binary<'call, H: Host>(
     value: &Value,
     other: &Value,
 ) -> Result<Value, CallFault>
-    ensures { (shown : Frames) → AskedBy (ValueBinary builtin) H.step host.old shown (reply builtin (function_context_view context.now) (value.now ∷ other.now ∷ [])) result host.new }
+    ensures { (shown : Frames)
+        → AskedBy (ValueBinary builtin) H.step host.old shown
+        (reply builtin (function_context_view context.now) (value.now ∷ other.now ∷ [])) result host.new }
 {
     match builtin {
         Builtin::EnvVarOrDefault => environment(alloc, host, context, value, Some(other)),
@@ -171,7 +178,9 @@ pub fn value_binary_opt<'call, H: Host>(
     value: &Value,
     other: Option<&Value>,
 ) -> Result<Value, CallFault>
-    ensures { (shown : Frames) → AskedBy (ValueBinaryOpt builtin) H.step host.old shown (reply builtin (function_context_view context.now) (value.now ∷ values_given other.entry)) result host.new }
+    ensures { (shown : Frames)
+        → AskedBy (ValueBinaryOpt builtin) H.step host.old shown
+        (reply builtin (function_context_view context.now) (value.now ∷ values_given other.entry)) result host.new }
 {
     match builtin {
         Builtin::Env => environment(alloc, host, context, value, other),

@@ -1,7 +1,7 @@
 // Why a call of a built-in function returned no value.
 
 ghost use Rattle.std.specs.Prelude.{◌≡◌};
-ghost use Rattle.just_builtins.specs.declared.call_fault.CallFault.TheVariants.{OutOfMemory as Wanted};
+ghost use Rattle.just_builtins.specs.Prelude.{Wanted};
 
 use just_syntax::out_of_memory::OutOfMemory;
 use just_syntax::unstyled::write_unstyled;

@@ -1,11 +1,7 @@
 // The directories that the system keeps for its user.
 
-ghost use Rattle.just_value.specs.Frames.{Frames};
-ghost use Rattle.just_host.specs.View.{text_replied};
-ghost use Rattle.just_builtins.specs.Asking.{asks_directory, text_answered};
-ghost use Rattle.just_builtins.specs.Called.{Asked, IsReply};
-ghost use Rattle.just_builtins.specs.Message.{directory_not_unicode, directory_unreadable, no_directory};
-ghost use Rattle.just_builtins.specs.Reply.{Fails};
+ghost use Rattle.just_builtins.specs.Prelude.{Asked, Fails, Frames, IsReply, asks_directory, directory_not_unicode};
+ghost use Rattle.just_builtins.specs.Prelude.{directory_unreadable, no_directory, text_answered, text_replied};
 
 use crate::call_fault::CallFault;
 use crate::message;
@@ -35,18 +31,17 @@ pub(crate) fn directory<H: Host>(
 
 // The result for the host's answer.
 fn directory_answered(alloc: Global, word: &str, answer: TextAnswer) -> Result<Value, CallFault>
-    ensures { IsReply (text_answered (Fails (no_directory word.now)) (directory_not_unicode word.now) (directory_unreadable word.now) (text_replied answer)) result }
+    ensures { IsReply (text_answered (Fails (no_directory word.now)) (directory_not_unicode word.now)
+        (directory_unreadable word.now) (text_replied answer)) result }
 {
     match answer {
         TextAnswer::Text(text) => Ok(Value::from_string(alloc, text)?),
         TextAnswer::Absent => Err(CallFault::Message(message::no_directory(alloc, word)?)),
         TextAnswer::NotText(text) => {
-            let message = message::directory_not_unicode(alloc, word, &text)?;
-            Err(CallFault::Message(message))
+            Err(CallFault::Message(message::directory_not_unicode(alloc, word, &text)?))
         }
         TextAnswer::Fault(text) => {
-            let message = message::directory_unreadable(alloc, word, &text)?;
-            Err(CallFault::Message(message))
+            Err(CallFault::Message(message::directory_unreadable(alloc, word, &text)?))
         }
         TextAnswer::OutOfMemory => Err(CallFault::OutOfMemory),
     }

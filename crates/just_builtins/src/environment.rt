@@ -1,12 +1,9 @@
 // Environment variables.
 
-ghost use Rattle.std.specs.Prelude.{◌≡◌, Option, map, option_map, string_bytes};
-ghost use Rattle.just_value.specs.Frames.{Frames};
-ghost use Rattle.just_syntax.specs.View.{pairs_view};
-ghost use Rattle.just_host.specs.View.{function_context_view, text_replied};
+ghost use Rattle.std.specs.Prelude.{Option, map, option_map, string_bytes};
+ghost use Rattle.just_builtins.specs.Prelude.{Asked, AskedOr, Frames, GivesOr, IsReply, function_context_view};
+ghost use Rattle.just_builtins.specs.Prelude.{pairs_view, text_replied, variable_not_unicode, variable_unreadable};
 ghost use Rattle.just_builtins.specs.Asking as spec;
-ghost use Rattle.just_builtins.specs.Called.{Asked, AskedOr, IsReply, GivesOr};
-ghost use Rattle.just_builtins.specs.Message.{variable_not_unicode, variable_unreadable};
 
 use crate::call_fault::CallFault;
 use crate::message;
@@ -32,7 +29,9 @@ pub fn environment<'call, H: Host>(
     keys: &Value,
     default: Option<&Value>,
 ) -> Result<Value, CallFault>
-    ensures { (shown : Frames) → Asked H.step host.old shown (spec.asks_environment (function_context_view context.now) keys.now (option_map (λ value. value.now) default.entry)) result host.new }
+    ensures { (shown : Frames)
+        → Asked H.step host.old shown (spec.asks_environment (function_context_view context.now) keys.now
+        (option_map (λ value. value.now) default.entry)) result host.new }
 {
     let dotenv = context.execution_context.dotenv;
     match first_set(alloc, host, dotenv, keys.elements())? {
@@ -48,7 +47,9 @@ fn first_set<H: Host>(
     dotenv: &BTreeMap<String, String>,
     keys: &[String],
 ) -> Result<Option<Value>, CallFault>
-    ensures { (shown : Frames) → AskedOr H.step host.old shown (λ rest. spec.first_set (pairs_view dotenv.now) rest (map string_bytes keys.now)) result host.new }
+    ensures { (shown : Frames)
+        → AskedOr H.step host.old shown (λ rest. spec.first_set (pairs_view dotenv.now) rest
+        (map string_bytes keys.now)) result host.new }
 {
     for key in keys {
         if let Some(value) = variable(alloc, host, dotenv, key)? {
@@ -65,7 +66,8 @@ fn variable<H: Host>(
     dotenv: &BTreeMap<String, String>,
     key: &str,
 ) -> Result<Option<Value>, CallFault>
-    ensures { (shown : Frames) → AskedOr H.step host.old shown (spec.variable_reply (pairs_view dotenv.now) key.now) result host.new }
+    ensures { (shown : Frames)
+        → AskedOr H.step host.old shown (spec.variable_reply (pairs_view dotenv.now) key.now) result host.new }
 {
     match dotenv.get(key) {
         Some(text) => Ok(Some(Value::from_text(alloc, text)?)),
@@ -82,7 +84,8 @@ fn variable_answered(
     key: &str,
     answer: TextAnswer,
 ) -> Result<Option<Value>, CallFault>
-    ensures { GivesOr (λ rest. spec.text_answered rest (variable_not_unicode key.now) (variable_unreadable key.now) (text_replied answer)) result }
+    ensures { GivesOr (λ rest. spec.text_answered rest (variable_not_unicode key.now) (variable_unreadable key.now)
+        (text_replied answer)) result }
 {
     match answer {
         TextAnswer::Text(text) => Ok(Some(Value::from_string(alloc, text)?)),
@@ -101,7 +104,8 @@ fn variable_answered(
 
 // The result if none of the variables is set.
 fn unset(alloc: Global, keys: &[String], default: Option<&Value>) -> Result<Value, CallFault>
-    ensures { IsReply (spec.none_set (map string_bytes keys.now) (option_map (λ value. value.now) default.entry)) result }
+    ensures { IsReply (spec.none_set (map string_bytes keys.now) (option_map (λ value. value.now) default.entry))
+        result }
 {
     match default {
         Some(value) => Ok(value.try_clone(alloc)?),

@@ -1,13 +1,10 @@
 // Files, by paths in the working directory.
 
-ghost use Rattle.std.specs.Prelude.{◌≡◌, IfOk, false, string_bytes};
-ghost use Rattle.just_value.specs.Frames.{Frames};
-ghost use Rattle.just_host.specs.View.{existence_answer, function_context_view, text_replied};
+ghost use Rattle.std.specs.Prelude.{IfOk, false, string_bytes, ◌≡◌};
+ghost use Rattle.just_builtins.specs.Prelude.{Answers, Asked, Fails, Frames, IsReply, canonical_not_unicode};
+ghost use Rattle.just_builtins.specs.Prelude.{existence_answer, function_context_view, has_lists, not_canonicalized};
+ghost use Rattle.just_builtins.specs.Prelude.{not_found, not_read, text_replied, truth};
 ghost use Rattle.just_builtins.specs.Asking as spec;
-ghost use Rattle.just_builtins.specs.Called.{Asked, IsReply};
-ghost use Rattle.just_builtins.specs.Meaning.{has_lists, truth};
-ghost use Rattle.just_builtins.specs.Message.{canonical_not_unicode, not_canonicalized, not_found, not_read};
-ghost use Rattle.just_builtins.specs.Reply.{Answers, Fails};
 
 use crate::call_fault::CallFault;
 use crate::truth::truth;
@@ -22,7 +19,8 @@ use std::alloc::Global;
 
 // A path joined to the working directory.
 fn in_working_directory(alloc: Global, context: &Context, path: &str) -> Result<String, OutOfMemory>
-    ensures { IfOk result (λ text. string_bytes text ≡ spec.in_working_directory (function_context_view context.now) path.now) }
+    ensures { IfOk result (λ text. string_bytes text
+        ≡ spec.in_working_directory (function_context_view context.now) path.now) }
 {
     let directory = context.execution_context.working_directory(alloc)?;
     path::join(alloc, &directory, path)
@@ -40,7 +38,9 @@ pub fn canonicalize<'call, H: Host>(
     context: &'call Context,
     path: &str,
 ) -> Result<Value, CallFault>
-    ensures { (shown : Frames) → Asked H.step host.old shown (spec.asks_canonical (function_context_view context.now) path.now) result host.new }
+    ensures { (shown : Frames)
+        → Asked H.step host.old shown (spec.asks_canonical (function_context_view context.now) path.now) result
+        host.new }
 {
     let place = in_working_directory(alloc, context, path)?;
     let answer = host.text(alloc, TextQuestion::Canonicalize(&place));
@@ -49,13 +49,13 @@ pub fn canonicalize<'call, H: Host>(
 
 // The result for the host's answer.
 fn canonical_answered(alloc: Global, path: &str, answer: TextAnswer) -> Result<Value, CallFault>
-    ensures { IsReply (spec.text_answered (Fails (not_canonicalized path.now not_found)) canonical_not_unicode (not_canonicalized path.now) (text_replied answer)) result }
+    ensures { IsReply (spec.text_answered (Fails (not_canonicalized path.now not_found)) canonical_not_unicode
+        (not_canonicalized path.now) (text_replied answer)) result }
 {
     match answer {
         TextAnswer::Text(text) => Ok(Value::from_string(alloc, text)?),
         TextAnswer::Absent => {
-            let message = message::not_canonicalized(alloc, path, message::NOT_FOUND)?;
-            Err(CallFault::Message(message))
+            Err(CallFault::Message(message::not_canonicalized(alloc, path, message::NOT_FOUND)?))
         }
         TextAnswer::NotText(text) => {
             Err(CallFault::Message(message::canonical_not_unicode(alloc, &text)?))
@@ -79,7 +79,9 @@ pub fn read<'call, H: Host>(
     context: &'call Context,
     path: &str,
 ) -> Result<Value, CallFault>
-    ensures { (shown : Frames) → Asked H.step host.old shown (spec.asks_contents (function_context_view context.now) path.now) result host.new }
+    ensures { (shown : Frames)
+        → Asked H.step host.old shown (spec.asks_contents (function_context_view context.now) path.now) result
+        host.new }
 {
     let place = in_working_directory(alloc, context, path)?;
     let answer = host.text(alloc, TextQuestion::Read(&place));
@@ -88,13 +90,13 @@ pub fn read<'call, H: Host>(
 
 // The result for the host's answer.
 fn contents_answered(alloc: Global, path: &str, answer: TextAnswer) -> Result<Value, CallFault>
-    ensures { IsReply (spec.text_answered (Fails (not_read path.now not_found)) (not_read path.now) (not_read path.now) (text_replied answer)) result }
+    ensures { IsReply (spec.text_answered (Fails (not_read path.now not_found)) (not_read path.now) (not_read path.now)
+        (text_replied answer)) result }
 {
     match answer {
         TextAnswer::Text(text) => Ok(Value::from_string(alloc, text)?),
         TextAnswer::Absent => {
-            let message = message::not_read(alloc, path, message::NOT_FOUND)?;
-            Err(CallFault::Message(message))
+            Err(CallFault::Message(message::not_read(alloc, path, message::NOT_FOUND)?))
         }
         TextAnswer::NotText(text) | TextAnswer::Fault(text) => {
             Err(CallFault::Message(message::not_read(alloc, path, &text)?))
@@ -115,7 +117,8 @@ pub fn path_exists<'call, H: Host>(
     context: &'call Context,
     path: &str,
 ) -> Result<Value, CallFault>
-    ensures { let c = function_context_view context.now in (shown : Frames) → Asked H.step host.old shown (spec.asks_existence c (truth (has_lists c)) path.now) result host.new }
+    ensures { let c = function_context_view context.now in (shown : Frames)
+        → Asked H.step host.old shown (spec.asks_existence c (truth (has_lists c)) path.now) result host.new }
 {
     let lists = context.execution_context.module.settings.lists;
     if path.is_empty() {

@@ -1,19 +1,11 @@
 // The built-in functions, by the shapes of their arguments.
 
-ghost use Rattle.std.specs.Prelude.{◌≡◌, Bool, Err, IsTrue, false, length, map};
+ghost use Rattle.std.specs.Prelude.{Err, IsTrue, false, length, map, ◌≡◌};
 ghost use Rattle.std.specs.Range.{range_inclusive_end, range_inclusive_exhausted, range_inclusive_start};
-ghost use Rattle.just_syntax.specs.Plain.{Text};
-ghost use Rattle.just_value.specs.View.{frames_view};
-ghost use Rattle.just_host.specs.Interaction.{Runs, freely};
-ghost use Rattle.just_host.specs.View.{function_context_view};
-ghost use Rattle.just_builtins.specs.Argument.{HasTexts, IsExpected};
-ghost use Rattle.just_builtins.specs.Called.{AskedBy, outcome, tree};
-ghost use Rattle.just_builtins.specs.Meaning.{reply};
-ghost use Rattle.just_builtins.specs.Order.{rises};
-ghost use Rattle.just_builtins.specs.Shape.{builtin_of, fewest_arguments, is_text, most_arguments};
-ghost use Rattle.just_builtins.specs.Table.{IsUnnamed, find_in, function_named, is_left_out};
-ghost use Rattle.just_builtins.specs.View.{entry_view};
-ghost use Rattle.just_builtins.specs.declared.call_fault.CallFault.TheVariants.{Internal};
+ghost use Rattle.just_builtins.specs.Prelude.{AskedBy, HasTexts, Internal, IsExpected, IsUnnamed, Runs, Text};
+ghost use Rattle.just_builtins.specs.Prelude.{builtin_of, entry_view, fewest_arguments, find_in, frames_view, freely};
+ghost use Rattle.just_builtins.specs.Prelude.{function_context_view, function_named, is_left_out, is_text};
+ghost use Rattle.just_builtins.specs.Prelude.{most_arguments, outcome, reply, rises, tree};
 
 use crate::argument::{second, second_text, text_at};
 use crate::binary::{
@@ -158,7 +150,8 @@ impl Function {
     ) -> Result<Value, CallFault>
         requires count { IsExpected self (length arguments.now) }
         requires texts { HasTexts self arguments.now }
-        ensures { AskedBy self H.step host.old (frames_view context.now.scope.now) (reply (builtin_of self) (function_context_view context.now) arguments.now) result host.new }
+        ensures { AskedBy self H.step host.old (frames_view context.now.scope.now)
+            (reply (builtin_of self) (function_context_view context.now) arguments.now) result host.new }
     {
         match self {
             Function::Binary(builtin) => binary(alloc, builtin, arguments),

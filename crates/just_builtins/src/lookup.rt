@@ -1,12 +1,8 @@
 // Executables, searched for from the working directory.
 
 ghost use Rattle.std.specs.Prelude.{[]};
-ghost use Rattle.just_value.specs.Frames.{Frames};
-ghost use Rattle.just_host.specs.View.{function_context_view, text_replied};
-ghost use Rattle.just_builtins.specs.Asking.{asks_which, text_answered};
-ghost use Rattle.just_builtins.specs.Called.{Asked, IsReply};
-ghost use Rattle.just_builtins.specs.Message.{no_executable};
-ghost use Rattle.just_builtins.specs.Reply.{Answers, Fails};
+ghost use Rattle.just_builtins.specs.Prelude.{Answers, Asked, Fails, Frames, IsReply, asks_which};
+ghost use Rattle.just_builtins.specs.Prelude.{function_context_view, no_executable, text_answered, text_replied};
 
 use crate::call_fault::CallFault;
 use crate::message;
@@ -29,7 +25,9 @@ pub fn which<'call, H: Host>(
     context: &'call Context,
     name: &str,
 ) -> Result<Value, CallFault>
-    ensures { (shown : Frames) → Asked H.step host.old shown (asks_which (function_context_view context.now) name.now (Answers [])) result host.new }
+    ensures { (shown : Frames)
+        → Asked H.step host.old shown (asks_which (function_context_view context.now) name.now (Answers [])) result
+        host.new }
 {
     let working_directory = context.execution_context.working_directory(alloc)?;
     let question = TextQuestion::Which {
@@ -64,7 +62,9 @@ pub fn require<'call, H: Host>(
     context: &'call Context,
     name: &str,
 ) -> Result<Value, CallFault>
-    ensures { (shown : Frames) → Asked H.step host.old shown (asks_which (function_context_view context.now) name.now (Fails (no_executable name.now))) result host.new }
+    ensures { (shown : Frames)
+        → Asked H.step host.old shown (asks_which (function_context_view context.now) name.now
+        (Fails (no_executable name.now))) result host.new }
 {
     let working_directory = context.execution_context.working_directory(alloc)?;
     let question = TextQuestion::Which {
@@ -77,7 +77,8 @@ pub fn require<'call, H: Host>(
 
 // The result for the host's answer.
 fn require_answered(alloc: Global, name: &str, answer: TextAnswer) -> Result<Value, CallFault>
-    ensures { IsReply (text_answered (Fails (no_executable name.now)) (λ text. text) (λ text. text) (text_replied answer)) result }
+    ensures { IsReply (text_answered (Fails (no_executable name.now)) (λ text. text) (λ text. text)
+        (text_replied answer)) result }
 {
     match answer {
         TextAnswer::Text(text) => Ok(Value::from_string(alloc, text)?),

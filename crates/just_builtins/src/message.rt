@@ -1,6 +1,6 @@
 // Messages of built-in functions that return no value.
 
-ghost use Rattle.std.specs.Prelude.{◌≡◌, IfOk, map, string_bytes};
+ghost use Rattle.std.specs.Prelude.{IfOk, map, string_bytes, ◌≡◌};
 ghost use Rattle.just_builtins.specs.Message as spec;
 
 use just_syntax::out_of_memory::OutOfMemory;
@@ -28,10 +28,7 @@ pub fn no_parent(alloc: Global, path: &str) -> Result<String, OutOfMemory>
 pub fn no_justfile_directory(alloc: Global, path: &str) -> Result<String, OutOfMemory>
     ensures { IfOk result (λ text. string_bytes text ≡ spec.no_justfile_directory path.now) }
 {
-    let text = format!(in alloc;
-        "could not resolve justfile directory, justfile `{path}` had no parent"
-    )?;
-    Ok(text)
+    Ok(format!(in alloc; "could not resolve justfile directory, justfile `{path}` had no parent")?)
 }
 
 /// A text is not a boolean: `` `yes` is not a valid boolean string``.
@@ -45,11 +42,10 @@ pub fn not_boolean(alloc: Global, text: &str) -> Result<String, OutOfMemory>
 pub fn many_for_boolean(alloc: Global) -> Result<String, OutOfMemory>
     ensures { IfOk result (λ message. string_bytes message ≡ spec.many_for_boolean) }
 {
-    let text = String::from_str(
+    Ok(String::from_str(
         alloc,
         "multi-element lists cannot be converted into booleans",
-    )?;
-    Ok(text)
+    )?)
 }
 
 /// The case of a text cannot be changed: `` `é` holds characters past ASCII``.
@@ -63,8 +59,7 @@ pub fn past_ascii(alloc: Global, text: &str) -> Result<String, OutOfMemory>
 pub fn outside_recipe(alloc: Global) -> Result<String, OutOfMemory>
     ensures { IfOk result (λ message. string_bytes message ≡ spec.outside_recipe) }
 {
-    let text = String::from_str(alloc, "`recipe_name()` can only be used within a recipe")?;
-    Ok(text)
+    Ok(String::from_str(alloc, "`recipe_name()` can only be used within a recipe")?)
 }
 
 /// The host has no text for a built-in function.
@@ -156,10 +151,7 @@ pub fn no_variable(alloc: Global, keys: &[String]) -> Result<String, OutOfMemory
     ensures { IfOk result (λ message. string_bytes message ≡ spec.no_variable (map string_bytes keys.now)) }
 {
     match keys {
-        [] => {
-            let text = String::from_str(alloc, "empty environment variable list with no default")?;
-            Ok(text)
-        }
+        [] => Ok(String::from_str(alloc, "empty environment variable list with no default")?),
         [key] => Ok(format!(in alloc; "environment variable `{key}` not present")?),
         _ => {
             let list = List::and_ticked(alloc, keys)?;

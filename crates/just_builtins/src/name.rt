@@ -1,9 +1,8 @@
 // Look-ups of names of built-in functions by binary search. They allocate nothing.
 
-ghost use Rattle.std.specs.Prelude.{◌≡◌, IsTrue, map};
-ghost use Rattle.just_builtins.specs.Order.{rises};
+ghost use Rattle.std.specs.Prelude.{IsTrue, map, ◌≡◌};
+ghost use Rattle.just_builtins.specs.Prelude.{entry_view, rises};
 ghost use Rattle.just_builtins.specs.Table as spec;
-ghost use Rattle.just_builtins.specs.View.{entry_view};
 
 use crate::function::Function;
 

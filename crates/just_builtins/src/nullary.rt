@@ -1,14 +1,9 @@
 // The built-in functions that take nothing.
 
-ghost use Rattle.std.specs.Prelude.{◌≡◌, [], IfOk};
-ghost use Rattle.just_value.specs.Frames.{Frames};
-ghost use Rattle.just_host.specs.View.{function_context_view};
-ghost use Rattle.just_builtins.specs.Called.{AskedBy, IsReply, Replies, RepliesAmong};
+ghost use Rattle.std.specs.Prelude.{IfOk, [], ◌≡◌};
+ghost use Rattle.just_builtins.specs.Prelude.{AskedBy, Frames, IsReply, Nullary, Replies, RepliesAmong, ValueNullary};
+ghost use Rattle.just_builtins.specs.Prelude.{function_context_view, outside_recipe, says, unasked_nullary};
 ghost use Rattle.just_builtins.specs.Meaning as spec;
-ghost use Rattle.just_builtins.specs.Message.{outside_recipe};
-ghost use Rattle.just_builtins.specs.Reply.{says};
-ghost use Rattle.just_builtins.specs.Shape.{unasked_nullary};
-ghost use Rattle.just_builtins.specs.declared.function.Function.TheVariants.{Nullary, ValueNullary};
 
 use crate::builtin::Builtin;
 use crate::call_fault::CallFault;
@@ -33,7 +28,9 @@ pub fn nullary<'call, H: Host>(
     context: &'call Context,
     builtin: Builtin,
 ) -> Result<Value, CallFault>
-    ensures { (shown : Frames) → AskedBy (Nullary builtin) H.step host.old shown (spec.reply builtin (function_context_view context.now) []) result host.new }
+    ensures { (shown : Frames)
+        → AskedBy (Nullary builtin) H.step host.old shown (spec.reply builtin (function_context_view context.now) [])
+        result host.new }
 {
     match builtin {
         Builtin::Arch => system(alloc, host, "arch", TextQuestion::Arch),

@@ -1,10 +1,8 @@
 // Parts of paths, and joined paths.
 
-ghost use Rattle.std.specs.Prelude.{◌≡◌, IfOk, [], option_copied, string_bytes};
-ghost use Rattle.just_builtins.specs.Called.{IsReply};
+ghost use Rattle.std.specs.Prelude.{option_copied};
+ghost use Rattle.just_builtins.specs.Prelude.{IsReply, not_extracted, says};
 ghost use Rattle.just_builtins.specs.Meaning as spec;
-ghost use Rattle.just_builtins.specs.Message.{not_extracted};
-ghost use Rattle.just_builtins.specs.Reply.{says};
 
 use crate::argument::text_at;
 use crate::call_fault::CallFault;

@@ -1,13 +1,9 @@
 // Commands.
 
-ghost use Rattle.std.specs.Prelude.{◌≡◌, ◌<◌, IfOk, drop, length, map, string_bytes};
-ghost use Rattle.just_value.specs.Shown.{quoted};
-ghost use Rattle.just_value.specs.View.{frames_view};
-ghost use Rattle.just_host.specs.View.{function_context_view, replied};
-ghost use Rattle.just_builtins.specs.Argument.{HasOneEach, first};
+ghost use Rattle.std.specs.Prelude.{IfOk, drop, length, map, string_bytes, ◌<◌, ◌≡◌};
+ghost use Rattle.just_builtins.specs.Prelude.{Asked, HasOneEach, IsReply, first, frames_view, function_context_view};
+ghost use Rattle.just_builtins.specs.Prelude.{quoted, replied, says};
 ghost use Rattle.just_builtins.specs.Asking as spec;
-ghost use Rattle.just_builtins.specs.Called.{Asked, IsReply};
-ghost use Rattle.just_builtins.specs.Reply.{says};
 
 use crate::argument::text_at;
 use crate::call_fault::CallFault;
@@ -36,7 +32,8 @@ pub fn shell<'call, H: Host>(
 ) -> Result<Value, CallFault>
     requires some { 0 < length arguments.now }
     requires texts { HasOneEach arguments.now }
-    ensures { Asked H.step host.old (frames_view context.now.scope.now) (spec.asks_shell (function_context_view context.now) (map first arguments.now)) result host.new }
+    ensures { Asked H.step host.old (frames_view context.now.scope.now)
+        (spec.asks_shell (function_context_view context.now) (map first arguments.now)) result host.new }
 {
     if context.execution_context.config.dry_run {
         return shell_call(alloc, arguments);

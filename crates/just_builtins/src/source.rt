@@ -1,10 +1,7 @@
 // The files that contain calls, and their directories.
 
-ghost use Rattle.just_host.specs.View.{function_context_view};
-ghost use Rattle.just_builtins.specs.Called.{IsReply};
+ghost use Rattle.just_builtins.specs.Prelude.{Fails, IsReply, function_context_view, no_parent, says};
 ghost use Rattle.just_builtins.specs.Meaning as spec;
-ghost use Rattle.just_builtins.specs.Message.{no_parent};
-ghost use Rattle.just_builtins.specs.Reply.{Fails, says};
 
 use crate::call_fault::CallFault;
 use crate::{message, path};
@@ -48,7 +45,8 @@ pub fn source_file(alloc: Global, context: &Context) -> Result<Value, CallFault>
 
 /// The directory of the file that contains the call.
 pub fn source_directory(alloc: Global, context: &Context) -> Result<Value, CallFault>
-    ensures { IsReply (spec.with_source (function_context_view context.now) (λ file. spec.with_parent file says)) result }
+    ensures { IsReply (spec.with_source (function_context_view context.now) (λ file. spec.with_parent file says))
+        result }
 {
     let justfile = &context.execution_context.search.justfile;
     match path::parent(justfile) {

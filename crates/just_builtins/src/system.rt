@@ -1,11 +1,9 @@
 // Questions about the system and the running program.
 
-ghost use Rattle.just_value.specs.Frames.{Frames};
-ghost use Rattle.just_host.specs.View.{number_answer, text_question_view, text_replied};
-ghost use Rattle.just_builtins.specs.Asking.{asks_executable, asks_number, asks_system, number_answered, text_answered};
-ghost use Rattle.just_builtins.specs.Called.{Asked, IsReply};
-ghost use Rattle.just_builtins.specs.Message.{executable_not_unicode, executable_unknown, no_answer, not_found};
-ghost use Rattle.just_builtins.specs.Reply.{Fails};
+ghost use Rattle.just_builtins.specs.Prelude.{Asked, Fails, Frames, IsReply, asks_executable, asks_number, asks_system};
+ghost use Rattle.just_builtins.specs.Prelude.{executable_not_unicode, executable_unknown, no_answer, not_found};
+ghost use Rattle.just_builtins.specs.Prelude.{number_answer, number_answered, text_answered, text_question_view};
+ghost use Rattle.just_builtins.specs.Prelude.{text_replied};
 
 use crate::call_fault::CallFault;
 use crate::message;
@@ -28,7 +26,8 @@ pub fn system<H: Host>(
     name: &str,
     question: TextQuestion,
 ) -> Result<Value, CallFault>
-    ensures { (shown : Frames) → Asked H.step host.old shown (asks_system name.now (text_question_view question.entry)) result host.new }
+    ensures { (shown : Frames)
+        → Asked H.step host.old shown (asks_system name.now (text_question_view question.entry)) result host.new }
 {
     let answer = host.text(alloc, question);
     system_answered(alloc, name, answer)
@@ -36,7 +35,8 @@ pub fn system<H: Host>(
 
 // The result for the host's answer.
 fn system_answered(alloc: Global, name: &str, answer: TextAnswer) -> Result<Value, CallFault>
-    ensures { IsReply (text_answered (Fails (no_answer name.now)) (λ text. no_answer name.now) (λ text. no_answer name.now) (text_replied answer)) result }
+    ensures { IsReply (text_answered (Fails (no_answer name.now)) (λ text. no_answer name.now)
+        (λ text. no_answer name.now) (text_replied answer)) result }
 {
     match answer {
         TextAnswer::Text(text) => Ok(Value::from_string(alloc, text)?),
@@ -62,13 +62,13 @@ pub fn executable<H: Host>(alloc: Global, host: &mut H) -> Result<Value, CallFau
 
 // The result for the host's answer.
 fn executable_answered(alloc: Global, answer: TextAnswer) -> Result<Value, CallFault>
-    ensures { IsReply (text_answered (Fails (executable_unknown not_found)) executable_not_unicode executable_unknown (text_replied answer)) result }
+    ensures { IsReply (text_answered (Fails (executable_unknown not_found)) executable_not_unicode executable_unknown
+        (text_replied answer)) result }
 {
     match answer {
         TextAnswer::Text(text) => Ok(Value::from_string(alloc, text)?),
         TextAnswer::Absent => {
-            let message = message::executable_unknown(alloc, message::NOT_FOUND)?;
-            Err(CallFault::Message(message))
+            Err(CallFault::Message(message::executable_unknown(alloc, message::NOT_FOUND)?))
         }
         TextAnswer::NotText(text) => {
             Err(CallFault::Message(message::executable_not_unicode(alloc, &text)?))

@@ -1,11 +1,7 @@
 // The built-in functions that take three arguments.
 
-ghost use Rattle.std.specs.Prelude.{◌≡◌, ◌∷◌, [], length};
-ghost use Rattle.just_host.specs.Function.{Context};
-ghost use Rattle.just_builtins.specs.Argument.{HasOneEach};
-ghost use Rattle.just_builtins.specs.Called.{Replies};
-ghost use Rattle.just_builtins.specs.Meaning.{reply};
-ghost use Rattle.just_builtins.specs.declared.function.Function.TheVariants.{Ternary};
+ghost use Rattle.std.specs.Prelude.{[], length, ◌∷◌, ◌≡◌};
+ghost use Rattle.just_builtins.specs.Prelude.{Context, HasOneEach, Replies, Ternary, reply};
 
 use crate::argument::text_at;
 use crate::builtin::Builtin;
@@ -33,7 +29,9 @@ fn replaced(
     from: &str,
     to: &str,
 ) -> Result<Value, CallFault>
-    ensures { (c : Context) → Replies (Ternary builtin) (reply builtin c ((text.now ∷ []) ∷ (from.now ∷ []) ∷ (to.now ∷ []) ∷ [])) result }
+    ensures { (c : Context)
+        → Replies (Ternary builtin) (reply builtin c ((text.now ∷ []) ∷ (from.now ∷ []) ∷ (to.now ∷ []) ∷ []))
+        result }
 {
     match builtin {
         Builtin::Replace => {

@@ -1,7 +1,7 @@
 // Booleans as values, and values as booleans.
 
-ghost use Rattle.std.specs.Prelude.{◌≡◌, IfOk};
-ghost use Rattle.just_builtins.specs.Called.{IsReply};
+ghost use Rattle.std.specs.Prelude.{IfOk, ◌≡◌};
+ghost use Rattle.just_builtins.specs.Prelude.{IsReply};
 ghost use Rattle.just_builtins.specs.Meaning as spec;
 
 use crate::call_fault::CallFault;

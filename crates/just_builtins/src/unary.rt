@@ -1,18 +1,11 @@
 // The built-in functions that take one argument.
 
-ghost use Rattle.std.specs.Prelude.{◌≡◌, ◌<◌, ◌∷◌, [], IfOk, length, map, option_map, string_bytes};
-ghost use Rattle.just_text.specs.Quote.{single_quoted};
-ghost use Rattle.just_value.specs.Frames.{Frames};
-ghost use Rattle.just_value.specs.View.{frames_view};
+ghost use Rattle.std.specs.Prelude.{IfOk, [], length, map, option_map, string_bytes, ◌<◌, ◌∷◌, ◌≡◌};
+ghost use Rattle.just_builtins.specs.Prelude.{AskedBy, Frames, HasOneEach, IsReply, Replies, RepliesAmong, Unary};
+ghost use Rattle.just_builtins.specs.Prelude.{UnaryMap, UnaryPlus, UnaryToValue, ValueUnary, frames_view};
+ghost use Rattle.just_builtins.specs.Prelude.{function_context_view, or_fails, past_ascii, reply, says, single_quoted};
+ghost use Rattle.just_builtins.specs.Prelude.{unasked_unary, unasked_value_unary};
 ghost use Rattle.just_host.specs.Function as function;
-ghost use Rattle.just_host.specs.View.{function_context_view};
-ghost use Rattle.just_builtins.specs.Argument.{HasOneEach};
-ghost use Rattle.just_builtins.specs.Called.{AskedBy, IsReply, Replies, RepliesAmong};
-ghost use Rattle.just_builtins.specs.Meaning.{or_fails, reply};
-ghost use Rattle.just_builtins.specs.Message.{past_ascii};
-ghost use Rattle.just_builtins.specs.Reply.{says};
-ghost use Rattle.just_builtins.specs.Shape.{unasked_unary, unasked_value_unary};
-ghost use Rattle.just_builtins.specs.declared.function.Function.TheVariants.{Unary, UnaryMap, UnaryPlus, UnaryToValue, ValueUnary};
 
 use crate::builtin::Builtin;
 use crate::call_fault::CallFault;
@@ -38,7 +31,9 @@ pub fn unary<'call, H: Host>(
     builtin: Builtin,
     text: &str,
 ) -> Result<Value, CallFault>
-    ensures { (shown : Frames) → AskedBy (Unary builtin) H.step host.old shown (reply builtin (function_context_view context.now) ((text.now ∷ []) ∷ [])) result host.new }
+    ensures { (shown : Frames)
+        → AskedBy (Unary builtin) H.step host.old shown
+        (reply builtin (function_context_view context.now) ((text.now ∷ []) ∷ [])) result host.new }
 {
     match builtin {
         Builtin::Canonicalize => canonicalize(alloc, host, context, text),
@@ -50,7 +45,8 @@ pub fn unary<'call, H: Host>(
 
 // The reply of such a function that asks nothing.
 fn unary_unasked(alloc: Global, builtin: Builtin, text: &str) -> Result<Value, CallFault>
-    ensures { (c : function.Context) → RepliesAmong unasked_unary builtin (reply builtin c ((text.now ∷ []) ∷ [])) result }
+    ensures { (c : function.Context)
+        → RepliesAmong unasked_unary builtin (reply builtin c ((text.now ∷ []) ∷ [])) result }
 {
     match builtin {
         Builtin::Capitalize => cased(alloc, case::capitalize(alloc, text)?, text),
@@ -117,7 +113,8 @@ pub fn unary_plus<'call, H: Host>(
 ) -> Result<Value, CallFault>
     requires some { 0 < length arguments.now }
     requires texts { HasOneEach arguments.now }
-    ensures { AskedBy (UnaryPlus builtin) H.step host.old (frames_view context.now.scope.now) (reply builtin (function_context_view context.now) arguments.now) result host.new }
+    ensures { AskedBy (UnaryPlus builtin) H.step host.old (frames_view context.now.scope.now)
+        (reply builtin (function_context_view context.now) arguments.now) result host.new }
 {
     match builtin {
         Builtin::Shell => shell(alloc, host, context, arguments),
@@ -133,7 +130,9 @@ pub fn unary_to_value<'call, H: Host>(
     builtin: Builtin,
     text: &str,
 ) -> Result<Value, CallFault>
-    ensures { (shown : Frames) → AskedBy (UnaryToValue builtin) H.step host.old shown (reply builtin (function_context_view context.now) ((text.now ∷ []) ∷ [])) result host.new }
+    ensures { (shown : Frames)
+        → AskedBy (UnaryToValue builtin) H.step host.old shown
+        (reply builtin (function_context_view context.now) ((text.now ∷ []) ∷ [])) result host.new }
 {
     match builtin {
         Builtin::PathExists => path_exists(alloc, host, context, text),
@@ -150,7 +149,9 @@ pub fn value_unary<'call, H: Host>(
     builtin: Builtin,
     value: &Value,
 ) -> Result<Value, CallFault>
-    ensures { (shown : Frames) → AskedBy (ValueUnary builtin) H.step host.old shown (reply builtin (function_context_view context.now) (value.now ∷ [])) result host.new }
+    ensures { (shown : Frames)
+        → AskedBy (ValueUnary builtin) H.step host.old shown
+        (reply builtin (function_context_view context.now) (value.now ∷ [])) result host.new }
 {
     match builtin {
         Builtin::EnvVar => environment(alloc, host, context, value, None),
@@ -165,7 +166,8 @@ fn value_unary_unasked(
     builtin: Builtin,
     value: &Value,
 ) -> Result<Value, CallFault>
-    ensures { RepliesAmong unasked_value_unary builtin (reply builtin (function_context_view context.now) (value.now ∷ [])) result }
+    ensures { RepliesAmong unasked_value_unary builtin
+        (reply builtin (function_context_view context.now) (value.now ∷ [])) result }
 {
     match builtin {
         Builtin::Bool => {

@@ -1,9 +1,7 @@
 // Values with an affix added to each element.
 
-ghost use Rattle.std.specs.Prelude.{◌≡◌, ◌∷◌, ◌++◌, [], IfOk, map, string_bytes};
-ghost use Rattle.just_text.specs.Split.{words};
-ghost use Rattle.just_builtins.specs.Meaning.{each};
-ghost use Rattle.just_value.specs.Value.{joined};
+ghost use Rattle.std.specs.Prelude.{IfOk, [], map, string_bytes, ◌++◌, ◌∷◌, ◌≡◌};
+ghost use Rattle.just_builtins.specs.Prelude.{each, joined, words};
 
 use just_syntax::out_of_memory::OutOfMemory;
 use just_text::{affix, join_list, split};

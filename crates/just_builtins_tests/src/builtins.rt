@@ -36,7 +36,7 @@ fn each_name(rt: HostRuntime) {
     assert_eq!(rt; functions().len(), 77);
 }
 
-// Each name after a function stands for it, and is not left out.
+// Each name after a function denotes it, and is not left out.
 fn is_named(rt: &impl Abort, alloc: Global, row: &str) {
     let (function, names) = row.split_once(' ').expect(rt, "no name");
     let wanted = format!(in alloc; "Some({function}) Some({function}) false");
@@ -51,12 +51,12 @@ fn all_are(rt: &impl Abort, alloc: Global, names: &str, wanted: &str) {
     }
 }
 
-// What a name stands for, by look-up and in the list of all, and whether it is left out.
+// What a name denotes, by look-up and in the list of all, and whether it is left out.
 fn reported_name(alloc: Global, name: &str) -> Result<String, AllocError> {
     format!(in alloc; "{:?} {:?} {}", get(name), listed(name), is_left_out(name))
 }
 
-// What a name stands for in the list of all.
+// What a name denotes in the list of all.
 fn listed(name: &str) -> Option<Function> {
     let mut found = None;
     for (other, function) in functions() {
@@ -165,13 +165,8 @@ fn calls(rt: HostRuntime) {
 // Compares the questions and results of a table's calls with what is expected.
 fn compare<'src>(rt: &impl Abort, alloc: Global, table: &'src Table) {
     let around = around_at(rt, alloc, &table.0);
-    compare_in(&around, rt, alloc, table);
+    compare_rows(&around.context(), rt, alloc, table);
     drop(around);
-}
-
-fn compare_in<'src>(around: &Around<'src>, rt: &impl Abort, alloc: Global, table: &'src Table) {
-    let context = around.context();
-    compare_rows(&context, rt, alloc, table);
 }
 
 fn compare_rows<'src>(
@@ -220,20 +215,8 @@ fn compare_row<'src>(
     row: &'src str,
 ) {
     let around = around_at(rt, alloc, place);
-    compare_row_in(&around, rt, alloc, place, given, row);
+    reports_row(&around.context(), rt, alloc, place, given, row);
     drop(around);
-}
-
-fn compare_row_in<'src>(
-    around: &Around<'src>,
-    rt: &impl Abort,
-    alloc: Global,
-    place: &'src Place,
-    given: Given,
-    row: &'src str,
-) {
-    let context = around.context();
-    reports_row(&context, rt, alloc, place, given, row);
 }
 
 // The questions and the result of a row's call are as expected.
@@ -280,18 +263,8 @@ fn each_kind_of_answer(rt: HostRuntime) {
 
 fn compare_answers<'src>(rt: &impl Abort, alloc: Global, place: &'src Place) {
     let around = around_at(rt, alloc, place);
-    compare_all_answers(&around, rt, alloc, place);
+    compare_each(&around.context(), rt, alloc, place);
     drop(around);
-}
-
-fn compare_all_answers<'src>(
-    around: &Around<'src>,
-    rt: &impl Abort,
-    alloc: Global,
-    place: &'src Place,
-) {
-    let context = around.context();
-    compare_each(&context, rt, alloc, place);
 }
 
 fn compare_each<'src>(

@@ -6,7 +6,7 @@ use just_syntax::attribute_set::AttributeSet;
 use just_syntax::name::Name;
 use just_syntax::number::Number;
 use just_syntax::out_of_memory::OutOfMemory;
-use just_syntax::token::Token;
+use just_syntax::place::Place;
 use just_value::binding::Binding;
 use just_value::scope::Scope;
 use just_value::value::Value;
@@ -131,15 +131,7 @@ fn binding<'src>(rt: &impl Abort, alloc: Global, number: Number, bound: &Bound) 
         eager: false,
         export,
         file_depth: 0,
-        name: Name {
-            token: Token {
-                column: 0,
-                line: 0,
-                offset: 0,
-                lexeme,
-                path: "justfile",
-            },
-        },
+        name: Name::new(lexeme, Some(Place::start_of("justfile"))),
         number,
         prelude: false,
         private: false,

@@ -155,13 +155,8 @@ fn commands_from_a_map(rt: HostRuntime) {
 
 fn all_write_around<'src>(rt: &impl Abort, alloc: Global, place: &'src str) {
     let around = Around::plain(rt, alloc, place, Settings::new(alloc));
-    all_write(&around, rt, alloc);
+    all_write_in(rt, alloc, &around.context());
     drop(around);
-}
-
-fn all_write<'src>(around: &Around<'src>, rt: &impl Abort, alloc: Global) {
-    let context = around.context();
-    all_write_in(rt, alloc, &context);
 }
 
 // Each command writes its text, or has its fault.
@@ -306,35 +301,21 @@ fn no_answer(rt: HostRuntime) {
 // The answers to a command, of a host that answers nothing and of one that answers only commands.
 fn answer_commands<'src>(rt: &impl Abort, alloc: Global, place: &'src str) {
     let around = Around::plain(rt, alloc, place, Settings::new(alloc));
-    answer_commands_in(&around, rt, alloc);
+    answer_a_command(&around.context(), rt, alloc);
     drop(around);
 }
 
-fn answer_commands_in<'src>(around: &Around<'src>, rt: &impl Abort, alloc: Global) {
-    let context = around.context();
-    answer_a_command(&context, rt, alloc);
-}
-
 fn answer_a_command(context: &ExecutionContext, rt: &impl Abort, alloc: Global) {
-    let fault = answer_of_none(rt, alloc, &mut NoHost, &*context);
+    let fault = answer_to_date(rt, alloc, &mut NoHost, &*context);
     is_reported(rt, alloc, &fault, "! commands are not run");
-    let echo = echo_of_date(rt, alloc, &mut EchoHost, &*context);
+    let echo = answer_to_date(rt, alloc, &mut EchoHost, &*context);
     is_reported(rt, alloc, &echo, "date");
 }
 
-fn answer_of_none<'call>(
+fn answer_to_date<'call, H: Host>(
     rt: &'call impl Abort,
     alloc: Global,
-    host: &'call mut NoHost,
-    context: &'call ExecutionContext,
-) -> Result<String, CommandFault> {
-    answer_in(rt, alloc, host, context, "date", None)
-}
-
-fn echo_of_date<'call>(
-    rt: &'call impl Abort,
-    alloc: Global,
-    host: &'call mut EchoHost,
+    host: &'call mut H,
     context: &'call ExecutionContext,
 ) -> Result<String, CommandFault> {
     answer_in(rt, alloc, host, context, "date", None)

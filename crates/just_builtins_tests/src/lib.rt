@@ -1,5 +1,5 @@
 // Tests of what asks a host: contexts, hosts, and built-in functions. They are a separate crate because a crate with
-// tests is proved twice. They build on `just_builtins` and what is below it, and on no evaluation.
+// tests is proved twice. They build on `just_builtins`, `just_script` and what is below these, and on no evaluation.
 #![tactic(auto)]
 
 #[cfg(test)]

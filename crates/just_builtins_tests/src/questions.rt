@@ -7,14 +7,13 @@ use just_host::ask::ask_command;
 use just_host::command_question::CommandQuestion;
 use just_host::directory_kind::DirectoryKind;
 use just_host::execution_context::ExecutionContext;
-use just_host::host::Host;
 use just_host::no_host::NoHost;
 use just_host::number_question::NumberQuestion;
 use just_host::recorded::Recorded;
 use just_host::recorder::Recorder;
 use just_host::settings::Settings;
-use just_host::text_answer::TextAnswer;
 use just_host::text_question::TextQuestion;
+use just_script::commands::{CommandHost, Commands};
 use just_syntax::interpreter::Interpreter;
 use just_syntax::out_of_memory::OutOfMemory;
 use just_value::error::CommandFault;
@@ -145,36 +144,25 @@ fn prints_last(rt: &impl Abort, alloc: Global, questions: &[Recorded], wanted: &
     }
 }
 
-// Answers a command with the words that it is run with, and `|` between them.
+// Answers a command with a description of its question.
 #[derive(Drop)]
-struct Shell {
-    takes_shell_name: bool,
+enum Describer {
+    // The words that the command is run with, and `|` between them. The shell may take a name for itself.
+    Words { takes_shell_name: bool },
+    // What else the question holds.
+    Context,
 }
 
-impl Host for Shell {
-    ghost use Rattle.std.specs.Prelude.{⊤};
-
-    // Nothing is promised about its answers.
-    ghost step = { λ _ _ _ _. ⊤ };
-
-    fn command(
+impl Commands for Describer {
+    fn answer(
         &mut self,
         alloc: Global,
         question: &CommandQuestion,
     ) -> Result<String, CommandFault> {
-        words_of(alloc, question, self.takes_shell_name)
-    }
-
-    fn text(&mut self, alloc: Global, question: TextQuestion) -> TextAnswer {
-        NoHost.text(alloc, question)
-    }
-
-    fn exists(&mut self, alloc: Global, path: &str) -> Result<bool, OutOfMemory> {
-        NoHost.exists(alloc, path)
-    }
-
-    fn number(&mut self, alloc: Global, question: NumberQuestion) -> Result<u64, OutOfMemory> {
-        NoHost.number(alloc, question)
+        match *self {
+            Describer::Words { takes_shell_name } => words_of(alloc, question, takes_shell_name),
+            Describer::Context => Ok(held(alloc, question)?),
+        }
     }
 }
 
@@ -198,24 +186,14 @@ fn commands(rt: HostRuntime) {
 // The command `c d` is printed like this, and is run with these words.
 fn runs<'src>(rt: &impl Abort, alloc: Global, place: &'src str, command: &Command) {
     let (shell, arguments, takes_shell_name, printed, words) = *command;
-    let mut host = Recorder::new(alloc, Shell { takes_shell_name });
+    let commands = Describer::Words { takes_shell_name };
+    let mut host = Recorder::new(alloc, CommandHost { commands });
     let around = Around::plain(rt, alloc, place, set_to(rt, alloc, shell));
-    let answer = answer_around(&around, rt, alloc, &mut host, arguments);
+    let answer = answer_with(rt, alloc, &mut host, &around.context(), arguments);
     drop(around);
     is_reported(rt, alloc, &answer, &long(rt, alloc, words));
     prints_last(rt, alloc, host.questions(), &long(rt, alloc, printed));
     drop(host);
-}
-
-fn answer_around<'src>(
-    around: &Around<'src>,
-    rt: &impl Abort,
-    alloc: Global,
-    host: &mut Recorder<Shell>,
-    arguments: Option<&str>,
-) -> Result<String, CommandFault> {
-    let context = around.context();
-    answer_with(rt, alloc, host, &context, arguments)
 }
 
 // Settings that set at most the shell.
@@ -247,7 +225,7 @@ fn after(rt: &impl Abort, alloc: Global, line: &str) -> Vec<String> {
 fn answer_with<'call>(
     rt: &'call impl Abort,
     alloc: Global,
-    host: &'call mut Recorder<Shell>,
+    host: &'call mut Recorder<CommandHost<Describer>>,
     context: &'call ExecutionContext,
     arguments: Option<&str>,
 ) -> Result<String, CommandFault> {
@@ -309,37 +287,6 @@ const HELD: &[Held] = &[
     (&[], &[], &[], true, Some("/dir"), "c in /dir"),
 ];
 
-// Answers a command with what its question holds.
-#[derive(Drop)]
-struct Holder {}
-
-impl Host for Holder {
-    ghost use Rattle.std.specs.Prelude.{⊤};
-
-    // Nothing is promised about its answers.
-    ghost step = { λ _ _ _ _. ⊤ };
-
-    fn command(
-        &mut self,
-        alloc: Global,
-        question: &CommandQuestion,
-    ) -> Result<String, CommandFault> {
-        Ok(held(alloc, question)?)
-    }
-
-    fn text(&mut self, alloc: Global, question: TextQuestion) -> TextAnswer {
-        NoHost.text(alloc, question)
-    }
-
-    fn exists(&mut self, alloc: Global, path: &str) -> Result<bool, OutOfMemory> {
-        NoHost.exists(alloc, path)
-    }
-
-    fn number(&mut self, alloc: Global, question: NumberQuestion) -> Result<u64, OutOfMemory> {
-        NoHost.number(alloc, question)
-    }
-}
-
 // The command, its environment, the dotenv variables, the names that are not exported, and the directory. The
 // configuration and the settings are those of the context.
 fn held(alloc: Global, question: &CommandQuestion) -> Result<String, OutOfMemory> {
@@ -386,18 +333,9 @@ fn holds<'src>(rt: &impl Abort, alloc: Global, place: &'src str, held: &Held) {
         pushed.expect(rt, "no memory");
     }
     around.module.submodule = submodule;
-    let answer = held_around(&around, alloc, &map(rt, alloc, env));
+    let answer = held_in(alloc, &around.context(), &map(rt, alloc, env));
     drop(around);
     is_reported(rt, alloc, &answer, wanted);
-}
-
-fn held_around<'src>(
-    around: &Around<'src>,
-    alloc: Global,
-    env: &BTreeMap<String, String>,
-) -> Result<String, CommandFault> {
-    let context = around.context();
-    held_in(alloc, &context, env)
 }
 
 fn held_in<'call>(
@@ -410,7 +348,9 @@ fn held_in<'call>(
     }
     ask_command(
         alloc,
-        &mut Holder {},
+        &mut CommandHost {
+            commands: Describer::Context,
+        },
         context,
         env,
         context.scope,

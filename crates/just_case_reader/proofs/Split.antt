@@ -1,6 +1,6 @@
 -- Bytes split at a byte.
-use Rattle.std.proofs.Common.{◌≡◌, ℕ, suc, ◌+◌, ◌≤◌, Bool, true, false, not, cond, eqb, get_or, ◌<◌, List, [], ◌∷◌, length, Some, refl, ap, arith}
-use Rattle.std.specs.List.{onto_first, position, position_or_len, slice_split}
+use Rattle.std.proofs.Common.{◌≡◌, ℕ, suc, ◌+◌, ◌≤◌, Bool, true, false, not, cond, eqb, get_or, ◌<◌, List, [], ◌∷◌, length, Some, refl, ap, arith, position}
+use Rattle.std.specs.List.{onto_first, position_or_len, slice_split}
 use Rattle.std.proofs.lemmas.Bool.{eqb-true}
 use Rattle.std.proofs.lemmas.List.Quantifiers.{position-Some}
 
@@ -11,7 +11,8 @@ found_at byte bytes i found =
     (at.0, eqb-true (get_or bytes i 0) byte at.1)
 
 -- bytes that lack a byte are one piece: the induction step, by whether the first byte is the one
-whole_step : (t : Bool) (b n : ℕ) (bytes : List ℕ) (pieces : List (List ℕ)) → suc (length bytes) ≤ cond (not t) (1 + n) 0 → (length bytes ≤ n → pieces ≡ bytes ∷ []) → cond t ([] ∷ pieces) (onto_first b pieces) ≡ (b ∷ bytes) ∷ []
+whole_step : (t : Bool) (b n : ℕ) (bytes : List ℕ) (pieces : List (List ℕ)) → suc (length bytes) ≤ cond (not t) (1 + n) 0
+    → (length bytes ≤ n → pieces ≡ bytes ∷ []) → cond t ([] ∷ pieces) (onto_first b pieces) ≡ (b ∷ bytes) ∷ []
 whole_step true b n bytes pieces none whole = absurd (omega (arith, none))
 whole_step false b n bytes pieces none whole = ap (onto_first b) (whole (omega (arith, none)))
 

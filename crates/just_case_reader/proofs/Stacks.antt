@@ -1,15 +1,13 @@
 -- Pushing and popping the expressions that are not yet assigned.
-use Rattle.std.proofs.Common.{◌≡◌, ℕ, zero, suc, ◌<◌, List, [], ◌∷◌, ◌++◌, map, length, Option, Some, None, Result, Ok, Err, IfErr, OnOk, refl, sym, ap, ◌∙◌, arith}
-use Rattle.std.specs.Option.{option_map}
-use Rattle.std.specs.Prelude.{reverse}
+use Rattle.std.proofs.Common.{◌≡◌, ℕ, zero, suc, ◌<◌, List, [], ◌∷◌, ◌++◌, map, length, Option, Some, None, Result, Ok, Err, IfErr, OnOk, refl, sym, ap, ◌∙◌}
+use Rattle.std.proofs.Common.{arith, option_map, reverse}
 use Rattle.std.proofs.lemmas.List.{length-map, length-reverse, map-append, reverse-append}
-use Rattle.just_syntax.specs.Plain.{Expr, Exprs, Nil, Cons}
-use Rattle.just_syntax.specs.View.{view, views}
+use Rattle.std.proofs.lemmas.Simd.{map-map}
+use Rattle.just_case_reader.specs.Prelude.{Done, IfBad, Nil, several, view, views}
+use Rattle.just_syntax.specs.Plain.{Expr, Exprs, Cons}
 use Rattle.just_syntax.specs.declared.expression.Expression.{Expression}
-use Rattle.just_case_reader.specs.Done.{Done, IfBad}
 use Rattle.just_case_reader.specs.declared.line_error.LineError.{LineError}
 use Rattle.just_case_reader.specs.declared.line_error.LineError.TheVariants.{Bad, OutOfMemory}
-use Rattle.just_case_reader.specs.Stack.{several}
 
 -- `IfBad` is monotone
 pub if_bad : {P Q : Type 0} (e : LineError) → (P → Q) → IfBad e P → IfBad e Q
@@ -17,12 +15,14 @@ if_bad Bad follows holds = follows holds
 if_bad OutOfMemory follows holds = tt
 
 -- `Done` is preserved by a function on the result
-pub done_with : {A B C : Type 0} (f : B → C) (result : Result A LineError) (comes : Option B) (new : B) → Done result comes new → Done result (option_map f comes) (f new)
+pub done_with : {A B C : Type 0} (f : B → C) (result : Result A LineError) (comes : Option B) (new : B) → Done result comes new
+    → Done result (option_map f comes) (f new)
 done_with f (Ok value) comes new done = ap (option_map f) done
 done_with f (Err e) comes new done = if_bad e (ap (option_map f)) done
 
 -- a value inserted under a new key is done, otherwise the line is bad
-pub done_new : {A B P Q R : Type 0} (result : Result A LineError) (comes : Option B) (new : B) → OnOk result P → OnOk result Q → IfErr result (λ e. IfBad e R) → (P → Q → comes ≡ Some new) → (R → comes ≡ None) → Done result comes new
+pub done_new : {A B P Q R : Type 0} (result : Result A LineError) (comes : Option B) (new : B) → OnOk result P → OnOk result Q → IfErr result (λ e. IfBad e R)
+    → (P → Q → comes ≡ Some new) → (R → comes ≡ None) → Done result comes new
 done_new (Ok value) comes new p q r done bad = done p q
 done_new (Err e) comes new p q r done bad = if_bad e bad r
 
@@ -68,16 +68,13 @@ taken xs rest =
     ∙ all_taken (reverse (map view xs)) rest Nil
     ∙ ap (λ parts. Some (parts, rest)) (onto_reverse xs)
 
-seen_of : {N : Type 0} (expression : N → Expression) (xs : List N) → map (λ x. view (expression x)) xs ≡ map view (map expression xs)
-seen_of expression [] = refl
-seen_of expression (x ∷ xs) = ap (λ es. view (expression x) ∷ es) (seen_of expression xs)
-
 -- the expressions pushed last are taken, and the others remain
-pub taken_from : {N : Type 0} (expression : N → Expression) (all front back : List N) (n : ℕ) → all ≡ front ++ back → length back ≡ n → several n Nil (reverse (map (λ x. view (expression x)) all)) ≡ Some (views (map expression back), reverse (map (λ x. view (expression x)) front))
+pub taken_from : {N : Type 0} (expression : N → Expression) (all front back : List N) (n : ℕ) → all ≡ front ++ back → length back ≡ n
+    → several n Nil (reverse (map (λ x. view (expression x)) all)) ≡ Some (views (map expression back), reverse (map (λ x. view (expression x)) front))
 taken_from expression all front back n is long =
     let f : (x : _) → Expr = λ x. view (expression x) in
     ap (λ xs. several n Nil (reverse (map f xs))) is
     ∙ ap (several n Nil) (parted f front back)
-    ∙ ap (λ es. several n Nil (reverse es ++ reverse (map f front))) (seen_of expression back)
+    ∙ ap (λ es. several n Nil (reverse es ++ reverse (map f front))) (sym (map-map view expression back))
     ∙ ap (λ k. several k Nil (reverse (map view (map expression back)) ++ reverse (map f front))) (sym (length-map back expression ∙ long))
     ∙ taken (map expression back) (reverse (map f front))

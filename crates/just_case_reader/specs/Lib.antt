@@ -8,3 +8,4 @@ pub mod Case
 pub mod Reading
 pub mod Said
 pub mod View
+pub mod Prelude

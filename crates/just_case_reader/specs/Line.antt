@@ -1,12 +1,15 @@
 -- The lines of a case.
-use Rattle.std.specs.Prelude.{ℕ, zero, suc, Bool, true, false, List, [], ◌∷◌, ◌++◌, ◌==◌, length, Option, Some, None, if◌then◌else◌, codes}
+use Rattle.std.specs.Prelude.{ℕ, zero, suc, Bool, true, false, List, [], ◌∷◌, ◌++◌, ◌==◌, length, Option, Some, None}
+use Rattle.std.specs.Prelude.{if◌then◌else◌, codes}
 use Rattle.std.specs.List.{slice_split}
 use Rattle.std.specs.Str.{bytes_eq, is_utf8}
 use Rattle.just_syntax.specs.Plain.{Text}
 use Rattle.just_case_reader.specs.declared.operator.UnaryOperator.{UnaryOperator}
 use Rattle.just_case_reader.specs.declared.operator.UnaryOperator.TheVariants.{Root, Not, Group, Assert}
 use Rattle.just_case_reader.specs.declared.operator.BinaryOperator.{BinaryOperator}
-use Rattle.just_case_reader.specs.declared.operator.BinaryOperator.TheVariants.{Add, Join, Cat, And, Or, Equal, NotEqual, Match, Mismatch, AssertMessage, When}
+use Rattle.just_case_reader.specs.declared.operator.BinaryOperator.TheVariants.{Add, Join, Cat, And, Or, Equal}
+use Rattle.just_case_reader.specs.declared.operator.BinaryOperator.TheVariants.{NotEqual, Match, Mismatch}
+use Rattle.just_case_reader.specs.declared.operator.BinaryOperator.TheVariants.{AssertMessage, When}
 use Rattle.just_case_reader.specs.Rest.{is_name, names, number, word_of, rest_of}
 
 -- a line; literals and commands have their text and their lexeme
@@ -116,7 +119,8 @@ line_of_word word rest =
     if bytes_eq word (codes "assign") then name_line rest (Assign rest false) else
     if bytes_eq word (codes "str") then Literal rest (codes "'" ++ rest ++ codes "'") else
     if bytes_eq word (codes "cmd") then Command rest (codes "`" ++ rest ++ codes "`") else
-    if bytes_eq word (codes "call") then name_line (word_of rest) (number_line (number (rest_of rest)) (Call (word_of rest))) else
+    if bytes_eq word (codes "call")
+    then name_line (word_of rest) (number_line (number (rest_of rest)) (Call (word_of rest))) else
     if bytes_eq word (codes "list") then number_line (number rest) ListOf else
     if bytes_eq word (codes "reply") then Reply rest else
     if bytes_eq word (codes "always") then Always rest else

@@ -22,7 +22,10 @@ number_of names name = unwrap_or (names.number name) names.count
 abbrev pub with_name : KnownNames → Text → KnownNames
 with_name names name =
     if is_some (names.number name) then names else
-    record { number = λ other. if bytes_eq other name then Some names.count else names.number other; count = suc names.count }
+    record {
+      number = λ other. if bytes_eq other name then Some names.count else names.number other;
+      count = suc names.count;
+    }
 
 -- the names after these are added
 abbrev pub with_names : KnownNames → List Text → KnownNames

@@ -1,5 +1,6 @@
 -- Building a case from its lines.
-use Rattle.std.specs.Prelude.{ℕ, suc, pos, Bool, true, false, not, List, [], ◌∷◌, ◌++◌, ◌&&◌, map, nat_eq, Option, Some, None, if◌then◌else◌, unwrap_or}
+use Rattle.std.specs.Prelude.{ℕ, suc, pos, Bool, true, false, not, List, [], ◌∷◌, ◌++◌, ◌&&◌, map, nat_eq, Option, Some}
+use Rattle.std.specs.Prelude.{None, if◌then◌else◌, unwrap_or}
 use Rattle.std.specs.BTreeMap.{insert_entry}
 use Rattle.std.specs.Cmp.Lexicographic.{slice_cmp}
 use Rattle.std.specs.List.{list_any}
@@ -11,8 +12,10 @@ use Rattle.just_syntax.specs.Plain.{Text, Token, Expr}
 use Rattle.just_value.specs.Refusal.{Code}
 use Rattle.just_case_reader.specs.Case as cases
 use Rattle.just_case_reader.specs.Case.{Case}
-use Rattle.just_case_reader.specs.Line.{Line, Bad, Command, Variable, Assign, Function, Override, Dotenv, Order, Only, Reply, Fail, Always, Lists, Dry, Limit, Run, Const, Blocks, says_nothing}
-use Rattle.just_case_reader.specs.Numbering.{KnownNames, no_names, number_of, numbers_of, parameters_with_numbers, with_name, with_names}
+use Rattle.just_case_reader.specs.Line.{Line, Bad, Command, Variable, Assign, Function, Override, Dotenv, Order, Only}
+use Rattle.just_case_reader.specs.Line.{Reply, Fail, Always, Lists, Dry, Limit, Run, Const, Blocks, says_nothing}
+use Rattle.just_case_reader.specs.Numbering.{KnownNames, no_names, number_of, numbers_of, parameters_with_numbers}
+use Rattle.just_case_reader.specs.Numbering.{with_name, with_names}
 use Rattle.just_case_reader.specs.Rest.{names}
 use Rattle.just_case_reader.specs.Stack.{stack_after}
 use Rattle.just_case_reader.specs.Token.{token_of}
@@ -74,7 +77,15 @@ names_after _ known = known
 abbrev pub assigns : Text → Bool → ℕ → List Expr → List plain.Assignment → List plain.Assignment
 assigns name export number [] assignments = assignments
 assigns name export number (e ∷ es) assignments =
-    with_value assigned_name assignments (record { eager = false; export = export; name = token_of name; number = number; private = false; value = e })
+    with_value assigned_name assignments (record {
+      eager = false;
+      export = export;
+      name = token_of name;
+      number =
+          number;
+      private = false;
+      value = e;
+    })
 
 -- the expression on top is assigned
 abbrev pub assignments_after : Line → Reading → List plain.Assignment
@@ -87,7 +98,8 @@ order_after _ order = order
 
 abbrev pub defines : List Text → KnownNames → List Expr → List plain.Function → List plain.Function
 defines (name ∷ parameters) known (e ∷ es) functions =
-    with_value defined_name functions (record { body = e; name = token_of name; parameters = parameters_with_numbers known parameters })
+    with_value defined_name functions
+    (record { body = e; name = token_of name; parameters = parameters_with_numbers known parameters })
 defines _ known _ functions = functions
 
 -- the expression on top becomes the body of the function with the first name, whose parameters are the other names
@@ -96,7 +108,8 @@ functions_after (Function text) r = defines (names_in text) r.names r.stack r.ca
 functions_after _ r = r.case.functions
 
 abbrev pub overrides_after : Line → Reading → ℕ → Option Text
-overrides_after (Override name text) r = λ n. if nat_eq (number_of r.names name) n then Some text else r.case.overrides n
+overrides_after (Override name text) r =
+    λ n. if nat_eq (number_of r.names name) n then Some text else r.case.overrides n
 overrides_after _ r = r.case.overrides
 
 abbrev pub references_after : Line → Reading → Option (ℕ → Bool)

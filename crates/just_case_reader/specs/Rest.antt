@@ -1,5 +1,6 @@
 -- The text after the word of a line.
-use Rattle.std.specs.Prelude.{List, ℕ, ◌+◌, ◌-◌, ◌*◌, Bool, false, [], ◌∷◌, ◌&&◌, ◌||◌, ◌==◌, nat_le, length, Option, Some, None, if◌then◌else◌}
+use Rattle.std.specs.Prelude.{List, ℕ, ◌+◌, ◌-◌, ◌*◌, Bool, false, [], ◌∷◌, ◌&&◌, ◌||◌, ◌==◌, nat_le, length, Option}
+use Rattle.std.specs.Prelude.{Some, None, if◌then◌else◌}
 use Rattle.std.specs.List.{list_all, before_first, after_first, slice_split}
 use Rattle.std.specs.Option.{option_map}
 use Rattle.just_syntax.specs.Plain.{Text}

@@ -1,15 +1,19 @@
 -- The effect of lines on the expressions that are not yet assigned, the last pushed first.
 use Rattle.std.specs.Prelude.{ℕ, zero, suc, false, List, [], ◌∷◌, Option, Some, None, codes}
 use Rattle.std.specs.Option.{option_map}
-use Rattle.just_syntax.specs.declared.conditional_operator.ConditionalOperator.TheVariants.{Equality, Inequality, RegexMatch, RegexMismatch}
+use Rattle.just_syntax.specs.declared.conditional_operator.ConditionalOperator.TheVariants.{Equality, Inequality}
+use Rattle.just_syntax.specs.declared.conditional_operator.ConditionalOperator.TheVariants.{RegexMatch, RegexMismatch}
 use Rattle.just_syntax.specs.Plain as plain
 use Rattle.just_syntax.specs.Plain.{Expr, Exprs, Nil, Cons}
 use Rattle.just_case_reader.specs.declared.operator.UnaryOperator.{UnaryOperator}
 use Rattle.just_case_reader.specs.declared.operator.UnaryOperator.TheVariants.{Root, Not, Group, Assert}
 use Rattle.just_case_reader.specs.declared.operator.BinaryOperator.{BinaryOperator}
-use Rattle.just_case_reader.specs.declared.operator.BinaryOperator.TheVariants.{Add, Join, Cat, And, Or, Equal, NotEqual, Match, Mismatch, AssertMessage, When}
+use Rattle.just_case_reader.specs.declared.operator.BinaryOperator.TheVariants.{Add, Join, Cat, And, Or, Equal}
+use Rattle.just_case_reader.specs.declared.operator.BinaryOperator.TheVariants.{NotEqual, Match, Mismatch}
+use Rattle.just_case_reader.specs.declared.operator.BinaryOperator.TheVariants.{AssertMessage, When}
 use Rattle.just_case_reader.specs.Token.{token_of}
-use Rattle.just_case_reader.specs.Line.{Line, Literal, Command, Variable, Unary, Binary, If, ListOf, Call, Assign, Function, Run, Const, Blocks}
+use Rattle.just_case_reader.specs.Line.{Line, Literal, Command, Variable, Unary, Binary, If, ListOf, Call, Assign}
+use Rattle.just_case_reader.specs.Line.{Function, Run, Const, Blocks}
 use Rattle.just_case_reader.specs.Numbering.{KnownNames, number_of}
 
 -- an operator applied to one expression
@@ -46,7 +50,8 @@ of_several form taken = option_map (λ taken. form taken.0 ∷ taken.1) taken
 
 -- the expressions after a line; `None` if the line needs more than there are, or ends the case and there are some
 abbrev pub stack_after : Line → KnownNames → List Expr → Option (List Expr)
-stack_after (Literal text lexeme) names es = Some (plain.StringLiteral (record { cooked = text; lexeme = lexeme; indented = false }) ∷ es)
+stack_after (Literal text lexeme) names es =
+    Some (plain.StringLiteral (record { cooked = text; lexeme = lexeme; indented = false }) ∷ es)
 stack_after (Command text lexeme) names es = Some (plain.Backtick text (token_of lexeme) ∷ es)
 stack_after (Variable name) names es = Some (plain.Variable (token_of name) (Some (number_of names name)) ∷ es)
 stack_after (Unary operator) names [] = None

@@ -4,7 +4,8 @@ use Rattle.std.specs.BTreeMap.{btree_map_len, get_by}
 use Rattle.std.specs.Cmp.Lexicographic.{slice_cmp}
 use Rattle.std.specs.Ordering.{nat_cmp}
 use Rattle.just_syntax.specs.Plain.{Expr}
-use Rattle.just_syntax.specs.View.{view, assignment_view, function_view, name_view, pair_view, pairs_view, text_numbered}
+use Rattle.just_syntax.specs.View.{view, assignment_view, function_view, name_view, pair_view, pairs_view}
+use Rattle.just_syntax.specs.View.{text_numbered}
 use Rattle.just_case_reader.specs.Line as plain
 use Rattle.just_case_reader.specs.Numbering.{KnownNames}
 use Rattle.just_case_reader.specs.declared.numbering.Numbering.{Numbering}
@@ -56,7 +57,10 @@ abbrev pub stack_view : Stack → List Expr
 stack_view s = reverse (map (λ nested. view nested.part) s.expressions.items)
 
 abbrev pub numbering_view : Numbering → KnownNames
-numbering_view numbering = record { number = λ name. get_by (λ key. slice_cmp nat_cmp name key.now) numbering.numbers; count = btree_map_len numbering.numbers }
+numbering_view numbering = record {
+  number = λ name. get_by (λ key. slice_cmp nat_cmp name key.now) numbering.numbers;
+  count = btree_map_len numbering.numbers;
+}
 
 abbrev pub number_set_view : {S : Type 0} → HashSet ℕ S → ℕ → Bool
 number_set_view set n = list_any (nat_eq n) set.keys

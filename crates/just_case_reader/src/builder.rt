@@ -1,17 +1,11 @@
 // Builds a case line by line.
 
-ghost use Rattle.std.specs.Prelude.{◌≡◌, ◌∷◌, IfErr, IfOk, None, OnOk, Some, false, true, map};
-ghost use Rattle.std.specs.Option.{is_some, option_map};
-ghost use Rattle.just_syntax.specs.Keyed.{value_at, with_value};
-ghost use Rattle.just_syntax.specs.Plain.{Text};
+ghost use Rattle.std.specs.Prelude.{IfErr, IfOk, None, OnOk, Some, false, is_some, map, option_map, true, ◌∷◌, ◌≡◌};
+ghost use Rattle.just_case_reader.specs.Prelude.{Done, IfBad, Text, case_line_view, case_view, evaluation_view};
+ghost use Rattle.just_case_reader.specs.Prelude.{finished, names, names_in, nothing, read, reading_view, step};
+ghost use Rattle.just_case_reader.specs.Prelude.{token_of, value_at, with_value};
 ghost use Rattle.just_case_reader.specs.Case as cases;
-ghost use Rattle.just_case_reader.specs.Token.{token_of};
-ghost use Rattle.just_case_reader.specs.Done.{Done, IfBad};
 ghost use Rattle.just_case_reader.specs.Line as lines;
-ghost use Rattle.just_case_reader.specs.Reading.{finished, names_in, nothing, read, step};
-ghost use Rattle.just_case_reader.specs.Rest.{names};
-ghost use Rattle.just_case_reader.specs.View.{case_line_view};
-ghost use Rattle.just_case_reader.specs.View.{case_view, evaluation_view, reading_view};
 
 use crate::case::Case;
 use crate::evaluation::Evaluation;
@@ -122,7 +116,8 @@ impl<'src> Builder<'src> {
         text: &'src str,
         lexeme: &'src str,
     ) -> Result<(), LineError>
-        ensures { Done result (read (lines.Command text.now lexeme.now) (reading_view self.old)) (reading_view self.new) }
+        ensures { Done result (read (lines.Command text.now lexeme.now) (reading_view self.old))
+            (reading_view self.new) }
     {
         self.last_command = Some(text);
         self.stack.command(alloc, text, lexeme)
@@ -173,7 +168,8 @@ impl<'src> Builder<'src> {
         lexeme: &'src str,
         parameters: &[&'src str],
     ) -> Result<(), LineError>
-        ensures { (text : Text) → names text ≡ Some (lexeme.now ∷ map (λ name. name.now) parameters.now) → Done result (read (lines.Function text) (reading_view self.old)) (reading_view self.new) }
+        ensures { (text : Text) → names text ≡ Some (lexeme.now ∷ map (λ name. name.now) parameters.now)
+            → Done result (read (lines.Function text) (reading_view self.old)) (reading_view self.new) }
     {
         let parameters = self.numbering.parameters_of(alloc, parameters)?;
         let body = self.stack.pop()?;
@@ -187,7 +183,8 @@ impl<'src> Builder<'src> {
 
     // Overrides a variable's value.
     fn override_with(&mut self, alloc: Global, name: &'src str, text: &str) -> Result<(), LineError>
-        ensures { Done result (read (lines.Override name.now text.now) (reading_view self.old)) (reading_view self.new) }
+        ensures { Done result (read (lines.Override name.now text.now) (reading_view self.old))
+            (reading_view self.new) }
     {
         let number = self.numbering.number_of(name)?;
         let text = String::from_str(alloc, text)?;
@@ -292,9 +289,13 @@ impl<'src> Builder<'src> {
 
     // Ends the case, if each expression is assigned.
     fn end(&mut self, evaluation: Evaluation<'src>) -> Result<(), LineError>
-        ensures run { evaluation_view evaluation.entry ≡ cases.Run → Done result (read lines.Run (reading_view self.old)) (reading_view self.new) }
-        ensures constant { evaluation_view evaluation.entry ≡ cases.Const → Done result (read lines.Const (reading_view self.old)) (reading_view self.new) }
-        ensures blocks { (text : Text) → is_some (names text) ≡ true → evaluation_view evaluation.entry ≡ cases.Blocks (map token_of (names_in text)) → Done result (read (lines.Blocks text) (reading_view self.old)) (reading_view self.new) }
+        ensures run { evaluation_view evaluation.entry ≡ cases.Run
+            → Done result (read lines.Run (reading_view self.old)) (reading_view self.new) }
+        ensures constant { evaluation_view evaluation.entry ≡ cases.Const
+            → Done result (read lines.Const (reading_view self.old)) (reading_view self.new) }
+        ensures blocks { (text : Text) → is_some (names text) ≡ true → evaluation_view evaluation.entry
+            ≡ cases.Blocks (map token_of (names_in text))
+            → Done result (read (lines.Blocks text) (reading_view self.old)) (reading_view self.new) }
     {
         self.is_over = true;
         self.case.evaluation = evaluation;

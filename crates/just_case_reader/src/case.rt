@@ -1,9 +1,8 @@
 // The contents of a case.
 
-ghost use Rattle.std.specs.Prelude.{◌≡◌, ◌+◌, [], IfOk, OnOk, length, map};
-ghost use Rattle.just_case_reader.specs.Reading.{Describes, BadLine, described, described_from, nothing};
-ghost use Rattle.just_case_reader.specs.View.{case_line_view};
-ghost use Rattle.just_case_reader.specs.View.{case_view, reading_view};
+ghost use Rattle.std.specs.Prelude.{IfOk, OnOk, [], length, map, ◌+◌, ◌≡◌};
+ghost use Rattle.just_case_reader.specs.Prelude.{BadLine, Describes, case_line_view, case_view, described};
+ghost use Rattle.just_case_reader.specs.Prelude.{described_from, nothing, reading_view};
 
 use crate::builder::Builder;
 use crate::evaluation::Evaluation;
@@ -107,7 +106,8 @@ impl Error for CaseError {}
 /// the line after its last. `OutOfMemory`, if an allocation fails, or if an expression nests too deeply for the stack.
 pub fn build<'src>(alloc: Global, lines: &'src [Line<'src>]) -> Result<Case<'src>, CaseError>
     ensures case { IfOk result (λ case. described (map case_line_view lines.now) ≡ Describes (case_view case)) }
-    ensures bad { (place : _) → result ≡ Err (CaseError.BadLine place) → described (map case_line_view lines.now) ≡ BadLine place }
+    ensures bad { (place : _) → result ≡ Err (CaseError.BadLine place)
+        → described (map case_line_view lines.now) ≡ BadLine place }
 {
     let mut builder = Builder::new(alloc);
     take_all(&mut builder, alloc, lines)?;
@@ -122,8 +122,10 @@ fn take_all<'src>(
     alloc: Global,
     lines: &'src [Line<'src>],
 ) -> Result<(), CaseError>
-    ensures ok { OnOk result (described_from 1 (reading_view builder.old) (map case_line_view lines.now) ≡ described_from (length lines.now + 1) (reading_view builder.new) []) }
-    ensures bad { (place : _) → result ≡ Err (CaseError.BadLine place) → described_from 1 (reading_view builder.old) (map case_line_view lines.now) ≡ BadLine place }
+    ensures ok { OnOk result (described_from 1 (reading_view builder.old) (map case_line_view lines.now)
+        ≡ described_from (length lines.now + 1) (reading_view builder.new) []) }
+    ensures bad { (place : _) → result ≡ Err (CaseError.BadLine place)
+        → described_from 1 (reading_view builder.old) (map case_line_view lines.now) ≡ BadLine place }
 {
     for (index, line) in lines.iter().enumerate() {
         match builder.take(alloc, line) {

@@ -1,10 +1,11 @@
 // The lines of a case, each parsed by itself.
 
-ghost use Rattle.std.specs.Prelude.{◌≡◌, ◌==◌, Some, IfOk, codes, if◌then◌else◌, length, map, position};
+ghost use Rattle.std.specs.Prelude.{IfOk, Some, if◌then◌else◌, length, map, position, ◌==◌, ◌≡◌};
 ghost use Rattle.std.specs.List.{after_first, before_first};
-ghost use Rattle.just_case_reader.specs.Line.{Assign, Bad, Call, Dotenv, Fail, ListOf, Override, Variable, bare_line, is_skipped, first_name_line, limit, line_of, line_of_text, line_of_word, lines_of, name_line, number_line, operator_line, rare_line, says_nothing};
-ghost use Rattle.just_case_reader.specs.Rest.{number, rest_of, word_of};
-ghost use Rattle.just_case_reader.specs.View.{case_line_view};
+ghost use Rattle.just_case_reader.specs.Prelude.{Assign, Bad, Call, Dotenv, Fail, ListOf, Override, bare_line};
+ghost use Rattle.just_case_reader.specs.Prelude.{case_line_view, first_name_line, is_skipped, limit, line_of};
+ghost use Rattle.just_case_reader.specs.Prelude.{line_of_text, line_of_word, lines_of, name_line, number, number_line};
+ghost use Rattle.just_case_reader.specs.Prelude.{operator_line, rare_line, rest_of, says_nothing, word_of};
 
 use crate::operator::{BinaryOperator, UnaryOperator};
 use crate::rest::{is_name, parse_names, parse_number, split_word};
@@ -69,7 +70,7 @@ pub enum Line<'case> {
 
 impl<'case> Line<'case> {
     /// Whether the line is skipped.
-    pub fn is_skipped(&self) -> bool
+    pub(crate) fn is_skipped(&self) -> bool
         ensures { result ≡ says_nothing (case_line_view self.now) }
     {
         matches!(self, Line::Skipped)
@@ -130,7 +131,7 @@ fn parse_word<'case>(
     ensures { IfOk result (λ line. case_line_view line ≡ line_of_word word.now rest.now) }
 {
     Ok(match word {
-        "var" => variable_line(rest),
+        "var" => name_line(rest, Line::Variable { name: rest }),
         "assign" => assign_line(rest, false),
         "str" => Line::Literal {
             text: rest,
@@ -184,7 +185,8 @@ fn parse_rare<'case>(
 
 // A line with these names, which is bad if there are none.
 fn led_line<'case>(names: &[&str], line: Line<'case>) -> Line<'case>
-    ensures { case_line_view result ≡ first_name_line (Some (map (λ name. name.now) names.now)) (case_line_view line.entry) }
+    ensures { case_line_view result ≡ first_name_line (Some (map (λ name. name.now) names.now))
+        (case_line_view line.entry) }
 {
     if names.is_empty() { Line::Bad } else { line }
 }
@@ -200,26 +202,18 @@ fn closed_line<'case>(word: &str, rest: &str) -> Line<'case>
     }
 }
 
-// `var` with the text after it.
-fn variable_line(rest: &str) -> Line<'_>
-    ensures { case_line_view result ≡ name_line rest.now (Variable rest.now) }
+// A line with this name, which is bad if it is not a name.
+fn name_line<'case>(name: &str, line: Line<'case>) -> Line<'case>
+    ensures { case_line_view result ≡ name_line name.now (case_line_view line.entry) }
 {
-    if is_name(rest) {
-        Line::Variable { name: rest }
-    } else {
-        Line::Bad
-    }
+    if is_name(name) { line } else { Line::Bad }
 }
 
 // `assign`, or `export`, with the text after it.
 fn assign_line(rest: &str, export: bool) -> Line<'_>
     ensures { case_line_view result ≡ name_line rest.now (Assign rest.now export) }
 {
-    if is_name(rest) {
-        Line::Assign { name: rest, export }
-    } else {
-        Line::Bad
-    }
+    name_line(rest, Line::Assign { name: rest, export })
 }
 
 // `list` with the text after it.
@@ -234,7 +228,8 @@ fn list_line(rest: &str) -> Line<'_>
 
 // `call` with the text after it.
 fn call_line(rest: &str) -> Line<'_>
-    ensures { case_line_view result ≡ name_line (word_of rest.now) (number_line (number (rest_of rest.now)) (Call (word_of rest.now))) }
+    ensures { case_line_view result ≡ name_line (word_of rest.now)
+        (number_line (number (rest_of rest.now)) (Call (word_of rest.now))) }
 {
     let (name, count) = split_word(rest);
     match parse_number(count) {
@@ -248,11 +243,7 @@ fn override_line(rest: &str) -> Line<'_>
     ensures { case_line_view result ≡ name_line (word_of rest.now) (Override (word_of rest.now) (rest_of rest.now)) }
 {
     let (name, text) = split_word(rest);
-    if is_name(name) {
-        Line::Override { name, text }
-    } else {
-        Line::Bad
-    }
+    name_line(name, Line::Override { name, text })
 }
 
 // `dotenv` with the text after it.
@@ -260,11 +251,7 @@ fn dotenv_line(rest: &str) -> Line<'_>
     ensures { case_line_view result ≡ name_line (word_of rest.now) (Dotenv (word_of rest.now) (rest_of rest.now)) }
 {
     let (name, text) = split_word(rest);
-    if is_name(name) {
-        Line::Dotenv { name, text }
-    } else {
-        Line::Bad
-    }
+    name_line(name, Line::Dotenv { name, text })
 }
 
 // `limit` with the text after it.

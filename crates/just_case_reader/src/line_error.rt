@@ -1,7 +1,7 @@
 // Why a line failed.
 
 ghost use Rattle.std.specs.Prelude.{◌≡◌};
-ghost use Rattle.just_case_reader.specs.declared.line_error.LineError.TheVariants.{OutOfMemory as Wanted};
+ghost use Rattle.just_case_reader.specs.Prelude.{Wanted};
 
 use just_syntax::out_of_memory::OutOfMemory;
 use just_syntax::unstyled::write_unstyled;

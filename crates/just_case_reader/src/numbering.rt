@@ -59,8 +59,10 @@ impl<'src> Numbering<'src> {
         alloc: Global,
         names: &[&'src str],
     ) -> Result<Vec<Number>, OutOfMemory>
-        ensures numbers { IfOk result (λ numbers. numbers.items ≡ numbers_of (numbering_view self.old) (map (λ name. name.now) names.now)) }
-        ensures ok { OnOk result (numbering_view self.new ≡ with_names (numbering_view self.old) (map (λ name. name.now) names.now)) }
+        ensures numbers { IfOk result (λ numbers. numbers.items ≡ numbers_of (numbering_view self.old)
+            (map (λ name. name.now) names.now)) }
+        ensures ok { OnOk result (numbering_view self.new ≡ with_names (numbering_view self.old)
+            (map (λ name. name.now) names.now)) }
     {
         let mut numbers = Vec::with_capacity(alloc, names.len())?;
         for name in names {
@@ -79,8 +81,10 @@ impl<'src> Numbering<'src> {
         alloc: Global,
         names: &[&'src str],
     ) -> Result<Vec<(Name<'src>, Number)>, OutOfMemory>
-        ensures parameters { IfOk result (λ parameters. map parameter_view parameters.items ≡ parameters_with_numbers (numbering_view self.old) (map (λ name. name.now) names.now)) }
-        ensures ok { OnOk result (numbering_view self.new ≡ with_names (numbering_view self.old) (map (λ name. name.now) names.now)) }
+        ensures parameters { IfOk result (λ parameters. map parameter_view parameters.items
+            ≡ parameters_with_numbers (numbering_view self.old) (map (λ name. name.now) names.now)) }
+        ensures ok { OnOk result (numbering_view self.new ≡ with_names (numbering_view self.old)
+            (map (λ name. name.now) names.now)) }
     {
         let mut parameters = Vec::with_capacity(alloc, names.len())?;
         for name in names {

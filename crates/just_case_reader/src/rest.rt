@@ -1,9 +1,9 @@
 // The text after the word of a line.
 
-ghost use Rattle.std.specs.Prelude.{◌≡◌, ◌==◌, ◌∷◌, ◌++◌, [], Some, None, IfOk, map, position};
+ghost use Rattle.std.specs.Prelude.{IfOk, None, Some, [], map, option_map, position, ◌==◌, ◌≡◌};
 ghost use Rattle.std.specs.List.{list_all};
-ghost use Rattle.std.specs.Option.{option_map};
-ghost use Rattle.just_case_reader.specs.Rest.{if_names, is_name, is_name_part, is_name_start, names, number, pieces, rest_of, word_of};
+ghost use Rattle.just_case_reader.specs.Prelude.{if_names, is_name, is_name_part, is_name_start, names, number, pieces};
+ghost use Rattle.just_case_reader.specs.Prelude.{rest_of, word_of};
 
 use just_syntax::out_of_memory::OutOfMemory;
 use std::alloc::Global;
@@ -108,7 +108,8 @@ fn parse_pieces<'case>(
     alloc: Global,
     text: &'case str,
 ) -> Result<Option<Vec<&'case str>>, OutOfMemory>
-    ensures { IfOk result (λ found. option_map (λ list. map (λ name. name.now) list.items) found ≡ if_names (pieces text.now)) }
+    ensures { IfOk result (λ found. option_map (λ list. map (λ name. name.now) list.items) found
+        ≡ if_names (pieces text.now)) }
 {
     let mut names = Vec::new(alloc);
     let mut rest = text;

@@ -1,14 +1,11 @@
 // The expressions that are not yet assigned.
 
-ghost use Rattle.std.specs.Prelude.{◌≡◌, ◌∷◌, ◌++◌, ◌==◌, [], Some, None, IfErr, IfOk, OnOk, codes, length, map, option_map};
+ghost use Rattle.std.specs.Prelude.{IfErr, IfOk, None, OnOk, Some, [], codes, length, map, option_map, ◌++◌, ◌==◌, ◌∷◌};
+ghost use Rattle.std.specs.Prelude.{◌≡◌};
 ghost use Rattle.just_syntax.specs.Plain as plain;
-ghost use Rattle.just_syntax.specs.View.{assert_view, view, views};
-ghost use Rattle.just_case_reader.specs.Token.{token_of};
-ghost use Rattle.just_case_reader.specs.Done.{Done, IfBad};
+ghost use Rattle.just_case_reader.specs.Prelude.{Done, IfBad, KnownNames, assert_view, number_of, of_operand, several};
+ghost use Rattle.just_case_reader.specs.Prelude.{stack_after, stack_view, together, token_of, view, views};
 ghost use Rattle.just_case_reader.specs.Line as lines;
-ghost use Rattle.just_case_reader.specs.Numbering.{KnownNames, number_of};
-ghost use Rattle.just_case_reader.specs.Stack.{of_operand, several, stack_after, together};
-ghost use Rattle.just_case_reader.specs.View.{stack_view};
 
 use crate::line_error::LineError;
 use crate::operator::{BinaryOperator, UnaryOperator};
@@ -72,7 +69,9 @@ impl<'src> Stack<'src> {
     ///
     /// `OutOfMemory`, if an allocation fails.
     pub fn literal(&mut self, alloc: Global, text: &str, lexeme: &'src str) -> Result<(), LineError>
-        ensures { (names : KnownNames) → Done result (stack_after (lines.Literal text.now lexeme.now) names (stack_view self.old)) (stack_view self.new) }
+        ensures { (names : KnownNames)
+            → Done result (stack_after (lines.Literal text.now lexeme.now) names (stack_view self.old))
+            (stack_view self.new) }
     {
         self.push(Expression::literal(alloc, text, lexeme)?, 0)
     }
@@ -83,7 +82,9 @@ impl<'src> Stack<'src> {
     ///
     /// `OutOfMemory`, if an allocation fails.
     pub fn command(&mut self, alloc: Global, text: &str, lexeme: &'src str) -> Result<(), LineError>
-        ensures { (names : KnownNames) → Done result (stack_after (lines.Command text.now lexeme.now) names (stack_view self.old)) (stack_view self.new) }
+        ensures { (names : KnownNames)
+            → Done result (stack_after (lines.Command text.now lexeme.now) names (stack_view self.old))
+            (stack_view self.new) }
     {
         self.push(Expression::backtick(alloc, text, token(lexeme))?, 0)
     }
@@ -94,7 +95,9 @@ impl<'src> Stack<'src> {
     ///
     /// `OutOfMemory`, if an allocation fails.
     pub fn variable(&mut self, lexeme: &'src str, number: Number) -> Result<(), LineError>
-        ensures { (names : KnownNames) → number ≡ number_of names lexeme.now → Done result (stack_after (lines.Variable lexeme.now) names (stack_view self.old)) (stack_view self.new) }
+        ensures { (names : KnownNames) → number ≡ number_of names lexeme.now
+            → Done result (stack_after (lines.Variable lexeme.now) names (stack_view self.old))
+            (stack_view self.new) }
     {
         self.push(Expression::variable(name(lexeme), number), 0)
     }
@@ -106,7 +109,8 @@ impl<'src> Stack<'src> {
     /// `Bad`, if there is none; `OutOfMemory`, if an allocation fails or the expression would nest too deeply for the
     /// stack. In either case the expressions taken from the top may be lost.
     pub fn unary(&mut self, alloc: Global, operator: UnaryOperator) -> Result<(), LineError>
-        ensures { (names : KnownNames) → Done result (stack_after (lines.Unary operator) names (stack_view self.old)) (stack_view self.new) }
+        ensures { (names : KnownNames) → Done result (stack_after (lines.Unary operator) names (stack_view self.old))
+            (stack_view self.new) }
     {
         let (operand, levels) = self.pop_boxed(alloc)?;
         self.push(of_operand(operator, operand), deeper(levels))
@@ -118,7 +122,8 @@ impl<'src> Stack<'src> {
     ///
     /// As for `unary`, but `Bad` if there are fewer than two.
     pub fn binary(&mut self, alloc: Global, operator: BinaryOperator) -> Result<(), LineError>
-        ensures { (names : KnownNames) → Done result (stack_after (lines.Binary operator) names (stack_view self.old)) (stack_view self.new) }
+        ensures { (names : KnownNames) → Done result (stack_after (lines.Binary operator) names (stack_view self.old))
+            (stack_view self.new) }
     {
         let (rhs, right) = self.pop_boxed(alloc)?;
         let (lhs, left) = self.pop_boxed(alloc)?;
@@ -131,7 +136,8 @@ impl<'src> Stack<'src> {
     ///
     /// As for `unary`, but `Bad` if there are fewer than three.
     pub fn conditional(&mut self, alloc: Global) -> Result<(), LineError>
-        ensures { (names : KnownNames) → Done result (stack_after lines.If names (stack_view self.old)) (stack_view self.new) }
+        ensures { (names : KnownNames) → Done result (stack_after lines.If names (stack_view self.old))
+            (stack_view self.new) }
     {
         let (otherwise, third) = self.pop_boxed(alloc)?;
         let (consequence, second) = self.pop_boxed(alloc)?;
@@ -150,7 +156,8 @@ impl<'src> Stack<'src> {
     ///
     /// As for `unary`, but `Bad` if there are fewer than `count`.
     pub fn list(&mut self, alloc: Global, count: usize) -> Result<(), LineError>
-        ensures { (names : KnownNames) → Done result (stack_after (lines.ListOf count) names (stack_view self.old)) (stack_view self.new) }
+        ensures { (names : KnownNames) → Done result (stack_after (lines.ListOf count) names (stack_view self.old))
+            (stack_view self.new) }
     {
         let (elements, levels) = self.pop_several(alloc, count)?;
         self.push(Expression::list(elements, token("[")), deeper(levels))
@@ -162,7 +169,9 @@ impl<'src> Stack<'src> {
     ///
     /// As for `unary`, but `Bad` if there are fewer than `count`.
     pub fn call(&mut self, alloc: Global, lexeme: &'src str, count: usize) -> Result<(), LineError>
-        ensures { (names : KnownNames) → Done result (stack_after (lines.Call lexeme.now count) names (stack_view self.old)) (stack_view self.new) }
+        ensures { (names : KnownNames)
+            → Done result (stack_after (lines.Call lexeme.now count) names (stack_view self.old))
+            (stack_view self.new) }
     {
         let (arguments, levels) = self.pop_several(alloc, count)?;
         self.push(Expression::call(name(lexeme), arguments), deeper(levels))
@@ -175,7 +184,8 @@ impl<'src> Stack<'src> {
         alloc: Global,
         count: usize,
     ) -> Result<(Vec<Expression<'src>>, usize), LineError>
-        ensures ok { IfOk result (λ taken. several count plain.Nil (stack_view self.old) ≡ Some (views taken.0.items, stack_view self.new)) }
+        ensures ok { IfOk result (λ taken. several count plain.Nil (stack_view self.old)
+            ≡ Some (views taken.0.items, stack_view self.new)) }
         ensures bad { IfErr result (λ e. IfBad e (several count plain.Nil (stack_view self.old) ≡ None)) }
     {
         if self.expressions.len() < count {
@@ -218,7 +228,10 @@ fn pop_boxed<T: Drop>(
     alloc: Global,
     parts: &mut Vec<Nested<T>>,
 ) -> Result<(Box<T>, usize), LineError>
-    ensures ok { IfOk result (λ taken. parts.old.items ≡ parts.new.items ++ record { part = taken.0.value; levels = taken.1 } ∷ []) }
+    ensures ok { IfOk result (λ taken. parts.old.items ≡ parts.new.items ++ record {
+      part = taken.0.value;
+      levels = taken.1;
+    } ∷ []) }
     ensures bad { IfErr result (λ e. IfBad e (parts.old.items ≡ [])) }
 {
     match parts.pop() {
@@ -312,7 +325,8 @@ fn comparison<'src>(
     lexeme: &'src str,
     rhs: Box<Expression<'src>>,
 ) -> Expression<'src>
-    ensures { view result ≡ plain.Comparison (view lhs.entry.value) operator (view rhs.entry.value) (token_of lexeme.now) }
+    ensures { view result ≡ plain.Comparison (view lhs.entry.value) operator (view rhs.entry.value)
+        (token_of lexeme.now) }
 {
     Expression::Comparison {
         lhs,
@@ -327,7 +341,8 @@ fn assertion<'src>(
     condition: Box<Expression<'src>>,
     message: Option<Box<Expression<'src>>>,
 ) -> Expression<'src>
-    ensures { view result ≡ assert_view (view condition.entry.value) (option_map (λ b. view b.value) message.entry) (token_of (codes "assert")) }
+    ensures { view result ≡ assert_view (view condition.entry.value) (option_map (λ b. view b.value) message.entry)
+        (token_of (codes "assert")) }
 {
     Expression::Assert {
         condition,

@@ -1,8 +1,7 @@
 // The tokens of a case.
 
-ghost use Rattle.std.specs.Prelude.{◌≡◌, IfOk, map};
-ghost use Rattle.just_syntax.specs.View.{name_view, parameter_view, token_view};
-ghost use Rattle.just_case_reader.specs.Token.{token_of};
+ghost use Rattle.std.specs.Prelude.{IfOk, map, ◌≡◌};
+ghost use Rattle.just_case_reader.specs.Prelude.{name_view, parameter_view, token_of, token_view};
 
 use just_syntax::name::Name;
 use just_syntax::number::Number;

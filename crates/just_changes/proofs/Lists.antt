@@ -1,5 +1,6 @@
 -- Maps of lists of nodes, after a list is removed or inserted.
-use Rattle.std.proofs.Common.{◌≡◌, ◌↔◌, ◌⊎◌, inl, inr, ⊎_elim, ℕ, ◌+◌, Bool, true, false, cond, List, [], ◌∷◌, ◌++◌, length, Option, Some, None, Vec, Bor, refl, ap, sym, ◌∙◌, subst, arith}
+use Rattle.std.proofs.Common.{◌≡◌, ◌↔◌, ◌⊎◌, inl, inr, ⊎_elim, ℕ, ◌+◌, Bool, true, false, cond, List, [], ◌∷◌, ◌++◌, length, Option, Some, None, Vec, Bor, refl}
+use Rattle.std.proofs.Common.{ap, sym, ◌∙◌, subst, arith}
 use Rattle.std.specs.Bool.{Decides}
 use Rattle.std.specs.Global.{Global}
 use Rattle.std.specs.BTreeMap.{BTreeMap, get, is_at}
@@ -7,17 +8,14 @@ use Rattle.std.specs.Cmp.{unsigned_tied}
 use Rattle.std.specs.Cmp.Lexicographic.{slice_cmp}
 use Rattle.std.specs.declared.cmp.Ordering.{Ordering}
 use Rattle.std.specs.Map.{lookup, remove_entry}
-use Rattle.std.specs.Ordering.{eq_by_cmp, is_eq, nat_cmp}
+use Rattle.std.specs.Ordering.{is_eq, nat_cmp}
 use Rattle.std.proofs.lemmas.Bool.{eq-eqb, eqb-true}
 use Rattle.std.proofs.lemmas.List.{length-map}
 use Rattle.std.proofs.lemmas.Map.Text.{is_eq-slice_cmp}
 use Rattle.std.proofs.lemmas.Slice.Eq.{bytes_eq-Decides}
-use Rattle.just_syntax.specs.Plain.{Text}
-use Rattle.just_syntax.specs.Lists.{IsIn}
+use Rattle.just_changes.specs.Prelude.{IsIn, OfFunction, OfVariable, PlainNode, Text, found_nodes, nodes_view, total}
 use Rattle.just_syntax.proofs.Lists.{in_append}
 use Rattle.just_changes.specs.declared.node.Node as declared
-use Rattle.just_changes.specs.Nodes.{PlainNode, OfFunction, OfVariable}
-use Rattle.just_changes.specs.View.{found_nodes, node_view, nodes_view, total}
 use Rattle.just_changes.proofs.Spreading.{total_taken}
 
 pub number_decides : (k n : ℕ) → Decides (is_at (nat_cmp k) n) (k ≡ n)
@@ -36,7 +34,8 @@ apart false w o d none = refl
 abbrev Lists : Type 0
 Lists = Vec declared.Node Global
 
-reader_by : {P : Type 0} (b : Bool) (old mid new : Option Lists) (all : Lists) (reader y : PlainNode) → Decides b P → mid ≡ cond b None old → new ≡ cond b (Some all) mid → (P → nodes_view all.items ≡ found_nodes old ++ reader ∷ []) →
+reader_by : {P : Type 0} (b : Bool) (old mid new : Option Lists) (all : Lists) (reader y : PlainNode) → Decides b P → mid ≡ cond b None old
+    → new ≡ cond b (Some all) mid → (P → nodes_view all.items ≡ found_nodes old ++ reader ∷ []) →
     IsIn (found_nodes new) y ↔ ((P × (reader ≡ y)) ⊎ IsIn (found_nodes old) y)
 reader_by true old mid new all reader y d removed inserted items =
     let same : found_nodes new ≡ found_nodes old ++ reader ∷ [] = ap found_nodes inserted ∙ items (d.0 refl) in
@@ -59,25 +58,38 @@ named m t = lookup (is_at (λ (k : Bor Text). slice_cmp nat_cmp t k.now)) m.entr
 abbrev numbered : BTreeMap ℕ Lists → ℕ → Option Lists
 numbered m n = lookup (is_at (nat_cmp n)) m.entries
 
-pub function_left : (old new : BTreeMap (Bor Text) Lists) (name : Bor Text) → ((q : Bor Text) → get name_cmp new q ≡ cond (is_at (name_cmp name) q) None (get name_cmp old q)) → (t : Text) → (name.now ≡ t → ⊥) → found_nodes (named new t) ≡ found_nodes (named old t)
-function_left old new name removed t other = ap found_nodes (removed (record { ref_ptr = (0, 0); now = t }) ∙ apart (is_eq (slice_cmp nat_cmp name.now t)) None (named old t) (name_decides name.now t) other)
+pub function_left : (old new : BTreeMap (Bor Text) Lists) (name : Bor Text)
+    → ((q : Bor Text) → get name_cmp new q ≡ cond (is_at (name_cmp name) q) None (get name_cmp old q)) → (t : Text) → (name.now ≡ t → ⊥)
+    → found_nodes (named new t) ≡ found_nodes (named old t)
+function_left old new name removed t other =
+    ap found_nodes (removed (record { ref_ptr = (0, 0); now = t }) ∙ apart (is_eq (slice_cmp nat_cmp name.now t)) None (named old t)
+    (name_decides name.now t) other)
 
-pub variable_left : (old new : BTreeMap ℕ Lists) (k : ℕ) → ((q : ℕ) → get nat_cmp new q ≡ cond (is_at (nat_cmp k) q) None (get nat_cmp old q)) → (n : ℕ) → (k ≡ n → ⊥) → found_nodes (numbered new n) ≡ found_nodes (numbered old n)
+pub variable_left : (old new : BTreeMap ℕ Lists) (k : ℕ) → ((q : ℕ) → get nat_cmp new q ≡ cond (is_at (nat_cmp k) q) None (get nat_cmp old q)) → (n : ℕ)
+    → (k ≡ n → ⊥) → found_nodes (numbered new n) ≡ found_nodes (numbered old n)
 variable_left old new k removed n other = ap found_nodes (removed n ∙ apart (is_at (nat_cmp k) n) None (numbered old n) (number_decides k n) other)
 
-pub function_reader : (old mid new : BTreeMap (Bor Text) Lists) (name : Bor Text) (all : Lists) (reader : PlainNode) → ((q : Bor Text) → get name_cmp mid q ≡ cond (is_at (name_cmp name) q) None (get name_cmp old q)) → ((q : Bor Text) → get name_cmp new q ≡ cond (is_at (name_cmp name) q) (Some all) (get name_cmp mid q))
-    → nodes_view all.items ≡ found_nodes (named old name.now) ++ reader ∷ [] → (t : Text) (y : PlainNode) → IsIn (found_nodes (named new t)) y ↔ (((name.now ≡ t) × (reader ≡ y)) ⊎ IsIn (found_nodes (named old t)) y)
+pub function_reader : (old mid new : BTreeMap (Bor Text) Lists) (name : Bor Text) (all : Lists) (reader : PlainNode)
+    → ((q : Bor Text) → get name_cmp mid q ≡ cond (is_at (name_cmp name) q) None (get name_cmp old q))
+    → ((q : Bor Text) → get name_cmp new q ≡ cond (is_at (name_cmp name) q) (Some all) (get name_cmp mid q))
+    → nodes_view all.items ≡ found_nodes (named old name.now) ++ reader ∷ [] → (t : Text) (y : PlainNode) → IsIn (found_nodes (named new t)) y
+    ↔ (((name.now ≡ t) × (reader ≡ y)) ⊎ IsIn (found_nodes (named old t)) y)
 function_reader old mid new name all reader removed inserted items t y =
-    reader_by (is_eq (slice_cmp nat_cmp name.now t)) (named old t) (named mid t) (named new t) all reader y (name_decides name.now t) (removed (record { ref_ptr = (0, 0); now = t })) (inserted (record { ref_ptr = (0, 0); now = t }))
+    reader_by (is_eq (slice_cmp nat_cmp name.now t)) (named old t) (named mid t) (named new t) all reader y (name_decides name.now t)
+    (removed (record { ref_ptr = (0, 0); now = t })) (inserted (record { ref_ptr = (0, 0); now = t }))
     (λ e. items ∙ ap (λ (s : Text). found_nodes (named old s) ++ reader ∷ []) e)
 
-pub variable_reader : (old mid new : BTreeMap ℕ Lists) (k : ℕ) (all : Lists) (reader : PlainNode) → ((q : ℕ) → get nat_cmp mid q ≡ cond (is_at (nat_cmp k) q) None (get nat_cmp old q)) → ((q : ℕ) → get nat_cmp new q ≡ cond (is_at (nat_cmp k) q) (Some all) (get nat_cmp mid q))
-    → nodes_view all.items ≡ found_nodes (numbered old k) ++ reader ∷ [] → (n : ℕ) (y : PlainNode) → IsIn (found_nodes (numbered new n)) y ↔ (((k ≡ n) × (reader ≡ y)) ⊎ IsIn (found_nodes (numbered old n)) y)
+pub variable_reader : (old mid new : BTreeMap ℕ Lists) (k : ℕ) (all : Lists) (reader : PlainNode)
+    → ((q : ℕ) → get nat_cmp mid q ≡ cond (is_at (nat_cmp k) q) None (get nat_cmp old q))
+    → ((q : ℕ) → get nat_cmp new q ≡ cond (is_at (nat_cmp k) q) (Some all) (get nat_cmp mid q))
+    → nodes_view all.items ≡ found_nodes (numbered old k) ++ reader ∷ [] → (n : ℕ) (y : PlainNode) → IsIn (found_nodes (numbered new n)) y
+    ↔ (((k ≡ n) × (reader ≡ y)) ⊎ IsIn (found_nodes (numbered old n)) y)
 variable_reader old mid new k all reader removed inserted items n y =
     reader_by (is_at (nat_cmp k) n) (numbered old n) (numbered mid n) (numbered new n) all reader y (number_decides k n) (removed n) (inserted n)
     (λ e. items ∙ ap (λ (j : ℕ). found_nodes (numbered old j) ++ reader ∷ []) e)
 
-pub size_taken : {K : Type 0} (test : K → Bool) (old new : List (K × Lists)) (o : Option Lists) (items : List declared.Node) → new ≡ remove_entry test old → o ≡ lookup test old → nodes_view items ≡ found_nodes o → total new + length items ≡ total old
+pub size_taken : {K : Type 0} (test : K → Bool) (old new : List (K × Lists)) (o : Option Lists) (items : List declared.Node) → new ≡ remove_entry test old
+    → o ≡ lookup test old → nodes_view items ≡ found_nodes o → total new + length items ≡ total old
 size_taken test old new o items removed is seen =
     let all = total_taken test old in
     let left : total new ≡ total (remove_entry test old) = ap total removed in

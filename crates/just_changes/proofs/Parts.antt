@@ -1,6 +1,7 @@
 -- What the tests of parts decide about two expressions.
-use Rattle.std.proofs.Common.{◌≡◌, ◌↔◌, Bool, true, false, refl, ap, sym, ◌∙◌}
-use Rattle.just_syntax.specs.Plain.{Token, Literal, Exprs, Pieces, Call, FormatString, ListOf}
+use Rattle.std.proofs.Common.{◌≡◌, ◌↔◌, Bool, true, false, sym, ◌∙◌}
+use Rattle.just_changes.specs.Prelude.{Call}
+use Rattle.just_syntax.specs.Plain.{Token, Literal, Exprs, Pieces, FormatString, ListOf}
 
 -- the first test passed, and the second decides
 then_other : {A B C : Type 0} (a b : Bool) → a ≡ true → (a ≡ true) ↔ A → (b ≡ true) ↔ B → (C → B) → (A → B → C) → (b ≡ true) ↔ C

@@ -1,13 +1,10 @@
 -- Differences reach exactly the variables whose cones differ.
-use Rattle.std.proofs.Common.{◌≡◌, ◌↔◌, ◌⊎◌, inl, inr, ⊎_elim, ℕ, Bool, true, false, List, [], Option, Some, None, IsTrue, refl, ap, sym, ◌∙◌, subst}
-use Rattle.std.proofs.lemmas.Bool.{not-false, not-true}
-use Rattle.just_syntax.specs.Plain.{Text, Token, Assignment, Expr, Call, Nil, Function}
-use Rattle.just_syntax.specs.Lists.{IsIn}
-use Rattle.just_value.specs.Frames.{Frames, value_in}
-use Rattle.just_meaning.specs.Module.{Module}
-use Rattle.just_meaning.specs.Reaches.{Mention, VariableOf, CallOf, IsAmong, Reaches, Here, Later, Reads, ReadsBeyond, Occurs, function_at}
-use Rattle.just_laws.specs.Cone.{Cone, Itself, ReadBy, HaveSameCone, IsEvaluated, assignment_numbered}
-use Rattle.just_changes.specs.Nodes.{PlainNode, OfFunction, OfVariable, Version, AssignmentReads, IsFree, IsReached, IsUnchanged, Mentions, ReadsItself, Starts}
+use Rattle.std.proofs.Common.{◌≡◌, ◌↔◌, ◌⊎◌, inl, inr, ⊎_elim, ℕ, Bool, true, false, List, [], Some, IsTrue, refl, sym, ◌∙◌, subst}
+use Rattle.just_changes.specs.Prelude.{Assignment, AssignmentReads, Call, CallOf, Expr, Frames, Function, HaveSameCone, IsIn, IsReached, IsUnchanged, Mentions}
+use Rattle.just_changes.specs.Prelude.{Module, OfFunction, OfVariable, PlainNode, ReadsItself, Starts, Text, Version, assignment_numbered, function_at}
+use Rattle.just_syntax.specs.Plain.{Nil}
+use Rattle.just_meaning.specs.Reaches.{Reaches, Here, Later, ReadsBeyond, Occurs}
+use Rattle.just_laws.specs.Cone.{Cone, Itself, ReadBy, IsEvaluated}
 use Rattle.just_changes.specs.Nodes as nodes
 
 -- the assignments, overrides and functions of a module
@@ -53,27 +50,44 @@ module _ (m w : Module) (outer : Frames) where
 
   -- all functions that an expression reaches are the same, and the cones of all variables that it reads through them
   abbrev IsFineFrom : Expr → Type 0
-  IsFineFrom e = ((name : Text) → Reaches functions e name → function_at functions name ≡ function_at w.program.functions name) × ((k : ℕ) → ReadsBeyond functions e k → HaveSameCone m w outer k)
+  IsFineFrom e = ((name : Text) → Reaches functions e name → function_at functions name ≡ function_at w.program.functions name)
+      × ((k : ℕ) → ReadsBeyond functions e k → HaveSameCone m w outer k)
 
   abbrev IsFine : PlainNode → Type 0
   IsFine (OfFunction name) = IsFineFrom (call_of name)
   IsFine (OfVariable n) = HaveSameCone m w outer n
 
   called : {e : Expr} {name further : Text} (k : ℕ) → Occurs e (CallOf name k) → Reaches functions (call_of name) further → Reaches functions e further
-  called {e} {name} {further} k occurs (Here j here) = ⊎_elim (λ same. Here k (subst (λ t. Occurs e (CallOf t k)) (called_name name further 0 j same) occurs)) (λ bad. absurd bad) here
-  called {e} {name} {further} k occurs (Later mid j here f found rest) = ⊎_elim (λ same. Later mid k (subst (λ t. Occurs e (CallOf t k)) (called_name name mid 0 j same) occurs) f found rest) (λ bad. absurd bad) here
+  called {e} {name} {further} k occurs (Here j here) =
+      ⊎_elim (λ same. Here k (subst (λ t. Occurs e (CallOf t k)) (called_name name further 0 j same) occurs)) (λ bad. absurd bad) here
+  called {e} {name} {further} k occurs (Later mid j here f found rest) =
+      ⊎_elim (λ same. Later mid k (subst (λ t. Occurs e (CallOf t k)) (called_name name mid 0 j same) occurs) f found rest) (λ bad. absurd bad) here
 
   -- a call alone is as fine as the expression in which it occurs
   narrow : {e : Expr} {name : Text} (k : ℕ) → Occurs e (CallOf name k) → IsFineFrom e → IsFineFrom (call_of name)
   narrow k occurs h = (
     (λ further reached. h.0 further (called k occurs reached)),
-    (λ j b. h.1 j (record { name = b.name; function = b.function; reached = called k occurs b.reached; found = b.found; occurs = b.occurs; beyond = b.beyond })),
+    (λ j b. h.1 j (record {
+      name = b.name;
+      function = b.function;
+      reached = called k occurs b.reached;
+      found = b.found;
+      occurs = b.occurs;
+      beyond = b.beyond;
+    })),
   )
 
   body_fine : {name : Text} (f : Function) → function_at functions name ≡ Some f → IsFineFrom (call_of name) → IsFineFrom f.body
   body_fine {name} f found h = (
     (λ further reached. h.0 further (Later name 0 (inl refl) f found reached)),
-    (λ j b. h.1 j (record { name = b.name; function = b.function; reached = Later name 0 (inl refl) f found b.reached; found = b.found; occurs = b.occurs; beyond = b.beyond })),
+    (λ j b. h.1 j (record {
+      name = b.name;
+      function = b.function;
+      reached = Later name 0 (inl refl) f found b.reached;
+      found = b.found;
+      occurs = b.occurs;
+      beyond = b.beyond;
+    })),
   )
 
   value_fine : (a : Assignment) → IsEvaluated m outer a → HaveSameCone m w outer a.number → IsFineFrom a.value
@@ -85,7 +99,8 @@ module _ (m w : Module) (outer : Frames) where
   -- what a fine node reads is fine
   passes : (y x : PlainNode) → ReadsItself before outer y x → IsFine y → IsFine x
   passes (OfFunction name) (OfFunction other) r h = narrow r.reads.0 r.reads.1 (body_fine r.function r.found h)
-  passes (OfFunction name) (OfVariable k) r h = h.1 k (record { name = name; function = r.function; reached = Here 0 (inl refl); found = r.found; occurs = r.reads.0; beyond = r.reads.1 })
+  passes (OfFunction name) (OfVariable k) r h =
+      h.1 k (record { name = name; function = r.function; reached = Here 0 (inl refl); found = r.found; occurs = r.reads.0; beyond = r.reads.1 })
   passes (OfVariable n) (OfFunction other) r h =
       narrow r.reads.mentions.0 r.reads.mentions.1 (value_fine r.assignment (evaluated r.assignment r.reads) (subst (HaveSameCone m w outer) (sym r.number) h))
   passes (OfVariable n) (OfVariable k) r h =
@@ -95,7 +110,8 @@ module _ (m w : Module) (outer : Frames) where
   fine_same (OfFunction name) h = h.0 name (Here 0 (inl refl))
   fine_same (OfVariable n) h = (h.assignments n Itself, h.overrides n Itself)
 
-  module _ (readers : PlainNode → List PlainNode) (starts : List PlainNode) (touched : PlainNode → Bool) (reading : (x y : PlainNode) → IsIn (readers x) y ↔ ReadsItself before outer y x)
+  module _ (readers : PlainNode → List PlainNode) (starts : List PlainNode) (touched : PlainNode → Bool) (reading : (x y : PlainNode) → IsIn (readers x) y
+      ↔ ReadsItself before outer y x)
       (differ : (x : PlainNode) → IsIn starts x → IsUnchanged before after x → ⊥) (all : (x : PlainNode) → IsIn starts x ⊎ IsUnchanged before after x)
       (reached : (x : PlainNode) → IsTrue (touched x) ↔ IsReached readers starts x) where
     never : {x : PlainNode} → IsReached readers starts x → IsFine x → ⊥
@@ -109,21 +125,28 @@ module _ (m w : Module) (outer : Frames) where
     untouched_same : (x : PlainNode) → touched x ≡ false → IsUnchanged before after x
     untouched_same x off = ⊎_elim (λ listed. absurd (both_ways (touched x) off ((reached x).1 (Starts listed)))) (λ same. same) (all x)
 
-    functions_off : {e : Expr} {name : Text} → Reaches functions e name → ((t : Text) (k : ℕ) → Occurs e (CallOf t k) → touched (OfFunction t) ≡ false) → touched (OfFunction name) ≡ false
+    functions_off : {e : Expr} {name : Text} → Reaches functions e name → ((t : Text) (k : ℕ) → Occurs e (CallOf t k) → touched (OfFunction t) ≡ false)
+        → touched (OfFunction name) ≡ false
     functions_off {name = name} (Here k occurs) off = off name k occurs
-    functions_off (Later mid k occurs f found rest) off = functions_off rest (λ t j there. down (OfFunction mid) (OfFunction t) (record { function = f; found = found; reads = (j, there) }) (off mid k occurs))
+    functions_off (Later mid k occurs f found rest) off =
+        functions_off rest (λ t j there. down (OfFunction mid) (OfFunction t) (record { function = f; found = found; reads = (j, there) }) (off mid k occurs))
 
-    value_off : (a : Assignment) → IsEvaluated m outer a → touched (OfVariable a.number) ≡ false → (x : PlainNode) → Mentions (λ k. ⊥) a.value x → touched x ≡ false
-    value_off a e off x mentions = down (OfVariable a.number) x (record { assignment = a; number = refl; reads = record { first = e.found; free = (e.free, e.unbound); mentions = mentions } }) off
+    value_off : (a : Assignment) → IsEvaluated m outer a → touched (OfVariable a.number) ≡ false → (x : PlainNode) → Mentions (λ k. ⊥) a.value x
+        → touched x ≡ false
+    value_off a e off x mentions =
+        down (OfVariable a.number) x
+        (record { assignment = a; number = refl; reads = record { first = e.found; free = (e.free, e.unbound); mentions = mentions } }) off
 
-    called_off : (a : Assignment) → IsEvaluated m outer a → touched (OfVariable a.number) ≡ false → {name : Text} → Reaches functions a.value name → touched (OfFunction name) ≡ false
+    called_off : (a : Assignment) → IsEvaluated m outer a → touched (OfVariable a.number) ≡ false → {name : Text} → Reaches functions a.value name
+        → touched (OfFunction name) ≡ false
     called_off a e off reaches = functions_off reaches (λ t j there. value_off a e off (OfFunction t) (j, there))
 
     cone_off : {n k : ℕ} → Cone m outer n k → touched (OfVariable n) ≡ false → touched (OfVariable k) ≡ false
     cone_off Itself off = off
     cone_off {k = k} (ReadBy a more e (inl occurs)) off = value_off a e (cone_off more off) (OfVariable k) (occurs, λ bad. bad)
     cone_off {k = k} (ReadBy a more e (inr b)) off =
-        down (OfFunction b.name) (OfVariable k) (record { function = b.function; found = b.found; reads = (b.occurs, b.beyond) }) (called_off a e (cone_off more off) b.reached)
+        down (OfFunction b.name) (OfVariable k) (record { function = b.function; found = b.found; reads = (b.occurs, b.beyond) })
+        (called_off a e (cone_off more off) b.reached)
 
     pub exactly : (n : ℕ) → (touched (OfVariable n) ≡ false) ↔ HaveSameCone m w outer n
     exactly n = (

@@ -1,10 +1,8 @@
 -- Collecting what is read, one reading after another.
 use Rattle.std.proofs.Common.{◌≡◌, ◌↔◌, ◌⊎◌, inl, inr, ⊎_elim, ℕ, Bool, true, false, List, [], ◌∷◌, Option, Some, None, ap, sym, ◌∙◌, subst}
-use Rattle.just_syntax.specs.Plain.{Text, Expr}
-use Rattle.just_meaning.specs.Reaches.{Mention, VariableOf, CallOf}
-use Rattle.just_resolution.specs.Sites.{Site, sites_in}
+use Rattle.just_changes.specs.Prelude.{AmongSites, CallOf, Expr, IsOneMention, IsOneVariable, Mentions, OfFunction, OfVariable, PlainNode, Site, Text, sites_in}
+use Rattle.just_meaning.specs.Reaches.{Mention, VariableOf}
 use Rattle.just_resolution.proofs.Occurrences.{Mentioned, mentioned}
-use Rattle.just_changes.specs.Nodes.{PlainNode, OfFunction, OfVariable, AmongSites, IsOneMention, IsOneVariable, Mentions}
 
 -- ---- what was collected and what remains
 
@@ -52,7 +50,8 @@ pub own_variable : (own : ℕ → Type 0) (number : Option ℕ) (k : ℕ) (x : P
 own_variable own number k (OfFunction t) is mine h = h
 own_variable own number k (OfVariable n) is mine h = let e : Some k ≡ Some n = sym is ∙ h.0 in h.1 (subst own (let f : k ≡ n = cc in f) mine)
 
-pub one_variable : (own : ℕ → Type 0) (number : Option ℕ) (k : ℕ) (x : PlainNode) → number ≡ Some k → (own k → ⊥) → OfVariable k ≡ x → IsOneVariable own number x
+pub one_variable : (own : ℕ → Type 0) (number : Option ℕ) (k : ℕ) (x : PlainNode) → number ≡ Some k → (own k → ⊥) → OfVariable k ≡ x
+    → IsOneVariable own number x
 one_variable own number k (OfFunction t) is other same = absurd (cc)
 one_variable own number k (OfVariable n) is other same = let e : k ≡ n = cc in (is ∙ ap Some e, λ h. other (subst own (sym e) h))
 
@@ -80,7 +79,8 @@ function_among own [] t = ((λ h. absurd h), (λ h. absurd h.1))
 function_among own (s ∷ ss) t = function_by own ss t s.mention (function_among own ss t)
 
 -- one more site: a variable there that is not an own one
-variable_by : (own : ℕ → Type 0) (ss : List Site) (n : ℕ) (m : Mention) → AmongSites own ss (OfVariable n) ↔ (Mentioned ss (VariableOf (Some n)) × (own n → ⊥)) →
+variable_by : (own : ℕ → Type 0) (ss : List Site) (n : ℕ) (m : Mention) → AmongSites own ss (OfVariable n) ↔ (Mentioned ss (VariableOf (Some n)) × (own n → ⊥))
+    →
     (IsOneMention own m (OfVariable n) ⊎ AmongSites own ss (OfVariable n)) ↔ (((m ≡ VariableOf (Some n)) ⊎ Mentioned ss (VariableOf (Some n))) × (own n → ⊥))
 variable_by own ss n (CallOf name j) rest = (
   (λ h. ⊎_elim (λ e. absurd (let bad : OfFunction name ≡ OfVariable n = e in cc)) (λ k. let r = rest.0 k in (inr r.0, r.1)) h),

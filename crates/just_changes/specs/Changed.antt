@@ -1,5 +1,5 @@
 -- What an edit leaves unchanged.
-use Rattle.std.specs.Prelude.{◌≡◌, ◌≢◌, ℕ, Bool, false, Contains, List, [], ◌∷◌, map}
+use Rattle.std.specs.Prelude.{◌≡◌, ◌≢◌, ℕ, Contains, List, [], ◌∷◌, map}
 use Rattle.std.specs.HashMap.{HashMap}
 use Rattle.std.specs.declared.string.String.{String}
 use Rattle.just_syntax.specs.View.{assignment_view, text_numbered}
@@ -22,5 +22,7 @@ pub record IsOver {A S : Type 0} (justfile : Justfile) (given : HashMap ℕ (Str
 abbrev pub AreAlikeAt : Module → Module → Frames → ℕ → Type 0
 AreAlikeAt m w outer n = (bs cs : List Block) (o p : Outcome Frames)
     → m.program.fixed ≡ w.program.fixed → m.limit ≡ w.limit → IsResolvedModule m outer → IsResolvedModule w outer
-    → Run lexically m ([] ∷ outer) m.assignments.order bs o → Run lexically w ([] ∷ outer) w.assignments.order cs p → AreAnsweredAlike (events_of bs) (events_of cs)
-    → (b c : Block) → Contains bs b → Contains cs c → b.number ≡ n → c.number ≡ n → b.outcome ≢ Stopped → c.outcome ≢ Stopped → (b.outcome ≡ c.outcome) × AreSame b.events c.events
+    → Run lexically m ([] ∷ outer) m.assignments.order bs o → Run lexically w ([] ∷ outer) w.assignments.order cs p
+    → AreAnsweredAlike (events_of bs) (events_of cs)
+    → (b c : Block) → Contains bs b → Contains cs c → b.number ≡ n → c.number ≡ n → b.outcome ≢ Stopped
+    → c.outcome ≢ Stopped → (b.outcome ≡ c.outcome) × AreSame b.events c.events

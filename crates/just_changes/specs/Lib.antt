@@ -1,3 +1,4 @@
 pub mod Changed
 pub mod Nodes
 pub mod View
+pub mod Prelude

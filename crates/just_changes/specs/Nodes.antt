@@ -76,7 +76,8 @@ AmongSites own (s ∷ ss) x = IsOneMention own s.mention x ⊎ AmongSites own ss
 -- some nodes, their readers, the readers of those, and so on
 pub data IsReached (readers : PlainNode → List PlainNode) (starts : List PlainNode) : PlainNode → Type 0 where
   Starts : {x : PlainNode} → IsIn starts x → IsReached readers starts x
-  ReadBy : {y : PlainNode} → (x : PlainNode) → IsReached readers starts x → IsIn (readers x) y → IsReached readers starts y
+  ReadBy : {y : PlainNode} → (x : PlainNode) → IsReached readers starts x → IsIn (readers x) y
+      → IsReached readers starts y
 
 -- What is touched between two versions: the nodes that differ, and the readers, in the first version, of touched nodes.
 pub record IsTouchedBetween (v u : Version) (outer : Frames) (touched : PlainNode → Bool) : Type 0 where

@@ -33,7 +33,8 @@ found_nodes None = []
 found_nodes (Some ns) = nodes_view ns.items
 
 abbrev pub readers_of : Readers → PlainNode → List PlainNode
-readers_of r (OfFunction name) = found_nodes (lookup (is_at (λ (k : Bor Text). slice_cmp nat_cmp name k.now)) r.of_functions.entries)
+readers_of r (OfFunction name) =
+    found_nodes (lookup (is_at (λ (k : Bor Text). slice_cmp nat_cmp name k.now)) r.of_functions.entries)
 readers_of r (OfVariable n) = found_nodes (lookup (is_at (nat_cmp n)) r.of_variables.entries)
 
 abbrev pub is_touched : Touched → PlainNode → Bool
@@ -65,4 +66,5 @@ IsWhole v = (n : ℕ) → assignment_in v.numbered n ≡ assignment_numbered (ma
 
 -- all variables and functions that a version knows
 abbrev pub all_nodes : Declared → List PlainNode
-all_nodes v = map (λ a. OfVariable a.number) (map assignment_view v.assignments.now) ++ map (λ f. OfFunction f.name.lexeme) (map function_view v.functions.now) ++ map OfVariable (keys v.overrides.now)
+all_nodes v = map (λ a. OfVariable a.number) (map assignment_view v.assignments.now)
+    ++ map (λ f. OfFunction f.name.lexeme) (map function_view v.functions.now) ++ map OfVariable (keys v.overrides.now)

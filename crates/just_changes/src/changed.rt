@@ -1,13 +1,8 @@
 // Which variables an edit changes.
 
-ghost use Rattle.std.specs.Prelude.{◌≡◌, ◌↔◌, ℕ, IfOk, false};
-ghost use Rattle.just_laws.specs.Cone.{HaveSameCone};
-ghost use Rattle.just_meaning.specs.Module.{Module};
-ghost use Rattle.just_resolution.specs.Seen.{is_number_in};
-ghost use Rattle.just_value.specs.View.{frames_view};
-ghost use Rattle.just_changes.specs.Changed.{AreAlikeAt, IsOver};
-ghost use Rattle.just_changes.specs.Nodes.{IsTouchedBetween};
-ghost use Rattle.just_changes.specs.View.{IsWhole, is_touched, version_view};
+ghost use Rattle.std.specs.Prelude.{IfOk, false, ℕ, ◌↔◌, ◌≡◌};
+ghost use Rattle.just_changes.specs.Prelude.{AreAlikeAt, HaveSameCone, IsOver, IsTouchedBetween, IsWhole, Module};
+ghost use Rattle.just_changes.specs.Prelude.{frames_view, is_number_in, is_touched, version_view};
 
 use crate::differences::differences;
 use crate::reading::readers_in;
@@ -51,8 +46,12 @@ pub fn changed<'src>(
     after_overrides: &HashMap<Number, String>,
     parent: &Scope,
 ) -> Result<BTreeSet<Number>, OutOfMemory>
-    ensures exact { IfOk result (λ numbers. (m w : Module) → IsOver before.now before_overrides.now m → IsOver after.now after_overrides.now w → (n : ℕ) → (is_number_in numbers n ≡ false) ↔ HaveSameCone m w (frames_view parent.now) n) }
-    ensures alike { IfOk result (λ numbers. (m w : Module) → IsOver before.now before_overrides.now m → IsOver after.now after_overrides.now w → (n : ℕ) → is_number_in numbers n ≡ false → AreAlikeAt m w (frames_view parent.now) n) }
+    ensures exact { IfOk result (λ numbers. (m w : Module) → IsOver before.now before_overrides.now m
+        → IsOver after.now after_overrides.now w → (n : ℕ) → (is_number_in numbers n ≡ false)
+        ↔ HaveSameCone m w (frames_view parent.now) n) }
+    ensures alike { IfOk result (λ numbers. (m w : Module) → IsOver before.now before_overrides.now m
+        → IsOver after.now after_overrides.now w → (n : ℕ) → is_number_in numbers n ≡ false
+        → AreAlikeAt m w (frames_view parent.now) n) }
 {
     blocks_agree();
     let before = Version::new(alloc, before, before_overrides)?;
@@ -70,7 +69,8 @@ fn touched_between<'src>(
 ) -> Result<Touched<'src>, OutOfMemory>
     requires before { IsWhole before.now }
     requires after { IsWhole after.now }
-    ensures { IfOk result (λ touched. IsTouchedBetween (version_view before.now) (version_view after.now) (frames_view parent.now) (is_touched touched)) }
+    ensures { IfOk result (λ touched. IsTouchedBetween (version_view before.now) (version_view after.now)
+        (frames_view parent.now) (is_touched touched)) }
 {
     let readers = readers_in(alloc, before, parent)?;
     let nodes = differences(alloc, before, after)?;

@@ -1,11 +1,9 @@
 // Where two versions differ.
 
-ghost use Rattle.std.specs.Prelude.{◌≡◌, ◌⊎◌, ◌++◌, IfOk, OnOk, map};
+ghost use Rattle.std.specs.Prelude.{IfOk, OnOk, map, ◌++◌, ◌≡◌, ◌⊎◌};
 ghost use Rattle.std.specs.HashMap.{keys};
-ghost use Rattle.just_syntax.specs.View.{assignment_view, function_view};
-ghost use Rattle.just_syntax.specs.Lists.{IsIn};
-ghost use Rattle.just_changes.specs.Nodes.{IsUnchanged, OfFunction, OfVariable, PlainNode};
-ghost use Rattle.just_changes.specs.View.{IsWhole, all_nodes, nodes_view, version_view};
+ghost use Rattle.just_changes.specs.Prelude.{IsIn, IsUnchanged, IsWhole, OfFunction, OfVariable, PlainNode, all_nodes};
+ghost use Rattle.just_changes.specs.Prelude.{assignment_view, function_view, nodes_view, version_view};
 
 use crate::node::{Node, push};
 use crate::version::Version;
@@ -25,8 +23,10 @@ pub(crate) fn differences<'src>(
 ) -> Result<Vec<Node<'src>>, OutOfMemory>
     requires before { IsWhole before.now }
     requires after { IsWhole after.now }
-    ensures differ { IfOk result (λ nodes. (x : PlainNode) → IsIn (nodes_view nodes.items) x → IsUnchanged (version_view before.now) (version_view after.now) x → ⊥) }
-    ensures all { IfOk result (λ nodes. (x : PlainNode) → IsIn (nodes_view nodes.items) x ⊎ IsUnchanged (version_view before.now) (version_view after.now) x) }
+    ensures differ { IfOk result (λ nodes. (x : PlainNode) → IsIn (nodes_view nodes.items) x
+        → IsUnchanged (version_view before.now) (version_view after.now) x → ⊥) }
+    ensures all { IfOk result (λ nodes. (x : PlainNode) → IsIn (nodes_view nodes.items) x
+        ⊎ IsUnchanged (version_view before.now) (version_view after.now) x) }
 {
     let mut all = Vec::new(alloc);
     add_nodes(&mut all, before)?;
@@ -41,8 +41,10 @@ fn different<'src>(
     after: &Version<'src, '_>,
     nodes: &[Node<'src>],
 ) -> Result<Vec<Node<'src>>, OutOfMemory>
-    ensures differ { IfOk result (λ different. (x : PlainNode) → IsIn (nodes_view different.items) x → IsUnchanged (version_view before.now) (version_view after.now) x → ⊥) }
-    ensures all { IfOk result (λ different. (x : PlainNode) → IsIn (nodes_view nodes.now) x → IsIn (nodes_view different.items) x ⊎ IsUnchanged (version_view before.now) (version_view after.now) x) }
+    ensures differ { IfOk result (λ different. (x : PlainNode) → IsIn (nodes_view different.items) x
+        → IsUnchanged (version_view before.now) (version_view after.now) x → ⊥) }
+    ensures all { IfOk result (λ different. (x : PlainNode) → IsIn (nodes_view nodes.now) x
+        → IsIn (nodes_view different.items) x ⊎ IsUnchanged (version_view before.now) (version_view after.now) x) }
 {
     let mut different = Vec::new(alloc);
     for node in nodes {
@@ -71,7 +73,8 @@ fn add_assignments<'src>(
     nodes: &mut Vec<Node<'src>>,
     assignments: &Table<Assignment<'src>>,
 ) -> Result<(), OutOfMemory>
-    ensures { OnOk result (nodes_view nodes.new.items ≡ nodes_view nodes.old.items ++ map (λ a. OfVariable a.number) (map assignment_view assignments.now)) }
+    ensures { OnOk result (nodes_view nodes.new.items ≡ nodes_view nodes.old.items ++ map (λ a. OfVariable a.number)
+        (map assignment_view assignments.now)) }
 {
     for assignment in assignments {
         let number = assignment.number;
@@ -85,7 +88,8 @@ fn add_functions<'src>(
     nodes: &mut Vec<Node<'src>>,
     functions: &Table<FunctionDefinition<'src>>,
 ) -> Result<(), OutOfMemory>
-    ensures { OnOk result (nodes_view nodes.new.items ≡ nodes_view nodes.old.items ++ map (λ f. OfFunction f.name.lexeme) (map function_view functions.now)) }
+    ensures { OnOk result (nodes_view nodes.new.items ≡ nodes_view nodes.old.items
+        ++ map (λ f. OfFunction f.name.lexeme) (map function_view functions.now)) }
 {
     for function in functions {
         let name = function.name.lexeme();
@@ -99,7 +103,8 @@ fn add_overrides<'src>(
     nodes: &mut Vec<Node<'src>>,
     overrides: &HashMap<Number, String>,
 ) -> Result<(), OutOfMemory>
-    ensures { OnOk result (nodes_view nodes.new.items ≡ nodes_view nodes.old.items ++ map OfVariable (keys overrides.now)) }
+    ensures { OnOk result (nodes_view nodes.new.items ≡ nodes_view nodes.old.items ++ map OfVariable
+        (keys overrides.now)) }
 {
     for number in overrides.keys() {
         push(nodes, &Node::Variable { number: *number })?;

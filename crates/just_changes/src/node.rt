@@ -1,7 +1,7 @@
 // What the value of a variable may depend on.
 
-ghost use Rattle.std.specs.Prelude.{◌≡◌, ◌++◌, [], ◌∷◌, OnOk};
-ghost use Rattle.just_changes.specs.View.{node_view, nodes_view};
+ghost use Rattle.std.specs.Prelude.{OnOk, [], ◌++◌, ◌∷◌, ◌≡◌};
+ghost use Rattle.just_changes.specs.Prelude.{node_view, nodes_view};
 
 use just_syntax::number::Number;
 use just_syntax::out_of_memory::OutOfMemory;

@@ -1,9 +1,7 @@
 // Which nodes read which.
 
-ghost use Rattle.std.specs.Prelude.{◌≡◌, ◌↔◌, ◌⊎◌, ◌+◌, ◌++◌, [], ◌∷◌, IfOk, OnOk, length};
-ghost use Rattle.just_syntax.specs.Lists.{IsIn};
-ghost use Rattle.just_changes.specs.Nodes.{PlainNode};
-ghost use Rattle.just_changes.specs.View.{found_nodes, node_view, nodes_view, readers_of, size};
+ghost use Rattle.std.specs.Prelude.{IfOk, OnOk, [], length, ◌++◌, ◌+◌, ◌↔◌, ◌∷◌, ◌≡◌, ◌⊎◌};
+ghost use Rattle.just_changes.specs.Prelude.{IsIn, PlainNode, found_nodes, node_view, nodes_view, readers_of, size};
 
 use crate::node::{Node, push};
 use just_syntax::number::Number;
@@ -33,7 +31,8 @@ impl<'src> Readers<'src> {
 
     // Adds a reader of a node.
     pub(crate) fn add(&mut self, read: &Node<'src>, reader: &Node<'src>) -> Result<(), OutOfMemory>
-        ensures { OnOk result ((x y : PlainNode) → IsIn (readers_of self.new x) y ↔ (((node_view read.now ≡ x) × (node_view reader.now ≡ y)) ⊎ IsIn (readers_of self.old x) y)) }
+        ensures { OnOk result ((x y : PlainNode) → IsIn (readers_of self.new x) y
+            ↔ (((node_view read.now ≡ x) × (node_view reader.now ≡ y)) ⊎ IsIn (readers_of self.old x) y)) }
     {
         match read {
             Node::Function { name } => {

@@ -1,12 +1,10 @@
 // What reads what in a module.
 
-ghost use Rattle.std.specs.Prelude.{◌≡◌, ◌↔◌, ◌⊎◌, ℕ, IfOk, OnOk, IsTrue};
-ghost use Rattle.just_syntax.specs.View.{assignment_view, function_view, view};
-ghost use Rattle.just_syntax.specs.Lists.{IsIn};
-ghost use Rattle.just_value.specs.View.{frames_view};
-ghost use Rattle.just_resolution.specs.Seen.{is_number_in, site_view, sites_view};
-ghost use Rattle.just_changes.specs.Nodes.{AmongSites, AssignmentReads, FunctionReads, IsOneMention, IsOneVariable, Mentions, OfFunction, OfVariable, PlainNode, ReadsItself};
-ghost use Rattle.just_changes.specs.View.{IsWhole, node_view, readers_of, version_view};
+ghost use Rattle.std.specs.Prelude.{IfOk, IsTrue, OnOk, ◌↔◌, ◌≡◌, ◌⊎◌};
+ghost use Rattle.just_changes.specs.Prelude.{AmongSites, AssignmentReads, FunctionReads, IsIn, IsOneMention};
+ghost use Rattle.just_changes.specs.Prelude.{IsOneVariable, IsWhole, Mentions, OfFunction, OfVariable, PlainNode};
+ghost use Rattle.just_changes.specs.Prelude.{ReadsItself, assignment_view, frames_view, function_view, is_number_in};
+ghost use Rattle.just_changes.specs.Prelude.{node_view, readers_of, site_view, sites_view, version_view, view};
 
 use crate::node::Node;
 use crate::readers::Readers;
@@ -31,7 +29,8 @@ pub(crate) fn readers_in<'src>(
     parent: &Scope,
 ) -> Result<Readers<'src>, OutOfMemory>
     requires whole { IsWhole version.now }
-    ensures { IfOk result (λ readers. (x y : PlainNode) → IsIn (readers_of readers x) y ↔ ReadsItself (version_view version.now) (frames_view parent.now) y x) }
+    ensures { IfOk result (λ readers. (x y : PlainNode) → IsIn (readers_of readers x) y
+        ↔ ReadsItself (version_view version.now) (frames_view parent.now) y x) }
 {
     let mut readers = Readers::new(alloc);
     for assignment in version.assignments {
@@ -51,7 +50,9 @@ fn add_assignment<'src>(
     parent: &Scope,
     assignment: &Assignment<'src>,
 ) -> Result<(), OutOfMemory>
-    ensures { OnOk result ((x y : PlainNode) → IsIn (readers_of readers.new x) y ↔ (((OfVariable assignment.now.number ≡ y) × AssignmentReads (version_view version.now) (frames_view parent.now) (assignment_view assignment.now) x) ⊎ IsIn (readers_of readers.old x) y)) }
+    ensures { OnOk result ((x y : PlainNode) → IsIn (readers_of readers.new x) y
+        ↔ (((OfVariable assignment.now.number ≡ y) × AssignmentReads (version_view version.now)
+        (frames_view parent.now) (assignment_view assignment.now) x) ⊎ IsIn (readers_of readers.old x) y)) }
 {
     if !version.is_first(assignment) {
         return Ok(());
@@ -72,7 +73,9 @@ fn add_function<'src>(
     readers: &mut Readers<'src>,
     function: &FunctionDefinition<'src>,
 ) -> Result<(), OutOfMemory>
-    ensures { OnOk result ((x y : PlainNode) → IsIn (readers_of readers.new x) y ↔ (((OfFunction (function_view function.now).name.lexeme ≡ y) × FunctionReads (function_view function.now) x) ⊎ IsIn (readers_of readers.old x) y)) }
+    ensures { OnOk result ((x y : PlainNode) → IsIn (readers_of readers.new x) y
+        ↔ (((OfFunction (function_view function.now).name.lexeme ≡ y) × FunctionReads (function_view function.now)
+        x) ⊎ IsIn (readers_of readers.old x) y)) }
 {
     let own = own_numbers(alloc, &function.parameters)?;
     let name = function.name.lexeme();
@@ -89,7 +92,9 @@ fn add_mentions<'src>(
     own: &BTreeSet<Number>,
     expression: &Expression<'src>,
 ) -> Result<(), OutOfMemory>
-    ensures { OnOk result ((x y : PlainNode) → IsIn (readers_of readers.new x) y ↔ (((node_view reader.now ≡ y) × Mentions (λ n. IsTrue (is_number_in own.now n)) (view expression.now) x) ⊎ IsIn (readers_of readers.old x) y)) }
+    ensures { OnOk result ((x y : PlainNode) → IsIn (readers_of readers.new x) y
+        ↔ (((node_view reader.now ≡ y) × Mentions (λ n. IsTrue (is_number_in own.now n)) (view expression.now) x)
+        ⊎ IsIn (readers_of readers.old x) y)) }
 {
     let sites = sites_in(alloc, expression)?;
     add_sites(readers, reader, own, &sites)?;
@@ -103,7 +108,9 @@ fn add_sites<'src>(
     own: &BTreeSet<Number>,
     sites: &[Site<'src>],
 ) -> Result<(), OutOfMemory>
-    ensures { OnOk result ((x y : PlainNode) → IsIn (readers_of readers.new x) y ↔ (((node_view reader.now ≡ y) × AmongSites (λ n. IsTrue (is_number_in own.now n)) (sites_view sites.now) x) ⊎ IsIn (readers_of readers.old x) y)) }
+    ensures { OnOk result ((x y : PlainNode) → IsIn (readers_of readers.new x) y
+        ↔ (((node_view reader.now ≡ y) × AmongSites (λ n. IsTrue (is_number_in own.now n)) (sites_view sites.now) x)
+        ⊎ IsIn (readers_of readers.old x) y)) }
 {
     for site in sites {
         add_site(readers, reader, own, site)?;
@@ -118,7 +125,9 @@ fn add_site<'src>(
     own: &BTreeSet<Number>,
     site: &Site<'src>,
 ) -> Result<(), OutOfMemory>
-    ensures { OnOk result ((x y : PlainNode) → IsIn (readers_of readers.new x) y ↔ (((node_view reader.now ≡ y) × IsOneMention (λ n. IsTrue (is_number_in own.now n)) (site_view site.now).mention x) ⊎ IsIn (readers_of readers.old x) y)) }
+    ensures { OnOk result ((x y : PlainNode) → IsIn (readers_of readers.new x) y
+        ↔ (((node_view reader.now ≡ y) × IsOneMention (λ n. IsTrue (is_number_in own.now n))
+        (site_view site.now).mention x) ⊎ IsIn (readers_of readers.old x) y)) }
 {
     match site.mention {
         Mention::Call { arguments: _ } => add_call(readers, reader, &site.name),
@@ -133,7 +142,9 @@ fn add_variable<'src>(
     own: &BTreeSet<Number>,
     number: Option<Number>,
 ) -> Result<(), OutOfMemory>
-    ensures { OnOk result ((x y : PlainNode) → IsIn (readers_of readers.new x) y ↔ (((node_view reader.now ≡ y) × IsOneVariable (λ n. IsTrue (is_number_in own.now n)) number x) ⊎ IsIn (readers_of readers.old x) y)) }
+    ensures { OnOk result ((x y : PlainNode) → IsIn (readers_of readers.new x) y
+        ↔ (((node_view reader.now ≡ y) × IsOneVariable (λ n. IsTrue (is_number_in own.now n)) number x)
+        ⊎ IsIn (readers_of readers.old x) y)) }
 {
     let Some(number) = number else {
         return Ok(());
@@ -151,7 +162,9 @@ fn add_call<'src>(
     reader: &Node<'src>,
     name: &Name<'src>,
 ) -> Result<(), OutOfMemory>
-    ensures { OnOk result ((x y : PlainNode) → IsIn (readers_of readers.new x) y ↔ (((node_view reader.now ≡ y) × (OfFunction name.now.token.lexeme.now ≡ x)) ⊎ IsIn (readers_of readers.old x) y)) }
+    ensures { OnOk result ((x y : PlainNode) → IsIn (readers_of readers.new x) y
+        ↔ (((node_view reader.now ≡ y) × (OfFunction name.now.token.lexeme.now ≡ x))
+        ⊎ IsIn (readers_of readers.old x) y)) }
 {
     let name = name.lexeme();
     readers.add(&Node::Function { name }, reader)?;

@@ -1,9 +1,9 @@
 // Whether two expressions are the same.
 
-ghost use Rattle.std.specs.Prelude.{◌≡◌, ◌↔◌, IsTrue};
-ghost use Rattle.std.specs.Option.{option_map};
+ghost use Rattle.std.specs.Prelude.{IsTrue, option_map, ◌↔◌, ◌≡◌};
 ghost use Rattle.just_syntax.specs.Plain as plain;
-ghost use Rattle.just_syntax.specs.View.{assert_view, conditional, join, literal_view, name_view, piece_views, token_view, view, views};
+ghost use Rattle.just_changes.specs.Prelude.{assert_view, conditional, join, literal_view, name_view, piece_views};
+ghost use Rattle.just_changes.specs.Prelude.{token_view, view, views};
 
 use crate::same_token::{is_same_literal, is_same_token};
 use just_syntax::conditional_operator::ConditionalOperator;
@@ -101,7 +101,9 @@ fn is_assert(
     name: Name,
     other: &Expression,
 ) -> bool
-    ensures { IsTrue result ↔ (assert_view (view condition.now) (option_map (λ e. view e.now) message.entry) (name_view name.entry) ≡ view other.now) }
+    ensures { IsTrue result
+        ↔ (assert_view (view condition.now) (option_map (λ e. view e.now) message.entry) (name_view name.entry)
+        ≡ view other.now) }
 {
     match other {
         Expression::Assert {
@@ -152,7 +154,8 @@ fn is_comparison(
     token: Token,
     other: &Expression,
 ) -> bool
-    ensures { IsTrue result ↔ (plain.Comparison (view lhs.now) operator (view rhs.now) (token_view token.entry) ≡ view other.now) }
+    ensures { IsTrue result ↔ (plain.Comparison (view lhs.now) operator (view rhs.now) (token_view token.entry)
+        ≡ view other.now) }
 {
     match other {
         Expression::Comparison {
@@ -171,7 +174,8 @@ fn is_comparison(
 
 #[cycle(is_same)]
 fn is_concatenation(lhs: &Expression, operator: Token, rhs: &Expression, other: &Expression) -> bool
-    ensures { IsTrue result ↔ (plain.Concatenation (view lhs.now) (token_view operator.entry) (view rhs.now) ≡ view other.now) }
+    ensures { IsTrue result ↔ (plain.Concatenation (view lhs.now) (token_view operator.entry) (view rhs.now)
+        ≡ view other.now) }
 {
     match other {
         Expression::Concatenation {
@@ -193,7 +197,9 @@ fn is_conditional(
     otherwise: Option<&Expression>,
     other: &Expression,
 ) -> bool
-    ensures { IsTrue result ↔ (conditional (view condition.now) (view consequence.now) (option_map (λ e. view e.now) otherwise.entry) ≡ view other.now) }
+    ensures { IsTrue result
+        ↔ (conditional (view condition.now) (view consequence.now) (option_map (λ e. view e.now) otherwise.entry)
+        ≡ view other.now) }
 {
     match other {
         Expression::Conditional {
@@ -214,7 +220,8 @@ fn is_format(
     expressions: &[(Expression, StringLiteral)],
     other: &Expression,
 ) -> bool
-    ensures { IsTrue result ↔ (plain.FormatString (literal_view start.now) (piece_views expressions.now) ≡ view other.now) }
+    ensures { IsTrue result ↔ (plain.FormatString (literal_view start.now) (piece_views expressions.now)
+        ≡ view other.now) }
 {
     match other {
         Expression::FormatString {
@@ -241,7 +248,8 @@ fn is_group(contents: &Expression, other: &Expression) -> bool
 
 #[cycle(is_same)]
 fn is_join(lhs: Option<&Expression>, operator: Token, rhs: &Expression, other: &Expression) -> bool
-    ensures { IsTrue result ↔ (join (option_map (λ e. view e.now) lhs.entry) (token_view operator.entry) (view rhs.now) ≡ view other.now) }
+    ensures { IsTrue result ↔ (join (option_map (λ e. view e.now) lhs.entry) (token_view operator.entry) (view rhs.now)
+        ≡ view other.now) }
 {
     match other {
         Expression::Join {
@@ -277,7 +285,8 @@ fn is_list_concatenation(
     rhs: &Expression,
     other: &Expression,
 ) -> bool
-    ensures { IsTrue result ↔ (plain.ListConcatenation (view lhs.now) (token_view operator.entry) (view rhs.now) ≡ view other.now) }
+    ensures { IsTrue result ↔ (plain.ListConcatenation (view lhs.now) (token_view operator.entry) (view rhs.now)
+        ≡ view other.now) }
 {
     match other {
         Expression::ListConcatenation {

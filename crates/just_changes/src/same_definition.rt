@@ -1,8 +1,7 @@
 // Whether two definitions are the same.
 
-ghost use Rattle.std.specs.Prelude.{◌≡◌, ◌↔◌, IsTrue, map, string_bytes};
-ghost use Rattle.std.specs.Option.{option_map};
-ghost use Rattle.just_syntax.specs.View.{assignment_view, function_view, parameter_view};
+ghost use Rattle.std.specs.Prelude.{IsTrue, map, option_map, string_bytes, ◌↔◌, ◌≡◌};
+ghost use Rattle.just_changes.specs.Prelude.{assignment_view, function_view, parameter_view};
 
 use crate::same::is_same;
 use crate::same_token::is_same_token;
@@ -13,7 +12,8 @@ use just_syntax::number::Number;
 
 // Whether both are missing, or both are present and the same.
 pub(crate) fn is_same_assignment(one: Option<&Assignment>, other: Option<&Assignment>) -> bool
-    ensures { IsTrue result ↔ (option_map (λ a. assignment_view a.now) one.entry ≡ option_map (λ a. assignment_view a.now) other.entry) }
+    ensures { IsTrue result
+        ↔ (option_map (λ a. assignment_view a.now) one.entry ≡ option_map (λ a. assignment_view a.now) other.entry) }
 {
     match one {
         Some(one) => match other {
@@ -40,7 +40,8 @@ pub(crate) fn is_same_function(
     one: Option<&FunctionDefinition>,
     other: Option<&FunctionDefinition>,
 ) -> bool
-    ensures { IsTrue result ↔ (option_map (λ f. function_view f.now) one.entry ≡ option_map (λ f. function_view f.now) other.entry) }
+    ensures { IsTrue result
+        ↔ (option_map (λ f. function_view f.now) one.entry ≡ option_map (λ f. function_view f.now) other.entry) }
 {
     match one {
         Some(one) => match other {
@@ -76,7 +77,8 @@ fn are_parameters_same(some: &[(Name, Number)], others: &[(Name, Number)]) -> bo
 
 // Whether both overrides are missing, or both are present and the same.
 pub(crate) fn is_same_override(one: Option<&String>, other: Option<&String>) -> bool
-    ensures { IsTrue result ↔ (option_map (λ s. string_bytes s.now) one.entry ≡ option_map (λ s. string_bytes s.now) other.entry) }
+    ensures { IsTrue result
+        ↔ (option_map (λ s. string_bytes s.now) one.entry ≡ option_map (λ s. string_bytes s.now) other.entry) }
 {
     match one {
         Some(one) => match other {

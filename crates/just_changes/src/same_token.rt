@@ -1,7 +1,7 @@
 // Whether two tokens, or two literals, are the same.
 
-ghost use Rattle.std.specs.Prelude.{◌≡◌, ◌↔◌, IsTrue};
-ghost use Rattle.just_syntax.specs.View.{literal_view, token_view};
+ghost use Rattle.std.specs.Prelude.{IsTrue, ◌↔◌, ◌≡◌};
+ghost use Rattle.just_changes.specs.Prelude.{literal_view, token_view};
 
 use just_syntax::string_literal::StringLiteral;
 use just_syntax::token::Token;

@@ -1,8 +1,7 @@
 // What differences reach.
 
-ghost use Rattle.std.specs.Prelude.{◌≡◌, ◌↔◌, ◌⊎◌, IfOk, OnOk, IsTrue, false, not};
-ghost use Rattle.just_changes.specs.Nodes.{IsReached, PlainNode};
-ghost use Rattle.just_changes.specs.View.{is_touched, node_view, nodes_view, readers_of};
+ghost use Rattle.std.specs.Prelude.{IfOk, IsTrue, OnOk, false, not, ◌↔◌, ◌≡◌, ◌⊎◌};
+ghost use Rattle.just_changes.specs.Prelude.{IsReached, PlainNode, is_touched, node_view, nodes_view, readers_of};
 
 use crate::node::Node;
 use crate::readers::Readers;
@@ -32,7 +31,8 @@ impl<'src> Touched<'src> {
     // Adds a node, and returns whether it was new.
     fn insert(&mut self, node: &Node<'src>) -> Result<bool, OutOfMemory>
         ensures fresh { IfOk result (λ fresh. fresh ≡ not (is_touched self.old (node_view node.now))) }
-        ensures touched { OnOk result ((x : PlainNode) → IsTrue (is_touched self.new x) ↔ ((node_view node.now ≡ x) ⊎ IsTrue (is_touched self.old x))) }
+        ensures touched { OnOk result ((x : PlainNode) → IsTrue (is_touched self.new x)
+            ↔ ((node_view node.now ≡ x) ⊎ IsTrue (is_touched self.old x))) }
     {
         let is_new = match node {
             Node::Function { name } => self.functions.insert(*name)?,
@@ -51,7 +51,8 @@ pub(crate) fn spread<'src>(
     mut readers: Readers<'src>,
     mut pending: Vec<Node<'src>>,
 ) -> Result<Touched<'src>, OutOfMemory>
-    ensures { IfOk result (λ touched. (x : PlainNode) → IsTrue (is_touched touched x) ↔ IsReached (readers_of readers.entry) (nodes_view pending.entry.items) x) }
+    ensures { IfOk result (λ touched. (x : PlainNode) → IsTrue (is_touched touched x)
+        ↔ IsReached (readers_of readers.entry) (nodes_view pending.entry.items) x) }
 {
     let mut touched = Touched::new(alloc);
     while let Some(node) = pending.pop() {

@@ -1,12 +1,10 @@
 // A module and its overrides, by numbers and names.
 
-ghost use Rattle.std.specs.Prelude.{◌≡◌, ◌↔◌, ℕ, IfOk, OnOk, IsTrue, Some, None, map, nat_eq, if◌then◌else◌};
-ghost use Rattle.std.specs.Option.{option_map, option_or};
-ghost use Rattle.just_value.specs.View.{frames_view};
-ghost use Rattle.just_syntax.specs.View.{assignment_view};
-ghost use Rattle.just_laws.specs.Cone.{assignment_numbered};
-ghost use Rattle.just_changes.specs.Nodes.{IsFree, IsUnchanged};
-ghost use Rattle.just_changes.specs.View.{IsWhole, assignment_in, node_view, version_view};
+ghost use Rattle.std.specs.Prelude.{IfOk, IsTrue, None, OnOk, Some, if◌then◌else◌, map, nat_eq, option_map, ℕ, ◌↔◌};
+ghost use Rattle.std.specs.Prelude.{◌≡◌};
+ghost use Rattle.std.specs.Option.{option_or};
+ghost use Rattle.just_changes.specs.Prelude.{IsFree, IsUnchanged, IsWhole, assignment_in, assignment_numbered};
+ghost use Rattle.just_changes.specs.Prelude.{assignment_view, frames_view, node_view, version_view};
 
 use crate::node::Node;
 use crate::same_definition::{is_same_assignment, is_same_function, is_same_override};
@@ -62,14 +60,17 @@ impl<'a, 'src> Version<'src, 'a> {
 
     // Whether a name has the same function in another version.
     fn is_same_function(&self, other: &Version<'src, '_>, name: &str) -> bool
-        ensures { IsTrue result ↔ ((version_view self.now).function name.now ≡ (version_view other.now).function name.now) }
+        ensures { IsTrue result
+            ↔ ((version_view self.now).function name.now ≡ (version_view other.now).function name.now) }
     {
         is_same_function(self.functions.get(name), other.functions.get(name))
     }
 
     // Whether a number has the same assignment and the same override in another version.
     fn is_same_variable(&self, other: &Version<'src, '_>, number: Number) -> bool
-        ensures { IsTrue result ↔ (((version_view self.now).assignment number ≡ (version_view other.now).assignment number) × ((version_view self.now).override number ≡ (version_view other.now).override number)) }
+        ensures { IsTrue result
+            ↔ (((version_view self.now).assignment number ≡ (version_view other.now).assignment number)
+            × ((version_view self.now).override number ≡ (version_view other.now).override number)) }
     {
         is_same_assignment(self.assignment(number), other.assignment(number))
             && is_same_override(self.overrides.get(&number), other.overrides.get(&number))
@@ -77,7 +78,8 @@ impl<'a, 'src> Version<'src, 'a> {
 
     // Whether an assignment is the first with its number.
     pub(crate) fn is_first(&self, assignment: &Assignment<'src>) -> bool
-        ensures { IsTrue result ↔ ((version_view self.now).assignment assignment.now.number ≡ Some (assignment_view assignment.now)) }
+        ensures { IsTrue result
+            ↔ ((version_view self.now).assignment assignment.now.number ≡ Some (assignment_view assignment.now)) }
     {
         is_same_assignment(self.assignment(assignment.number), Some(assignment))
     }
@@ -105,7 +107,8 @@ fn by_number<'a, 'src>(
     alloc: Global,
     assignments: &'a Table<Assignment<'src>>,
 ) -> Result<BTreeMap<Number, &'a Assignment<'src>>, OutOfMemory>
-    ensures { IfOk result (λ all. (n : ℕ) → assignment_in all n ≡ assignment_numbered (map assignment_view assignments.entry.now) n) }
+    ensures { IfOk result (λ all. (n : ℕ)
+        → assignment_in all n ≡ assignment_numbered (map assignment_view assignments.entry.now) n) }
 {
     let mut all = BTreeMap::new(alloc);
     for assignment in assignments {
@@ -119,7 +122,8 @@ fn add<'a, 'src>(
     all: &mut BTreeMap<Number, &'a Assignment<'src>>,
     assignment: &'a Assignment<'src>,
 ) -> Result<(), OutOfMemory>
-    ensures { OnOk result ((n : ℕ) → assignment_in all.new n ≡ option_or (assignment_in all.old n) (if nat_eq assignment.entry.now.number n then Some (assignment_view assignment.entry.now) else None)) }
+    ensures { OnOk result ((n : ℕ) → assignment_in all.new n ≡ option_or (assignment_in all.old n)
+        (if nat_eq assignment.entry.now.number n then Some (assignment_view assignment.entry.now) else None)) }
 {
     if all.contains_key(&assignment.number) {
         return Ok(());

@@ -1,26 +1,17 @@
 -- How a recipe's attributes and parameters are evaluated.
-use Rattle.std.proofs.Common.{◌≡◌, Bool, true, List, Option, Some, None, refl, sym, ap, ◌∙◌, subst, Bor}
+use Rattle.std.proofs.Common.{◌≡◌, Bool, true, List, Option, Some, None, refl, sym, ap, ◌∙◌, subst, Bor, is_some, option_map, Result}
 use Rattle.std.specs.Fn.{Shared}
-use Rattle.std.specs.Option.{is_some, option_map}
-use Rattle.std.specs.Prelude.{Result}
 use Rattle.just_syntax.specs.Plain as plain
-use Rattle.just_syntax.specs.Plain.{Text, Expr}
-use Rattle.just_syntax.specs.View.{name_view, pairs_view}
+use Rattle.just_eval.specs.Prelude.{Expr, Frames, Gave, GivesVerdict, IsJudged, IsSameButScopeAndEnvironment, Outcome, Rules, Runs, RunsChecked, Situation}
+use Rattle.just_eval.specs.Prelude.{Step, Text, Tree, Value, below_of, checked, frames_view, judged, name_view, pairs_view, seeing, situation_of, value_in}
+use Rattle.just_eval.specs.Prelude.{valued}
 use Rattle.just_syntax.specs.declared.name.Name.{Name}
 use Rattle.just_syntax.specs.declared.parameter.Parameter.{Parameter}
 use Rattle.just_syntax.specs.declared.recipe.Recipe.{Recipe}
-use Rattle.just_value.specs.Value.{Value}
-use Rattle.just_value.specs.Frames.{Frames, value_in}
-use Rattle.just_value.specs.Outcome.{Outcome, Gave}
-use Rattle.just_value.specs.View.{frames_view}
 use Rattle.just_value.specs.declared.check_fault.CheckFault.{CheckFault}
 use Rattle.just_value.specs.declared.scope.Scope.{Scope}
-use Rattle.just_host.specs.Interaction.{Rules, Runs, RunsChecked, Tree, check, done, Step}
+use Rattle.just_host.specs.Interaction.{check, done}
 use Rattle.just_host.proofs.Checked.{checked_check, checked_on, unchecked}
-use Rattle.just_meaning.specs.Meaning.{Situation}
-use Rattle.just_meaning.specs.Parameters.{checked, judged, seeing, valued}
-use Rattle.just_eval.specs.Check.{GivesVerdict, IsJudged}
-use Rattle.just_eval.specs.View.{IsSameButScopeAndEnvironment, below_of, situation_of}
 use Rattle.just_eval.specs.declared.evaluator.Evaluator.{Evaluator}
 
 -- ---- situations
@@ -30,7 +21,8 @@ abbrev placed : Evaluator → List (Text × Text) → Frames → Frames → Situ
 placed e environment shown below = record (situation_of e) { names = value_in shown; environment = environment; shown = shown; below = below }
 
 -- the situation of an evaluator that differs only in its scope and environment
-situation_but : (e f : Evaluator) → IsSameButScopeAndEnvironment e f → situation_of f ≡ placed e (pairs_view f.env) (frames_view f.scope) (below_of e.base (frames_view f.scope))
+situation_but : (e f : Evaluator) → IsSameButScopeAndEnvironment e f
+    → situation_of f ≡ placed e (pairs_view f.env) (frames_view f.scope) (below_of e.base (frames_view f.scope))
 situation_but e f same = λ i. record {
   names = value_in (frames_view f.scope);
   environment = pairs_view f.env;
@@ -42,23 +34,30 @@ situation_but e f same = λ i. record {
 }
 
 -- with one more variable
-pub situation_set : (e f : Evaluator) → IsSameButScopeAndEnvironment e f → f.scope ≡ e.scope → situation_of f ≡ record (situation_of e) { environment = pairs_view f.env }
+pub situation_set : (e f : Evaluator) → IsSameButScopeAndEnvironment e f → f.scope ≡ e.scope
+    → situation_of f ≡ record (situation_of e) { environment = pairs_view f.env }
 situation_set e f same scope = situation_but e f same ∙ ap (λ (s : Scope). placed e (pairs_view f.env) (frames_view s) (below_of e.base (frames_view s))) scope
 
 -- with one more parameter
-pub situation_bound : (e f : Evaluator) (frames : Frames) → IsSameButScopeAndEnvironment e f → f.env ≡ e.env → is_some e.base ≡ true → frames_view f.scope ≡ frames → situation_of f ≡ seeing frames (situation_of e)
+pub situation_bound : (e f : Evaluator) (frames : Frames) → IsSameButScopeAndEnvironment e f → f.env ≡ e.env → is_some e.base ≡ true
+    → frames_view f.scope ≡ frames → situation_of f ≡ seeing frames (situation_of e)
 situation_bound e f frames same env based is = situation_but e f same ∙ by e.base refl based
   where
-    by : (base : Option (Bor Scope)) → e.base ≡ base → is_some base ≡ true → placed e (pairs_view f.env) (frames_view f.scope) (below_of base (frames_view f.scope)) ≡ placed e (pairs_view e.env) frames (below_of base (frames_view e.scope))
+    by : (base : Option (Bor Scope)) → e.base ≡ base → is_some base ≡ true
+        → placed e (pairs_view f.env) (frames_view f.scope) (below_of base (frames_view f.scope))
+        ≡ placed e (pairs_view e.env) frames (below_of base (frames_view e.scope))
     by (Some base) e' some = λ i. placed e (pairs_view (env i)) (is i) (frames_view base.now)
     by None e' some = absurd (cc)
 
 -- ---- one parameter
 
 -- its value, and the verdict of the check
-pub checked_value : {S F : Type 0} {rules : Rules} {step : Step S} {old mid : S} {calls : Shared F (Bor Recipe × (Bor Parameter × (Bor Value × Unit {0}))) (Result Unit CheckFault)} {f : F} {r : Recipe}
-    (means : Expr → Tree Value) (is_dependency : Bool) (recipe : Text) (p : plain.Parameter) (argument v : Value) (o : Outcome Value) → Runs rules step old (valued means is_dependency recipe p argument) (Gave v) mid → IsJudged calls f r p v o
+pub checked_value : {S F : Type 0} {rules : Rules} {step : Step S} {old mid : S} {calls : Shared F (Bor Recipe × (Bor Parameter × (Bor Value × Unit {0})))
+    (Result Unit CheckFault)} {f : F} {r : Recipe}
+    (means : Expr → Tree Value) (is_dependency : Bool) (recipe : Text) (p : plain.Parameter) (argument v : Value) (o : Outcome Value)
+    → Runs rules step old (valued means is_dependency recipe p argument) (Gave v) mid → IsJudged calls f r p v o
     → RunsChecked rules step (GivesVerdict calls f r) old (checked means is_dependency recipe p argument) o mid
 checked_value {rules = rules} {step = step} {mid = mid} {calls = calls} {f = f} {r = r} means is_dependency recipe p argument v o run judgement =
     checked_on (valued means is_dependency recipe p argument) _ (unchecked run)
-    (subst (λ x. RunsChecked rules step (GivesVerdict calls f r) mid (check p v (λ a. done (judged p v a))) x mid) (sym judgement.outcome_is) (checked_check p v judgement.verdict (judged p v) judgement.given))
+    (subst (λ x. RunsChecked rules step (GivesVerdict calls f r) mid (check p v (λ a. done (judged p v a))) x mid) (sym judgement.outcome_is)
+    (checked_check p v judgement.verdict (judged p v) judgement.given))

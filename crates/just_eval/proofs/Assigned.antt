@@ -1,51 +1,45 @@
 -- What evaluating one assignment means, in a run and in a const stage.
-use Rattle.std.proofs.Common.{◌≡◌, ℕ, Bool, true, false, cond, nat_eq, [], ◌∷◌, Option, Some, None, Result, Err, refl, sym, ap, ◌∙◌, subst}
+use Rattle.std.proofs.Common.{◌≡◌, ℕ, Bool, true, false, cond, nat_eq, [], ◌∷◌, Option, Some, None, Result, Ok, Err, IsErrAnd, refl, sym, ap, ◌∙◌, subst}
 use Rattle.std.specs.List.{list_any}
 use Rattle.std.specs.Option.{ForSome}
 use mathlib.Core.Path.{fun_ext}
-use Rattle.just_syntax.specs.Plain.{Token, Assignment}
+use Rattle.just_eval.specs.Prelude.{Assigned, Assignment, Closing, Const, ConstRefusal, Constants, Frames, Gave, IsBound, IsConstEval, IsFinal, IsSameButScope}
+use Rattle.just_eval.specs.Prelude.{Module, OpensOrEnds, Outcome, Ran, Refusal, Refused, Rules, Runs, StageState, Staged, Step, Stopped, Token, Tree}
+use Rattle.just_eval.specs.Prelude.{UnlessStopped, Value, WasBound, assigned, assignment_at, at_start, compile_refusal, const_ended, const_meaning, constantly}
+use Rattle.just_eval.specs.Prelude.{ended, frames_view, freely, innermost, or_override, refusal, stage_state_of, with_open, without_value}
 use Rattle.just_syntax.proofs.Maps.{number_with}
 use Rattle.just_value.specs.declared.compile_error.CompileError.{CompileError}
 use Rattle.just_value.specs.declared.error.Error.{Error}
 use Rattle.just_value.specs.declared.error.Error.TheVariants as errors
-use Rattle.just_value.specs.ConstEval.{IsConstEval}
-use Rattle.just_value.specs.ConstRefusal.{ConstRefusal}
-use Rattle.just_value.specs.Value.{Value}
-use Rattle.just_value.specs.Frames.{Frames, innermost}
-use Rattle.just_value.specs.Refusal.{Refusal, Const, Internal}
-use Rattle.just_value.specs.Outcome.{Outcome, Gave, Refused, Stopped, UnlessStopped, without_value}
-use Rattle.just_value.specs.View.{compile_refusal, const_ended, ended, frames_view, refusal}
-use Rattle.just_host.specs.Interaction.{Rules, Runs, Tree, freely, Step}
 use Rattle.just_host.proofs.Paths.{path_cut}
-use Rattle.just_meaning.specs.Assignments.{assignment_at}
-use Rattle.just_meaning.specs.Constant.{constantly}
-use Rattle.just_meaning.specs.Module.{Module, Closing, Ran, assigned, or_override}
-use Rattle.just_meaning.specs.Internal.{IsFinal}
-use Rattle.just_meaning.specs.Stage.{Constants, StageState, Staged, at_start, const_meaning, with_open}
-use Rattle.just_expression.specs.Call.{RefusesWith}
+use Rattle.just_expression.proofs.Exits.{exit_is}
 use Rattle.just_soundness.proofs.Constants.{HasConstOutcome, OfSome, const_override, const_outcome, eval_alike}
-use Rattle.just_eval.specs.View.{Assigned, WasBound, IsBound, IsRefused, IsSameButScope, IsStopped, OpensOrEnds, Opens, Ends, stage_state_of}
+use Rattle.just_eval.specs.View.{IsRefused, IsStopped, Opens, Ends}
 use Rattle.just_eval.specs.declared.evaluator.Evaluator.{Evaluator}
 use Rattle.just_eval.proofs.Module.{ran_binds, ran_fails, ran_skips}
 use Rattle.just_eval.proofs.Stages.{staged_breaks, staged_opens, staged_settles, staged_skips, staged_stops}
 
 module _ {S : Type 0} {rules : Rules} {step : Step S} {old new : S} {tree : Tree Value} {export : Bool} {a : Assignment} {frames : Frames} where
-  pub assigned_none : (e : Option Refusal) → innermost a.number frames ≡ None → Runs rules step old tree (without_value e) new → Assigned rules step old tree export a frames (without_value e) new
+  pub assigned_none : (e : Option Refusal) → innermost a.number frames ≡ None → Runs rules step old tree (without_value e) new
+      → Assigned rules step old tree export a frames (without_value e) new
   assigned_none (Some r) u runs = IsRefused r u runs
   assigned_none None u runs = IsStopped u runs
 
   -- the exit of a `?`
-  pub assigned_exit : {X : Type 0} (f : X → Frames) (r : Result X Error) (e d : Error) → r ≡ Err d → d ≡ e → Assigned rules step old tree export a frames (without_value (refusal e)) new → Assigned rules step old tree export a frames (ended f r) new
-  assigned_exit f r e d p q h = rw (p, q) h
+  pub assigned_exit : {X : Type 0} (f : X → Frames) (r : Result X Error) (e : Error) → IsErrAnd r (λ d. d ≡ e)
+      → Assigned rules step old tree export a frames (without_value (refusal e)) new → Assigned rules step old tree export a frames (ended f r) new
+  assigned_exit f r e is h = rw (exit_is f r e is) h
 
   -- memory runs out after the value
-  pub assigned_cut : (v : Value) → innermost a.number frames ≡ None → Runs rules step old tree (Gave v) new → Assigned rules step old tree export a frames Stopped new
+  pub assigned_cut : (v : Value) → innermost a.number frames ≡ None → Runs rules step old tree (Gave v) new
+      → Assigned rules step old tree export a frames Stopped new
   assigned_cut v u r = IsStopped u (record { events = r.events; path = path_cut r.path; chain = r.chain })
 
 -- ---- in a run
 
 module _ {S : Type 0} {step : Step S} {closing : Closing} {m : Module} where
-  pub ran_assigned : {old new : S} (frames : Frames) (t : Token) (a : Assignment) {o : Outcome Frames} → assignment_at m.assignments t.lexeme ≡ Some a → m.assignments.referenced a.number ≡ true →
+  pub ran_assigned : {old new : S} (frames : Frames) (t : Token) (a : Assignment) {o : Outcome Frames} → assignment_at m.assignments t.lexeme ≡ Some a
+      → m.assignments.referenced a.number ≡ true →
       Assigned freely step old (assigned closing m frames a) m.program.fixed.settings.export a frames o new → Ran step old closing m frames (t ∷ []) o new
   ran_assigned frames t a found referenced (WasBound b e) = ran_skips frames t a found b referenced e
   ran_assigned frames t a found referenced (IsBound v u r) = ran_binds frames t a (record { found = found; referenced = referenced; unbound = u }) v _ refl r
@@ -70,67 +64,60 @@ module _ {S : Type 0} {step : Step S} (m : Constants) (s : StageState) (a : Assi
   few_assigned (Some r) (IsRefused _ u runs) = (determined (Refused r) runs).few
   few_assigned None h = tt
 
-  module _ (t : Token) (found : assignment_at m.assignments t.lexeme ≡ Some a) (referenced : m.assignments.referenced a.number ≡ true) (unopened : s.is_open a.number ≡ false) where
-    pub staged_gave : {old new : S} {frames : Frames} → InStage step m s a old new (Gave frames) → Staged m s (t ∷ []) (Gave (record { lists = s.lists; frames = frames; is_open = s.is_open }))
+  module _ (t : Token) (found : assignment_at m.assignments t.lexeme ≡ Some a) (referenced : m.assignments.referenced a.number ≡ true)
+      (unopened : s.is_open a.number ≡ false) where
+    pub staged_gave : {old new : S} {frames : Frames} → InStage step m s a old new (Gave frames)
+        → Staged m s (t ∷ []) (Gave (record { lists = s.lists; frames = frames; is_open = s.is_open }))
     staged_gave (WasBound b e) = staged_skips s t a found referenced b e
-    staged_gave (IsBound v u r) = staged_settles s t a (record { found = found; referenced = referenced; unbound = u; unopened = unopened }) v (sym (determined (Gave v) r).determined)
+    staged_gave (IsBound v u r) =
+        staged_settles s t a (record { found = found; referenced = referenced; unbound = u; unopened = unopened }) v (sym (determined (Gave v) r).determined)
 
     staged_const : {old new : S} (c : ConstRefusal) → InStage step m s a old new (Refused (Const c)) → Staged m s (t ∷ []) (Gave (with_open s a.number))
-    staged_const c (IsRefused _ u r) = staged_opens s t a (record { found = found; referenced = referenced; unbound = u; unopened = unopened }) c (sym (determined (Refused (Const c)) r).determined)
+    staged_const c (IsRefused _ u r) = staged_opens s t a (record { found = found; referenced = referenced; unbound = u; unopened = unopened }) c
+        (sym (determined (Refused (Const c)) r).determined)
 
     staged_other : {old new : S} (e : Option Refusal) → ForSome e IsFinal → InStage step m s a old new (without_value e) → Staged m s (t ∷ []) (without_value e)
-    staged_other (Some r) final (IsRefused _ u runs) = staged_breaks s t a (record { found = found; referenced = referenced; unbound = u; unopened = unopened }) r (final r refl) (sym (determined (Refused r) runs).determined)
+    staged_other (Some r) final (IsRefused _ u runs) = staged_breaks s t a (record { found = found; referenced = referenced; unbound = u; unopened = unopened })
+        r (final r refl) (sym (determined (Refused r) runs).determined)
     staged_other None final h = staged_stops s (t ∷ [])
 
-    opened : {old new : S} (c : ConstRefusal) (o : Outcome StageState) → InStage step m s a old new (Refused (Const c)) → UnlessStopped o (Gave (with_open s a.number)) → Staged m s (t ∷ []) o
+    opened : {old new : S} (c : ConstRefusal) (o : Outcome StageState) → InStage step m s a old new (Refused (Const c))
+        → UnlessStopped o (Gave (with_open s a.number)) → Staged m s (t ∷ []) o
     opened c (Gave x) h is = subst (Staged m s (t ∷ [])) (sym is) (staged_const c h)
     opened c (Refused r) h is = absurd (cc)
     opened c Stopped h is = staged_stops s (t ∷ [])
 
-    pub staged_refused : {old new : S} (e : Option Refusal) (o : Outcome StageState) → InStage step m s a old new (without_value e) → OpensOrEnds e s a.number o → Staged m s (t ∷ []) o
+    pub staged_refused : {old new : S} (e : Option Refusal) (o : Outcome StageState) → InStage step m s a old new (without_value e) → OpensOrEnds e s a.number o
+        → Staged m s (t ∷ []) o
     staged_refused {old = old} {new = new} e o h (Opens c is up) = opened c o (subst (λ e. InStage step m s a old new (without_value e)) is h) up
     staged_refused e o h (Ends final is) = subst (Staged m s (t ∷ [])) (sym is) (staged_other e final h)
 
 -- ---- standings of evaluators
 
-pub stage_state_start : (e : Evaluator) (lists : Bool) (outer : Frames) → e.lists ≡ lists → frames_view e.scope ≡ [] ∷ outer → ((n : ℕ) → (stage_state_of e).is_open n ≡ false) → stage_state_of e ≡ at_start lists outer
+pub stage_state_start : (e : Evaluator) (lists : Bool) (outer : Frames) → e.lists ≡ lists → frames_view e.scope ≡ [] ∷ outer
+    → ((n : ℕ) → (stage_state_of e).is_open n ≡ false) → stage_state_of e ≡ at_start lists outer
 stage_state_start e lists outer same frames none = λ i. record { lists = same i; frames = frames i; is_open = fun_ext none i }
 
-pub stage_state_same : (e f : Evaluator) → IsSameButScope e f → stage_state_of f ≡ record { lists = e.lists; frames = frames_view f.scope; is_open = (stage_state_of e).is_open }
+pub stage_state_same : (e f : Evaluator) → IsSameButScope e f
+    → stage_state_of f ≡ record { lists = e.lists; frames = frames_view f.scope; is_open = (stage_state_of e).is_open }
 stage_state_same e f same =
     ap (λ l. record { lists = l; frames = frames_view f.scope; is_open = (stage_state_of f).is_open }) same.lists
     ∙ ap (λ set. record { lists = e.lists; frames = frames_view f.scope; is_open = λ n. list_any (nat_eq n) set.keys }) same.open_numbers
 
 -- the exit of a `?` after a failed allocation
-pub opened_exit : {X : Type 0} (f : X → StageState) (r : Result X CompileError) (e d : CompileError) → r ≡ Err d → d ≡ e → (w : Outcome StageState) → UnlessStopped (without_value (compile_refusal e)) w → UnlessStopped (const_ended f r) w
-opened_exit f r e d p q w is = rw (p, q) is
+pub opened_exit : {X : Type 0} (f : X → StageState) (r : Result X CompileError) (e : CompileError) (w : Outcome StageState) → IsErrAnd r (λ d. d ≡ e)
+    → UnlessStopped (without_value (compile_refusal e)) w → UnlessStopped (const_ended f r) w
+opened_exit f (Ok x) e w is h = absurd is
+opened_exit f (Err d) e w is h = rw is h
 
 pub stage_state_kept : (e f : Evaluator) → IsSameButScope e f → frames_view f.scope ≡ frames_view e.scope → stage_state_of f ≡ stage_state_of e
 stage_state_kept e f same kept = stage_state_same e f same ∙ ap (λ fs. record { lists = e.lists; frames = fs; is_open = (stage_state_of e).is_open }) kept
 
-pub stage_state_opened : (e f : Evaluator) (n : ℕ) → f.lists ≡ e.lists → frames_view f.scope ≡ frames_view e.scope → ((k : ℕ) → list_any (nat_eq k) f.non_const_assignments.keys ≡ cond (nat_eq n k) true (list_any (nat_eq k) e.non_const_assignments.keys)) → stage_state_of f ≡ with_open (stage_state_of e) n
+pub stage_state_opened : (e f : Evaluator) (n : ℕ) → f.lists ≡ e.lists → frames_view f.scope ≡ frames_view e.scope
+    → ((k : ℕ) → list_any (nat_eq k) f.non_const_assignments.keys ≡ cond (nat_eq n k) true (list_any (nat_eq k) e.non_const_assignments.keys))
+    → stage_state_of f ≡ with_open (stage_state_of e) n
 stage_state_opened e f n lists frames put =
     ap (λ l. record { lists = l; frames = frames_view f.scope; is_open = (stage_state_of f).is_open }) lists
     ∙ ap (λ fs. record { lists = e.lists; frames = fs; is_open = (stage_state_of f).is_open }) frames
-    ∙ ap (λ is_open. record { lists = e.lists; frames = frames_view e.scope; is_open = is_open }) (fun_ext (λ k. put k ∙ number_with n k (list_any (nat_eq k) e.non_const_assignments.keys)))
-
--- an error other than `Const` ends a stage
-pub final_of : (e : Error) → ((c : _) → e ≡ errors.Const c → ⊥) → OfSome IsFinal (refusal e)
-final_of (errors.Assert message name) other = tt
-final_of (errors.Backtick t f) other = tt
-final_of (errors.Check parameter message) other = tt
-final_of (errors.Const c) other = absurd (other c refl)
-final_of (errors.EmptyListArgument parameter recipe) other = tt
-final_of (errors.FunctionCall function message) other = tt
-final_of (errors.Internal message t) other = tt
-final_of (errors.LeftOut function) other = tt
-final_of (errors.LeftOutRegex t) other = tt
-final_of (errors.ListInStringContext context value) other = tt
-final_of (errors.ListOperation l o r t) other = tt
-final_of (errors.RecursionLimit last) other = tt
-final_of errors.OutOfMemory other = tt
-
--- so does the refusal of an unresolved module
-pub few_said : (e : Option Refusal) (message : _) (t : Token) → RefusesWith e (Internal message t) → OfSome IsConstEval e
-few_said (Some r) message t is = subst IsConstEval (sym is) tt
-few_said None message t is = tt
+    ∙ ap (λ is_open. record { lists = e.lists; frames = frames_view e.scope; is_open = is_open })
+    (fun_ext (λ k. put k ∙ number_with n k (list_any (nat_eq k) e.non_const_assignments.keys)))

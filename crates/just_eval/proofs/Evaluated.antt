@@ -2,21 +2,14 @@
 use Rattle.std.proofs.Common.{◌≡◌, Bool, true, false, List, [], length, nat_eq, if◌then◌else◌, ap, sym, subst, ◌∙◌, Option, Some, None, map, arith}
 use Rattle.std.proofs.lemmas.Bool.Decides.{nat_tests}
 use Rattle.std.proofs.lemmas.List.{length-map}
-use Rattle.just_syntax.specs.Plain.{Text, Parameter, Recipe}
-use Rattle.just_value.specs.Refusal.{Internal, Refusal}
-use Rattle.just_value.specs.Value.{Value}
-use Rattle.just_value.specs.Outcome.{Outcome, Gave, Refused, UnlessStopped, without_value}
-use Rattle.just_host.specs.Interaction.{Runs, RunsChecked, Tree, Verdict, freely, refuses, Step}
-use Rattle.just_syntax.specs.View.{pairs_view}
+use Rattle.just_eval.specs.Prelude.{Arguments, Gave, Internal, IsSameButScopeAndEnvironment, Meanings, Outcome, Parameter, Recipe, Refusal, Refused}
+use Rattle.just_eval.specs.Prelude.{RefusesWith, Runs, RunsChecked, Situation, Step, Text, Tree, UnlessStopped, Value, Verdict, bindings, dynamic_meanings}
+use Rattle.just_eval.specs.Prelude.{environment, freely, pairs_view, parameters, rules_in, rules_of, situation_of, stage_state_of, without_value}
+use Rattle.just_host.specs.Interaction.{refuses}
 use Rattle.just_host.specs.declared.execution_context.ExecutionContext.{ExecutionContext}
 use Rattle.just_host.proofs.Checked.{checked_ends, checked_on, unchecked}
 use Rattle.just_host.proofs.Paths.{runs_done}
-use Rattle.just_meaning.specs.Meaning.{Situation}
 use Rattle.just_meaning.specs.Messages.{mismatched_text}
-use Rattle.just_meaning.specs.Parameters.{Arguments, Meanings, bindings, environment, parameters}
-use Rattle.just_expression.specs.Call.{RefusesWith}
-use Rattle.just_expression.specs.View.{rules_in}
-use Rattle.just_eval.specs.View.{IsSameButScopeAndEnvironment, dynamic_meanings, rules_of, situation_of, stage_state_of}
 use Rattle.just_eval.specs.declared.evaluator.Evaluator.{Evaluator}
 use Rattle.just_eval.proofs.Arguments.{situation_set}
 
@@ -38,34 +31,47 @@ module _ (c : ExecutionContext) (s : Situation) (recipe : Recipe) (ps : List Par
 
   -- the bindings, if there are as many arguments as parameters
   abbrev counted : List (Text × Text) → Bool → Tree Arguments
-  counted variables b = if b then bindings means recipe.name.lexeme (record s { environment = variables }) [] ps arguments else refuses (Internal mismatched_text recipe.name)
+  counted variables b =
+      if b then bindings means recipe.name.lexeme (record s { environment = variables }) [] ps arguments else refuses (Internal mismatched_text recipe.name)
 
   abbrev after : List (Text × Text) → Tree Arguments
   after variables = counted variables (nat_eq (length arguments) (length ps))
 
-  module _ {S : Type 0} (step : Step S) (says : Parameter → Value → Verdict → Type 0) (old : S) (e : Evaluator) (context : e.context ≡ Some c) (situation : situation_of e ≡ s) where
-    attributes_run : {o : Outcome (List (Text × Text))} {new : S} → Runs (rules_of e) step old (environment (dynamic_meanings e.context) (situation_of e) recipe.attributes) o new → Runs freely step old (environment means s recipe.attributes) o new
+  module _ {S : Type 0} {step : Step S} {old : S} (e : Evaluator) (context : e.context ≡ Some c) (situation : situation_of e ≡ s) where
+    attributes_run : {o : Outcome (List (Text × Text))} {new : S}
+        → Runs (rules_of e) step old (environment (dynamic_meanings e.context) (situation_of e) recipe.attributes) o new
+        → Runs freely step old (environment means s recipe.attributes) o new
     attributes_run {o = o} {new = new} r =
         subst (λ at. Runs freely step old (environment means at recipe.attributes) o new) situation
-        (subst (λ x. Runs (rules_in x (stage_state_of e).is_open) step old (environment (dynamic_meanings x) (situation_of e) recipe.attributes) o new) context r)
+        (subst (λ x. Runs (rules_in x (stage_state_of e).is_open) step old (environment (dynamic_meanings x) (situation_of e) recipe.attributes) o new) context
+        r)
 
-    pub attributes_end : {new : S} (r : Option Refusal) → Runs (rules_of e) step old (environment (dynamic_meanings e.context) (situation_of e) recipe.attributes) (without_value r) new
+    pub attributes_end : {says : Parameter → Value → Verdict → Type 0} {new : S} (r : Option Refusal)
+        → Runs (rules_of e) step old (environment (dynamic_meanings e.context) (situation_of e) recipe.attributes) (without_value r) new
         → RunsChecked freely step says old (parameters means s recipe ps arguments) (without_value r) new
     attributes_end r q = checked_ends (environment means s recipe.attributes) after r (unchecked (attributes_run q))
 
-    module _ (f : Evaluator) (same : IsSameButScopeAndEnvironment e f) (scope : f.scope ≡ e.scope) {mid : S} (q : Runs (rules_of e) step old (environment (dynamic_meanings e.context) (situation_of e) recipe.attributes) (Gave (pairs_view f.env)) mid) where
+    module _ {f : Evaluator} (same : IsSameButScopeAndEnvironment e f) (scope : f.scope ≡ e.scope) {mid : S}
+        (q : Runs (rules_of e) step old (environment (dynamic_meanings e.context) (situation_of e) recipe.attributes) (Gave (pairs_view f.env)) mid) where
       set : situation_of f ≡ record s { environment = pairs_view f.env }
       set = situation_set e f same scope ∙ ap (λ (at : Situation). record at { environment = pairs_view f.env }) situation
 
-      on : {o : Outcome Arguments} {new : S} (b : Bool) → nat_eq (length arguments) (length ps) ≡ b → RunsChecked freely step says mid (counted (pairs_view f.env) b) o new → RunsChecked freely step says old (parameters means s recipe ps arguments) o new
-      on {o = o} {new = new} b is r = checked_on (environment means s recipe.attributes) after (unchecked (attributes_run q)) (subst (λ x. RunsChecked freely step says mid (counted (pairs_view f.env) x) o new) (sym is) r)
+      on : {says : Parameter → Value → Verdict → Type 0} {o : Outcome Arguments} {new : S} (b : Bool) → nat_eq (length arguments) (length ps) ≡ b
+          → RunsChecked freely step says mid (counted (pairs_view f.env) b) o new
+          → RunsChecked freely step says old (parameters means s recipe ps arguments) o new
+      on {says = says} {o = o} {new = new} b is r = checked_on (environment means s recipe.attributes) after (unchecked (attributes_run q))
+          (subst (λ x. RunsChecked freely step says mid (counted (pairs_view f.env) x) o new) (sym is) r)
 
-      pub miscounted : nat_eq (length arguments) (length ps) ≡ false → (r : Option Refusal) → RefusesWith r (Internal mismatched_text recipe.name) → RunsChecked freely step says old (parameters means s recipe ps arguments) (without_value r) mid
+      pub miscounted : {says : Parameter → Value → Verdict → Type 0} → nat_eq (length arguments) (length ps) ≡ false → (r : Option Refusal)
+          → RefusesWith r (Internal mismatched_text recipe.name)
+          → RunsChecked freely step says old (parameters means s recipe ps arguments) (without_value r) mid
       miscounted off r h = on false off (unchecked (runs_done _ _ (said r (Internal mismatched_text recipe.name) h)))
 
-      pub bound : nat_eq (length arguments) (length ps) ≡ true → {o : Outcome Arguments} {new : S} → RunsChecked (rules_of f) step says mid (bindings (dynamic_meanings f.context) recipe.name.lexeme (situation_of f) [] ps arguments) o new
+      pub bound : {says : Parameter → Value → Verdict → Type 0} {o : Outcome Arguments} {new : S} → nat_eq (length arguments) (length ps) ≡ true
+          → RunsChecked (rules_of f) step says mid (bindings (dynamic_meanings f.context) recipe.name.lexeme (situation_of f) [] ps arguments) o new
           → RunsChecked freely step says old (parameters means s recipe ps arguments) o new
-      bound same_count {o = o} {new = new} r =
+      bound {says = says} {o = o} {new = new} same_count r =
           on true same_count
           (subst (λ at. RunsChecked freely step says mid (bindings means recipe.name.lexeme at [] ps arguments) o new) set
-          (subst (λ x. RunsChecked (rules_in x (stage_state_of f).is_open) step says mid (bindings (dynamic_meanings x) recipe.name.lexeme (situation_of f) [] ps arguments) o new) (same.context ∙ context) r))
+          (subst (λ x. RunsChecked (rules_in x (stage_state_of f).is_open) step says mid
+          (bindings (dynamic_meanings x) recipe.name.lexeme (situation_of f) [] ps arguments) o new) (same.context ∙ context) r))

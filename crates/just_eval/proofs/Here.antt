@@ -1,48 +1,38 @@
 -- What an evaluator evaluates: in a run under lexical scope, and before any run by the const rules.
-use Rattle.std.proofs.Common.{◌≡◌, ℕ, Bool, true, false, List, [], ◌∷◌, map, string_bytes, Option, Some, None, refl, sym, subst}
-use Rattle.std.specs.Option.{is_some, option_map}
-use Rattle.just_syntax.specs.Plain.{Text, Assignment, Expr, Fragment}
-use Rattle.just_syntax.specs.View.{name_view}
+use Rattle.std.proofs.Common.{◌≡◌, ℕ, Bool, true, false, List, [], ◌∷◌, map, string_bytes, Option, Some, None, refl, sym, subst, is_some, option_map}
+use Rattle.std.specs.List.{AllByRecursion}
+use Rattle.just_eval.specs.Prelude.{AllKnown, AllReadable, AllResolvedOn, Assigned, Assignment, Expr, Frames, GoesByAnswers, HasValue, IfRefused, IsAtStart}
+use Rattle.just_eval.specs.Prelude.{IsConst, IsConstEval, IsFinal, IsInRun, IsNotInternal, IsResolvedIn, Outcome, Refusal, Resolves, Runs, Situation}
+use Rattle.just_eval.specs.Prelude.{StageState, Step, Text, Tree, UnlessStopped, Value, below_of, calls_left_in, const_meaning, constant, constantly}
+use Rattle.just_eval.specs.Prelude.{dynamic_meaning, dynamic_meanings, eval, exports_all, frames_view, freely, functions_view, lexical, lexical_meaning, line}
+use Rattle.just_eval.specs.Prelude.{line_expressions, name_view, or_override, program_of, program_view, rules_in, rules_of, situation_of, stage_state_of}
+use Rattle.just_eval.specs.Prelude.{string, value_in}
+use Rattle.just_syntax.specs.Plain.{Fragment}
 use Rattle.just_syntax.specs.declared.name.Name.{Name}
 use Rattle.just_syntax.specs.StringContext.{StringContext}
-use Rattle.just_value.specs.ConstEval.{IsConstEval}
-use Rattle.just_value.specs.Refusal.{Refusal, ListInStringContext}
-use Rattle.just_value.specs.Value.{Value}
-use Rattle.just_value.specs.Frames.{Frames, value_in}
-use Rattle.just_value.specs.Outcome.{Outcome, UnlessStopped}
-use Rattle.just_value.specs.View.{frames_view}
-use Rattle.just_host.specs.Interaction.{GoesByAnswers, Runs, Tree, freely, Step}
+use Rattle.just_value.specs.Refusal.{ListInStringContext}
 use Rattle.just_host.specs.declared.execution_context.ExecutionContext.{ExecutionContext}
-use Rattle.just_meaning.specs.Constant.{constant, constantly}
-use Rattle.just_meaning.specs.Here.{AllReadable}
-use Rattle.just_meaning.specs.Internal.{IfRefused, IsFinal, IsNotInternal}
-use Rattle.just_meaning.specs.Line.{line, line_expressions, string}
-use Rattle.just_meaning.specs.Closings.{lexical}
-use Rattle.just_meaning.specs.Meaning.{Situation, eval}
-use Rattle.just_meaning.specs.Module.{or_override, situation_at}
-use Rattle.just_meaning.specs.Resolved.{AllKnown, HasValue}
-use Rattle.just_meaning.specs.ResolvedOn.{AllResolvedOn}
-use Rattle.just_meaning.specs.Stage.{StageState, const_meaning}
-use Rattle.just_meaning.specs.View.{functions_view, program_view}
-use Rattle.just_expression.specs.View.{program_of, rules_in}
+use Rattle.just_meaning.specs.Module.{situation_at}
 use Rattle.just_soundness.proofs.ConstInternal.{IsOther, resolved_const, shut_other}
 use Rattle.just_soundness.proofs.Constants.{AllConst, HasConstOutcome, const_refused, const_outcome, eval_alike, unless_such}
 use Rattle.just_soundness.proofs.Ends.{ends_path}
 use Rattle.just_soundness.proofs.Final.{AllFinal, final_dynamic, final_eval}
-use Rattle.just_soundness.proofs.Here.{AllSuch, Same, all_such, line_const, line_final, line_never, readable_apart, same_line, same_string, string_const, string_final, string_never}
+use Rattle.just_soundness.proofs.Here.{Same, all_such, line_const, line_final, line_never, readable_apart, same_line, same_string, string_const, string_final}
+use Rattle.just_soundness.proofs.Here.{string_never}
 use Rattle.just_soundness.proofs.Internal.{IsNeverInternal, expression_never}
 use Rattle.just_soundness.proofs.Lexical.{dynamic_is_lexical}
-use Rattle.just_eval.specs.View.{Assigned, IsAtStart, IsConst, IsInRun, IsResolvedIn, Resolves, below_of, calls_left_in, dynamic_meanings, exports_all, exports_all_in, lexical_meaning, dynamic_meaning, rules_of, situation_of, stage_state_of}
+use Rattle.just_eval.specs.View.{exports_all_in}
 use Rattle.just_eval.specs.declared.evaluator.Evaluator.{Evaluator}
 
 -- `make` depends only on the meanings of these expressions: equal meanings give equal trees, and the tree's refusals
 -- are theirs and those of lists.
 pub record IsMadeOf {A : Type 0} (make : (Expr → Tree Value) → Tree A) (es : List Expr) : Type 1 where
-  pub same : (means other : Expr → Tree Value) → AllSuch (Same means other) es → make means ≡ make other
-  pub never : (means : Expr → Tree Value) → AllSuch (λ e. IsNeverInternal (means e)) es → IsNeverInternal (make means)
+  pub same : (means other : Expr → Tree Value) → AllByRecursion (Same means other) es → make means ≡ make other
+  pub never : (means : Expr → Tree Value) → AllByRecursion (λ e. IsNeverInternal (means e)) es → IsNeverInternal (make means)
   pub final : (means : Expr → Tree Value) → ((e : Expr) → AllFinal (means e)) → AllFinal (make means)
-  pub const : (P : Refusal → Type 0) (is_open : ℕ → Bool) (means : Expr → Tree Value) → ((context : StringContext) (v : Value) → P (ListInStringContext context v))
-      → AllSuch (λ e. AllConst P is_open (means e)) es → AllConst P is_open (make means)
+  pub const : (P : Refusal → Type 0) (is_open : ℕ → Bool) (means : Expr → Tree Value)
+      → ((context : StringContext) (v : Value) → P (ListInStringContext context v))
+      → AllByRecursion (λ e. AllConst P is_open (means e)) es → AllConst P is_open (make means)
 
 pub value_made : (e : Expr) → IsMadeOf (λ means. means e) (e ∷ [])
 value_made e = record { same = λ means other h. h.0; never = λ means h. h.0; final = λ means h. h e; const = λ P is_open means lists h. h.0 }
@@ -85,15 +75,18 @@ module _ (c : ExecutionContext) (e : Evaluator) (all : List Expr) (resolved : Is
   abbrev lexically : Expr → Tree Value
   lexically = lexical_in (Some c) e
 
-  each_same : (es : List Expr) → AllReadable (functions_view c.module.now) (value_in (situation_of e).below) (HasValue (value_in (situation_of e).shown)) es → AllSuch (Same dynamically lexically) es
+  each_same : (es : List Expr) → AllReadable (functions_view c.module.now) (value_in (situation_of e).below) (HasValue (value_in (situation_of e).shown)) es
+      → AllByRecursion (Same dynamically lexically) es
   each_same [] h = tt
   each_same (x ∷ xs) h = (
     dynamic_is_lexical (program_view c) (calls_left_in (Some c)) (situation_of e) x
-        (readable_apart (program_view c) _ (calls_left_in (Some c)) (situation_of e) [] [] all (situation_of e).below resolved (HasValue (value_in (situation_of e).shown)) x h.0),
+        (readable_apart (program_view c) _ (calls_left_in (Some c)) (situation_of e) [] [] all (situation_of e).below resolved
+        (HasValue (value_in (situation_of e).shown)) x h.0),
     each_same xs h.1,
   )
 
-  each_never : (es : List Expr) → AllKnown (functions_view c.module.now) es → AllReadable (functions_view c.module.now) (value_in (situation_of e).below) (HasValue (value_in (situation_of e).shown)) es → AllSuch (λ x. IsNeverInternal (lexically x)) es
+  each_never : (es : List Expr) → AllKnown (functions_view c.module.now) es → AllReadable (functions_view c.module.now) (value_in (situation_of e).below)
+      (HasValue (value_in (situation_of e).shown)) es → AllByRecursion (λ x. IsNeverInternal (lexically x)) es
   each_never [] known h = tt
   each_never (x ∷ xs) known h = (
     expression_never (program_view c) (value_in (situation_of e).below) (calls_left_in (Some c)) (situation_of e) x resolved.bodies known.0 h.0.own h.0.beyond,
@@ -101,7 +94,8 @@ module _ (c : ExecutionContext) (e : Evaluator) (all : List Expr) (resolved : Is
   )
 
 module _ (e : Evaluator) {A : Type 0} (make : (Expr → Tree Value) → Tree A) (es : List Expr) (made : IsMadeOf make es) where
-  resolved_same : (context : Option ExecutionContext) → IsResolvedIn context (situation_of e) es → make (dynamic_meanings context (situation_of e)) ≡ make (lexical_in context e)
+  resolved_same : (context : Option ExecutionContext) → IsResolvedIn context (situation_of e) es → make (dynamic_meanings context (situation_of e))
+      ≡ make (lexical_in context e)
   resolved_same (Some c) resolved = made.same _ _ (each_same c e es resolved es resolved.readable)
   resolved_same None resolved = absurd resolved
 
@@ -114,13 +108,15 @@ module _ (e : Evaluator) {A : Type 0} (make : (Expr → Tree Value) → Tree A) 
     freely_run h = subst (λ rules. Runs rules step old (make (dynamic_meaning e)) o new) (free e.context (stage_state_of e).is_open h) r
 
     pub headline : Resolves e es → Runs freely step old (make (lexical_meaning e)) o new
-    headline resolved = subst (λ t. Runs freely step old t o new) (resolved_same e.context resolved) (freely_run (in_run e.context (situation_of e) es resolved))
+    headline resolved =
+        subst (λ t. Runs freely step old t o new) (resolved_same e.context resolved) (freely_run (in_run e.context (situation_of e) es resolved))
 
     pub never_internal : Resolves e es → IsNotInternal o
     never_internal resolved = ends_path IsNotInternal tt (make (lexical_meaning e)) (resolved_never e.context resolved) (headline resolved).path
 
     pub never_const : IsInRun e → IfRefused IsFinal o
-    never_const h = ends_path (IfRefused IsFinal) tt (make (dynamic_meaning e)) (made.final (dynamic_meaning e) (λ x. final_eval _ (situation_of e) _ (final_dynamic _ _) x)) (freely_run h).path
+    never_const h = ends_path (IfRefused IsFinal) tt (make (dynamic_meaning e))
+        (made.final (dynamic_meaning e) (λ x. final_eval _ (situation_of e) _ (final_dynamic _ _) x)) (freely_run h).path
 
     pub answered : GoesByAnswers step old new
     answered = record { events = r.events; chain = r.chain }
@@ -141,42 +137,55 @@ situation_start e start =
     }
 
 -- what evaluating an assignment means in a context and a situation
-abbrev AssignedIn : {S : Type 0} → Step S → S → (ℕ → Bool) → Option Text → Expr → Assignment → Frames → Outcome Frames → S → Option ExecutionContext → Situation → Type 0
-AssignedIn step old is_open override x a frames o new context s = Assigned (rules_in context is_open) step old (or_override override (dynamic_meanings context s x)) (exports_all_in context) a frames o new
+abbrev AssignedIn : {S : Type 0} → Step S → S → (ℕ → Bool) → Option Text → Expr → Assignment → Frames → Outcome Frames → S → Option ExecutionContext
+    → Situation → Type 0
+AssignedIn step old is_open override x a frames o new context s =
+    Assigned (rules_in context is_open) step old (or_override override (dynamic_meanings context s x)) (exports_all_in context) a frames o new
 
-module _ {S : Type 0} {step : Step S} {old new : S} (e : Evaluator) (start : IsAtStart e) (override : Option Text) (x : Expr) {a : Assignment} {frames : Frames} {o : Outcome Frames} where
-  started : Assigned (rules_of e) step old (or_override override (dynamic_meaning e x)) (exports_all e) a frames o new → AssignedIn step old (stage_state_of e).is_open override x a frames o new e.context (situation_at e.lists (frames_view e.scope))
+module _ {S : Type 0} {step : Step S} {old new : S} (e : Evaluator) (start : IsAtStart e) (override : Option Text) (x : Expr) {a : Assignment} {frames : Frames}
+    {o : Outcome Frames} where
+  started : Assigned (rules_of e) step old (or_override override (dynamic_meaning e x)) (exports_all e) a frames o new
+      → AssignedIn step old (stage_state_of e).is_open override x a frames o new e.context (situation_at e.lists (frames_view e.scope))
   started h = subst (AssignedIn step old (stage_state_of e).is_open override x a frames o new e.context) (situation_start e start) h
 
   -- in a run
-  pub ran_here : (c : ExecutionContext) → e.context ≡ Some c → e.lists ≡ c.module.now.settings.lists → Assigned (rules_of e) step old (or_override override (dynamic_meaning e x)) (exports_all e) a frames o new
-      → Assigned freely step old (or_override override (dynamic_meanings (Some c) (situation_at c.module.now.settings.lists (frames_view e.scope)) x)) c.module.now.settings.export a frames o new
+  pub ran_here : (c : ExecutionContext) → e.context ≡ Some c → e.lists ≡ c.module.now.settings.lists
+      → Assigned (rules_of e) step old (or_override override (dynamic_meaning e x)) (exports_all e) a frames o new
+      → Assigned freely step old (or_override override (dynamic_meanings (Some c) (situation_at c.module.now.settings.lists (frames_view e.scope)) x))
+      c.module.now.settings.export a frames o new
   ran_here c is lists h =
       subst (λ l. AssignedIn step old (stage_state_of e).is_open override x a frames o new (Some c) (situation_at l (frames_view e.scope))) lists
-      (subst (λ context. AssignedIn step old (stage_state_of e).is_open override x a frames o new context (situation_at e.lists (frames_view e.scope))) is (started h))
+      (subst (λ context. AssignedIn step old (stage_state_of e).is_open override x a frames o new context (situation_at e.lists (frames_view e.scope))) is
+      (started h))
 
 -- before any run
-pub staged_here : {S : Type 0} {step : Step S} {old new : S} (e : Evaluator) (before : IsConst e) (override : Option Text) (x : Expr) {a : Assignment} {frames : Frames} {o : Outcome Frames}
-    → Assigned (rules_of e) step old (or_override override (dynamic_meaning e x)) (exports_all e) a frames o new → Assigned (constantly (stage_state_of e).is_open) step old (or_override override (const_meaning (stage_state_of e) x)) false a frames o new
+pub staged_here : {S : Type 0} {step : Step S} {old new : S} (e : Evaluator) (before : IsConst e) (override : Option Text) (x : Expr) {a : Assignment}
+    {frames : Frames} {o : Outcome Frames}
+    → Assigned (rules_of e) step old (or_override override (dynamic_meaning e x)) (exports_all e) a frames o new
+    → Assigned (constantly (stage_state_of e).is_open) step old (or_override override (const_meaning (stage_state_of e) x)) false a frames o new
 staged_here {step = step} {old = old} {new = new} e before override x {a = a} {frames = frames} {o = o} h =
-    subst (λ context. AssignedIn step old (stage_state_of e).is_open override x a frames o new context (situation_at e.lists (frames_view e.scope))) before.context (started e before.start override x h)
+    subst (λ context. AssignedIn step old (stage_state_of e).is_open override x a frames o new context (situation_at e.lists (frames_view e.scope)))
+    before.context (started e before.start override x h)
 
 -- ---- before any run
 
-each_resolved : (s : StageState) (es : List Expr) → AllResolvedOn s es → AllSuch (λ x. AllConst IsOther s.is_open (const_meaning s x)) es
+each_resolved : (s : StageState) (es : List Expr) → AllResolvedOn s es → AllByRecursion (λ x. AllConst IsOther s.is_open (const_meaning s x)) es
 each_resolved s [] h = tt
 each_resolved s (x ∷ xs) h = (resolved_const s x h.0, each_resolved s xs h.1)
 
-module _ (e : Evaluator) {A : Type 0} (make : (Expr → Tree Value) → Tree A) (es : List Expr) (made : IsMadeOf make es) (before : IsConst e) {S : Type 0} {step : Step S} {old new : S} {o : Outcome A} (r : Runs (rules_of e) step old (make (dynamic_meaning e)) o new) where
+module _ (e : Evaluator) {A : Type 0} (make : (Expr → Tree Value) → Tree A) (es : List Expr) (made : IsMadeOf make es) (before : IsConst e) {S : Type 0}
+    {step : Step S} {old new : S} {o : Outcome A} (r : Runs (rules_of e) step old (make (dynamic_meaning e)) o new) where
   const_run : Runs (constantly (stage_state_of e).is_open) step old (make (const_meaning (stage_state_of e))) o new
   const_run =
-      subst (λ context. Runs (rules_in context (stage_state_of e).is_open) step old (make (dynamic_meanings context (situation_at e.lists (frames_view e.scope)))) o new) before.context
+      subst (λ context. Runs (rules_in context (stage_state_of e).is_open) step old
+      (make (dynamic_meanings context (situation_at e.lists (frames_view e.scope)))) o new) before.context
       (subst (λ s. Runs (rules_of e) step old (make (dynamic_meanings e.context s)) o new) (situation_start e before.start) r)
 
   determined : HasConstOutcome (stage_state_of e).is_open (make (const_meaning (stage_state_of e))) o old new
   determined =
       let s = stage_state_of e in
-      const_outcome s.is_open _ o (made.const IsConstEval s.is_open (const_meaning s) (λ context v. tt) (all_such _ (λ x. eval_alike s.is_open _ _ _ x) es)) const_run
+      const_outcome s.is_open _ o (made.const IsConstEval s.is_open (const_meaning s) (λ context v. tt) (all_such _ (λ x. eval_alike s.is_open _ _ _ x) es))
+      const_run
 
   pub constants : UnlessStopped o (constant (stage_state_of e).is_open (make (const_meaning (stage_state_of e))))
   constants = determined.determined
@@ -191,4 +200,5 @@ module _ (e : Evaluator) {A : Type 0} (make : (Expr → Tree Value) → Tree A) 
   resolved_constants resolved =
       let s = stage_state_of e in
       unless_such IsOther o _ determined.determined
-      (const_refused IsOther s.is_open _ (shut_other s.is_open) (made.const IsOther s.is_open (const_meaning s) (λ context v none. none) (each_resolved s es resolved)))
+      (const_refused IsOther s.is_open _ (shut_other s.is_open) (made.const IsOther s.is_open (const_meaning s) (λ context v none. none)
+      (each_resolved s es resolved)))

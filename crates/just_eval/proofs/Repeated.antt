@@ -1,8 +1,7 @@
 -- A value's elements, repeated.
 use Rattle.std.proofs.Common.{◌≡◌, ◌∙◌, ◌+◌, ℕ, zero, suc, ◌++◌, ap, sym, add-one}
 use Rattle.std.proofs.lemmas.List.{append-nil, append_assoc}
-use Rattle.just_value.specs.Value.{Value}
-use Rattle.just_meaning.specs.Parameters.{repeated}
+use Rattle.just_eval.specs.Prelude.{Value, repeated}
 
 -- appending one repetition is prepending one
 one_after : (v : Value) (n : ℕ) → repeated n v ++ v ≡ repeated (suc n) v

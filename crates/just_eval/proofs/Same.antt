@@ -1,12 +1,8 @@
 -- Evaluators that differ only in their scope and environment.
 use Rattle.std.proofs.Common.{◌∙◌, subst, sym, nat_eq}
 use Rattle.std.specs.List.{list_any}
-use Rattle.just_syntax.specs.Plain.{Expr}
-use Rattle.just_value.specs.Value.{Value}
-use Rattle.just_value.specs.Outcome.{Outcome}
-use Rattle.just_host.specs.Interaction.{Runs, Tree, Step}
-use Rattle.just_expression.specs.View.{rules_in}
-use Rattle.just_eval.specs.View.{MayCall, MayCallIn, IsSameButScopeAndEnvironment, dynamic_meanings, dynamic_meaning, rules_of, situation_of, stage_state_of}
+use Rattle.just_eval.specs.Prelude.{Expr, IsSameButScopeAndEnvironment, MayCall, MayCallIn, Outcome, Runs, Step, Tree, Value, dynamic_meaning, dynamic_meanings}
+use Rattle.just_eval.specs.Prelude.{rules_in, rules_of, situation_of, stage_state_of}
 use Rattle.just_eval.specs.declared.evaluator.Evaluator.{Evaluator}
 
 pub same_on : (e f g : Evaluator) → IsSameButScopeAndEnvironment e f → IsSameButScopeAndEnvironment f g → IsSameButScopeAndEnvironment e g
@@ -27,5 +23,6 @@ module _ (e f : Evaluator) (same : IsSameButScopeAndEnvironment e f) where
   pub runs_same : {S A : Type 0} {step : Step S} {old new : S} {o : Outcome A} (make : (Expr → Tree Value) → Tree A)
       → Runs (rules_of f) step old (make (dynamic_meaning f)) o new → Runs (rules_of e) step old (make (dynamic_meanings e.context (situation_of f))) o new
   runs_same {step = step} {old = old} {new = new} {o = o} make r =
-      subst (λ set. Runs (rules_in e.context (λ n. list_any (nat_eq n) set.keys)) step old (make (dynamic_meanings e.context (situation_of f))) o new) same.open_numbers
+      subst (λ set. Runs (rules_in e.context (λ n. list_any (nat_eq n) set.keys)) step old (make (dynamic_meanings e.context (situation_of f))) o new)
+      same.open_numbers
       (subst (λ context. Runs (rules_in context (stage_state_of f).is_open) step old (make (dynamic_meanings context (situation_of f))) o new) same.context r)

@@ -1,6 +1,5 @@
 -- Options that hold something, and options that do not.
-use Rattle.std.proofs.Common.{◌≡◌, true, false, Option, Some, None, refl, ap}
-use Rattle.std.specs.Option.{is_some, option_map}
+use Rattle.std.proofs.Common.{◌≡◌, true, false, Option, Some, None, refl, ap, is_some, option_map}
 
 pub none_there : {X : Type 0} (o : Option X) → is_some o ≡ false → o ≡ None
 none_there None e = refl

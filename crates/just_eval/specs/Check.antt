@@ -20,7 +20,9 @@ verdict_view (Err (faults.Refused message)) = Rejected (string_bytes message)
 verdict_view (Err faults.OutOfMemory) = Undecided
 
 -- For this recipe, some parameter that reads as `p`, and the value `v`, the check may give the verdict `a`.
-pub record GivesVerdict {F : Type 0} (calls : Shared F (Bor Recipe × (Bor Parameter × (Bor Value × Unit {0}))) (Result Unit CheckFault)) (check : F) (recipe : Recipe) (p : plain.Parameter) (v : Value) (a : Verdict) : Type 0 where
+pub record GivesVerdict {F : Type 0} (calls : Shared F (Bor Recipe × (Bor Parameter × (Bor Value × Unit {0})))
+    (Result Unit CheckFault)) (check : F) (recipe : Recipe) (p : plain.Parameter) (v : Value)
+    (a : Verdict) : Type 0 where
   pub recipe_ref : Bor Recipe
   pub parameter_ref : Bor Parameter
   pub value_ref : Bor Value
@@ -32,7 +34,9 @@ pub record GivesVerdict {F : Type 0} (calls : Shared F (Bor Recipe × (Bor Param
   pub is : verdict_view answer ≡ a
 
 -- A value is checked, and the outcome is that of one of the verdicts that the check may give.
-pub record IsJudged {F : Type 0} (calls : Shared F (Bor Recipe × (Bor Parameter × (Bor Value × Unit {0}))) (Result Unit CheckFault)) (check : F) (recipe : Recipe) (p : plain.Parameter) (v : Value) (o : Outcome Value) : Type 0 where
+pub record IsJudged {F : Type 0} (calls : Shared F (Bor Recipe × (Bor Parameter × (Bor Value × Unit {0})))
+    (Result Unit CheckFault)) (check : F) (recipe : Recipe) (p : plain.Parameter) (v : Value)
+    (o : Outcome Value) : Type 0 where
   pub verdict : Verdict
   pub given : GivesVerdict calls check recipe p v verdict
   pub outcome_is : o ≡ judged p v verdict

@@ -1,13 +1,15 @@
 -- Evaluators as plain data, and what expressions and assignments mean in them.
-use Rattle.std.specs.Prelude.{◌≡◌, ℕ, Bool, true, false, ◌-◌, ◌<◌, List, [], Option, Some, None, Vec, map, nat_eq, string_bytes}
+use Rattle.std.specs.Prelude.{◌≡◌, ℕ, Bool, true, false, ◌-◌, ◌<◌, List, [], ◌∷◌, Option, Some, None, Vec, map, nat_eq}
+use Rattle.std.specs.Prelude.{string_bytes}
 use Rattle.std.specs.BTreeMap.{BTreeMap, IsEmpty}
 use Rattle.std.specs.Borrow.{Bor}
 use Rattle.std.specs.List.{list_any}
 use Rattle.std.specs.Option.{ForSome, is_some, option_map}
 use Rattle.std.specs.declared.string.String.{String}
 use Rattle.just_syntax.specs.Plain.{Expr, Assignment}
-use Rattle.just_syntax.specs.View.{assignment_view, name_view, pairs_view}
+use Rattle.just_syntax.specs.View.{assignment_view, name_view, pairs_view, recipe_view}
 use Rattle.just_syntax.specs.declared.name.Name.{Name}
+use Rattle.just_syntax.specs.declared.recipe.Recipe.{Recipe}
 use Rattle.just_value.specs.Value.{Value}
 use Rattle.just_value.specs.Frames.{Bound, Frames, innermost, bound_innermost, value_in}
 use Rattle.just_value.specs.ConstRefusal.{ConstRefusal}
@@ -24,7 +26,7 @@ use Rattle.just_meaning.specs.Internal.{IsFinal}
 use Rattle.just_meaning.specs.Module.{bound_of}
 use Rattle.just_meaning.specs.Parameters.{Arguments, Meanings}
 use Rattle.just_meaning.specs.Stage.{StageState, with_open}
-use Rattle.just_meaning.specs.View.{functions_view}
+use Rattle.just_meaning.specs.View.{functions_view, recipe_in}
 use Rattle.just_expression.specs.View.{program_of, rules_in}
 use Rattle.just_eval.specs.declared.evaluator.Evaluator.{Evaluator}
 
@@ -71,7 +73,8 @@ pub record IsSameButScopeAndEnvironment (e f : Evaluator) : Type 0 where
 
 -- the results of evaluating parameters: the scope, the positional words and the environment
 abbrev pub arguments_view : {A B C D : Type 0} → Scope × Vec (String A) B × BTreeMap (String C) (String D) → Arguments
-arguments_view given = record { frames = frames_view given.0; words = map string_bytes given.1.items; environment = pairs_view given.2 }
+arguments_view given =
+    record { frames = frames_view given.0; words = map string_bytes given.1.items; environment = pairs_view given.2 }
 
 -- how many calls may be pending
 abbrev pub calls_left_in : Option ExecutionContext → ℕ
@@ -83,7 +86,12 @@ calls_left_of e = calls_left_in e.context
 
 -- which variables are bound, and which are open
 abbrev pub stage_state_of : Evaluator → StageState
-stage_state_of e = record { lists = e.lists; frames = frames_view e.scope; is_open = λ n. list_any (nat_eq n) e.non_const_assignments.keys }
+stage_state_of e = record {
+  lists = e.lists;
+  frames = frames_view e.scope;
+  is_open =
+      λ n. list_any (nat_eq n) e.non_const_assignments.keys;
+}
 
 abbrev pub rules_of : Evaluator → Rules
 rules_of e = rules_in e.context (stage_state_of e).is_open
@@ -105,6 +113,11 @@ situation_of e = record {
   below = below_of e.base (frames_view e.scope);
 }
 
+-- where the attributes and the parameters of a recipe are evaluated, in a child of a scope
+abbrev pub recipe_start : ExecutionContext → Bool → Recipe → Scope → Here
+recipe_start c is_dependency recipe scope =
+    recipe_in c [] is_dependency (Some (recipe_view recipe).name.lexeme) ([] ∷ frames_view scope)
+
 -- the program, the pending calls and the situation of its expressions
 abbrev pub here : Evaluator → Here
 here e = record { program = program_of e.context; calls = calls_left_of e; situation = situation_of e }
@@ -123,7 +136,8 @@ lexical_meaning e = let h = here e in meanings h h.situation
 
 -- It evaluates in a run, and what these expressions reach is resolved here.
 abbrev pub IsResolvedIn : Option ExecutionContext → Situation → List Expr → Type 0
-IsResolvedIn (Some c) s es = IsResolvedHere (functions_view c.module.now) (map assignment_view c.module.now.assignments) s.below s.shown [] [] es
+IsResolvedIn (Some c) s es =
+    IsResolvedHere (functions_view c.module.now) (map assignment_view c.module.now.assignments) s.below s.shown [] [] es
 IsResolvedIn None s es = ⊥
 
 abbrev pub Resolves : Evaluator → List Expr → Type 0
@@ -139,14 +153,20 @@ exports_all e = exports_all_in e.context
 
 -- The evaluation of an assignment whose value is this tree. If its number is bound, nothing happens; otherwise its
 -- value is bound, or evaluation ends without one.
-pub data Assigned {S : Type 0} (rules : Rules) (step : Step S) (old : S) (tree : Tree Value) (export : Bool) (a : Assignment) (frames : Frames) : Outcome Frames → S → Type 0 where
-  WasBound : (b : Bound) → innermost a.number frames ≡ Some b → Assigned rules step old tree export a frames (Gave frames) old
-  IsBound : {new : S} → (v : Value) → innermost a.number frames ≡ None → Runs rules step old tree (Gave v) new → Assigned rules step old tree export a frames (Gave (bound_innermost frames (bound_of export a v))) new
-  IsRefused : {new : S} → (r : Refusal) → innermost a.number frames ≡ None → Runs rules step old tree (Refused r) new → Assigned rules step old tree export a frames (Refused r) new
-  IsStopped : {new : S} → innermost a.number frames ≡ None → Runs rules step old tree Stopped new → Assigned rules step old tree export a frames Stopped new
+pub data Assigned {S : Type 0} (rules : Rules) (step : Step S) (old : S) (tree : Tree Value) (export : Bool)
+    (a : Assignment) (frames : Frames) : Outcome Frames → S → Type 0 where
+  WasBound : (b : Bound) → innermost a.number frames ≡ Some b
+      → Assigned rules step old tree export a frames (Gave frames) old
+  IsBound : {new : S} → (v : Value) → innermost a.number frames ≡ None → Runs rules step old tree (Gave v) new
+      → Assigned rules step old tree export a frames (Gave (bound_innermost frames (bound_of export a v))) new
+  IsRefused : {new : S} → (r : Refusal) → innermost a.number frames ≡ None → Runs rules step old tree (Refused r) new
+      → Assigned rules step old tree export a frames (Refused r) new
+  IsStopped : {new : S} → innermost a.number frames ≡ None → Runs rules step old tree Stopped new
+      → Assigned rules step old tree export a frames Stopped new
 
 -- How a stage goes on after a refused assignment. If only a run can lift the refusal, the number is open; any other
 -- refusal ends the stage.
 pub data OpensOrEnds (e : Option Refusal) (s : StageState) (number : ℕ) (o : Outcome StageState) : Type 0 where
-  Opens : (c : ConstRefusal) → e ≡ Some (Const c) → UnlessStopped o (Gave (with_open s number)) → OpensOrEnds e s number o
+  Opens : (c : ConstRefusal) → e ≡ Some (Const c) → UnlessStopped o (Gave (with_open s number))
+      → OpensOrEnds e s number o
   Ends : ForSome e IsFinal → o ≡ without_value e → OpensOrEnds e s number o

@@ -1,10 +1,8 @@
 // Arguments of recipes: their values, bindings and positional words.
 
 ghost use Rattle.std.specs.Prelude.{IfOk, OnOk, map, string_bytes, ◌++◌, ◌≡◌};
-ghost use Rattle.just_syntax.specs.View.{recipe_parameter_view, recipe_view};
-ghost use Rattle.just_value.specs.View.{bound_view, ended};
-ghost use Rattle.just_meaning.specs.Parameters.{judged, none_or_refused, parameter_bound, repeated, words_of};
-ghost use Rattle.just_eval.specs.Check.{IsJudged};
+ghost use Rattle.just_eval.specs.Prelude.{IsJudged, bound_view, ended, none_or_refused, parameter_bound};
+ghost use Rattle.just_eval.specs.Prelude.{recipe_parameter_view, recipe_view, repeated, words_of};
 
 use just_expression::form::extended;
 use just_syntax::attribute_set::AttributeSet;
@@ -28,7 +26,8 @@ pub(crate) fn no_element<'src>(
     parameter: &Parameter<'src>,
     recipe: &Recipe<'src>,
 ) -> Result<Value, Error<'src>>
-    ensures { ended (λ v. v) result ≡ none_or_refused (recipe_view recipe.now).name.lexeme (recipe_parameter_view parameter.now) }
+    ensures { ended (λ v. v) result ≡ none_or_refused (recipe_view recipe.now).name.lexeme
+        (recipe_parameter_view parameter.now) }
 {
     if parameter.kind == ParameterKind::Star || parameter.flag {
         return Ok(Value::new(alloc));
@@ -64,7 +63,8 @@ pub(crate) fn checked<'src, C>(
 where
     C: Fn(&Recipe<'src>, &Parameter<'src>, &Value) -> Result<(), CheckFault>,
     requires callable { C.IsAlwaysCallable check.now }
-    ensures { IsJudged C.Fn check.entry.now recipe.entry.now (recipe_parameter_view parameter.entry.now) value (ended (λ v. v) result) }
+    ensures { IsJudged C.Fn check.entry.now recipe.entry.now (recipe_parameter_view parameter.entry.now) value
+        (ended (λ v. v) result) }
 {
     match check(recipe, parameter, &value) {
         Ok(()) => Ok(value),
@@ -76,14 +76,15 @@ where
     }
 }
 
-/// Appends the positional words of a parameter's value to others: its elements if there may be many, else its join.
-pub(crate) fn add_words(
+// Appends the positional words of a parameter's value to others: its elements if there may be many, else its join.
+fn add_words(
     alloc: Global,
     words: &mut Vec<String>,
     parameter: &Parameter,
     value: &Value,
 ) -> Result<(), OutOfMemory>
-    ensures { OnOk result (map string_bytes words.new.items ≡ map string_bytes words.old.items ++ words_of (recipe_parameter_view parameter.now) value.now) }
+    ensures { OnOk result (map string_bytes words.new.items ≡ map string_bytes words.old.items
+        ++ words_of (recipe_parameter_view parameter.now) value.now) }
 {
     if parameter.kind.is_variadic() || parameter.multiple {
         let mut elements = value.try_clone(alloc)?.into_elements();
@@ -94,15 +95,21 @@ pub(crate) fn add_words(
     Ok(())
 }
 
-/// The binding of a parameter: its value with lists, else one text.
+/// The binding of a parameter: its value with lists, else its join as one text. The value's positional words are
+/// appended to others.
 pub(crate) fn binding<'src>(
     alloc: Global,
     lists: bool,
     parameter: &Parameter<'src>,
+    words: &mut Vec<String>,
     value: Value,
 ) -> Result<Binding<'src>, OutOfMemory>
-    ensures { IfOk result (λ b. bound_view b ≡ parameter_bound lists (recipe_parameter_view parameter.now) value) }
+    ensures words { OnOk result (map string_bytes words.new.items ≡ map string_bytes words.old.items
+        ++ words_of (recipe_parameter_view parameter.now) value) }
+    ensures bound { IfOk result
+        (λ b. bound_view b ≡ parameter_bound lists (recipe_parameter_view parameter.now) value) }
 {
+    add_words(alloc, words, parameter, &value)?;
     let value = if lists {
         value
     } else {

@@ -1,20 +1,15 @@
 // Evaluates the assignments of a module.
 
-ghost use Rattle.std.specs.Prelude.{[], IfErr, OnErr, Some, false, map, ℕ, ◌<◌, ◌≡◌, ◌∷◌};
-ghost use Rattle.std.specs.Option.{ForSome, is_some};
-ghost use Rattle.just_syntax.specs.View.{assignment_view, name_view, text_numbered, view};
-ghost use Rattle.just_value.specs.ConstEval.{IsConstEval};
-ghost use Rattle.just_value.specs.Frames.{innermost};
-ghost use Rattle.just_value.specs.Outcome.{UnlessStopped};
-ghost use Rattle.just_value.specs.View.{bound_view, ended, frames_view, refusal};
-ghost use Rattle.just_host.specs.Interaction.{GoesByAnswers, Runs, freely};
-ghost use Rattle.just_meaning.specs.Internal.{IfRefused, IsFinal, IsNotInternal};
-ghost use Rattle.just_meaning.specs.Module.{IsResolvedModule, Ran, bound_of, dynamically, lexically, or_override};
-ghost use Rattle.just_meaning.specs.ResolvedOn.{IsResolvedOn};
-ghost use Rattle.just_meaning.specs.Stage.{const_value};
-ghost use Rattle.just_meaning.specs.View.{module_view, run_of};
-ghost use Rattle.just_expression.specs.View.{program, program_of, rules, situation};
-ghost use Rattle.just_eval.specs.View.{Assigned, MayCall, MayCallIn, IsAtStart, IsConst, IsInRun, IsSameButScope, Resolves, calls_left_of, exports_all, lexical_meaning, dynamic_meaning, rules_of, situation_of, stage_state_of};
+ghost use Rattle.std.specs.Prelude.{IfErr, OnErr, Some, [], false, is_some, map, ℕ, ◌<◌, ◌∷◌, ◌≡◌};
+ghost use Rattle.std.specs.Option.{ForSome};
+ghost use Rattle.just_eval.specs.Prelude.{Assigned, GoesByAnswers, IfRefused, IsAtStart, IsConst, IsConstEval, IsFinal};
+ghost use Rattle.just_eval.specs.Prelude.{IsInRun, IsNotInternal, IsResolvedModule, IsResolvedOn, IsSameButScope};
+ghost use Rattle.just_eval.specs.Prelude.{MayCall, MayCallIn, Ran, Resolves, Runs, UnlessStopped, assignment_view};
+ghost use Rattle.just_eval.specs.Prelude.{bound_of, bound_view, calls_left_of, const_value, dynamic_meaning};
+ghost use Rattle.just_eval.specs.Prelude.{dynamically, ended, exports_all, frames_view, freely, innermost};
+ghost use Rattle.just_eval.specs.Prelude.{lexical_meaning, lexically, module_view, name_view, or_override, program};
+ghost use Rattle.just_eval.specs.Prelude.{program_of, refusal, rules, rules_of, run_of, situation, situation_of};
+ghost use Rattle.just_eval.specs.Prelude.{stage_state_of, text_numbered, view};
 
 mod commands;
 mod constants;
@@ -23,7 +18,7 @@ mod parameters;
 mod sets;
 
 use just_expression::evaluator::ExpressionEvaluator;
-use just_expression::internal;
+use just_expression::internal::Reason;
 use just_host::config::Config;
 use just_host::execution_context::ExecutionContext;
 use just_host::host::Host;
@@ -46,8 +41,8 @@ use std::fmt;
 /// Evaluates the assignments of a module, one after another, in a scope of its own.
 ///
 /// The stack budget of an evaluation, in bytes, is what the host's `stack_budget` returns. By default, and in calls
-/// without a host, it is `STACK_BUDGET`, which suits a stack of 8 MiB. If forms and calls nest too deeply for the budget,
-/// evaluation fails with `OutOfMemory`, with a context and without.
+/// without a host, it is `STACK_BUDGET`, which suits a stack of 8 MiB. If forms and calls nest too deeply for the
+/// budget, evaluation fails with `OutOfMemory`, with a context and without.
 #[derive(Drop)]
 pub struct Evaluator<'src, 'run> {
     // The scope below a called body's; `None` if that is `scope`.
@@ -96,16 +91,21 @@ impl<'src, 'run> Evaluator<'src, 'run> {
         requires may_call { 0 < recursion_limit }
 
         // On a resolved module the scope or the refusal, and the questions asked, are those of lexical scope.
-        ensures headline { let m = run_of config.entry dotenv.entry «module».entry overrides.entry parent.entry search.entry recursion_limit variable_references.entry in
+        ensures headline { let m = run_of config.entry dotenv.entry «module».entry overrides.entry parent.entry
+            search.entry recursion_limit variable_references.entry in
             let outer = frames_view parent.entry.now in
-            IsResolvedModule m outer → Ran H.step host.old lexically m ([] ∷ outer) m.assignments.order (ended frames_view result) host.new }
-        ensures never_internal { let m = run_of config.entry dotenv.entry «module».entry overrides.entry parent.entry search.entry recursion_limit variable_references.entry in
+            IsResolvedModule m outer
+            → Ran H.step host.old lexically m ([] ∷ outer) m.assignments.order (ended frames_view result) host.new }
+        ensures never_internal { let m = run_of config.entry dotenv.entry «module».entry overrides.entry parent.entry
+            search.entry recursion_limit variable_references.entry in
             IsResolvedModule m (frames_view parent.entry.now) → IsNotInternal (ended frames_view result) }
 
         // On any module they are those of dynamic scope: a body reads from its caller what is neither its own nor the
         // module's.
-        ensures dynamic { let m = run_of config.entry dotenv.entry «module».entry overrides.entry parent.entry search.entry recursion_limit variable_references.entry in
-            Ran H.step host.old dynamically m ([] ∷ frames_view parent.entry.now) m.assignments.order (ended frames_view result) host.new }
+        ensures dynamic { let m = run_of config.entry dotenv.entry «module».entry overrides.entry parent.entry
+            search.entry recursion_limit variable_references.entry in
+            Ran H.step host.old dynamically m ([] ∷ frames_view parent.entry.now) m.assignments.order
+            (ended frames_view result) host.new }
 
         // On any module the refusal is never `Const`, and only answered questions change the host's state.
         ensures never_const { IfRefused IsFinal (ended frames_view result) }
@@ -129,7 +129,8 @@ impl<'src, 'run> Evaluator<'src, 'run> {
         )
     }
 
-    // Evaluates the assignments with these names. Below its own parameters a body reads what its caller reads.
+    // Evaluates the referenced assignments with these names. Below its own parameters a body reads what its caller
+    // reads.
     fn run<H: Host>(
         alloc: Global,
         host: &mut H,
@@ -138,13 +139,21 @@ impl<'src, 'run> Evaluator<'src, 'run> {
         names: &[Name<'src>],
     ) -> Result<Scope<'src, 'run>, Error<'src>>
         requires may_call { 0 < context.now.recursion_limit }
-        ensures { Ran H.step host.old dynamically (module_view context.now references.entry) ([] ∷ frames_view context.now.scope.now) (map name_view names.entry.now) (ended frames_view result) host.new }
+        ensures { Ran H.step host.old dynamically (module_view context.now references.entry)
+            ([] ∷ frames_view context.now.scope.now) (map name_view names.entry.now)
+            (ended frames_view result) host.new }
     {
         let scope = context.scope.child(alloc)?;
         let lists = context.module.settings.lists;
         let mut evaluator = Evaluator::of_assignments(alloc, Some(*context), lists, scope);
         for name in names {
-            evaluator.evaluate_named(alloc, host, context, references, *name)?;
+            let Some(assignment) = context.module.assignments.get(name.lexeme()) else {
+                return Err(Reason::UnknownAssignment.error_at(alloc, name));
+            };
+            if !is_referenced(references, assignment.number) {
+                continue;
+            }
+            evaluator.evaluate_assignment(alloc, host, context.overrides, assignment)?;
         }
         let Evaluator { scope, .. } = evaluator;
         Ok(scope)
@@ -177,30 +186,6 @@ impl<'src, 'run> Evaluator<'src, 'run> {
         }
     }
 
-    // Evaluates the assignment with a name, if it is referenced.
-    fn evaluate_named<H: Host>(
-        &mut self,
-        alloc: Global,
-        host: &mut H,
-        context: &ExecutionContext<'src, 'run>,
-        references: Option<&HashSet<Number>>,
-        name: Name<'src>,
-    ) -> Result<(), Error<'src>>
-        requires start { IsAtStart self.old }
-        requires here { self.old.context ≡ Some context.now }
-        requires lists { self.old.lists ≡ context.now.«module».now.settings.lists }
-        ensures same { IsSameButScope self.old self.new × IsAtStart self.new }
-        ensures ran { Ran H.step host.old dynamically (module_view context.now references.entry) (frames_view self.old.scope) (name_view name.entry ∷ []) (ended (λ _. frames_view self.new.scope) result) host.new }
-    {
-        let Some(assignment) = context.module.assignments.get(name.lexeme()) else {
-            return Err(internal::unknown_assignment(alloc, &name));
-        };
-        if !is_referenced(references, assignment.number) {
-            return Ok(());
-        }
-        self.evaluate_assignment(alloc, host, context.overrides, assignment)
-    }
-
     /// The value of an expression under the current bindings. Upstream's `Evaluator::evaluate_value`.
     ///
     /// # Errors
@@ -221,11 +206,14 @@ impl<'src, 'run> Evaluator<'src, 'run> {
 
         // In a run, if everything reached is resolved, the value or the refusal, and the questions asked, are those of
         // lexical scope.
-        ensures headline { Resolves self.now (view expression.now ∷ []) → Runs freely H.step host.old (lexical_meaning self.now (view expression.now)) (ended (λ v. v) result) host.new }
+        ensures headline { Resolves self.now (view expression.now ∷ [])
+            → Runs freely H.step host.old (lexical_meaning self.now (view expression.now))
+            (ended (λ v. v) result) host.new }
         ensures never_internal { Resolves self.now (view expression.now ∷ []) → IsNotInternal (ended (λ v. v) result) }
 
         // Resolved or not, they are those of dynamic scope.
-        ensures dynamic { Runs (rules_of self.now) H.step host.old (dynamic_meaning self.now (view expression.now)) (ended (λ v. v) result) host.new }
+        ensures dynamic { Runs (rules_of self.now) H.step host.old (dynamic_meaning self.now (view expression.now))
+            (ended (λ v. v) result) host.new }
 
         // Resolved or not, the refusal in a run is never `Const`, and only answered questions change the host's state.
         ensures never_const { IsInRun self.now → IfRefused IsFinal (ended (λ v. v) result) }
@@ -233,10 +221,12 @@ impl<'src, 'run> Evaluator<'src, 'run> {
 
         // Before any run the result is that of the const rules, and nothing is asked. If each variable is bound or
         // open, the refusal is not `Internal`.
-        ensures constants { IsConst self.now → UnlessStopped (ended (λ v. v) result) (const_value (stage_state_of self.now) (view expression.now)) }
+        ensures constants { IsConst self.now
+            → UnlessStopped (ended (λ v. v) result) (const_value (stage_state_of self.now) (view expression.now)) }
         ensures few { IsConst self.now → IfErr result (λ e. ForSome (refusal e) IsConstEval) }
         ensures still { IsConst self.now → host.new ≡ host.old }
-        ensures resolved_constants { IsConst self.now → IsResolvedOn (stage_state_of self.now) (view expression.now) → IsNotInternal (ended (λ v. v) result) }
+        ensures resolved_constants { IsConst self.now → IsResolvedOn (stage_state_of self.now) (view expression.now)
+            → IsNotInternal (ended (λ v. v) result) }
     {
         self.evaluate_expression(alloc, host, expression)
     }
@@ -254,7 +244,10 @@ impl<'src, 'run> Evaluator<'src, 'run> {
         ensures same { IsSameButScope self.old self.new × IsAtStart self.new }
         ensures kept { OnErr result (frames_view self.new.scope ≡ frames_view self.old.scope) }
         ensures assigned { let a = assignment_view assignment.now in
-            Assigned (rules_of self.old) H.step host.old (or_override (text_numbered overrides.now a.number) (dynamic_meaning self.old a.value)) (exports_all self.old) a (frames_view self.old.scope) (ended (λ _. frames_view self.new.scope) result) host.new }
+            Assigned (rules_of self.old) H.step host.old
+            (or_override (text_numbered overrides.now a.number) (dynamic_meaning self.old a.value))
+            (exports_all self.old) a (frames_view self.old.scope) (ended (λ _. frames_view self.new.scope) result)
+            host.new }
     {
         if self.is_bound(assignment.number) {
             return Ok(());
@@ -281,7 +274,9 @@ impl<'src, 'run> Evaluator<'src, 'run> {
         assignment: &Assignment<'src>,
     ) -> Result<Value, Error<'src>>
         requires start { IsAtStart self.now }
-        ensures { Runs (rules_of self.now) H.step host.old (or_override (text_numbered overrides.now assignment.now.number) (dynamic_meaning self.now (view assignment.now.value))) (ended (λ v. v) result) host.new }
+        ensures { Runs (rules_of self.now) H.step host.old
+            (or_override (text_numbered overrides.now assignment.now.number)
+            (dynamic_meaning self.now (view assignment.now.value))) (ended (λ v. v) result) host.new }
     {
         match overrides.get(&assignment.number) {
             Some(text) => Ok(Value::from_text(alloc, text)?),
@@ -297,7 +292,8 @@ impl<'src, 'run> Evaluator<'src, 'run> {
         expression: &Expression<'src>,
     ) -> Result<Value, Error<'src>>
         requires may_call { MayCall self.now }
-        ensures { Runs (rules_of self.now) H.step host.old (dynamic_meaning self.now (view expression.now)) (ended (λ v. v) result) host.new }
+        ensures { Runs (rules_of self.now) H.step host.old (dynamic_meaning self.now (view expression.now))
+            (ended (λ v. v) result) host.new }
     {
         let budget = host.stack_budget();
         self.expression_evaluator()

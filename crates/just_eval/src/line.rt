@@ -1,7 +1,7 @@
 // Text in lines of recipes.
 
 ghost use Rattle.std.specs.Prelude.{IfOk, string_bytes, ◌≡◌};
-ghost use Rattle.just_meaning.specs.Line.{fragment_text};
+ghost use Rattle.just_eval.specs.Prelude.{fragment_text};
 
 use just_syntax::out_of_memory::OutOfMemory;
 use just_text::replace::replace;

@@ -1,14 +1,13 @@
 -- Constants keep their values in a run, from public laws alone.
-use Rattle.std.proofs.Common.{◌≡◌, ◌⊎◌, inl, inr, ℕ, false, Bool, List, [], ◌∷◌, Contains, Option, Some, None, refl, sym, subst, ◌∙◌}
+use Rattle.std.proofs.Common.{◌≡◌, ◌⊎◌, inl, inr, ℕ, Bool, List, [], ◌∷◌, Option, Some, None, refl, sym, subst, ◌∙◌}
 use Rattle.just_value.specs.Frames.{Bound, Frames, bound_at, own_frame}
-use Rattle.just_value.specs.Outcome.{Gave, Stopped}
+use Rattle.just_value.specs.Outcome.{Gave}
 use Rattle.just_host.specs.Interaction.{Step}
-use Rattle.just_meaning.specs.Module.{Block, Module, Ran, Run, lexically, IsResolvedModule}
-use Rattle.just_meaning.specs.Resolved.{IsResolvedConst}
+use Rattle.just_eval_tests.specs.Prelude.{IsResolvedConst, IsResolvedModule, KeepsConstants}
+use Rattle.just_meaning.specs.Module.{Block, Module, Ran, Run, lexically}
 use Rattle.just_meaning.specs.Stage.{Constants, Found, Stage, Staged, StageState, at_start}
 use Rattle.just_laws.specs.Predicted.{AreOfOneModule, ConstAgrees, Predicts, is_found_open}
 use Rattle.just_laws.specs.Results.{EndsAsItsBlocks, ResultsHaveBlocks}
-use Rattle.just_eval_tests.specs.Agreement.{KeepsConstants}
 
 module _ (agrees : ConstAgrees) (results : ResultsHaveBlocks) (m : Constants) (lists : Bool) (outer : Frames) (n : Module) (others : Frames)
     (same : AreOfOneModule m lists outer n others) (before : IsResolvedConst m.assignments outer) (resolved : IsResolvedModule n others)
@@ -18,12 +17,14 @@ module _ (agrees : ConstAgrees) (results : ResultsHaveBlocks) (m : Constants) (l
   ends = results n others bs (Gave frames) resolved run
 
   -- the value that the stage found for a number and the one that a run's block gave it are equal
-  one_value : (k : ℕ) (settled bound : Bound) → bound_at k (own_frame s.frames) ≡ Some settled → bound_at k (own_frame frames) ≡ Some bound → bound.value ≡ settled.value
+  one_value : (k : ℕ) (settled bound : Bound) → bound_at k (own_frame s.frames) ≡ Some settled → bound_at k (own_frame frames) ≡ Some bound
+      → bound.value ≡ settled.value
   one_value k settled bound h e =
       let found = (agrees.states m lists outer fs s stage).binds k settled h in
       let block = ends.bindings frames k bound refl e in
       let on = ends.unstopped block.0 (λ stopped. absurd (cc)) block.1 in
-      let predicted = agrees.blocks m lists outer n others fs (Gave s) bs (Gave frames) same before resolved stage run found.0 block.0 found.1 block.1 (found.2 ∙ sym block.2) on in
+      let predicted = agrees.blocks m lists outer n others fs (Gave s) bs (Gave frames) same before resolved stage run found.0 block.0 found.1 block.1
+      (found.2 ∙ sym block.2) on in
       let gave : Predicts (is_found_open fs) (Gave settled.value) block.0 = subst (λ o. Predicts (is_found_open fs) o block.0) found.3 predicted in
       cc (block.3, gave.0)
 

@@ -1,12 +1,8 @@
 // A constant keeps its value in a run: what a caller can conclude from public clauses alone.
 
 ghost use Rattle.std.specs.Prelude.{IfSome, Some, ◌<◌};
-ghost use Rattle.just_value.specs.View.{frames_view};
-ghost use Rattle.just_meaning.specs.Resolved.{IsResolvedConst};
-ghost use Rattle.just_meaning.specs.View.{constants_of, run_of};
-ghost use Rattle.just_meaning.specs.Module.{IsResolvedModule};
-ghost use Rattle.just_eval.specs.View.{stage_state_of};
-ghost use Rattle.just_eval_tests.specs.Agreement.{KeepsConstants};
+ghost use Rattle.just_eval_tests.specs.Prelude.{IsResolvedConst, IsResolvedModule, KeepsConstants, frames_view, run_of};
+ghost use Rattle.just_eval_tests.specs.Prelude.{stage_state_of};
 
 use just_eval::evaluator::Evaluator;
 use just_eval::laws;
@@ -34,10 +30,12 @@ pub fn stage_and_run<'src, 'run, H: Host>(
     references: &HashSet<Number>,
 ) -> Option<(Evaluator<'src, 'run>, Scope<'src, 'run>)>
     requires may_call { 0 < limit }
-    ensures agrees { let m = run_of config.entry dotenv.entry «module».entry overrides.entry parent.entry search.entry limit (Some references.entry) in
+    ensures agrees { let m = run_of config.entry dotenv.entry «module».entry overrides.entry parent.entry search.entry
+        limit (Some references.entry) in
         let outer = frames_view parent.entry.now in
         IsResolvedConst m.assignments outer → IsResolvedModule m outer
-        → IfSome result (λ x. KeepsConstants (stage_state_of x.0).is_open (stage_state_of x.0).frames (frames_view x.1)) }
+        → IfSome result (λ x. KeepsConstants (stage_state_of x.0).is_open (stage_state_of x.0).frames
+        (frames_view x.1)) }
 {
     laws::const_agrees();
     laws::results_have_blocks();

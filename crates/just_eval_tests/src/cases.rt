@@ -1,7 +1,7 @@
 // The assignments of cases, evaluated before any run, and reports on them.
 
 ghost use Rattle.std.specs.Prelude.{IfOk};
-ghost use Rattle.just_eval.specs.View.{IsConst};
+ghost use Rattle.just_eval_tests.specs.Prelude.{IsConst};
 
 use crate::bindings::with_flags;
 use crate::recipes::around::expression_of;

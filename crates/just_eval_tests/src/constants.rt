@@ -1,6 +1,6 @@
 // Expressions before any run: that of the assignment `e` of a case, which is not referenced.
 
-ghost use Rattle.just_eval.specs.View.{IsConst};
+ghost use Rattle.just_eval_tests.specs.Prelude.{IsConst};
 
 use crate::bindings::report_frame;
 use crate::cases::{Subject, add_said, reported};
@@ -147,17 +147,12 @@ pub(crate) fn line_of<'src>(
     alloc: Global,
     expression: Expression<'src>,
 ) -> Line<'src> {
-    let mut line = Line {
-        fragments: Vec::new(alloc),
-    };
-    push(rt, &mut line, Fragment::Text { token: token("<") });
-    push(rt, &mut line, Fragment::Interpolation { expression });
-    push(rt, &mut line, Fragment::Text { token: token(">") });
-    line
-}
-
-fn push<'src>(rt: &impl Abort, line: &mut Line<'src>, fragment: Fragment<'src>) {
-    line.fragments.push(fragment).expect(rt, "no memory");
+    let start = Fragment::Text { token: token("<") };
+    let end = Fragment::Text { token: token(">") };
+    let fragments = vec![in alloc; start, Fragment::Interpolation { expression }, end];
+    Line {
+        fragments: fragments.expect(rt, "no memory"),
+    }
 }
 
 /// What an expression evaluates to: as a value, as a text, as both with a host, and in a line with that host; then how

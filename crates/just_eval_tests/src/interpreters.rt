@@ -1,7 +1,7 @@
 // Interpreters before any run, each evaluated by itself. The assignment `e` of a case, which is not referenced, is a
 // list: a command and its arguments.
 
-ghost use Rattle.just_eval.specs.View.{IsConst};
+ghost use Rattle.just_eval_tests.specs.Prelude.{IsConst};
 
 use crate::cases::{Subject, reported, said};
 use crate::compared::{reports, same};

@@ -1,6 +1,6 @@
 // Settings with expressions before any run: those of a case's assignments that are not referenced.
 
-ghost use Rattle.just_eval.specs.View.{IsConst};
+ghost use Rattle.just_eval_tests.specs.Prelude.{IsConst};
 
 use crate::cases::{Subject, reported};
 use crate::compared::reports;
@@ -69,7 +69,7 @@ fn setting<'src>(rt: &impl Abort, kind: Kind, value: Expression<'src>) -> Settin
     }
 }
 
-/// The settings that a case's assignments stand for, by their names; other names stand for none.
+/// The settings that a case's assignments describe, by their names; other names describe none.
 pub(crate) fn sets_of<'src>(
     rt: &impl Abort,
     alloc: Global,
@@ -82,7 +82,7 @@ pub(crate) fn sets_of<'src>(
     sets
 }
 
-// Adds the setting that an assignment stands for, if its name is that of one.
+// Adds the setting that an assignment describes, if its name is that of one.
 fn add_named<'src>(sets: &mut Table<Set<'src>>, rt: &impl Abort, assignment: Assignment<'src>) {
     match kind_of(assignment.name.lexeme()) {
         Some(kind) => add_set(sets, rt, kind, assignment),
@@ -90,7 +90,7 @@ fn add_named<'src>(sets: &mut Table<Set<'src>>, rt: &impl Abort, assignment: Ass
     }
 }
 
-// Adds the setting that an assignment stands for.
+// Adds the setting that an assignment describes.
 fn add_set<'src>(
     sets: &mut Table<Set<'src>>,
     rt: &impl Abort,

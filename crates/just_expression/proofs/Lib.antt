@@ -1,3 +1,4 @@
+pub mod Exits
 mod Calls
 mod Leaves
 mod Rows

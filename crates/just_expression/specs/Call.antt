@@ -47,7 +47,8 @@ entered p s t (Defined f left) vs = eval p (dynamic p left) (inside (value_in s.
 -- A call with `n` arguments, of a name with this meaning, while `calls` calls may still be pending: first its arguments
 -- are evaluated, and then what it reaches.
 abbrev pub Enters : Program → Token → meant.Callee → ℕ → ℕ → Reached → Type 0
-Enters p t c calls n r = (s : Situation) (row : Row) → called p t c (dynamic p calls) s n row ≡ bind (row (look r t)) (entered p s t r)
+Enters p t c calls n r =
+    (s : Situation) (row : Row) → called p t c (dynamic p calls) s n row ≡ bind (row (look r t)) (entered p s t r)
 
 -- The call is refused before its arguments are evaluated, or memory runs out.
 abbrev pub EndsBefore : Program → Token → meant.Callee → ℕ → ℕ → Option Refusal → Type 0
@@ -57,7 +58,9 @@ EndsBefore p t c calls n None = Unit {0}
 -- What is reached has this name, takes this many arguments, and leaves one call fewer.
 abbrev pub Fits : List FunctionDefinition → Text → ℕ → ℕ → Callee → Type 0
 Fits functions name calls n (reached.BuiltIn f) = (function_named name ≡ Some f) × IsExpected f n
-Fits functions name calls n (reached.Defined f left) = (value_at (λ g. g.name.token.lexeme.now) name functions ≡ Some f.now) × (calls ≡ suc left) × (length f.now.parameters.items ≡ n)
+Fits functions name calls n (reached.Defined f left) =
+    (value_at (λ g. g.name.token.lexeme.now) name functions ≡ Some f.now) × (calls ≡ suc left)
+    × (length f.now.parameters.items ≡ n)
 
 -- it is this refusal, or memory ran out
 abbrev pub RefusesWith : Option Refusal → Refusal → Type 0

@@ -7,4 +7,5 @@ use Rattle.just_value.specs.Frames.{Frames, bound_innermost, plainly_bound}
 abbrev pub parameters_innermost : Frames → List (Token × ℕ) → List Value → Frames
 parameters_innermost frames [] vs = frames
 parameters_innermost frames (p ∷ ps) [] = frames
-parameters_innermost frames (p ∷ ps) (v ∷ vs) = parameters_innermost (bound_innermost frames (plainly_bound p.0 p.1 v)) ps vs
+parameters_innermost frames (p ∷ ps) (v ∷ vs) =
+    parameters_innermost (bound_innermost frames (plainly_bound p.0 p.1 v)) ps vs

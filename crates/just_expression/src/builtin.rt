@@ -1,21 +1,11 @@
 // Calls of built-in functions.
 
-ghost use Rattle.std.specs.Prelude.{◌≡◌, Some, length};
+ghost use Rattle.std.specs.Prelude.{Some, length, ◌≡◌};
 ghost use Rattle.just_syntax.specs.StringContext as contexts;
-ghost use Rattle.just_syntax.specs.View.{name_view};
-ghost use Rattle.just_value.specs.Outcome.{Refused};
-ghost use Rattle.just_value.specs.Refusal.{ListInStringContext};
-ghost use Rattle.just_value.specs.View.{ended, frames_view};
-ghost use Rattle.just_host.specs.Interaction.{Runs, bind, freely};
-ghost use Rattle.just_host.specs.View.{function_context_view};
-ghost use Rattle.just_builtins.specs.Argument.{HasTexts, IsExpected};
-ghost use Rattle.just_builtins.specs.Called.{tree};
-ghost use Rattle.just_builtins.specs.Meaning.{reply};
-ghost use Rattle.just_builtins.specs.Shape.{builtin_of};
-ghost use Rattle.just_builtins.specs.Table.{function_named};
-ghost use Rattle.just_meaning.specs.Meaning.{returned};
+ghost use Rattle.just_expression.specs.Prelude.{HasTexts, IsExpected, ListInStringContext, Refused, Runs, bind};
+ghost use Rattle.just_expression.specs.Prelude.{builtin_of, ended, frames_view, freely, function_context_view};
+ghost use Rattle.just_expression.specs.Prelude.{function_named, name_view, reply, returned, tree};
 
-use crate::internal;
 use just_builtins::call_fault::CallFault;
 use just_builtins::function::Function;
 use just_host::function::Context;
@@ -48,7 +38,8 @@ pub(crate) fn call<'call, 'src, H: Host>(
     requires count { IsExpected function (length arguments.now) }
     requires texts { HasTexts function arguments.now }
     ensures { let answer = reply (builtin_of function) (function_context_view context.now) arguments.now in
-        Runs freely H.step host.old (bind (tree (frames_view context.now.scope.now) answer) (returned (name_view context.now.name))) (ended (λ v. v) result) host.new }
+        Runs freely H.step host.old (bind (tree (frames_view context.now.scope.now) answer)
+        (returned (name_view context.now.name))) (ended (λ v. v) result) host.new }
 {
     match function.call(alloc, host, &*context, arguments) {
         Ok(value) => Ok(value),
@@ -57,7 +48,7 @@ pub(crate) fn call<'call, 'src, H: Host>(
             message,
         }),
         Err(CallFault::OutOfMemory) => Err(Error::OutOfMemory),
-        // No function that a name stands for returns this.
-        Err(CallFault::Internal) => Err(internal::shapeless(alloc, &context.name)),
+        // No function that a name denotes returns this.
+        Err(CallFault::Internal) => unreachable!(),
     }
 }

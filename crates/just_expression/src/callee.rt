@@ -1,23 +1,14 @@
 // What calls reach.
 
-ghost use Rattle.std.specs.Prelude.{IfErr, IfOk, None, Some, false, length, suc, true, ℕ, ◌≡◌};
-ghost use Rattle.std.specs.Option.{option_map};
-ghost use Rattle.just_syntax.specs.Keyed.{value_at};
-ghost use Rattle.just_syntax.specs.Plain.{Token};
+ghost use Rattle.std.specs.Prelude.{IfErr, IfOk, None, Some, false, length, option_map, suc, true, ℕ, ◌≡◌};
+ghost use Rattle.just_expression.specs.Prelude.{EndsBefore, Enters, Fits, IsExpected, ListInStringContext, Program};
+ghost use Rattle.just_expression.specs.Prelude.{Token, callee, function_named, function_view, gives, look, name_view};
+ghost use Rattle.just_expression.specs.Prelude.{program_view, reached_view, refusal, refuses, requires_text, undefined};
+ghost use Rattle.just_expression.specs.Prelude.{value_at};
 ghost use Rattle.just_syntax.specs.StringContext as contexts;
-ghost use Rattle.just_syntax.specs.View.{function_view, name_view};
-ghost use Rattle.just_value.specs.Refusal.{ListInStringContext};
-ghost use Rattle.just_value.specs.View.{refusal};
-ghost use Rattle.just_host.specs.Interaction.{gives, refuses};
-ghost use Rattle.just_builtins.specs.Argument.{IsExpected};
-ghost use Rattle.just_builtins.specs.Table.{function_named};
 ghost use Rattle.just_meaning.specs.Callee as meant;
-ghost use Rattle.just_meaning.specs.Callee.{callee, undefined};
-ghost use Rattle.just_meaning.specs.Meaning.{Program};
-ghost use Rattle.just_meaning.specs.View.{program_view};
-ghost use Rattle.just_expression.specs.Call.{EndsBefore, Enters, Fits, look, reached_view, requires_text};
 
-use crate::internal;
+use crate::internal::Reason;
 use just_builtins::function::{Function, get, is_left_out};
 use just_host::execution_context::ExecutionContext;
 use just_syntax::function_definition::FunctionDefinition;
@@ -41,7 +32,8 @@ impl Callee<'_, '_> {
     pub(crate) fn takes(&self, index: usize, value: &Value) -> bool
         ensures given { result ≡ true → (t : Token) → look (reached_view self.now) t index value.now ≡ gives value.now }
         ensures text { result ≡ true → requires_text (reached_view self.now) index ≡ true → length value.now ≡ 1 }
-        ensures refused { result ≡ false → (t : Token) → look (reached_view self.now) t index value.now ≡ refuses (ListInStringContext (contexts.Function t) value.now) }
+        ensures refused { result ≡ false → (t : Token) → look (reached_view self.now) t index value.now
+            ≡ refuses (ListInStringContext (contexts.Function t) value.now) }
     {
         match self {
             Callee::BuiltIn(function) => !function.is_text(index) || value.len() == 1,
@@ -66,9 +58,12 @@ pub(crate) fn resolve_callee<'src, 'run>(
     calls_left: usize,
     arguments: usize,
 ) -> Result<Callee<'src, 'run>, Error<'src>>
-    ensures enters { let t = name_view name.now in let p = program_view context.now in IfOk result (λ c. Enters p t (callee p.functions t.lexeme) calls_left arguments (reached_view c)) }
-    ensures fits { IfOk result (λ c. Fits context.now.module.now.functions (name_view name.now).lexeme calls_left arguments c) }
-    ensures refused { let t = name_view name.now in let p = program_view context.now in IfErr result (λ e. EndsBefore p t (callee p.functions t.lexeme) calls_left arguments (refusal e)) }
+    ensures enters { let t = name_view name.now in let p = program_view context.now in
+        IfOk result (λ c. Enters p t (callee p.functions t.lexeme) calls_left arguments (reached_view c)) }
+    ensures fits { IfOk result (λ c. Fits context.now.module.now.functions (name_view name.now).lexeme
+        calls_left arguments c) }
+    ensures refused { let t = name_view name.now in let p = program_view context.now in
+        IfErr result (λ e. EndsBefore p t (callee p.functions t.lexeme) calls_left arguments (refusal e)) }
 {
     match function_at(context, name) {
         Some(function) => {
@@ -84,7 +79,8 @@ fn function_at<'src, 'run>(
     context: &ExecutionContext<'src, 'run>,
     name: &Name<'src>,
 ) -> Option<&'run FunctionDefinition<'src>>
-    ensures { option_map (λ f. f.now) result ≡ value_at (λ f. f.name.token.lexeme.now) (name_view name.now).lexeme context.now.module.now.functions }
+    ensures { option_map (λ f. f.now) result ≡ value_at (λ f. f.name.token.lexeme.now) (name_view name.now).lexeme
+        context.now.module.now.functions }
 {
     context.module.functions.get(name.lexeme())
 }
@@ -100,7 +96,9 @@ fn calls_left_inside<'src>(
 ) -> Result<usize, Error<'src>>
     ensures fewer { IfOk result (λ left. calls_left ≡ suc left) }
     ensures count { IfOk result (λ _. length function.now.parameters.items ≡ arguments) }
-    ensures refused { IfErr result (λ e. (p : Program) → EndsBefore p (name_view name.now) (meant.Defined (function_view function.now)) calls_left arguments (refusal e)) }
+    ensures refused { IfErr result (λ e. (p : Program)
+        → EndsBefore p (name_view name.now) (meant.Defined (function_view function.now)) calls_left
+        arguments (refusal e)) }
 {
     if calls_left == 0 {
         return Err(Error::RecursionLimit {
@@ -108,7 +106,7 @@ fn calls_left_inside<'src>(
         });
     }
     if arguments != function.parameters.len() {
-        return Err(internal::miscounted(alloc, name));
+        return Err(Reason::Miscounted.error_at(alloc, name));
     }
     Ok(calls_left - 1)
 }
@@ -122,14 +120,15 @@ fn built_in<'src>(
     ensures occurs { IfOk result (λ f. undefined (name_view name.now).lexeme ≡ meant.BuiltIn f) }
     ensures named { IfOk result (λ f. function_named (name_view name.now).lexeme ≡ Some f) }
     ensures count { IfOk result (λ f. IsExpected f arguments) }
-    ensures refused { IfErr result (λ e. (p : Program) (calls : ℕ) → EndsBefore p (name_view name.now) (undefined (name_view name.now).lexeme) calls arguments (refusal e)) }
+    ensures refused { IfErr result (λ e. (p : Program) (calls : ℕ)
+        → EndsBefore p (name_view name.now) (undefined (name_view name.now).lexeme) calls arguments (refusal e)) }
 {
     let Some(function) = get(name.lexeme()) else {
         return Err(no_function(alloc, name));
     };
     let expected = function.expected_arguments();
     if arguments < *expected.start() || *expected.end() < arguments {
-        return Err(internal::miscounted(alloc, name));
+        return Err(Reason::Miscounted.error_at(alloc, name));
     }
     Ok(function)
 }
@@ -138,10 +137,11 @@ fn built_in<'src>(
 // function, one look-up suffices.
 #[inline(never)]
 fn no_function<'src>(alloc: Global, name: &Name<'src>) -> Error<'src>
-    ensures { function_named (name_view name.now).lexeme ≡ None → (p : Program) (calls arguments : ℕ) → EndsBefore p (name_view name.now) (undefined (name_view name.now).lexeme) calls arguments (refusal result) }
+    ensures { function_named (name_view name.now).lexeme ≡ None → (p : Program) (calls arguments : ℕ)
+        → EndsBefore p (name_view name.now) (undefined (name_view name.now).lexeme) calls arguments (refusal result) }
 {
     if is_left_out(name.lexeme()) {
         return Error::LeftOut { function: *name };
     }
-    internal::unknown_function(alloc, name)
+    Reason::UnknownFunction.error_at(alloc, name)
 }

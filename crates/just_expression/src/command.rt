@@ -1,12 +1,8 @@
 // The values of command expressions.
 
 ghost use Rattle.std.specs.Prelude.{◌≡◌};
-ghost use Rattle.just_syntax.specs.View.{pairs_view, token_view};
-ghost use Rattle.just_value.specs.Outcome.{without_value};
-ghost use Rattle.just_value.specs.View.{ended, fault_view, frames_view, refusal};
-ghost use Rattle.just_host.specs.Interaction.{Runs, freely};
-ghost use Rattle.just_host.specs.View.{fixed_view};
-ghost use Rattle.just_meaning.specs.Meaning.{faulted, command_value};
+ghost use Rattle.just_expression.specs.Prelude.{Runs, command_value, ended, fault_view, faulted, fixed_view};
+ghost use Rattle.just_expression.specs.Prelude.{frames_view, freely, pairs_view, refusal, token_view, without_value};
 
 use just_host::ask::ask_command;
 use just_host::execution_context::ExecutionContext;
@@ -28,7 +24,8 @@ pub(crate) fn command_value<'call, 'src, 'run, H: Host>(
     contents: &str,
     token: &Token<'src>,
 ) -> Result<Value, Error<'src>>
-    ensures { Runs freely H.step host.old (command_value (fixed_view context.now) (pairs_view env.now) (frames_view scope.now) contents.now (token_view token.now)) (ended (λ v. v) result) host.new }
+    ensures { Runs freely H.step host.old (command_value (fixed_view context.now) (pairs_view env.now)
+        (frames_view scope.now) contents.now (token_view token.now)) (ended (λ v. v) result) host.new }
 {
     if context.config.dry_run {
         let text = format!(in alloc; "`{contents}`")?;

@@ -1,12 +1,9 @@
 // Evaluates expressions, in the order of their parts.
 
-ghost use Rattle.std.specs.Prelude.{[], ◌∷◌};
-ghost use Rattle.std.specs.Option.{option_map};
-ghost use Rattle.just_syntax.specs.View.{name_view, token_view, view};
-ghost use Rattle.just_syntax.specs.declared.list_operator.ListOperator.TheVariants.{Join};
-ghost use Rattle.just_host.specs.Interaction.{gives};
-ghost use Rattle.just_meaning.specs.Meaning.{assertion, assertion_text, branch, choice, combination, comparison, conjunction, disjunction, negation, succession};
-ghost use Rattle.just_expression.specs.View.{RunsTo, deeper, meaning, program, situation};
+ghost use Rattle.std.specs.Prelude.{[], option_map, ◌∷◌};
+ghost use Rattle.just_expression.specs.Prelude.{Join, RunsTo, assertion, assertion_text, branch, choice, combination};
+ghost use Rattle.just_expression.specs.Prelude.{comparison, conjunction, deeper, disjunction, gives, meaning};
+ghost use Rattle.just_expression.specs.Prelude.{name_view, negation, program, situation, succession, token_view, view};
 
 mod call;
 mod combination;
@@ -64,7 +61,8 @@ impl<'src, 'run, 'here> ExpressionEvaluator<'src, 'run, 'here> {
     /// # Errors
     ///
     /// The first refusal of a part, in the order of the parts. `OutOfMemory` if an allocation fails, if the host
-    /// reports it, or if the expression, with the bodies that it calls, nests too deeply for `budget`. Without a context,
+    /// reports it, or if the expression, with the bodies that it calls, nests too deeply for `budget`. Without a
+    /// context,
     /// `Const` at the first call, command or variable with no constant value.
     #[cycle(evaluate)]
     pub fn evaluate_value<H: Host>(
@@ -195,7 +193,8 @@ impl<'src, 'run, 'here> ExpressionEvaluator<'src, 'run, 'here> {
         rhs: &Expression<'src>,
         budget: usize,
     ) -> Result<Value, Error<'src>>
-        ensures { RunsTo self.now H.step host.old (conjunction (meaning self.now (view lhs.now)) (meaning self.now (view rhs.now))) result host.new }
+        ensures { RunsTo self.now H.step host.old
+            (conjunction (meaning self.now (view lhs.now)) (meaning self.now (view rhs.now))) result host.new }
     {
         let value = self.evaluate_value(alloc, host, lhs, budget)?;
         if value.is_truthy() {
@@ -216,7 +215,8 @@ impl<'src, 'run, 'here> ExpressionEvaluator<'src, 'run, 'here> {
         rhs: &Expression<'src>,
         budget: usize,
     ) -> Result<Value, Error<'src>>
-        ensures { RunsTo self.now H.step host.old (disjunction (meaning self.now (view lhs.now)) (meaning self.now (view rhs.now))) result host.new }
+        ensures { RunsTo self.now H.step host.old
+            (disjunction (meaning self.now (view lhs.now)) (meaning self.now (view rhs.now))) result host.new }
     {
         let value = self.evaluate_value(alloc, host, lhs, budget)?;
         if value.is_truthy() {
@@ -255,7 +255,9 @@ impl<'src, 'run, 'here> ExpressionEvaluator<'src, 'run, 'here> {
         token: &Token<'src>,
         budget: usize,
     ) -> Result<Value, Error<'src>>
-        ensures { RunsTo self.now H.step host.old (comparison operator (token_view token.now) (meaning self.now (view lhs.now)) (meaning self.now (view rhs.now))) result host.new }
+        ensures { RunsTo self.now H.step host.old
+            (comparison operator (token_view token.now) (meaning self.now (view lhs.now))
+            (meaning self.now (view rhs.now))) result host.new }
     {
         if form::is_regex(operator) {
             return Err(Error::LeftOutRegex { token: *token });
@@ -277,7 +279,10 @@ impl<'src, 'run, 'here> ExpressionEvaluator<'src, 'run, 'here> {
         otherwise: Option<&Expression<'src>>,
         budget: usize,
     ) -> Result<Value, Error<'src>>
-        ensures { RunsTo self.now H.step host.old (choice (meaning self.now (view condition.now)) (meaning self.now (view consequence.now)) (branch (program self.now) (deeper self.now) (situation self.now) (option_map (λ e. view e.now) otherwise.entry))) result host.new }
+        ensures { RunsTo self.now H.step host.old
+            (choice (meaning self.now (view condition.now)) (meaning self.now (view consequence.now))
+            (branch (program self.now) (deeper self.now) (situation self.now)
+            (option_map (λ e. view e.now) otherwise.entry))) result host.new }
     {
         let value = self.evaluate_value(alloc, host, condition, budget)?;
         let taken = if value.is_truthy() {
@@ -302,7 +307,8 @@ impl<'src, 'run, 'here> ExpressionEvaluator<'src, 'run, 'here> {
         rhs: &Expression<'src>,
         budget: usize,
     ) -> Result<Value, Error<'src>>
-        ensures { RunsTo self.now H.step host.old (combination Join (gives ([] ∷ [])) (token_view operator.now) (meaning self.now (view rhs.now))) result host.new }
+        ensures { RunsTo self.now H.step host.old (combination Join (gives ([] ∷ [])) (token_view operator.now)
+            (meaning self.now (view rhs.now))) result host.new }
     {
         let right = self.evaluate_value(alloc, host, rhs, budget)?;
         let left = form::empty_text(alloc)?;
@@ -320,7 +326,8 @@ impl<'src, 'run, 'here> ExpressionEvaluator<'src, 'run, 'here> {
         rhs: &Expression<'src>,
         budget: usize,
     ) -> Result<Value, Error<'src>>
-        ensures { RunsTo self.now H.step host.old (succession (meaning self.now (view lhs.now)) (meaning self.now (view rhs.now))) result host.new }
+        ensures { RunsTo self.now H.step host.old
+            (succession (meaning self.now (view lhs.now)) (meaning self.now (view rhs.now))) result host.new }
     {
         let left = self.evaluate_value(alloc, host, lhs, budget)?;
         let right = self.evaluate_value(alloc, host, rhs, budget)?;
@@ -339,7 +346,10 @@ impl<'src, 'run, 'here> ExpressionEvaluator<'src, 'run, 'here> {
         name: &Name<'src>,
         budget: usize,
     ) -> Result<Value, Error<'src>>
-        ensures { RunsTo self.now H.step host.old (assertion (situation self.now).lists (name_view name.now) (meaning self.now (view condition.now)) (assertion_text (program self.now) (deeper self.now) (situation self.now) (view condition.now) (option_map (λ e. view e.now) message.entry))) result host.new }
+        ensures { RunsTo self.now H.step host.old (assertion (situation self.now).lists (name_view name.now)
+            (meaning self.now (view condition.now)) (assertion_text (program self.now) (deeper self.now)
+            (situation self.now) (view condition.now) (option_map (λ e. view e.now) message.entry))) result
+            host.new }
     {
         let value = self.evaluate_value(alloc, host, condition, budget)?;
         if value.is_truthy() {

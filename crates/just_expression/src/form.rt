@@ -1,11 +1,8 @@
 // How forms combine the values of their parts.
 
 ghost use Rattle.std.specs.Prelude.{IfOk, [], string_bytes, ◌++◌, ◌∷◌, ◌≡◌};
-ghost use Rattle.just_syntax.specs.View.{literal_view};
-ghost use Rattle.just_value.specs.Outcome.{Gave, UnlessStopped};
-ghost use Rattle.just_value.specs.Value.{from_condition};
-ghost use Rattle.just_value.specs.View.{ended};
-ghost use Rattle.just_meaning.specs.Meaning.{asserted, compared, is_regex, unindented_if};
+ghost use Rattle.just_expression.specs.Prelude.{Gave, UnlessStopped, asserted, compared, ended, from_condition};
+ghost use Rattle.just_expression.specs.Prelude.{is_regex, literal_view, unindented_if};
 
 use just_syntax::conditional_operator::ConditionalOperator;
 use just_syntax::out_of_memory::OutOfMemory;

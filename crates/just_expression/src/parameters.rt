@@ -1,11 +1,8 @@
 // What a called function's parameters are bound to.
 
 ghost use Rattle.std.specs.Prelude.{IfOk, OnOk, [], length, map, ◌∷◌, ◌≡◌};
-ghost use Rattle.just_syntax.specs.View.{name_view, parameter_view};
-ghost use Rattle.just_value.specs.Frames.{plainly_bound};
-ghost use Rattle.just_value.specs.View.{bound_view, frames_view};
-ghost use Rattle.just_meaning.specs.Closings.{with_parameters};
-ghost use Rattle.just_expression.specs.Parameter.{parameters_innermost};
+ghost use Rattle.just_expression.specs.Prelude.{bound_view, frames_view, name_view, parameter_view};
+ghost use Rattle.just_expression.specs.Prelude.{parameters_innermost, plainly_bound, with_parameters};
 
 use just_syntax::attribute_set::AttributeSet;
 use just_syntax::name::Name;
@@ -24,7 +21,8 @@ pub(crate) fn called_scope<'src, 'inner>(
     outer: &'inner Scope<'src, 'inner>,
 ) -> Result<Scope<'src, 'inner>, OutOfMemory>
     requires count { length parameters.now ≡ length values.items }
-    ensures { IfOk result (λ scope. frames_view scope ≡ with_parameters [] (map parameter_view parameters.now) values.items ∷ frames_view outer.now) }
+    ensures { IfOk result (λ scope. frames_view scope ≡ with_parameters [] (map parameter_view parameters.now)
+        values.items ∷ frames_view outer.now) }
 {
     let mut scope = outer.child(alloc)?;
     bind_parameters(alloc, &mut scope, parameters, values)?;
@@ -39,7 +37,8 @@ fn bind_parameters<'src>(
     values: Vec<Value>,
 ) -> Result<(), OutOfMemory>
     requires count { length parameters.now ≡ length values.items }
-    ensures { OnOk result (frames_view scope.new ≡ parameters_innermost (frames_view scope.old) (map parameter_view parameters.now) values.items) }
+    ensures { OnOk result (frames_view scope.new ≡ parameters_innermost (frames_view scope.old)
+        (map parameter_view parameters.now) values.items) }
 {
     let mut index = 0;
     for value in values {

@@ -1,9 +1,7 @@
 // Values where a single text is required.
 
 ghost use Rattle.std.specs.Prelude.{string_bytes, ◌≡◌};
-ghost use Rattle.just_syntax.specs.View.{string_context_view};
-ghost use Rattle.just_value.specs.View.{ended};
-ghost use Rattle.just_meaning.specs.Settings.{text_in};
+ghost use Rattle.just_expression.specs.Prelude.{ended, string_context_view, text_in};
 
 use just_syntax::string_context::StringContext;
 use just_value::error::Error;

@@ -1,15 +1,10 @@
 // The values of variables.
 
-ghost use Rattle.std.specs.Prelude.{◌≡◌};
-ghost use Rattle.std.specs.Bool.{nat_eq};
+ghost use Rattle.std.specs.Prelude.{nat_eq, ◌≡◌};
 ghost use Rattle.std.specs.List.{list_any};
-ghost use Rattle.just_syntax.specs.View.{name_view};
-ghost use Rattle.just_value.specs.Frames.{value_in};
-ghost use Rattle.just_value.specs.Outcome.{UnlessStopped};
-ghost use Rattle.just_value.specs.View.{ended, frames_view};
-ghost use Rattle.just_meaning.specs.Meaning.{named};
+ghost use Rattle.just_expression.specs.Prelude.{UnlessStopped, ended, frames_view, name_view, named, value_in};
 
-use crate::internal;
+use crate::internal::Reason;
 use just_syntax::name::Name;
 use just_syntax::number::Number;
 use just_value::error::Error;
@@ -25,11 +20,12 @@ pub fn value_of<'src>(
     name: &Name<'src>,
     number: Number,
 ) -> Result<Value, Error<'src>>
-    ensures { UnlessStopped (ended (λ v. v) result) (named (name_view name.now) (value_in (frames_view scope.now) number)) }
+    ensures { UnlessStopped (ended (λ v. v) result)
+        (named (name_view name.now) (value_in (frames_view scope.now) number)) }
 {
     match scope.value(number) {
         Some(value) => Ok(value.try_clone(alloc)?),
-        None => Err(internal::unevaluated(alloc, name)),
+        None => Err(Reason::Unevaluated.error_at(alloc, name)),
     }
 }
 

@@ -2,14 +2,15 @@
 use Rattle.std.proofs.Common.{◌≡◌, Bool, true, false, cond, ◌||◌, List, [], ◌∷◌, ◌++◌, Option, Some, None, refl, sym, ap, ◌∙◌, bytes_eq, map}
 use Rattle.std.specs.List.{list_any}
 use Rattle.std.proofs.lemmas.List.{append-nil, append_assoc}
-use Rattle.just_syntax.specs.Plain.{Text}
+use Rattle.just_host.specs.Prelude.{ComeToTheSame, Removes, Text, after, exports, frame_exports, frames_exports, framewise}
 use Rattle.just_value.specs.Frames.{Frame, Frames}
-use Rattle.just_host.specs.Exports.{Change, Sets, Removes, Environment, after, changed, frame_exports, frames_exports, exports, framewise, ComeToTheSame}
+use Rattle.just_host.specs.Exports.{Change, Sets, Environment, changed}
 
 -- the outermost frame's exports come first
 pub frames_exports-last : (frames : Frames) (outermost : Frame) → frames_exports (frames ++ outermost ∷ []) ≡ frame_exports outermost ++ frames_exports frames
 frames_exports-last [] outermost = sym (append-nil (frame_exports outermost))
-frames_exports-last (frame ∷ outer) outermost = ap (λ cs. cs ++ frame_exports frame) (frames_exports-last outer outermost) ∙ append_assoc (frame_exports outermost) (frames_exports outer) (frame_exports frame)
+frames_exports-last (frame ∷ outer) outermost = ap (λ cs. cs ++ frame_exports frame) (frames_exports-last outer outermost)
+    ∙ append_assoc (frame_exports outermost) (frames_exports outer) (frame_exports frame)
 
 after-append : (e : Environment) (xs ys : List Change) → after e (xs ++ ys) ≡ after (after e xs) ys
 after-append e [] ys = refl
@@ -49,15 +50,21 @@ module _ (unexports : List Text) (e : Environment) (name : Text) where
       let step : plain name ≡ cleared name = kept outer other ∙ sym (removed by_frames unexports name ∙ ap (λ b. cond b None (by_frames name)) other) in
       ap (λ f. f name) (after-append e (frames_exports outer) (frame_exports frame))
       ∙ after_at plain cleared (frame_exports frame) name step
-      ∙ ap (λ f. f name) (sym (after-append e (framewise unexports outer) (map Removes unexports ++ frame_exports frame) ∙ after-append by_frames (map Removes unexports) (frame_exports frame)))
+      ∙ ap (λ f. f name)
+      (sym (after-append e (framewise unexports outer) (map Removes unexports ++ frame_exports frame) ∙ after-append by_frames (map Removes unexports)
+      (frame_exports frame)))
 
   -- after the names are removed, earlier removals make no difference
-  cleared_alike : (frames : Frames) → after (after e (frames_exports frames)) (map Removes unexports) name ≡ after (after e (framewise unexports frames)) (map Removes unexports) name
+  cleared_alike : (frames : Frames) → after (after e (frames_exports frames)) (map Removes unexports) name
+      ≡ after (after e (framewise unexports frames)) (map Removes unexports) name
   cleared_alike frames =
       let plain = after e (frames_exports frames) in
       let by_frames = after e (framewise unexports frames) in
       let same : cond (among unexports name) None (plain name) ≡ cond (among unexports name) None (by_frames name) =
-      elim (among unexports name) as (λ b. among unexports name ≡ b → cond b None (plain name) ≡ cond b None (by_frames name)) [ true ↦ λ _. refl | false ↦ λ other. kept frames other ] refl in
+      elim (among unexports name) as (λ b. among unexports name ≡ b → cond b None (plain name) ≡ cond b None (by_frames name)) [
+        | true ↦ λ _. refl
+        | false ↦ λ other. kept frames other
+      ] refl in
       removed plain unexports name ∙ same ∙ sym (removed by_frames unexports name)
 
   alike : (frames : Frames) → after e (exports unexports frames) name ≡ after e (framewise unexports frames) name

@@ -1,9 +1,7 @@
 -- Partial runs over a list: elements are produced in order, each from the value of an interaction tree.
 use Rattle.std.proofs.Common.{List, [], ◌++◌, refl, ap, sym, subst, Option, Some, None, ◌≡◌}
 use Rattle.std.proofs.lemmas.List.{append-nil, append_assoc}
-use Rattle.just_value.specs.Refusal.{Refusal}
-use Rattle.just_value.specs.Outcome.{Outcome, Gave, Refused, Stopped, without_value}
-use Rattle.just_host.specs.Interaction.{Rules, Runs, Tree, bind, gives, Step}
+use Rattle.just_host.specs.Prelude.{Gave, Outcome, Refusal, Refused, Rules, Runs, Step, Stopped, Tree, bind, gives, without_value}
 use Rattle.just_host.proofs.Paths.{runs_on, runs_ends, runs_gives, runs_stopped}
 
 -- the outcome, f applied to its value: f prepends what is already done
@@ -17,7 +15,8 @@ after_ended f (Some r) = refl
 after_ended f None = refl
 
 -- one more element, and then the rest
-after_next : {X : Type 0} (made more : List X) (o : Outcome (List X)) → after (λ xs. made ++ xs) (after (λ xs. more ++ xs) o) ≡ after (λ xs. (made ++ more) ++ xs) o
+after_next : {X : Type 0} (made more : List X) (o : Outcome (List X)) → after (λ xs. made ++ xs) (after (λ xs. more ++ xs) o)
+    ≡ after (λ xs. (made ++ more) ++ xs) o
 after_next made more (Gave xs) = ap Gave (sym (append_assoc made more xs))
 after_next made more (Refused r) = refl
 after_next made more Stopped = refl
@@ -30,11 +29,13 @@ after_nothing Stopped = refl
 -- The list `made` so far and the remaining tree `left`: if a run of `left` from here ends with an outcome, a run of the
 -- whole ends with it, `made` prepended.
 abbrev pub Left : {S X : Type 0} → Rules → Step S → Tree (List X) → S → Tree (List X) → S → List X → Type 0
-Left {S} {X} by step whole start left here made = (o : Outcome (List X)) (new : S) → Runs by step here left o new → Runs by step start whole (after (λ xs. made ++ xs) o) new
+Left {S} {X} by step whole start left here made =
+    (o : Outcome (List X)) (new : S) → Runs by step here left o new → Runs by step start whole (after (λ xs. made ++ xs) o) new
 
 module _ {rules : Rules} {S : Type 0} {step : Step S} where
   -- a value, and then the rest, to which f adds the value
-  runs_more : {V A B : Type 0} {old mid new : S} (first : Tree V) (rest : Tree A) (v : V) (f : V → A → B) (o : Outcome A) → Runs rules step old first (Gave v) mid → Runs rules step mid rest o new
+  runs_more : {V A B : Type 0} {old mid new : S} (first : Tree V) (rest : Tree A) (v : V) (f : V → A → B) (o : Outcome A)
+      → Runs rules step old first (Gave v) mid → Runs rules step mid rest o new
       → Runs rules step old (bind first (λ v. bind rest (λ a. gives (f v a)))) (after (f v) o) new
   runs_more first rest v f (Gave a) r q = runs_on first _ r (runs_on rest (λ a. gives (f v a)) q (runs_gives (f v a)))
   runs_more first rest v f (Refused s) r q = runs_on first _ r (runs_ends rest (λ a. gives (f v a)) (Some s) q)
@@ -45,19 +46,20 @@ module _ {rules : Rules} {S : Type 0} {step : Step S} where
     left_all {h = h} o new r = subst (λ x. Runs rules step h whole x new) (sym (after_nothing o)) r
 
     pub left_none : {start here : S} (made : List X) → Left rules step whole start (gives []) here made → Runs rules step start whole (Gave made) here
-    left_none {start = start} {here = here} made left = subst (λ xs. Runs rules step start whole (Gave xs) here) (append-nil made) (left (Gave []) here (runs_gives []))
-
-    pub left_stops : {start here : S} (left : Tree (List X)) (made : List X) → Left rules step whole start left here made → Runs rules step start whole Stopped here
-    left_stops left made rest = rest Stopped _ (runs_stopped left)
+    left_none {start = start} {here = here} made left =
+        subst (λ xs. Runs rules step start whole (Gave xs) here) (append-nil made) (left (Gave []) here (runs_gives []))
 
     -- a first tree, whose value gives some elements, and more
-    module _ {V : Type 0} {start here : S} (first : Tree V) (more : Tree (List X)) (f : V → List X) (made : List X) (rest : Left rules step whole start (bind first (λ v. bind more (λ xs. gives (f v ++ xs)))) here made) where
+    module _ {V : Type 0} {start here : S} (first : Tree V) (more : Tree (List X)) (f : V → List X) (made : List X)
+        (rest : Left rules step whole start (bind first (λ v. bind more (λ xs. gives (f v ++ xs)))) here made) where
       pub left_next : {mid : S} (v : V) → Runs rules step here first (Gave v) mid → Left rules step whole start more mid (made ++ f v)
-      left_next v r o new q = subst (λ x. Runs rules step start whole x new) (after_next made (f v) o) (rest (after (λ xs. f v ++ xs) o) new (runs_more first more v (λ v xs. f v ++ xs) o r q))
+      left_next v r o new q = subst (λ x. Runs rules step start whole x new) (after_next made (f v) o)
+          (rest (after (λ xs. f v ++ xs) o) new (runs_more first more v (λ v xs. f v ++ xs) o r q))
 
       -- the first tree ends without a value
       pub left_ends : {new : S} (e : Option Refusal) → Runs rules step here first (without_value e) new → Runs rules step start whole (without_value e) new
-      left_ends {new = new} e r = subst (λ x. Runs rules step start whole x new) (after_ended (λ xs. made ++ xs) e) (rest (without_value e) new (runs_ends first _ e r))
+      left_ends {new = new} e r =
+          subst (λ x. Runs rules step start whole x new) (after_ended (λ xs. made ++ xs) e) (rest (without_value e) new (runs_ends first _ e r))
 
       -- memory runs out after the first tree's value
       pub left_cut : {new : S} (v : V) → Runs rules step here first (Gave v) new → Runs rules step start whole Stopped new

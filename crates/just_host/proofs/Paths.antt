@@ -1,22 +1,22 @@
 -- Composition of paths and runs of interaction trees. A path is a trace of events with an outcome.
-use Rattle.std.proofs.Common.{◌≡◌, Bool, true, false, List, [], ◌∷◌, ◌++◌, refl, sym, subst, Option, Some, None, Result, Err, if◌then◌else◌}
-use Rattle.just_value.specs.declared.error.Error.{Error}
-use Rattle.just_value.specs.Refusal.{Refusal}
-use Rattle.just_value.specs.Outcome.{Outcome, Gave, Refused, Stopped, UnlessStopped, without_value}
-use Rattle.just_value.specs.View.{refusal, ended}
-use Rattle.just_host.specs.Question.{Question, Answer}
-use Rattle.just_host.specs.Interaction.{Note, Event, Asked, Noted, Checked, Tree, done, ask, note, bind, gives, Rules, Path, Ends, Stops, Asks, Notes, Checks, Shuts, Chain, Runs, Step}
+use Rattle.std.proofs.Common.{◌≡◌, Bool, true, false, List, [], ◌∷◌, ◌++◌, refl, sym, subst, Option, Some, None, if◌then◌else◌}
+use Rattle.just_host.specs.Prelude.{Answer, Asked, Chain, Checked, Checks, Ends, Event, Gave, Noted, Outcome, Question, Refusal, Refused, Rules, Runs, Step}
+use Rattle.just_host.specs.Prelude.{Stopped, Stops, Tree, bind, done, gives, without_value}
+use Rattle.just_value.specs.Outcome.{UnlessStopped}
+use Rattle.just_host.specs.Interaction.{Note, ask, note, Path, Asks, Notes, Shuts}
 
 module _ {rules : Rules} where
   -- a path to a value, continued after the value
-  pub path_on : {A B : Type 0} {t : Tree A} (go : A → Tree B) {es fs : List Event} {a : A} {o : Outcome B} → Path rules t es (Gave a) → Path rules (go a) fs o → Path rules (bind t go) (es ++ fs) o
+  pub path_on : {A B : Type 0} {t : Tree A} (go : A → Tree B) {es fs : List Event} {a : A} {o : Outcome B} → Path rules t es (Gave a) → Path rules (go a) fs o
+      → Path rules (bind t go) (es ++ fs) o
   path_on go Ends q = q
   path_on go (Asks p) q = Asks (path_on go p q)
   path_on go (Notes e p) q = Notes e (path_on go p q)
   path_on go (Checks p) q = Checks (path_on go p q)
 
   -- a path without a value stays one, whatever would have followed the value
-  path_refused : {A B : Type 0} {t : Tree A} (go : A → Tree B) {es : List Event} {r : Refusal} → Path rules t es (Refused r) → Path rules (bind t go) es (Refused r)
+  path_refused : {A B : Type 0} {t : Tree A} (go : A → Tree B) {es : List Event} {r : Refusal} → Path rules t es (Refused r)
+      → Path rules (bind t go) es (Refused r)
   path_refused go Ends = Ends
   path_refused go (Asks p) = Asks (path_refused go p)
   path_refused go (Notes e p) = Notes e (path_refused go p)
@@ -30,7 +30,8 @@ module _ {rules : Rules} where
   path_stopped go (Notes e p) = Notes e (path_stopped go p)
   path_stopped go (Checks p) = Checks (path_stopped go p)
 
-  pub path_ends : {A B : Type 0} {t : Tree A} (go : A → Tree B) {es : List Event} (r : Option Refusal) → Path rules t es (without_value r) → Path rules (bind t go) es (without_value r)
+  pub path_ends : {A B : Type 0} {t : Tree A} (go : A → Tree B) {es : List Event} (r : Option Refusal) → Path rules t es (without_value r)
+      → Path rules (bind t go) es (without_value r)
   path_ends go (Some r) p = path_refused go p
   path_ends go None p = path_stopped go p
 
@@ -62,30 +63,33 @@ module _ {rules : Rules} {S : Type 0} {step : Step S} where
   runs_stopped t = record { events = []; path = Stops; chain = refl }
 
   -- sequencing after a value
-  pub runs_on : {A B : Type 0} {old mid new : S} (t : Tree A) (go : A → Tree B) {a : A} {o : Outcome B} → Runs rules step old t (Gave a) mid → Runs rules step mid (go a) o new → Runs rules step old (bind t go) o new
-  runs_on t go r q = record { events = r.events ++ q.events; path = path_on go r.path q.path; chain = chain_append step _ _ r.events q.events _ r.chain q.chain }
+  pub runs_on : {A B : Type 0} {old mid new : S} (t : Tree A) (go : A → Tree B) {a : A} {o : Outcome B} → Runs rules step old t (Gave a) mid
+      → Runs rules step mid (go a) o new → Runs rules step old (bind t go) o new
+  runs_on t go r q =
+      record { events = r.events ++ q.events; path = path_on go r.path q.path; chain = chain_append step _ _ r.events q.events _ r.chain q.chain }
 
   -- an end without a value
-  pub runs_ends : {A B : Type 0} {old new : S} (t : Tree A) (go : A → Tree B) (e : Option Refusal) → Runs rules step old t (without_value e) new → Runs rules step old (bind t go) (without_value e) new
+  pub runs_ends : {A B : Type 0} {old new : S} (t : Tree A) (go : A → Tree B) (e : Option Refusal) → Runs rules step old t (without_value e) new
+      → Runs rules step old (bind t go) (without_value e) new
   runs_ends t go e r = record { events = r.events; path = path_ends go e r.path; chain = r.chain }
 
-  -- the early return of a `?`
-  pub runs_exit : {X A B : Type 0} {old new : S} (f : X → B) (t : Tree A) (go : A → Tree B) (r : Result X Error) (e d : Error) → r ≡ Err d → d ≡ e → Runs rules step old t (without_value (refusal e)) new → Runs rules step old (bind t go) (ended f r) new
-  runs_exit f t go r e d p q h = rw (p, q) (runs_ends t go (refusal e) h)
-
-  pub runs_ask : {A : Type 0} {old mid new : S} (q : Question) (next : Answer → Tree A) (a : Answer) {o : Outcome A} → step old q a mid → Runs rules step mid (next a) o new → Runs rules step old (ask q next) o new
+  pub runs_ask : {A : Type 0} {old mid new : S} (q : Question) (next : Answer → Tree A) (a : Answer) {o : Outcome A} → step old q a mid
+      → Runs rules step mid (next a) o new → Runs rules step old (ask q next) o new
   runs_ask q next a s r = record { events = Asked q a ∷ r.events; path = Asks r.path; chain = (_, s, r.chain) }
 
   -- a note that the rules allow, and one that they refuse
-  pub runs_note : {A : Type 0} {old new : S} {x : Note} {t : Tree A} {o : Outcome A} → rules x ≡ None → Runs rules step old t o new → Runs rules step old (note x t) o new
+  pub runs_note : {A : Type 0} {old new : S} {x : Note} {t : Tree A} {o : Outcome A} → rules x ≡ None → Runs rules step old t o new
+      → Runs rules step old (note x t) o new
   runs_note {x = x} e r = record { events = Noted x ∷ r.events; path = Notes e r.path; chain = r.chain }
 
   pub runs_shut : {A : Type 0} {h : S} {x : Note} {t : Tree A} {r : Refusal} → rules x ≡ Some r → Runs rules step h (note x t) (Refused r) h
   runs_shut e = record { events = []; path = Shuts e; chain = refl }
 
   -- the first branch, or the second
-  pub runs_then : {A : Type 0} {old new : S} {o : Outcome A} (b : Bool) (x y : Tree A) → b ≡ true → Runs rules step old x o new → Runs rules step old (if b then x else y) o new
+  pub runs_then : {A : Type 0} {old new : S} {o : Outcome A} (b : Bool) (x y : Tree A) → b ≡ true → Runs rules step old x o new
+      → Runs rules step old (if b then x else y) o new
   runs_then {old = old} {new = new} {o = o} b x y e r = subst (λ t. Runs rules step old (if t then x else y) o new) (sym e) r
 
-  pub runs_else : {A : Type 0} {old new : S} {o : Outcome A} (b : Bool) (x y : Tree A) → b ≡ false → Runs rules step old y o new → Runs rules step old (if b then x else y) o new
+  pub runs_else : {A : Type 0} {old new : S} {o : Outcome A} (b : Bool) (x y : Tree A) → b ≡ false → Runs rules step old y o new
+      → Runs rules step old (if b then x else y) o new
   runs_else {old = old} {new = new} {o = o} b x y e r = subst (λ t. Runs rules step old (if t then x else y) o new) (sym e) r

@@ -25,4 +25,5 @@ or_joined base None = base
 -- the directory that commands run in: the module's for a submodule, otherwise the search's, joined with the one that is
 -- set
 abbrev pub working_directory : Fixed → Text
-working_directory f = or_joined (if f.is_submodule then f.module_directory else f.search_directory) f.settings.working_directory
+working_directory f =
+    or_joined (if f.is_submodule then f.module_directory else f.search_directory) f.settings.working_directory

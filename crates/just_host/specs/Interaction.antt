@@ -62,9 +62,12 @@ freely x = None
 pub data Path {A : Type 0} (rules : Rules) : Tree A → List Event → Outcome A → Type 0 where
   Ends : {o : Outcome A} → Path rules (done o) [] o
   Stops : {t : Tree A} → Path rules t [] Stopped
-  Asks : {q : Question} {next : Answer → Tree A} {a : Answer} {es : List Event} {o : Outcome A} → Path rules (next a) es o → Path rules (ask q next) (Asked q a ∷ es) o
-  Notes : {x : Note} {rest : Tree A} {es : List Event} {o : Outcome A} → rules x ≡ None → Path rules rest es o → Path rules (note x rest) (Noted x ∷ es) o
-  Checks : {p : Parameter} {v : Value} {next : Verdict → Tree A} {a : Verdict} {es : List Event} {o : Outcome A} → Path rules (next a) es o → Path rules (check p v next) (Checked p v a ∷ es) o
+  Asks : {q : Question} {next : Answer → Tree A} {a : Answer} {es : List Event} {o : Outcome A}
+      → Path rules (next a) es o → Path rules (ask q next) (Asked q a ∷ es) o
+  Notes : {x : Note} {rest : Tree A} {es : List Event} {o : Outcome A} → rules x ≡ None → Path rules rest es o
+      → Path rules (note x rest) (Noted x ∷ es) o
+  Checks : {p : Parameter} {v : Value} {next : Verdict → Tree A} {a : Verdict} {es : List Event} {o : Outcome A}
+      → Path rules (next a) es o → Path rules (check p v next) (Checked p v a ∷ es) o
   Shuts : {x : Note} {rest : Tree A} {r : Refusal} → rules x ≡ Some r → Path rules (note x rest) [] (Refused r)
 
 -- a transition relation: a state, a question, its answer, and the next state
@@ -82,19 +85,22 @@ Chain step old (Checked p v a ∷ events) new = ⊥
 -- The same with a value check: each verdict is one that the check may give, and the host is not asked for it.
 abbrev pub CheckedChain : {S : Type 0} → Step S → (Parameter → Value → Verdict → Type 0) → S → List Event → S → Type 0
 CheckedChain step gives old [] new = old ≡ new
-CheckedChain {S} step gives old (Asked q a ∷ events) new = (mid : S) × step old q a mid × CheckedChain step gives mid events new
+CheckedChain {S} step gives old (Asked q a ∷ events) new =
+    (mid : S) × step old q a mid × CheckedChain step gives mid events new
 CheckedChain step gives old (Noted x ∷ events) new = CheckedChain step gives old events new
 CheckedChain step gives old (Checked p v a ∷ events) new = gives p v a × CheckedChain step gives old events new
 
 -- The tree may behave like this: some events are a trace of it to the outcome, and their questions take the host's
 -- state from `old` to `new`.
-pub record Runs {S A : Type 0} (rules : Rules) (step : Step S) (old : S) (tree : Tree A) (outcome : Outcome A) (new : S) : Type 0 where
+pub record Runs {S A : Type 0} (rules : Rules) (step : Step S) (old : S) (tree : Tree A) (outcome : Outcome A)
+    (new : S) : Type 0 where
   pub events : List Event
   pub path : Path rules tree events outcome
   pub chain : Chain step old events new
 
 -- The same with a value check.
-pub record RunsChecked {S A : Type 0} (rules : Rules) (step : Step S) (gives : Parameter → Value → Verdict → Type 0) (old : S) (tree : Tree A) (outcome : Outcome A) (new : S) : Type 0 where
+pub record RunsChecked {S A : Type 0} (rules : Rules) (step : Step S) (gives : Parameter → Value → Verdict → Type 0)
+    (old : S) (tree : Tree A) (outcome : Outcome A) (new : S) : Type 0 where
   pub events : List Event
   pub path : Path rules tree events outcome
   pub chain : CheckedChain step gives old events new

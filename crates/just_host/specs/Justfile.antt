@@ -22,4 +22,15 @@ pub record Justfile : Type 0 where
 
 -- an empty root module, read from a file and working in a directory
 abbrev pub empty_root : Text → Text → Justfile
-empty_root source directory = record { assignments = []; evaluation_order = []; functions = []; module_path = []; settings = unset; source = source; submodule = false; unexports = []; working_directory = directory }
+empty_root source directory = record {
+  assignments = [];
+  evaluation_order = [];
+  functions = [];
+  module_path =
+      [];
+  settings = unset;
+  source = source;
+  submodule = false;
+  unexports = [];
+  working_directory = directory;
+}

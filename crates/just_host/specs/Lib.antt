@@ -12,3 +12,4 @@ pub mod Exports
 pub mod View
 pub mod MapHost
 pub mod NoHost
+pub mod Prelude

@@ -5,7 +5,8 @@ use Rattle.std.specs.BTreeMap.{BTreeMap, get_by_text}
 use Rattle.std.specs.declared.string.String.{String}
 use Rattle.just_syntax.specs.Plain.{Text}
 use Rattle.just_value.specs.Refusal.{Message}
-use Rattle.just_host.specs.Question.{Blind, CommandOf, TextOf, ExistsAt, NumberOf, Variable, Read, Answer, Replied, Failed, Absent, Found, Numbered}
+use Rattle.just_host.specs.Question.{Blind, CommandOf, TextOf, ExistsAt, NumberOf, Variable, Read, Answer, Replied}
+use Rattle.just_host.specs.Question.{Failed, Absent, Found, Numbered}
 
 -- the text at a key of a map
 abbrev pub text_for_key : {A B : Type 0} → BTreeMap (String A) (String B) → Text → Option Text

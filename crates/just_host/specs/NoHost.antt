@@ -1,7 +1,8 @@
 -- The answers of a host that provides nothing.
 use Rattle.std.specs.Prelude.{◌≡◌, false, codes}
 use Rattle.just_value.specs.Refusal.{Message}
-use Rattle.just_host.specs.Question.{Blind, CommandOf, TextOf, ExistsAt, NumberOf, Answer, Failed, Absent, Found, Numbered, UnlessNoMemory}
+use Rattle.just_host.specs.Question.{Blind, CommandOf, TextOf, ExistsAt, NumberOf, Answer, Failed, Absent, Found}
+use Rattle.just_host.specs.Question.{Numbered, UnlessNoMemory}
 
 -- the answer to a command
 abbrev pub not_run : Answer

@@ -3,7 +3,8 @@ use Rattle.std.specs.Prelude.{◌≡◌, ◌⊎◌, List, [], ◌∷◌, ◌++�
 use Rattle.just_syntax.specs.Plain.{Text}
 use Rattle.just_value.specs.Refusal.{NoMemory}
 use Rattle.just_host.specs.declared.number_question.NumberQuestion.{NumberQuestion}
-use Rattle.just_host.specs.Question.{Blind, CommandOf, TextOf, ExistsAt, NumberOf, TextQuestion, Question, Answer, Failed}
+use Rattle.just_host.specs.Question.{Blind, CommandOf, TextOf, ExistsAt, NumberOf, TextQuestion, Question, Answer}
+use Rattle.just_host.specs.Question.{Failed}
 use Rattle.just_host.specs.Question as asked
 use Rattle.just_host.specs.declared.recorded.TextKind.{TextKind}
 use Rattle.just_host.specs.declared.recorded.TextKind.TheVariants as kinds
@@ -48,4 +49,5 @@ recorded (NumberOf q) = KeptNumber q
 -- may be neither recorded nor asked.
 abbrev pub RecordsAndAsks : {S : Type 0} → Step S → S → List Kept → Question → Answer → S → List Kept → Type 0
 RecordsAndAsks step old kept question answer new kept' =
-    (step old question answer new × (kept' ≡ kept ++ recorded question.blind ∷ [])) ⊎ ((answer ≡ Failed NoMemory) × (new ≡ old) × (kept' ≡ kept))
+    (step old question answer new × (kept' ≡ kept ++ recorded question.blind ∷ []))
+    ⊎ ((answer ≡ Failed NoMemory) × (new ≡ old) × (kept' ≡ kept))

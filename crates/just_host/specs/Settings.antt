@@ -15,7 +15,16 @@ pub record Config : Type 0 where
 
 -- the program called in a directory, without options
 abbrev pub called_in : Text → Config
-called_in directory = record { dry_run = false; invocation_directory = directory; jobs = None; quiet = false; shell = None; shell_args = None; shell_command = false }
+called_in directory = record {
+  dry_run = false;
+  invocation_directory = directory;
+  jobs = None;
+  quiet = false;
+  shell =
+      None;
+  shell_args = None;
+  shell_command = false;
+}
 
 pub record Settings : Type 0 where
   pub allow_duplicate_recipes : Bool
@@ -90,7 +99,8 @@ default_shell_arguments = codes "-cu" ∷ []
 -- called with neither, the shell that the module sets, or else the default.
 abbrev pub chosen : Option Text → Option (List Text) → Option (Interpreter Text) → Interpreter Text
 chosen None None (Some shell) = shell
-chosen command arguments _ = record { command = unwrap_or command default_shell; arguments = unwrap_or arguments default_shell_arguments }
+chosen command arguments _ =
+    record { command = unwrap_or command default_shell; arguments = unwrap_or arguments default_shell_arguments }
 
 abbrev pub shell_of : Settings → Config → Interpreter Text
 shell_of s c = chosen c.shell c.shell_args s.shell

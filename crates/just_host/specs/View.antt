@@ -33,10 +33,20 @@ use Rattle.just_host.specs.Justfile as modules
 use Rattle.just_host.specs.Question as questions
 use Rattle.just_host.specs.Fixed.{Fixed}
 use Rattle.just_host.specs.Function as functions
-use Rattle.just_host.specs.Question.{BlindCommand, Question, CommandOf, TextOf, ExistsAt, NumberOf, frameless, Answer, Replied, Failed, Absent, NotText, Found, Numbered}
+use Rattle.just_host.specs.Question.{BlindCommand, Question, CommandOf, TextOf, ExistsAt, NumberOf, frameless, Answer}
+use Rattle.just_host.specs.Question.{Replied, Failed, Absent, NotText, Found, Numbered}
 
 abbrev pub config_view : Config → plain.Config
-config_view c = record { dry_run = c.dry_run; invocation_directory = string_bytes c.invocation_directory; jobs = c.jobs; quiet = c.quiet; shell = option_map string_bytes c.shell; shell_args = option_map (λ words. map string_bytes words.items) c.shell_args; shell_command = c.shell_command }
+config_view c = record {
+  dry_run = c.dry_run;
+  invocation_directory = string_bytes c.invocation_directory;
+  jobs = c.jobs;
+  quiet = c.quiet;
+  shell = option_map string_bytes c.shell;
+  shell_args =
+      option_map (λ words. map string_bytes words.items) c.shell_args;
+  shell_command = c.shell_command;
+}
 
 -- a shell and its arguments, borrowed
 abbrev pub shell_view : {A : Type 0} → Bor Text × Vec (Bor Text) A → Interpreter Text
@@ -181,7 +191,8 @@ number_answer (Err e) = Failed NoMemory
 -- ---- recorders
 
 abbrev pub recorded_view : Recorded → Kept
-recorded_view (recorded.Command command arguments env) = KeptCommand (string_bytes command) (option_map (λ words. map string_bytes words.items) arguments) (pairs_view env)
+recorded_view (recorded.Command command arguments env) =
+    KeptCommand (string_bytes command) (option_map (λ words. map string_bytes words.items) arguments) (pairs_view env)
 recorded_view (recorded.Text kind text) = KeptText kind (string_bytes text)
 recorded_view (recorded.Exists path) = KeptExistence (string_bytes path)
 recorded_view (recorded.Number question) = KeptNumber question

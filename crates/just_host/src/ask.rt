@@ -1,12 +1,7 @@
 // Running commands in a context.
 
-ghost use Rattle.std.specs.Prelude.{◌≡◌, map, string_bytes, false};
-ghost use Rattle.std.specs.Option.{option_map};
-ghost use Rattle.just_value.specs.View.{frames_view};
-ghost use Rattle.just_host.specs.Interaction.{AsksOnce};
-ghost use Rattle.just_host.specs.Question.{command_question};
-ghost use Rattle.just_syntax.specs.View.{pairs_view};
-ghost use Rattle.just_host.specs.View.{fixed_view, replied};
+ghost use Rattle.std.specs.Prelude.{false, map, option_map, string_bytes, ◌≡◌};
+ghost use Rattle.just_host.specs.Prelude.{AsksOnce, command_question, fixed_view, frames_view, pairs_view, replied};
 
 use crate::command_question::CommandQuestion;
 use crate::execution_context::ExecutionContext;
@@ -34,7 +29,8 @@ pub fn ask_command<'call, 'src, 'run, H: Host>(
     arguments: Option<&[String]>,
 ) -> Result<String, CommandFault>
     requires commands_run { context.now.config.now.dry_run ≡ false }
-    ensures asked { let question = command_question (fixed_view context.now) (pairs_view env.now) (frames_view scope.now) command.now (option_map (λ words. map string_bytes words.now) arguments.entry) in
+    ensures asked { let question = command_question (fixed_view context.now) (pairs_view env.now)
+        (frames_view scope.now) command.now (option_map (λ words. map string_bytes words.now) arguments.entry) in
         AsksOnce H.step host.old question (replied result) host.new }
 {
     let working_directory = context.working_directory(alloc)?;

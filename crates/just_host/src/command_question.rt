@@ -1,8 +1,7 @@
 // Commands to run.
 
-ghost use Rattle.std.specs.Prelude.{◌≡◌, ◌++◌, IfOk, OnOk, map, string_bytes};
-ghost use Rattle.just_host.specs.CommandLine.{command_line};
-ghost use Rattle.just_host.specs.View.{command_view};
+ghost use Rattle.std.specs.Prelude.{IfOk, OnOk, map, string_bytes, ◌++◌, ◌≡◌};
+ghost use Rattle.just_host.specs.Prelude.{command_line, command_view};
 
 use crate::config::Config;
 use crate::printed::write_command;
@@ -46,7 +45,8 @@ impl CommandQuestion<'_, '_, '_> {
         alloc: Global,
         takes_shell_name: bool,
     ) -> Result<Vec<&str>, OutOfMemory>
-        ensures { IfOk result (λ words. map (λ word. word.now) words.items ≡ command_line takes_shell_name (command_view self.now)) }
+        ensures { IfOk result (λ words. map (λ word. word.now) words.items ≡ command_line takes_shell_name
+            (command_view self.now)) }
     {
         let (shell, arguments) = self.settings.shell(alloc, self.config)?;
         let mut words = Vec::new(alloc);
@@ -65,7 +65,8 @@ impl CommandQuestion<'_, '_, '_> {
 
 // Adds texts, borrowed.
 fn add_texts<'text>(words: &mut Vec<&'text str>, texts: &'text [String]) -> Result<(), OutOfMemory>
-    ensures { OnOk result (map (λ word. word.now) words.new.items ≡ map (λ word. word.now) words.old.items ++ map string_bytes texts.now) }
+    ensures { OnOk result (map (λ word. word.now) words.new.items ≡ map (λ word. word.now) words.old.items
+        ++ map string_bytes texts.now) }
 {
     for text in texts {
         words.push(text)?;

@@ -1,8 +1,7 @@
 // How the program was called.
 
-ghost use Rattle.std.specs.Prelude.{◌≡◌, IfOk};
-ghost use Rattle.just_host.specs.Settings.{called_in};
-ghost use Rattle.just_host.specs.View.{config_view};
+ghost use Rattle.std.specs.Prelude.{IfOk, ◌≡◌};
+ghost use Rattle.just_host.specs.Prelude.{called_in, config_view};
 
 use just_syntax::out_of_memory::OutOfMemory;
 use std::alloc::Global;

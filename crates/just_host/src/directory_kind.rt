@@ -1,7 +1,7 @@
 // Kinds of directories that a host is asked for.
 
 ghost use Rattle.std.specs.Prelude.{◌≡◌};
-ghost use Rattle.just_host.specs.Printed.{directory_word};
+ghost use Rattle.just_host.specs.Prelude.{directory_word};
 
 use std::fmt;
 

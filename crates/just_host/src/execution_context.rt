@@ -1,8 +1,7 @@
 // The fixed context of a module's evaluation.
 
-ghost use Rattle.std.specs.Prelude.{◌≡◌, IfOk, string_bytes};
-ghost use Rattle.just_host.specs.Fixed.{working_directory};
-ghost use Rattle.just_host.specs.View.{fixed_view};
+ghost use Rattle.std.specs.Prelude.{IfOk, string_bytes, ◌≡◌};
+ghost use Rattle.just_host.specs.Prelude.{fixed_view, working_directory};
 
 use crate::config::Config;
 use crate::justfile::Justfile;
@@ -43,7 +42,16 @@ impl<'src, 'run> ExecutionContext<'src, 'run> {
         scope: &'run Scope<'src, 'run>,
         search: &'run Search,
     ) -> ExecutionContext<'src, 'run>
-        ensures { result ≡ record { config = config.entry; dotenv = dotenv.entry; «module» = «module».entry; overrides = overrides.entry; recursion_limit = RECURSION_LIMIT; scope = scope.entry; search = search.entry } }
+        ensures { result ≡ record {
+          config = config.entry;
+          dotenv = dotenv.entry;
+          «module» = «module».entry;
+          overrides =
+              overrides.entry;
+          recursion_limit = RECURSION_LIMIT;
+          scope = scope.entry;
+          search = search.entry;
+        } }
     {
         ExecutionContext {
             config,

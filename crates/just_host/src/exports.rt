@@ -1,10 +1,8 @@
 // The effect of a scope's exported variables on an environment.
 
-ghost use Rattle.std.specs.Prelude.{◌≡◌, ◌++◌, IfOk, OnOk, map, string_bytes};
-ghost use Rattle.std.specs.Map.{values_of};
-ghost use Rattle.just_value.specs.View.{frame_view, frames_view};
-ghost use Rattle.just_host.specs.Exports.{ComeToTheSame, Removes, exports, frame_exports, frames_exports, framewise};
-ghost use Rattle.just_host.specs.View.{change_view};
+ghost use Rattle.std.specs.Prelude.{IfOk, OnOk, map, string_bytes, ◌++◌, ◌≡◌};
+ghost use Rattle.just_host.specs.Prelude.{ComeToTheSame, change_view, exports, frame_exports, frame_view};
+ghost use Rattle.just_host.specs.Prelude.{frames_exports, frames_view, framewise};
 
 use just_syntax::out_of_memory::OutOfMemory;
 use just_value::frame::Frame;
@@ -38,8 +36,10 @@ pub fn exports<'name>(
     scope: &'name Scope<'_, '_>,
     unexports: &'name [String],
 ) -> Result<Vec<EnvironmentChange<'name>>, OutOfMemory>
-    ensures changes { IfOk result (λ changes. map change_view changes.items ≡ exports (map string_bytes unexports.now) (frames_view scope.now)) }
-    ensures framewise { IfOk result (λ changes. ComeToTheSame (map change_view changes.items) (framewise (map string_bytes unexports.now) (frames_view scope.now))) }
+    ensures changes { IfOk result (λ changes. map change_view changes.items ≡ exports (map string_bytes unexports.now)
+        (frames_view scope.now)) }
+    ensures framewise { IfOk result (λ changes. ComeToTheSame (map change_view changes.items)
+        (framewise (map string_bytes unexports.now) (frames_view scope.now))) }
 {
     let mut changes = Vec::new(alloc);
     if let Some(outer) = scope.parent() {
@@ -58,7 +58,8 @@ fn add_frames<'name>(
     frames: &'name [&'name Frame<'_>],
     changes: &mut Vec<EnvironmentChange<'name>>,
 ) -> Result<(), OutOfMemory>
-    ensures { OnOk result (map change_view changes.new.items ≡ map change_view changes.old.items ++ frames_exports (map (λ frame. frame_view frame.now) frames.now)) }
+    ensures { OnOk result (map change_view changes.new.items ≡ map change_view changes.old.items ++ frames_exports
+        (map (λ frame. frame_view frame.now) frames.now)) }
 {
     for frame in frames.iter().rev() {
         add_frame(alloc, frame, changes)?;
@@ -72,7 +73,8 @@ fn add_frame<'name>(
     frame: &'name Frame<'_>,
     changes: &mut Vec<EnvironmentChange<'name>>,
 ) -> Result<(), OutOfMemory>
-    ensures { OnOk result (map change_view changes.new.items ≡ map change_view changes.old.items ++ frame_exports (frame_view frame.now)) }
+    ensures { OnOk result (map change_view changes.new.items ≡ map change_view changes.old.items ++ frame_exports
+        (frame_view frame.now)) }
 {
     for binding in frame.bindings() {
         if binding.export {

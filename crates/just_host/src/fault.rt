@@ -1,8 +1,7 @@
 // Messages of faults.
 
-ghost use Rattle.std.specs.Prelude.{◌≡◌, IfOk, string_bytes};
-ghost use Rattle.just_host.specs.Fault.{fault_text};
-ghost use Rattle.just_value.specs.View.{fault_view};
+ghost use Rattle.std.specs.Prelude.{IfOk, string_bytes, ◌≡◌};
+ghost use Rattle.just_host.specs.Prelude.{fault_text, fault_view};
 
 use just_syntax::out_of_memory::OutOfMemory;
 use just_value::error::CommandFault;

@@ -1,7 +1,7 @@
 // The host, which answers the questions that evaluation asks.
 
-ghost use Rattle.just_host.specs.Question.{Answer, Question};
-ghost use Rattle.just_host.specs.View.{existence_question, existence_answer, number_question, number_answer, question_view, replied, text_question, text_replied};
+ghost use Rattle.just_host.specs.Prelude.{Answer, Question, existence_answer, existence_question, number_answer};
+ghost use Rattle.just_host.specs.Prelude.{number_question, question_view, replied, text_question, text_replied};
 
 use crate::command_question::CommandQuestion;
 use crate::number_question::NumberQuestion;

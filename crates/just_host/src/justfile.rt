@@ -1,8 +1,7 @@
 // Modules.
 
-ghost use Rattle.std.specs.Prelude.{◌≡◌, IfOk};
-ghost use Rattle.just_host.specs.Justfile.{empty_root};
-ghost use Rattle.just_host.specs.View.{justfile_view};
+ghost use Rattle.std.specs.Prelude.{IfOk, ◌≡◌};
+ghost use Rattle.just_host.specs.Prelude.{empty_root, justfile_view};
 
 use crate::settings::Settings;
 use just_syntax::assignment::Assignment;

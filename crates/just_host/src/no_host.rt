@@ -1,8 +1,6 @@
 // A host that provides nothing.
 
-ghost use Rattle.just_host.specs.NoHost.{not_run};
-ghost use Rattle.just_host.specs.Question.{Failed, UnlessNoMemory};
-ghost use Rattle.just_value.specs.View.{fault_view};
+ghost use Rattle.just_host.specs.Prelude.{Failed, UnlessNoMemory, fault_view, not_run};
 
 use crate::command_question::CommandQuestion;
 use crate::host::Host;

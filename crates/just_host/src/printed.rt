@@ -1,9 +1,8 @@
 // Printing of questions.
 
-ghost use Rattle.std.specs.Prelude.{map, string_bytes};
+ghost use Rattle.std.specs.Prelude.{map, option_map, string_bytes};
 ghost use Rattle.std.specs.Fmt.{WritesStyledOnOk};
-ghost use Rattle.std.specs.Option.{option_map};
-ghost use Rattle.just_host.specs.Printed.{command_printed, spaced, spaced_given, text_printed};
+ghost use Rattle.just_host.specs.Prelude.{command_printed, spaced, spaced_given, text_printed};
 
 use crate::recorded::TextKind;
 use just_syntax::unstyled::write_unstyled;
@@ -17,7 +16,8 @@ pub(crate) fn write_command<W: fmt::Write>(
     command: &str,
     arguments: Option<&[String]>,
 ) -> fmt::Result
-    ensures { WritesStyledOnOk W.write_str_gives f.old result (command_printed command.now (option_map (λ words. map string_bytes words.now) arguments.entry)) f.new }
+    ensures { WritesStyledOnOk W.write_str_gives f.old result
+        (command_printed command.now (option_map (λ words. map string_bytes words.now) arguments.entry)) f.new }
 {
     let command = Element(command);
     write_unstyled(f, format_args!("command {command}"))?;
@@ -26,7 +26,8 @@ pub(crate) fn write_command<W: fmt::Write>(
 
 // An optional list of texts in quotes, each after a space.
 fn write_given<W: fmt::Write>(f: &mut fmt::Formatter<W>, texts: Option<&[String]>) -> fmt::Result
-    ensures { WritesStyledOnOk W.write_str_gives f.old result (spaced_given (option_map (λ words. map string_bytes words.now) texts.entry)) f.new }
+    ensures { WritesStyledOnOk W.write_str_gives f.old result
+        (spaced_given (option_map (λ words. map string_bytes words.now) texts.entry)) f.new }
 {
     match texts {
         Some(texts) => write_spaced(f, texts),

@@ -1,10 +1,8 @@
 // Records of questions.
 
-ghost use Rattle.std.specs.Prelude.{◌≡◌, IfOk, map, string_bytes};
-ghost use Rattle.just_host.specs.Question.{TextOf};
-ghost use Rattle.just_host.specs.Recorded.{kind_of, recorded, text_of};
-ghost use Rattle.just_syntax.specs.View.{pairs_view};
-ghost use Rattle.just_host.specs.View.{question_view, recorded_view, text_question_view};
+ghost use Rattle.std.specs.Prelude.{IfOk, map, string_bytes, ◌≡◌};
+ghost use Rattle.just_host.specs.Prelude.{TextOf, kind_of, pairs_view, question_view, recorded, recorded_view, text_of};
+ghost use Rattle.just_host.specs.Prelude.{text_question_view};
 
 use crate::command_question::CommandQuestion;
 use crate::directory_kind::DirectoryKind;

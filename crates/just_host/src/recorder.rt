@@ -1,7 +1,7 @@
 // A host that records the questions it is asked.
 
-ghost use Rattle.std.specs.Prelude.{◌≡◌, OnErr, OnOk, [], ◌∷◌, ◌++◌, map};
-ghost use Rattle.just_host.specs.View.{inner_host, recorded_view, records_view};
+ghost use Rattle.std.specs.Prelude.{OnErr, OnOk, [], map, ◌++◌, ◌∷◌, ◌≡◌};
+ghost use Rattle.just_host.specs.Prelude.{inner_host, recorded_view, records_view};
 
 use crate::command_question::CommandQuestion;
 use crate::host::Host;
@@ -62,7 +62,8 @@ impl<H: Host> Host for Recorder<H> {
     ghost use Rattle.just_host.specs.Recorded.{RecordsAndAsks};
     ghost use Rattle.just_host.specs.View.{inner_host, records_view};
 
-    ghost step = { λ old question answer new. RecordsAndAsks H.step (inner_host old) (records_view old) question answer (inner_host new) (records_view new) };
+    ghost step = { λ old question answer new. RecordsAndAsks H.step (inner_host old) (records_view old) question answer
+        (inner_host new) (records_view new) };
 
     fn command(
         &mut self,

@@ -1,7 +1,7 @@
 // Results of the search before evaluation.
 
-ghost use Rattle.std.specs.Prelude.{◌≡◌, IfOk};
-ghost use Rattle.just_host.specs.View.{search_view};
+ghost use Rattle.std.specs.Prelude.{IfOk, ◌≡◌};
+ghost use Rattle.just_host.specs.Prelude.{search_view};
 
 use just_syntax::out_of_memory::OutOfMemory;
 use std::alloc::Global;
@@ -24,7 +24,11 @@ impl Search {
         justfile: &str,
         working_directory: &str,
     ) -> Result<Search, OutOfMemory>
-        ensures { IfOk result (λ search. search_view search ≡ record { justfile = justfile.now; working_directory = working_directory.now }) }
+        ensures { IfOk result (λ search. search_view search ≡ record {
+          justfile = justfile.now;
+          working_directory =
+              working_directory.now;
+        }) }
     {
         Ok(Search {
             justfile: String::from_str(alloc, justfile)?,

@@ -1,8 +1,8 @@
 // Settings of a module.
 
-ghost use Rattle.std.specs.Prelude.{◌≡◌, IfOk, map, string_bytes};
-ghost use Rattle.just_host.specs.Settings.{default_shell_arguments, shell_of, unset};
-ghost use Rattle.just_host.specs.View.{config_view, settings_view, shell_view};
+ghost use Rattle.std.specs.Prelude.{IfOk, map, string_bytes, ◌≡◌};
+ghost use Rattle.just_host.specs.Prelude.{config_view, default_shell_arguments, settings_view, shell_of, shell_view};
+ghost use Rattle.just_host.specs.Prelude.{unset};
 
 use crate::config::Config;
 use just_syntax::indentation::Indentation;

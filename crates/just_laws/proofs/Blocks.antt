@@ -1,5 +1,6 @@
 -- The state of a run before each of its blocks.
-use Rattle.std.proofs.Common.{◌≡◌, ◌⊎◌, ⊎_elim, inl, inr, ℕ, Bool, true, false, List, [], ◌∷◌, map, nat_eq, Option, Some, None, if◌then◌else◌, refl, sym, ap, ◌∙◌, subst, arith}
+use Rattle.std.proofs.Common.{◌≡◌, ◌⊎◌, ⊎_elim, inl, inr, ℕ, Bool, true, false, List, [], ◌∷◌, map, nat_eq, Option, Some, None, if◌then◌else◌, refl, sym, ap}
+use Rattle.std.proofs.Common.{◌∙◌, subst, arith}
 use Rattle.std.proofs.lemmas.Bool.Decides.{nat_tests}
 use Rattle.std.specs.Option.{option_or}
 use Rattle.just_syntax.specs.Plain.{Text, Token, Assignment}
@@ -8,15 +9,16 @@ use Rattle.just_syntax.proofs.Tables.{found_is}
 use Rattle.just_syntax.specs.Lists.{IsIn}
 use Rattle.just_syntax.proofs.Lists.{in_first, in_second}
 use Rattle.just_value.specs.Value.{Value, Names}
-use Rattle.just_value.specs.Frames.{Bound, Frame, Frames, bound_at, innermost, or_else, over, value_in, value_of, with_bound}
+use Rattle.just_value.specs.Frames.{Bound, Frame, Frames, bound_at, innermost, over, value_in, value_of, with_bound}
 use Rattle.just_value.specs.Outcome.{Outcome, Gave, Refused, Stopped}
 use Rattle.just_value.proofs.Values.{value_innermost}
 use Rattle.just_host.specs.Interaction.{Event, Path, freely}
-use Rattle.just_meaning.specs.Assignments.{assignment_at}
 use Rattle.just_meaning.specs.Reaches.{Reads}
-use Rattle.just_meaning.specs.Resolved.{AreDistinct, HasValue, AreInOrder, with_taken}
-use Rattle.just_meaning.specs.Module.{Module, Block, Run, Finished, Stops, Unknown, Passes, Skips, Binds, Breaks, Halts, IsTaken, assigned, events_of, lexically, bound_in}
-use Rattle.just_soundness.proofs.Bound.{bound_put, has_put, over_put}
+use Rattle.just_meaning.specs.Resolved.{AreDistinct, HasValue, AreInOrder}
+use Rattle.just_meaning.specs.Module.{Module, Block, Run, Finished, Stops, Unknown, Passes, Skips, Binds, Breaks, Halts, IsTaken, assigned, events_of}
+use Rattle.just_meaning.specs.Module.{lexically, bound_in}
+use Rattle.just_soundness.proofs.Bound.{bound_put, bound_value, over_put}
+use Rattle.just_soundness.proofs.Taken.{AllHave, have_more, have_put, none_taken, order_on}
 use Rattle.just_laws.specs.Cone.{assignment_numbered}
 
 -- ---- lists
@@ -42,26 +44,25 @@ never_both v x h k = absurd (cc)
 pub below_nothing : (frame : Frame) (names : Names) (n : ℕ) → over frame names n ≡ None → names n ≡ None
 below_nothing frame names n h = by (value_of (bound_at n frame)) h
   where
-    by : (x : Option Value) → or_else x (names n) ≡ None → names n ≡ None
+    by : (x : Option Value) → option_or x (names n) ≡ None → names n ≡ None
     by None e = e
     by (Some v) e = absurd (cc)
 
 pub has_below : (frame : Frame) (names : Names) (n : ℕ) → HasValue names n → HasValue (over frame names) n
 has_below frame names n h = by (value_of (bound_at n frame))
   where
-    by : (x : Option Value) → (v : Value) × (or_else x (names n) ≡ Some v)
+    by : (x : Option Value) → (v : Value) × (option_or x (names n) ≡ Some v)
     by None = h
     by (Some v) = (v, refl)
 
 -- a number that had no value gets its value, and all others keep theirs
-pub stays : (frame : Frame) (names : Names) (b : Bound) → over frame names b.number ≡ None → (k : ℕ) (v : Value) → over frame names k ≡ Some v → over (with_bound frame b) names k ≡ Some v
-stays frame names b unbound k v h = ⊎_elim (λ put. absurd (never_both v _ h (subst (λ n. over frame names n ≡ None) put.0 unbound))) (λ kept. kept.1 names ∙ h) (over_put frame b k)
+pub stays : (frame : Frame) (names : Names) (b : Bound) → over frame names b.number ≡ None → (k : ℕ) (v : Value) → over frame names k ≡ Some v
+    → over (with_bound frame b) names k ≡ Some v
+stays frame names b unbound k v h =
+    ⊎_elim (λ put. absurd (never_both v _ h (subst (λ n. over frame names n ≡ None) put.0 unbound))) (λ kept. kept.1 names ∙ h) (over_put frame b k)
 
 pub unbound_value : (n : ℕ) (frames : Frames) → innermost n frames ≡ None → value_in frames n ≡ None
 unbound_value n frames e = sym (value_innermost n frames) ∙ ap value_of e
-
-pub bound_value : (n : ℕ) (frames : Frames) (b : Bound) → innermost n frames ≡ Some b → value_in frames n ≡ Some b.value
-bound_value n frames b e = sym (value_innermost n frames) ∙ ap value_of e
 
 -- a number that no frame binds is not bound in the first
 own_nothing : (frame : Frame) (outer : Frames) (n : ℕ) → innermost n (frame ∷ outer) ≡ None → bound_at n frame ≡ None
@@ -79,7 +80,8 @@ put_bound frame b = ⊎_elim (λ put. put.1) (λ kept. absurd (kept.0 refl)) (bo
 pub kept_bound : (frame : Frame) (outer : Frames) (new : Bound) (n : ℕ) (b : Bound) → innermost new.number (frame ∷ outer) ≡ None → bound_at n frame ≡ Some b
     → bound_at n (with_bound frame new) ≡ Some b
 kept_bound frame outer new n b unbound h =
-    ⊎_elim (λ put. absurd (never_both b _ h (subst (λ j. bound_at j frame ≡ None) put.0 (own_nothing frame outer new.number unbound)))) (λ kept. kept.1 ∙ h) (bound_put frame new n)
+    ⊎_elim (λ put. absurd (never_both b _ h (subst (λ j. bound_at j frame ≡ None) put.0 (own_nothing frame outer new.number unbound)))) (λ kept. kept.1 ∙ h)
+    (bound_put frame new n)
 
 -- ---- assignments by number
 
@@ -87,25 +89,33 @@ numbered_one : (xs : List Assignment) (n : ℕ) (a : Assignment) → assignment_
 numbered_one [] n a h = absurd (cc)
 numbered_one (x ∷ xs) n a h = by (nat_eq x.number n) refl h (λ is. numbered_one xs n a is)
   where
-    by : (b : Bool) → nat_eq x.number n ≡ b → (if b then Some x else assignment_numbered xs n) ≡ Some a → (assignment_numbered xs n ≡ Some a → IsIn (map (λ a. a.number) xs) n) → IsIn (map (λ a. a.number) (x ∷ xs)) n
+    by : (b : Bool) → nat_eq x.number n ≡ b → (if b then Some x else assignment_numbered xs n) ≡ Some a
+        → (assignment_numbered xs n ≡ Some a → IsIn (map (λ a. a.number) xs) n) → IsIn (map (λ a. a.number) (x ∷ xs)) n
     by true e is later = inl (grind (arith, nat_tests))
     by false e is later = inr (later is)
 
 -- if numbers are distinct, an assignment that its name finds is the one with its number
-pub found_numbered : (name : Text) (all : List Assignment) (a : Assignment) → AreDistinct (map (λ a. a.number) all) → value_at (λ a. a.name.lexeme) name all ≡ Some a → assignment_numbered all a.number ≡ Some a
+pub found_numbered : (name : Text) (all : List Assignment) (a : Assignment) → AreDistinct (map (λ a. a.number) all) → value_at (λ a. a.name.lexeme) name all
+    ≡ Some a → assignment_numbered all a.number ≡ Some a
 found_numbered name all a distinct found =
-    found_is (λ a. a.name.lexeme) name (λ xs. AreDistinct (map (λ a. a.number) xs) × ((b : Assignment) → assignment_numbered xs b.number ≡ Some b → assignment_numbered all b.number ≡ Some b)) (λ a. assignment_numbered all a.number ≡ Some a)
+    found_is (λ a. a.name.lexeme) name (λ xs. AreDistinct (map (λ a. a.number) xs) × ((b : Assignment) → assignment_numbered xs b.number ≡ Some b
+    → assignment_numbered all b.number ≡ Some b)) (λ a. assignment_numbered all a.number ≡ Some a)
     first after all a (distinct, λ b h. h) found
   where
-    first : (a : Assignment) (xs : List Assignment) → AreDistinct (map (λ a. a.number) (a ∷ xs)) × ((b : Assignment) → assignment_numbered (a ∷ xs) b.number ≡ Some b → assignment_numbered all b.number ≡ Some b) → assignment_numbered all a.number ≡ Some a
+    first : (a : Assignment) (xs : List Assignment) → AreDistinct (map (λ a. a.number) (a ∷ xs))
+        × ((b : Assignment) → assignment_numbered (a ∷ xs) b.number ≡ Some b → assignment_numbered all b.number ≡ Some b)
+        → assignment_numbered all a.number ≡ Some a
     first a xs h = h.1 a (let same : nat_eq a.number a.number ≡ true = grind (arith, nat_tests) in rw same refl)
 
-    after : (a : Assignment) (xs : List Assignment) → AreDistinct (map (λ a. a.number) (a ∷ xs)) × ((b : Assignment) → assignment_numbered (a ∷ xs) b.number ≡ Some b → assignment_numbered all b.number ≡ Some b)
+    after : (a : Assignment) (xs : List Assignment) → AreDistinct (map (λ a. a.number) (a ∷ xs))
+        × ((b : Assignment) → assignment_numbered (a ∷ xs) b.number ≡ Some b → assignment_numbered all b.number ≡ Some b)
         → AreDistinct (map (λ a. a.number) xs) × ((b : Assignment) → assignment_numbered xs b.number ≡ Some b → assignment_numbered all b.number ≡ Some b)
     after a xs h = (h.0.1, λ b is. h.1 b (later b is (nat_eq a.number b.number) refl))
       where
-        later : (b : Assignment) → assignment_numbered xs b.number ≡ Some b → (t : Bool) → nat_eq a.number b.number ≡ t → assignment_numbered (a ∷ xs) b.number ≡ Some b
-        later b is true e = let same : b.number ≡ a.number = grind (arith, nat_tests) in absurd (h.0.0 (subst (IsIn (map (λ a. a.number) xs)) same (numbered_one xs b.number b is)))
+        later : (b : Assignment) → assignment_numbered xs b.number ≡ Some b → (t : Bool) → nat_eq a.number b.number ≡ t
+            → assignment_numbered (a ∷ xs) b.number ≡ Some b
+        later b is true e = let same : b.number ≡ a.number =
+            grind (arith, nat_tests) in absurd (h.0.0 (subst (IsIn (map (λ a. a.number) xs)) same (numbered_one xs b.number b is)))
         later b is false e = rw e is
 
 -- ---- the blocks of a run
@@ -135,11 +145,13 @@ AllMet m outer before (b ∷ bs) = Met m outer before b × AllMet m outer (b ∷
 pub met_outside : (m : Module) (outer : Frames) (before : List Block) (b : Block) → Met m outer before b → value_in outer b.number ≡ None
 met_outside m outer before b k = subst (λ n. value_in outer n ≡ None) k.number (below_nothing k.frame (value_in outer) k.assignment.number k.unbound)
 
-pub given_among : (outer : Frames) (bs cs : List Block) (k : ℕ) (v : Value) → ((b : Block) → IsIn bs b → IsIn cs b) → IsGiven outer bs k v → IsGiven outer cs k v
+pub given_among : (outer : Frames) (bs cs : List Block) (k : ℕ) (v : Value) → ((b : Block) → IsIn bs b → IsIn cs b) → IsGiven outer bs k v
+    → IsGiven outer cs k v
 given_among outer bs cs k v among (inl out) = inl out
 given_among outer bs cs k v among (inr (b, at, number, gave)) = inr (b, among b at, number, gave)
 
-met_among : (m : Module) (outer : Frames) (before all : List Block) (b : Block) → ((c : Block) → IsIn before c → IsIn all c) → Met m outer before b → Met m outer all b
+met_among : (m : Module) (outer : Frames) (before all : List Block) (b : Block) → ((c : Block) → IsIn before c → IsIn all c) → Met m outer before b
+    → Met m outer all b
 met_among m outer before all b among k = record {
   frame = k.frame;
   assignment = k.assignment;
@@ -151,29 +163,24 @@ met_among m outer before all b among k = record {
   reads = k.reads;
 }
 
-pub one_met : (m : Module) (outer : Frames) (before bs all : List Block) (b : Block) → ((c : Block) → IsIn before c → IsIn all c) → ((c : Block) → IsIn bs c → IsIn all c) → AllMet m outer before bs → IsIn bs b → Met m outer all b
+pub one_met : (m : Module) (outer : Frames) (before bs all : List Block) (b : Block) → ((c : Block) → IsIn before c → IsIn all c)
+    → ((c : Block) → IsIn bs c → IsIn all c) → AllMet m outer before bs → IsIn bs b → Met m outer all b
 one_met m outer before [] all b front after h at = absurd at
 one_met m outer before (x ∷ bs) all b front after h (inl same) = subst (Met m outer all) same (met_among m outer before all x front h.0)
 one_met m outer before (x ∷ bs) all b front after h (inr later) =
     one_met m outer (x ∷ before) bs all b (λ c at. ⊎_elim (λ same. after c (inl same)) (λ at. front c at) at) (λ c at. after c (inr at)) h.1 later
 
 module _ (m : Module) (outer : Frames) (distinct : AreDistinct (map (λ a. a.number) m.assignments.all)) where
-  -- what was taken or is bound outside has a value
-  abbrev pub AllHave : Frame → List ℕ → Type 0
-  AllHave frame taken = (n : ℕ) → IsIn taken n ⊎ HasValue (value_in outer) n → HasValue (value_in (frame ∷ outer)) n
-
   abbrev AllGiven : Frame → List Block → Type 0
   AllGiven frame before = (k : ℕ) (v : Value) → value_in (frame ∷ outer) k ≡ Some v → IsGiven outer before k v
 
   abbrev InOrder : List ℕ → List Token → Type 0
   InOrder taken left = AreInOrder m.program.functions m.assignments outer taken left
 
-  pub after_name : (taken : List ℕ) (t : Token) (left : List Token) (a : Assignment) (b : Bool) → assignment_at m.assignments t.lexeme ≡ Some a → m.assignments.referenced a.number ≡ b
-      → InOrder (with_taken m.assignments (assignment_at m.assignments t.lexeme) taken) left → InOrder (if b then a.number ∷ taken else taken) left
-  after_name taken t left a b found e h = rw (found, e) at h
-
-  met_here : (frame : Frame) (taken : List ℕ) (before : List Block) (t : Token) (left : List Token) (a : Assignment) (es : List Event) (o : Outcome Value) → InOrder taken (t ∷ left) → AllHave frame taken → AllGiven frame before
-      → IsTaken m (frame ∷ outer) t a → Path freely (assigned lexically m (frame ∷ outer) a) es o → Met m outer before (record { number = a.number; events = es; outcome = o })
+  met_here : (frame : Frame) (taken : List ℕ) (before : List Block) (t : Token) (left : List Token) (a : Assignment) (es : List Event) (o : Outcome Value)
+      → InOrder taken (t ∷ left) → AllHave outer frame taken → AllGiven frame before
+      → IsTaken m (frame ∷ outer) t a → Path freely (assigned lexically m (frame ∷ outer) a) es o
+      → Met m outer before (record { number = a.number; events = es; outcome = o })
   met_here frame taken before t left a es o h have given k p = record {
     frame = frame;
     assignment = a;
@@ -185,35 +192,32 @@ module _ (m : Module) (outer : Frames) (distinct : AreDistinct (map (λ a. a.num
     reads = λ n r. have n (h.0 a k.found k.referenced n r);
   }
 
-  given_put : (frame : Frame) (before : List Block) (a : Assignment) (es : List Event) (v : Value) → AllGiven frame before → AllGiven (with_bound frame (bound_in m a v)) (record { number = a.number; events = es; outcome = Gave v } ∷ before)
+  given_put : (frame : Frame) (before : List Block) (a : Assignment) (es : List Event) (v : Value) → AllGiven frame before
+      → AllGiven (with_bound frame (bound_in m a v)) (record { number = a.number; events = es; outcome = Gave v } ∷ before)
   given_put frame before a es v given k u h =
       ⊎_elim
       (λ put. inr (record { number = a.number; events = es; outcome = Gave v }, inl refl, put.0, ap Gave (some_same v u (sym (put.1 (value_in outer)) ∙ h))))
-      (λ kept. given_among outer before (record { number = a.number; events = es; outcome = Gave v } ∷ before) k u (λ c at. inr at) (given k u (sym (kept.1 (value_in outer)) ∙ h)))
+      (λ kept. given_among outer before (record { number = a.number; events = es; outcome = Gave v } ∷ before) k u (λ c at. inr at)
+      (given k u (sym (kept.1 (value_in outer)) ∙ h)))
       (over_put frame (bound_in m a v) k)
 
-  met_from : (frame : Frame) (taken : List ℕ) (before : List Block) {left : List Token} {bs : List Block} {o : Outcome Frames} → InOrder taken left → AllHave frame taken → AllGiven frame before → Run lexically m (frame ∷ outer) left bs o → AllMet m outer before bs
+  met_from : (frame : Frame) (taken : List ℕ) (before : List Block) {left : List Token} {bs : List Block} {o : Outcome Frames} → InOrder taken left
+      → AllHave outer frame taken → AllGiven frame before → Run lexically m (frame ∷ outer) left bs o → AllMet m outer before bs
   met_from frame taken before h have given Finished = tt
   met_from frame taken before h have given Stops = tt
   met_from frame taken before h have given (Unknown f) = tt
-  met_from frame taken before {left = t ∷ left} h have given (Passes a f e r) = met_from frame taken before (after_name taken t left a false f e h.1) have given r
-  met_from frame taken before {left = t ∷ left} h have given (Skips a b f e g r) = met_from frame (a.number ∷ taken) before (after_name taken t left a true f e h.1) more given r
-    where
-      more : AllHave frame (a.number ∷ taken)
-      more n (inl (inl same)) = subst (HasValue (value_in (frame ∷ outer))) same (b.value, bound_value a.number (frame ∷ outer) b g)
-      more n (inl (inr among)) = have n (inl among)
-      more n (inr bound) = have n (inr bound)
+  met_from frame taken before {left = t ∷ left} h have given (Passes a f e r) =
+      met_from frame taken before (order_on m.program.functions m.assignments outer taken t left a false f e h) have given r
+  met_from frame taken before {left = t ∷ left} h have given (Skips a b f e g r) =
+      met_from frame (a.number ∷ taken) before (order_on m.program.functions m.assignments outer taken t left a true f e h)
+      (have_more outer frame taken a.number (b.value, bound_value a.number (frame ∷ outer) b g) have) given r
   met_from frame taken before {left = t ∷ left} h have given (Binds a es v k p r) = (
     met_here frame taken before t left a es (Gave v) h have given k p,
-    met_from _ (a.number ∷ taken) _ (after_name taken t left a true k.found k.referenced h.1) (λ n some. has_put frame (value_in outer) (bound_in m a v) n (either n some)) (given_put frame before a es v given) r,
+    met_from _ (a.number ∷ taken) _ (order_on m.program.functions m.assignments outer taken t left a true k.found k.referenced h)
+        (have_put outer frame taken (bound_in m a v) have) (given_put frame before a es v given) r,
   )
-    where
-      either : (n : ℕ) → IsIn (a.number ∷ taken) n ⊎ HasValue (value_in outer) n → (a.number ≡ n) ⊎ HasValue (value_in (frame ∷ outer)) n
-      either n (inl (inl same)) = inl same
-      either n (inl (inr among)) = inr (have n (inl among))
-      either n (inr bound) = inr (have n (inr bound))
   met_from frame taken before {left = t ∷ left} h have given (Breaks a es s k p) = (met_here frame taken before t left a es (Refused s) h have given k p, tt)
   met_from frame taken before {left = t ∷ left} h have given (Halts a es k p) = (met_here frame taken before t left a es Stopped h have given k p, tt)
 
   pub all_met : {left : List Token} {bs : List Block} {o : Outcome Frames} → InOrder [] left → Run lexically m ([] ∷ outer) left bs o → AllMet m outer [] bs
-  all_met h r = met_from [] [] [] h (λ n known. ⊎_elim (λ none. absurd none) (λ bound. bound) known) (λ k v given. inl given) r
+  all_met h r = met_from [] [] [] h (none_taken (HasValue (value_in ([] ∷ outer))) outer (λ n has. has)) (λ k v given. inl given) r

@@ -13,12 +13,13 @@ use Rattle.just_meaning.proofs.Distinct.{distinct_front}
 use Rattle.just_soundness.specs.Laws.{AreAnsweredAlike, AreSame}
 use Rattle.just_laws.specs.Cone.{BlocksAgree, Cone, HaveSameCone, Itself, ReadBy, events_as, events_for}
 use Rattle.just_laws.specs.Reordered.{IsTakenIn, reordered}
-use Rattle.just_laws.proofs.Agreed.{AreMatched, gave_on}
+use Rattle.just_laws.proofs.Agreed.{AreMatched}
 use Rattle.just_laws.proofs.Agreed as agreed
 use Rattle.just_laws.proofs.Blocks.{all_met}
 use Rattle.just_laws.proofs.Orders.{both, not_stopped, partner}
 
-same_cone : (m w : Module) (outer : Frames) (n : ℕ) → m.program.fixed ≡ w.program.fixed → m.limit ≡ w.limit → HaveSameCone m w outer n → AreMatched m w outer (Cone m outer n)
+same_cone : (m w : Module) (outer : Frames) (n : ℕ) → m.program.fixed ≡ w.program.fixed → m.limit ≡ w.limit → HaveSameCone m w outer n
+    → AreMatched m w outer (Cone m outer n)
 same_cone m w outer n fixed limit same = record {
   fixed = fixed;
   limit = limit;
@@ -59,23 +60,30 @@ first_of (c ∷ bs) n b at number = by (nat_eq c.number n) refl at (λ at. first
 
 events_by : (bs cs : List Block) → ((c : Block) → IsIn cs c → AreSame (events_for bs c.number) c.events) → AreSame (events_as bs cs) (events_of cs)
 events_by bs [] h = tt
-events_by bs (c ∷ cs) h = same_append (events_for bs c.number) c.events (events_as bs cs) (events_of cs) (h c (inl refl)) (events_by bs cs (λ d at. h d (inr at)))
+events_by bs (c ∷ cs) h =
+    same_append (events_for bs c.number) c.events (events_as bs cs) (events_of cs) (h c (inl refl)) (events_by bs cs (λ d at. h d (inr at)))
 
-module _ (m : Module) (order : List Token) (referenced : ℕ → Bool) (outer : Frames) (bs cs : List Block) (frames : Frames) (p : Outcome Frames) (one : IsResolvedModule m outer)
-    (other : IsResolved m.program.functions (reordered m order referenced).assignments outer) (r : Run lexically m ([] ∷ outer) m.assignments.order bs (Gave frames)) (q : Run lexically (reordered m order referenced) ([] ∷ outer) order cs p)
-    (talk : AreAnsweredAlike (events_of bs) (events_of cs)) (within : (n : ℕ) → IsTakenIn (reordered m order referenced) n → IsTakenIn m n) (on : p ≢ Stopped) where
+module _ (m : Module) (order : List Token) (referenced : ℕ → Bool) (outer : Frames) (bs cs : List Block) (frames : Frames) (p : Outcome Frames)
+    (one : IsResolvedModule m outer)
+    (other : IsResolved m.program.functions (reordered m order referenced).assignments outer)
+    (r : Run lexically m ([] ∷ outer) m.assignments.order bs (Gave frames)) (q : Run lexically (reordered m order referenced) ([] ∷ outer) order cs p)
+    (talk : AreAnsweredAlike (events_of bs) (events_of cs)) (within : (n : ℕ) → IsTakenIn (reordered m order referenced) n → IsTakenIn m n)
+    (on : p ≢ Stopped) where
   block_same : (c : Block) → IsIn cs c → AreSame (events_for bs c.number) c.events
   block_same c at =
       let b = partner m order referenced outer bs cs (Gave frames) p one other r q talk frames r within c at in
       let d = first_of bs c.number b.0 b.1 b.2 in
       subst (λ es. AreSame es c.events) (sym d.3)
-      (both m order referenced outer bs cs (Gave frames) p one other r q talk d.0 c d.1 at d.2 (not_stopped m outer [] r (λ e. absurd (cc)) d.0 d.1) (not_stopped (reordered m order referenced) outer [] q on c at)).1
+      (both m order referenced outer bs cs (Gave frames) p one other r q talk d.0 c d.1 at d.2 (not_stopped m outer [] r (λ e. absurd (cc)) d.0 d.1)
+      (not_stopped (reordered m order referenced) outer [] q on c at)).1
 
 pub blocks_agree : BlocksAgree
 blocks_agree = record {
   blocks = λ m w outer bs cs o p fixed limit one other r q talk b c at at' number same here there.
       agreed.blocks_agree m w outer (Cone m outer b.number) (same_cone m w outer b.number fixed limit same) bs cs
-      (all_met m outer (distinct_front (map (λ a. a.number) m.assignments.all) _ one.distinct) one.in_order r) (all_met w outer (distinct_front (map (λ a. a.number) w.assignments.all) _ other.distinct) other.in_order q)
+      (all_met m outer (distinct_front (map (λ a. a.number) m.assignments.all) _ one.distinct) one.in_order r)
+      (all_met w outer (distinct_front (map (λ a. a.number) w.assignments.all) _ other.distinct) other.in_order q)
       talk b c (in_of bs b at) (in_of cs c at') Itself number here there;
-  questions = λ m order referenced outer bs cs frames p one other r q talk within on. events_by bs cs (block_same m order referenced outer bs cs frames p one other r q talk within on);
+  questions = λ m order referenced outer bs cs frames p one other r q talk within on.
+      events_by bs cs (block_same m order referenced outer bs cs frames p one other r q talk within on);
 }

@@ -63,7 +63,8 @@ same_verdict Undecided _ = no (λ e. absurd (cc))
 
 -- ---- traces
 
-pub decide : {A : Type 0} {t : Tree A} {es fs : List Event} {o p : Outcome A} → Path freely t es o → Path freely t fs p → o ≢ Stopped → p ≢ Stopped → AgreeUpToAnswers es fs (o ≡ p)
+pub decide : {A : Type 0} {t : Tree A} {es fs : List Event} {o p : Outcome A} → Path freely t es o → Path freely t fs p → o ≢ Stopped → p ≢ Stopped
+    → AgreeUpToAnswers es fs (o ≡ p)
 decide Ends Ends here there = refl
 decide (Asks {next = next} {a = a} p) (Asks {a = b} {es = fs} {o = end} q) here there =
     (refl, elim (same_answer a b) [ yes e ↦ inr (e, decide p (subst (λ x. Path freely (next x) fs end) (sym e) q) here there) | no n ↦ inl n ])
@@ -98,17 +99,21 @@ module _ (closing : Closing) (m : Module) where
   -- the name is that of this assignment, and the run continues from there
   at_name : (frames : Frames) (t : Token) (left : List Token) (a : Assignment) {b : Bool} {y : Option Bound} {es : List Event} {o : Outcome Frames}
       → assignment_at m.assignments t.lexeme ≡ Some a → m.assignments.referenced a.number ≡ b → innermost a.number frames ≡ y
-      → Path freely (if b then unless_bound (λ frames. run_tree frames left) frames a y else run_tree frames left) es o → Path freely (run_tree frames (t ∷ left)) es o
+      → Path freely (if b then unless_bound (λ frames. run_tree frames left) frames a y else run_tree frames left) es o
+      → Path freely (run_tree frames (t ∷ left)) es o
   at_name frames t left a found referenced bound p = rw (found, referenced, bound) p
 
-  run_path : {frames : Frames} {left : List Token} {bs : List Block} {o : Outcome Frames} → Run closing m frames left bs o → Path freely (run_tree frames left) (events_of bs) o
+  run_path : {frames : Frames} {left : List Token} {bs : List Block} {o : Outcome Frames} → Run closing m frames left bs o
+      → Path freely (run_tree frames left) (events_of bs) o
   run_path Finished = Ends
   run_path Stops = interaction.Stops
-  run_path {frames = frames} {left = t ∷ left} (Unknown f) = subst (λ x. Path freely (next_name (λ frames. run_tree frames left) frames t x) [] (Refused (Internal (unknown_assignment_text t.lexeme) t))) (sym f) Ends
+  run_path {frames = frames} {left = t ∷ left} (Unknown f) =
+      subst (λ x. Path freely (next_name (λ frames. run_tree frames left) frames t x) [] (Refused (Internal (unknown_assignment_text t.lexeme) t))) (sym f) Ends
   run_path {frames = frames} {left = t ∷ left} (Passes a f e r) = at_name frames t left a f e refl (run_path r)
   run_path {frames = frames} {left = t ∷ left} (Skips a b f e g r) = at_name frames t left a f e g (run_path r)
   run_path {frames = frames} {left = t ∷ left} (Binds a es v k p r) = at_name frames t left a k.found k.referenced k.unbound (path_on _ p (run_path r))
-  run_path {frames = frames} {left = t ∷ left} (Breaks a es s k p) = at_name frames t left a k.found k.referenced k.unbound (last_events es (path_ends _ (Some s) p))
+  run_path {frames = frames} {left = t ∷ left} (Breaks a es s k p) =
+      at_name frames t left a k.found k.referenced k.unbound (last_events es (path_ends _ (Some s) p))
   run_path {frames = frames} {left = t ∷ left} (Halts a es k p) = at_name frames t left a k.found k.referenced k.unbound (last_events es (path_ends _ None p))
 
 pub answers_decide : AnswersDecide

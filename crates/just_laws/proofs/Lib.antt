@@ -1,4 +1,3 @@
-pub mod Alike
 pub mod Decide
 pub mod Blocks
 pub mod Agreed

@@ -9,13 +9,14 @@ use Rattle.just_value.specs.Refusal.{Refusal}
 use Rattle.just_value.specs.Outcome.{Outcome, Gave, Refused, Stopped}
 use Rattle.just_meaning.specs.Assignments.{assignment_at}
 use Rattle.just_meaning.specs.Resolved.{HasValue, AreAssignments, AreDistinct, IsResolved}
-use Rattle.just_meaning.specs.Module.{Module, Block, Run, Finished, Stops, Unknown, Passes, Skips, Binds, Breaks, Halts, IsTaken, events_of, lexically, IsResolvedModule, bound_in}
+use Rattle.just_meaning.specs.Module.{Module, Block, Run, Finished, Stops, Unknown, Passes, Skips, Binds, Breaks, Halts, IsTaken, events_of, lexically}
+use Rattle.just_meaning.specs.Module.{IsResolvedModule, bound_in}
 use Rattle.just_meaning.proofs.Distinct.{distinct_front}
 use Rattle.just_soundness.specs.Laws.{AreAnsweredAlike, AreSame}
-use Rattle.just_soundness.proofs.Bound.{bound_put, has_put, over_put}
+use Rattle.just_soundness.proofs.Bound.{bound_put, bound_value, has_put, over_put}
 use Rattle.just_laws.specs.Reordered.{Agree, IsTakenIn, OrdersAgree, reordered}
 use Rattle.just_laws.specs.Cone.{assignment_numbered}
-use Rattle.just_laws.proofs.Blocks.{AllMet, all_met, bound_value, found_numbered, gave_same, kept_bound, met_outside, never_both, one_met, put_bound, some_same}
+use Rattle.just_laws.proofs.Blocks.{AllMet, all_met, found_numbered, gave_same, kept_bound, met_outside, never_both, one_met, put_bound, some_same}
 use Rattle.just_laws.proofs.Agreed.{AreMatched, blocks_agree, gave_on}
 
 -- the block that made this binding: the assignment of its number, with its value
@@ -30,18 +31,30 @@ pub record IsMade (m : Module) (bs : List Block) (n : ℕ) (b : Bound) : Type 0 
   pub bound : b ≡ bound_in m assignment value
 
 made_later : (m : Module) (x : Block) (bs : List Block) (n : ℕ) (b : Bound) → IsMade m bs n b → IsMade m (x ∷ bs) n b
-made_later m x bs n b k = record { block = k.block; assignment = k.assignment; value = k.value; among = inr k.among; number = k.number; of_number = k.of_number; gave = k.gave; bound = k.bound }
+made_later m x bs n b k = record {
+  block = k.block;
+  assignment = k.assignment;
+  value = k.value;
+  among = inr k.among;
+  number = k.number;
+  of_number = k.of_number;
+  gave = k.gave;
+  bound = k.bound;
+}
 
 refusal_same : {A : Type 0} (r s : Refusal) (o p : Outcome A) → o ≡ Refused r → p ≡ Refused s → o ≡ p → r ≡ s
 refusal_same r s o p e f same = cc
 
 -- ---- how a run ends
 
-taken_here : (m : Module) (frames : Frames) (t : Token) (a : Assignment) → IsIn m.assignments.order t → IsTaken m frames t a → (n : ℕ) → a.number ≡ n → IsTakenIn m n
-taken_here m frames t a at k n number = record { name = t; assignment = a; named = of_in m.assignments.order t at; found = k.found; referenced = k.referenced; number = number }
+taken_here : (m : Module) (frames : Frames) (t : Token) (a : Assignment) → IsIn m.assignments.order t → IsTaken m frames t a → (n : ℕ)
+    → a.number ≡ n → IsTakenIn m n
+taken_here m frames t a at k n number =
+    record { name = t; assignment = a; named = of_in m.assignments.order t at; found = k.found; referenced = k.referenced; number = number }
 
 module _ (m : Module) (outer : Frames) where
-  pub not_stopped : (frame : Frame) {left : List Token} {bs : List Block} {o : Outcome Frames} → Run lexically m (frame ∷ outer) left bs o → o ≢ Stopped → (b : Block) → IsIn bs b → b.outcome ≢ Stopped
+  pub not_stopped : (frame : Frame) {left : List Token} {bs : List Block} {o : Outcome Frames} → Run lexically m (frame ∷ outer) left bs o → o ≢ Stopped
+      → (b : Block) → IsIn bs b → b.outcome ≢ Stopped
   not_stopped frame Finished on b at = absurd at
   not_stopped frame Stops on b at = absurd at
   not_stopped frame (Unknown f) on b at = absurd at
@@ -54,7 +67,8 @@ module _ (m : Module) (outer : Frames) where
   not_stopped frame (Halts a es k p) on b at = absurd (on refl)
 
   -- a block that is refused is the last
-  pub refused_last : (frame : Frame) {left : List Token} {bs : List Block} {o : Outcome Frames} → Run lexically m (frame ∷ outer) left bs o → (b : Block) (r : Refusal) → IsIn bs b → b.outcome ≡ Refused r → o ≡ Refused r
+  pub refused_last : (frame : Frame) {left : List Token} {bs : List Block} {o : Outcome Frames} → Run lexically m (frame ∷ outer) left bs o
+      → (b : Block) (r : Refusal) → IsIn bs b → b.outcome ≡ Refused r → o ≡ Refused r
   refused_last frame Finished b r at e = absurd at
   refused_last frame Stops b r at e = absurd at
   refused_last frame (Unknown f) b r at e = absurd at
@@ -68,7 +82,8 @@ module _ (m : Module) (outer : Frames) where
   refused_last frame (Halts a es k p) b r (inr none) e = absurd none
 
   -- if each block has a value, the run finishes
-  all_gave : (frame : Frame) {left : List Token} {bs : List Block} {o : Outcome Frames} → Run lexically m (frame ∷ outer) left bs o → AreAssignments m.assignments left → o ≢ Stopped
+  all_gave : (frame : Frame) {left : List Token} {bs : List Block} {o : Outcome Frames} → Run lexically m (frame ∷ outer) left bs o
+      → AreAssignments m.assignments left → o ≢ Stopped
       → ((b : Block) → IsIn bs b → (v : Value) × (b.outcome ≡ Gave v)) → (last : Frames) × (o ≡ Gave last)
   all_gave frame Finished named on gave = (frame ∷ outer, refl)
   all_gave frame Stops named on gave = absurd (on refl)
@@ -80,7 +95,8 @@ module _ (m : Module) (outer : Frames) where
   all_gave frame (Halts a es k p) named on gave = absurd (on refl)
 
   -- the number of a block is taken
-  taken_by : (frame : Frame) {left : List Token} {bs : List Block} {o : Outcome Frames} → ((t : Token) → IsIn left t → IsIn m.assignments.order t) → Run lexically m (frame ∷ outer) left bs o → (b : Block) → IsIn bs b → IsTakenIn m b.number
+  taken_by : (frame : Frame) {left : List Token} {bs : List Block} {o : Outcome Frames} → ((t : Token) → IsIn left t → IsIn m.assignments.order t)
+      → Run lexically m (frame ∷ outer) left bs o → (b : Block) → IsIn bs b → IsTakenIn m b.number
   taken_by frame within Finished b at = absurd at
   taken_by frame within Stops b at = absurd at
   taken_by frame within (Unknown f) b at = absurd at
@@ -97,7 +113,8 @@ module _ (m : Module) (outer : Frames) where
 
 module _ (m : Module) (outer : Frames) (distinct : AreDistinct (map (λ a. a.number) m.assignments.all)) where
   -- a binding in its own frame was there before, or a block made it
-  pub makes : (frame : Frame) {left : List Token} {bs : List Block} {last : Frames} → Run lexically m (frame ∷ outer) left bs (Gave last) → (n : ℕ) (b : Bound) → bound_at n (own_frame last) ≡ Some b → (bound_at n frame ≡ Some b) ⊎ IsMade m bs n b
+  pub makes : (frame : Frame) {left : List Token} {bs : List Block} {last : Frames} → Run lexically m (frame ∷ outer) left bs (Gave last) → (n : ℕ) (b : Bound)
+      → bound_at n (own_frame last) ≡ Some b → (bound_at n frame ≡ Some b) ⊎ IsMade m bs n b
   makes frame Finished n b h = inl h
   makes frame (Passes a f e r) n b h = makes frame r n b h
   makes frame (Skips a c f e g r) n b h = makes frame r n b h
@@ -125,36 +142,42 @@ module _ (m : Module) (outer : Frames) (distinct : AreDistinct (map (λ a. a.num
           (λ kept. inl (sym kept.1 ∙ old))
           (bound_put frame new n)
 
-  stays_bound : (frame : Frame) {left : List Token} {bs : List Block} {last : Frames} → Run lexically m (frame ∷ outer) left bs (Gave last) → (n : ℕ) (b : Bound) → bound_at n frame ≡ Some b → bound_at n (own_frame last) ≡ Some b
+  stays_bound : (frame : Frame) {left : List Token} {bs : List Block} {last : Frames} → Run lexically m (frame ∷ outer) left bs (Gave last)
+      → (n : ℕ) (b : Bound) → bound_at n frame ≡ Some b → bound_at n (own_frame last) ≡ Some b
   stays_bound frame Finished n b h = h
   stays_bound frame (Passes a f e r) n b h = stays_bound frame r n b h
   stays_bound frame (Skips a c f e g r) n b h = stays_bound frame r n b h
   stays_bound frame (Binds a es v k p r) n b h = stays_bound _ r n b (kept_bound frame outer (bound_in m a v) n b k.unbound h)
 
   -- a block with a value bound it
-  pub block_bound : (frame : Frame) {left : List Token} {bs : List Block} {last : Frames} → Run lexically m (frame ∷ outer) left bs (Gave last) → (b : Block) (v : Value) → IsIn bs b → b.outcome ≡ Gave v
+  pub block_bound : (frame : Frame) {left : List Token} {bs : List Block} {last : Frames} → Run lexically m (frame ∷ outer) left bs (Gave last)
+      → (b : Block) (v : Value) → IsIn bs b → b.outcome ≡ Gave v
       → (a : Assignment) × (assignment_numbered m.assignments.all b.number ≡ Some a) × (bound_at b.number (own_frame last) ≡ Some (bound_in m a v))
   block_bound frame Finished b v at e = absurd at
   block_bound frame (Passes a f g r) b v at e = block_bound frame r b v at e
   block_bound frame (Skips a c f g h r) b v at e = block_bound frame r b v at e
   block_bound frame (Binds a es u k p r) b v (inr at) e = block_bound _ r b v at e
-  block_bound frame {last = last} (Binds {t = t} a es u k p r) b v (inl same) e = (a, subst (λ n. assignment_numbered m.assignments.all n ≡ Some a) number (found_numbered t.lexeme m.assignments.all a distinct k.found), bound)
+  block_bound frame {last = last} (Binds {t = t} a es u k p r) b v (inl same) e =
+      (a, subst (λ n. assignment_numbered m.assignments.all n ≡ Some a) number (found_numbered t.lexeme m.assignments.all a distinct k.found), bound)
     where
       number : a.number ≡ b.number
       number = ap (λ (x : Block). x.number) same
 
       bound : bound_at b.number (own_frame last) ≡ Some (bound_in m a v)
       bound = subst (λ n. bound_at n (own_frame last) ≡ Some (bound_in m a v)) number
-          (stays_bound _ r a.number _ (put_bound frame (bound_in m a u)) ∙ ap (λ x. Some (bound_in m a x)) (gave_same u v (ap (λ (x : Block). x.outcome) same ∙ e)))
+          (stays_bound _ r a.number _ (put_bound frame (bound_in m a u))
+          ∙ ap (λ x. Some (bound_in m a x)) (gave_same u v (ap (λ (x : Block). x.outcome) same ∙ e)))
 
-  value_stays : (frame : Frame) {left : List Token} {bs : List Block} {last : Frames} → Run lexically m (frame ∷ outer) left bs (Gave last) → (n : ℕ) → HasValue (value_in (frame ∷ outer)) n → HasValue (value_in last) n
+  value_stays : (frame : Frame) {left : List Token} {bs : List Block} {last : Frames} → Run lexically m (frame ∷ outer) left bs (Gave last) → (n : ℕ)
+      → HasValue (value_in (frame ∷ outer)) n → HasValue (value_in last) n
   value_stays frame Finished n h = h
   value_stays frame (Passes a f e r) n h = value_stays frame r n h
   value_stays frame (Skips a c f e g r) n h = value_stays frame r n h
   value_stays frame (Binds a es v k p r) n h = value_stays _ r n (has_put frame (value_in outer) (bound_in m a v) n (inr h))
 
   -- what is taken has a value at the end
-  taken_has : (frame : Frame) {left : List Token} {bs : List Block} {last : Frames} → Run lexically m (frame ∷ outer) left bs (Gave last) → (t : Token) (a : Assignment) → IsIn left t → assignment_at m.assignments t.lexeme ≡ Some a
+  taken_has : (frame : Frame) {left : List Token} {bs : List Block} {last : Frames} → Run lexically m (frame ∷ outer) left bs (Gave last)
+      → (t : Token) (a : Assignment) → IsIn left t → assignment_at m.assignments t.lexeme ≡ Some a
       → m.assignments.referenced a.number ≡ true → HasValue (value_in last) a.number
   taken_has frame Finished t a at found referenced = absurd at
   taken_has frame (Passes c f e r) t a (inl same) found referenced =
@@ -163,15 +186,18 @@ module _ (m : Module) (outer : Frames) (distinct : AreDistinct (map (λ a. a.num
   taken_has frame (Passes c f e r) t a (inr at) found referenced = taken_has frame r t a at found referenced
   taken_has frame (Skips c b f e g r) t a (inl same) found referenced =
       let one : c ≡ a = some_same c a (sym f ∙ ap (λ (x : Token). assignment_at m.assignments x.lexeme) same ∙ found) in
-      value_stays frame r a.number (subst (λ (x : Assignment). HasValue (value_in (frame ∷ outer)) x.number) one (b.value, bound_value c.number (frame ∷ outer) b g))
+      value_stays frame r a.number (subst (λ (x : Assignment). HasValue (value_in (frame ∷ outer)) x.number) one
+      (b.value, bound_value c.number (frame ∷ outer) b g))
   taken_has frame (Skips c b f e g r) t a (inr at) found referenced = taken_has frame r t a at found referenced
   taken_has frame (Binds c es v k p r) t a (inl same) found referenced =
       let one : c ≡ a = some_same c a (sym k.found ∙ ap (λ (x : Token). assignment_at m.assignments x.lexeme) same ∙ found) in
-      value_stays _ r a.number (subst (λ (x : Assignment). HasValue (value_in (with_bound frame (bound_in m c v) ∷ outer)) x.number) one (has_put frame (value_in outer) (bound_in m c v) c.number (inl refl)))
+      value_stays _ r a.number (subst (λ (x : Assignment). HasValue (value_in (with_bound frame (bound_in m c v) ∷ outer)) x.number) one
+      (has_put frame (value_in outer) (bound_in m c v) c.number (inl refl)))
   taken_has frame (Binds c es v k p r) t a (inr at) found referenced = taken_has _ r t a at found referenced
 
   -- a value at the end was there before, or a block gave it
-  gives_value : (frame : Frame) {left : List Token} {bs : List Block} {last : Frames} → Run lexically m (frame ∷ outer) left bs (Gave last) → (n : ℕ) (v : Value) → value_in last n ≡ Some v
+  gives_value : (frame : Frame) {left : List Token} {bs : List Block} {last : Frames} → Run lexically m (frame ∷ outer) left bs (Gave last)
+      → (n : ℕ) (v : Value) → value_in last n ≡ Some v
       → (value_in (frame ∷ outer) n ≡ Some v) ⊎ ((b : Block) × IsIn bs b × (b.number ≡ n) × (b.outcome ≡ Gave v))
   gives_value frame Finished n v h = inl h
   gives_value frame (Passes a f e r) n v h = gives_value frame r n v h
@@ -188,10 +214,19 @@ module _ (m : Module) (outer : Frames) (distinct : AreDistinct (map (λ a. a.num
 -- ---- two runs
 
 everywhere : (m : Module) (order : List Token) (referenced : ℕ → Bool) (outer : Frames) → AreMatched m (reordered m order referenced) outer (λ n. Unit {0})
-everywhere m order referenced outer = record { fixed = refl; limit = refl; overrides = λ n any. refl; assignments = λ n any. refl; functions = λ a any e name reached. refl; closed = λ a any e n read. tt }
+everywhere m order referenced outer = record {
+  fixed = refl;
+  limit = refl;
+  overrides = λ n any. refl;
+  assignments = λ n any. refl;
+  functions =
+      λ a any e name reached. refl;
+  closed = λ a any e n read. tt;
+}
 
 module _ (m : Module) (order : List Token) (referenced : ℕ → Bool) (outer : Frames) (bs cs : List Block) (o p : Outcome Frames) (one : IsResolvedModule m outer)
-    (other : IsResolved m.program.functions (reordered m order referenced).assignments outer) (r : Run lexically m ([] ∷ outer) m.assignments.order bs o) (q : Run lexically (reordered m order referenced) ([] ∷ outer) order cs p)
+    (other : IsResolved m.program.functions (reordered m order referenced).assignments outer) (r : Run lexically m ([] ∷ outer) m.assignments.order bs o)
+    (q : Run lexically (reordered m order referenced) ([] ∷ outer) order cs p)
     (talk : AreAnsweredAlike (events_of bs) (events_of cs)) where
   abbrev w : Module
   w = reordered m order referenced
@@ -205,8 +240,10 @@ module _ (m : Module) (order : List Token) (referenced : ℕ → Bool) (outer : 
   other_met : AllMet w outer [] cs
   other_met = all_met w outer distinct other.in_order q
 
-  pub both : (b c : Block) → IsIn bs b → IsIn cs c → b.number ≡ c.number → b.outcome ≢ Stopped → c.outcome ≢ Stopped → (b.outcome ≡ c.outcome) × AreSame b.events c.events
-  both b c at at' number here there = blocks_agree m w outer (λ n. Unit {0}) (everywhere m order referenced outer) bs cs met other_met talk b c at at' tt number here there
+  pub both : (b c : Block) → IsIn bs b → IsIn cs c → b.number ≡ c.number → b.outcome ≢ Stopped → c.outcome ≢ Stopped → (b.outcome ≡ c.outcome)
+      × AreSame b.events c.events
+  both b c at at' number here there =
+      blocks_agree m w outer (λ n. Unit {0}) (everywhere m order referenced outer) bs cs met other_met talk b c at at' tt number here there
 
   outside : (c : Block) → IsIn cs c → value_in outer c.number ≡ None
   outside c at = met_outside w outer cs c (one_met w outer [] cs cs c (λ x none. absurd none) (λ x h. h) other_met at)
@@ -219,7 +256,10 @@ module _ (m : Module) (order : List Token) (referenced : ℕ → Bool) (outer : 
       assignment = some_same k.assignment l.assignment (sym k.of_number ∙ l.of_number)
 
       value : k.value ≡ l.value
-      value = gave_same k.value l.value (sym k.gave ∙ (both k.block l.block k.among l.among (k.number ∙ sym l.number) (gave_on k.value k.block.outcome k.gave) (gave_on l.value l.block.outcome l.gave)).0 ∙ l.gave)
+      value = gave_same k.value l.value
+          (sym k.gave
+          ∙ (both k.block l.block k.among l.among (k.number ∙ sym l.number) (gave_on k.value k.block.outcome k.gave)
+          (gave_on l.value l.block.outcome l.gave)).0 ∙ l.gave)
 
   module _ (frames : Frames) (finished : Run lexically m ([] ∷ outer) m.assignments.order bs (Gave frames)) where
     -- a finished run binds in its own frame only what its blocks made
@@ -227,7 +267,8 @@ module _ (m : Module) (order : List Token) (referenced : ℕ → Bool) (outer : 
     made n b h = ⊎_elim (λ none. absurd (cc)) (λ made. made) (makes m outer distinct [] finished n b h)
 
     -- the run's block for a block of the other, if the other takes nothing else
-    pub partner : ((n : ℕ) → IsTakenIn w n → IsTakenIn m n) → (c : Block) → IsIn cs c → (b : Block) × IsIn bs b × (b.number ≡ c.number) × ((v : Value) × (b.outcome ≡ Gave v))
+    pub partner : ((n : ℕ) → IsTakenIn w n → IsTakenIn m n) → (c : Block) → IsIn cs c → (b : Block) × IsIn bs b × (b.number ≡ c.number)
+        × ((v : Value) × (b.outcome ≡ Gave v))
     partner within c at = ⊎_elim
         (λ out. absurd (never_both h.0 (value_in outer k.assignment.number) out (subst (λ n. value_in outer n ≡ None) (sym k.number) (outside c at))))
         (λ b. (b.0, b.1, b.2 ∙ k.number, (h.0, b.3)))
@@ -253,22 +294,26 @@ module _ (m : Module) (order : List Token) (referenced : ℕ → Bool) (outer : 
       bound_here n c l =
           let b = partner within l.block l.among in
           let k = block_bound m outer distinct [] finished b.0 b.3.0 b.1 b.3.1 in
-          let bound : bound_at n (own_frame frames) ≡ Some (bound_in m k.0 b.3.0) = subst (λ j. bound_at j (own_frame frames) ≡ Some (bound_in m k.0 b.3.0)) (b.2 ∙ l.number) k.2 in
+          let bound : bound_at n (own_frame frames) ≡ Some (bound_in m k.0 b.3.0) =
+          subst (λ j. bound_at j (own_frame frames) ≡ Some (bound_in m k.0 b.3.0)) (b.2 ∙ l.number) k.2 in
           bound ∙ ap Some (one_binding n _ c (made n _ bound) l)
 
   agree : Agree m w bs cs o p
   agree = record {
     blocks = λ b c at at' number here there. both b c (in_of bs b at) (in_of cs c at') number here there;
     refusals = λ b c s at at' number refused there.
-        refused_last w outer [] q c s (in_of cs c at') (sym (both b c (in_of bs b at) (in_of cs c at') number (λ e. absurd (let z : Refused s ≡ Stopped = sym refused ∙ e in cc)) there).0 ∙ refused);
-    values = λ frames last n b c e f h k. one_binding n b c (made frames (subst (Run lexically m ([] ∷ outer) m.assignments.order bs) e r) n b h) (other_made last (subst (Run lexically w ([] ∷ outer) order cs) f q) n c k);
+        refused_last w outer [] q c s (in_of cs c at')
+        (sym (both b c (in_of bs b at) (in_of cs c at') number (λ e. absurd (let z : Refused s ≡ Stopped = sym refused ∙ e in cc)) there).0 ∙ refused);
+    values = λ frames last n b c e f h k. one_binding n b c (made frames (subst (Run lexically m ([] ∷ outer) m.assignments.order bs) e r) n b h)
+        (other_made last (subst (Run lexically w ([] ∷ outer) order cs) f q) n c k);
     finishes = λ frames e within on.
         let finished = subst (Run lexically m ([] ∷ outer) m.assignments.order bs) e r in
         let last = end frames finished within on in
         (last.0, last.1, λ n c h. bound_here frames finished within on n c (other_made last.0 (subst (Run lexically w ([] ∷ outer) order cs) last.1 q) n c h));
   }
     where
-      other_made : (last : Frames) → Run lexically w ([] ∷ outer) order cs (Gave last) → (n : ℕ) (c : Bound) → bound_at n (own_frame last) ≡ Some c → IsMade w cs n c
+      other_made : (last : Frames) → Run lexically w ([] ∷ outer) order cs (Gave last) → (n : ℕ) (c : Bound)
+          → bound_at n (own_frame last) ≡ Some c → IsMade w cs n c
       other_made last finished n c h = ⊎_elim (λ none. absurd (cc)) (λ made. made) (makes w outer distinct [] finished n c h)
 
 pub orders_agree : OrdersAgree

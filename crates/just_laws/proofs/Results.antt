@@ -18,7 +18,8 @@ later_last x bs b h = (x ∷ h.0, ap (λ (ys : List Block). x ∷ ys) h.1)
 
 module _ (m : Module) (outer : Frames) where
   -- each block of a finished run gave a value
-  all_gave : (frame : Frame) {left : List Token} {bs : List Block} {last : Frames} → Run lexically m (frame ∷ outer) left bs (Gave last) → (b : Block) → IsIn bs b → (v : Value) × (b.outcome ≡ Gave v)
+  all_gave : (frame : Frame) {left : List Token} {bs : List Block} {last : Frames} → Run lexically m (frame ∷ outer) left bs (Gave last) → (b : Block)
+      → IsIn bs b → (v : Value) × (b.outcome ≡ Gave v)
   all_gave frame Finished b at = absurd at
   all_gave frame (Passes a f e r) b at = all_gave frame r b at
   all_gave frame (Skips a c f e g r) b at = all_gave frame r b at
@@ -26,7 +27,8 @@ module _ (m : Module) (outer : Frames) where
   all_gave frame (Binds a es v k p r) b (inr at) = all_gave _ r b at
 
   -- no block comes after a refused one
-  refused_is_last : (frame : Frame) {left : List Token} {bs : List Block} {o : Outcome Frames} → Run lexically m (frame ∷ outer) left bs o → (b : Block) (r : Refusal) → IsIn bs b → b.outcome ≡ Refused r → IsLast bs b
+  refused_is_last : (frame : Frame) {left : List Token} {bs : List Block} {o : Outcome Frames} → Run lexically m (frame ∷ outer) left bs o
+      → (b : Block) (r : Refusal) → IsIn bs b → b.outcome ≡ Refused r → IsLast bs b
   refused_is_last frame Finished b r at e = absurd at
   refused_is_last frame Stops b r at e = absurd at
   refused_is_last frame (Unknown f) b r at e = absurd at
@@ -40,7 +42,8 @@ module _ (m : Module) (outer : Frames) where
   refused_is_last frame (Halts a es k p) b r (inr none) e = absurd none
 
   -- a refused run of known names has a block with that refusal
-  has_refused : (frame : Frame) {left : List Token} {bs : List Block} {o : Outcome Frames} → AreAssignments m.assignments left → Run lexically m (frame ∷ outer) left bs o
+  has_refused : (frame : Frame) {left : List Token} {bs : List Block} {o : Outcome Frames} → AreAssignments m.assignments left
+      → Run lexically m (frame ∷ outer) left bs o
       → (r : Refusal) → o ≡ Refused r → (b : Block) × IsIn bs b × (b.outcome ≡ Refused r)
   has_refused frame named Finished r e = absurd (cc)
   has_refused frame named Stops r e = absurd (cc)

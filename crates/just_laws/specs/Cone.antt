@@ -1,5 +1,6 @@
 -- Locality: what a variable reaches, and what an edit elsewhere leaves unchanged.
-use Rattle.std.specs.Prelude.{◌≡◌, ◌≢◌, ℕ, Bool, Contains, List, [], ◌∷◌, ◌++◌, nat_eq, Option, Some, None, if◌then◌else◌}
+use Rattle.std.specs.Prelude.{◌≡◌, ◌≢◌, ℕ, Bool, Contains, List, [], ◌∷◌, ◌++◌, nat_eq, Option, Some, None}
+use Rattle.std.specs.Prelude.{if◌then◌else◌}
 use Rattle.just_syntax.specs.Plain.{Text, Token, Assignment}
 use Rattle.just_value.specs.Frames.{Frames, value_in}
 use Rattle.just_value.specs.Outcome.{Outcome, Gave, Stopped}
@@ -23,14 +24,18 @@ pub record IsEvaluated (m : Module) (outer : Frames) (a : Assignment) : Type 0 w
 -- The cone of a variable: itself and, for each member that is evaluated, what its expression reads.
 pub data Cone (m : Module) (outer : Frames) (n : ℕ) : ℕ → Type 0 where
   Itself : Cone m outer n n
-  ReadBy : {k : ℕ} → (a : Assignment) → Cone m outer n a.number → IsEvaluated m outer a → Reads m.program.functions a.value k → Cone m outer n k
+  ReadBy : {k : ℕ} → (a : Assignment) → Cone m outer n a.number → IsEvaluated m outer a
+      → Reads m.program.functions a.value k → Cone m outer n k
 
 -- Two modules have the same assignments and overrides for a variable's cone, and the same functions for the expressions
 -- that are evaluated in it.
 pub record HaveSameCone (m w : Module) (outer : Frames) (n : ℕ) : Type 0 where
-  pub assignments : (k : ℕ) → Cone m outer n k → assignment_numbered m.assignments.all k ≡ assignment_numbered w.assignments.all k
+  pub assignments : (k : ℕ) → Cone m outer n k → assignment_numbered m.assignments.all k
+      ≡ assignment_numbered w.assignments.all k
   pub overrides : (k : ℕ) → Cone m outer n k → m.overrides k ≡ w.overrides k
-  pub functions : (a : Assignment) → Cone m outer n a.number → IsEvaluated m outer a → (name : Text) → Reaches m.program.functions a.value name → function_at m.program.functions name ≡ function_at w.program.functions name
+  pub functions : (a : Assignment) → Cone m outer n a.number → IsEvaluated m outer a → (name : Text)
+      → Reaches m.program.functions a.value name → function_at m.program.functions name
+      ≡ function_at w.program.functions name
 
 -- the events of a number's block
 abbrev pub events_for : List Block → ℕ → List Event
@@ -47,12 +52,16 @@ pub record BlocksAgree : Type 0 where
   -- two resolved modules in one outer scope, with the same fixed context and limit
   pub blocks : (m w : Module) (outer : Frames) (bs cs : List Block) (o p : Outcome Frames)
       → m.program.fixed ≡ w.program.fixed → m.limit ≡ w.limit → IsResolvedModule m outer → IsResolvedModule w outer
-      → Run lexically m ([] ∷ outer) m.assignments.order bs o → Run lexically w ([] ∷ outer) w.assignments.order cs p → AreAnsweredAlike (events_of bs) (events_of cs)
-      → (b c : Block) → Contains bs b → Contains cs c → b.number ≡ c.number → HaveSameCone m w outer b.number → b.outcome ≢ Stopped → c.outcome ≢ Stopped → (b.outcome ≡ c.outcome) × AreSame b.events c.events
+      → Run lexically m ([] ∷ outer) m.assignments.order bs o → Run lexically w ([] ∷ outer) w.assignments.order cs p
+      → AreAnsweredAlike (events_of bs) (events_of cs)
+      → (b c : Block) → Contains bs b → Contains cs c → b.number ≡ c.number → HaveSameCone m w outer b.number
+      → b.outcome ≢ Stopped → c.outcome ≢ Stopped → (b.outcome ≡ c.outcome) × AreSame b.events c.events
   -- One module in two orders. If one run finishes, and the other takes nothing else and is not stopped, then the other
   -- asks what the first asked for its variables, in its own order.
-  pub questions : (m : Module) (order : List Token) (referenced : ℕ → Bool) (outer : Frames) (bs cs : List Block) (frames : Frames) (p : Outcome Frames)
+  pub questions : (m : Module) (order : List Token) (referenced : ℕ → Bool) (outer : Frames) (bs cs : List Block)
+      (frames : Frames) (p : Outcome Frames)
       → let w = reordered m order referenced in
       IsResolvedModule m outer → IsResolvedModule w outer
-      → Run lexically m ([] ∷ outer) m.assignments.order bs (Gave frames) → Run lexically w ([] ∷ outer) order cs p → AreAnsweredAlike (events_of bs) (events_of cs)
+      → Run lexically m ([] ∷ outer) m.assignments.order bs (Gave frames) → Run lexically w ([] ∷ outer) order cs p
+      → AreAnsweredAlike (events_of bs) (events_of cs)
       → ((n : ℕ) → IsTakenIn w n → IsTakenIn m n) → p ≢ Stopped → AreSame (events_as bs cs) (events_of cs)

@@ -15,7 +15,8 @@ use Rattle.just_meaning.specs.Parameters.{Arguments, parameters}
 abbrev pub AgreeUpToAnswers : List Event → List Event → Type 0 → Type 0
 AgreeUpToAnswers [] [] end = end
 AgreeUpToAnswers (Asked q a ∷ es) (Asked r b ∷ fs) end = (q ≡ r) × ((a ≢ b) ⊎ ((a ≡ b) × AgreeUpToAnswers es fs end))
-AgreeUpToAnswers (Checked p v a ∷ es) (Checked q w b ∷ fs) end = (p ≡ q) × (v ≡ w) × ((a ≢ b) ⊎ ((a ≡ b) × AgreeUpToAnswers es fs end))
+AgreeUpToAnswers (Checked p v a ∷ es) (Checked q w b ∷ fs) end =
+    (p ≡ q) × (v ≡ w) × ((a ≢ b) ⊎ ((a ≡ b) × AgreeUpToAnswers es fs end))
 AgreeUpToAnswers (Noted x ∷ es) (Noted y ∷ fs) end = (x ≡ y) × AgreeUpToAnswers es fs end
 AgreeUpToAnswers _ _ end = ⊥
 
@@ -24,10 +25,19 @@ AgreeUpToAnswers _ _ end = ⊥
 -- either scoping discipline.
 pub record AnswersDecide : Type 0 where
   pub expressions : (c : Program) (d : Deeper) (s : Situation) (e : Expr) (es fs : List Event) (o p : Outcome Value)
-      → Path freely (eval c d s e) es o → Path freely (eval c d s e) fs p → o ≢ Stopped → p ≢ Stopped → AgreeUpToAnswers es fs (o ≡ p)
-  pub lines : (c : Program) (d : Deeper) (s : Situation) (continued : Bool) (fragments : List Fragment) (es fs : List Event) (o p : Outcome Text)
-      → Path freely (line (eval c d s) continued fragments) es o → Path freely (line (eval c d s) continued fragments) fs p → o ≢ Stopped → p ≢ Stopped → AgreeUpToAnswers es fs (o ≡ p)
-  pub parameters : (c : Program) (d : Deeper) (s : Situation) (recipe : Recipe) (ps : List Parameter) (arguments : List Value) (es fs : List Event) (o p : Outcome Arguments)
-      → Path freely (parameters (eval c d) s recipe ps arguments) es o → Path freely (parameters (eval c d) s recipe ps arguments) fs p → o ≢ Stopped → p ≢ Stopped → AgreeUpToAnswers es fs (o ≡ p)
-  pub runs : (closing : Closing) (m : Module) (frames : Frames) (names : List Token) (bs cs : List Block) (o p : Outcome Frames)
-      → Run closing m frames names bs o → Run closing m frames names cs p → o ≢ Stopped → p ≢ Stopped → AgreeUpToAnswers (events_of bs) (events_of cs) (o ≡ p)
+      → Path freely (eval c d s e) es o → Path freely (eval c d s e) fs p → o ≢ Stopped → p ≢ Stopped
+      → AgreeUpToAnswers es fs (o ≡ p)
+  pub lines : (c : Program) (d : Deeper) (s : Situation) (continued : Bool) (fragments : List Fragment)
+      (es fs : List Event) (o p : Outcome Text)
+      → Path freely (line (eval c d s) continued fragments) es o
+      → Path freely (line (eval c d s) continued fragments) fs p → o ≢ Stopped → p ≢ Stopped
+      → AgreeUpToAnswers es fs (o ≡ p)
+  pub parameters : (c : Program) (d : Deeper) (s : Situation) (recipe : Recipe) (ps : List Parameter)
+      (arguments : List Value) (es fs : List Event) (o p : Outcome Arguments)
+      → Path freely (parameters (eval c d) s recipe ps arguments) es o
+      → Path freely (parameters (eval c d) s recipe ps arguments) fs p → o ≢ Stopped → p ≢ Stopped
+      → AgreeUpToAnswers es fs (o ≡ p)
+  pub runs : (closing : Closing) (m : Module) (frames : Frames) (names : List Token) (bs cs : List Block)
+      (o p : Outcome Frames)
+      → Run closing m frames names bs o → Run closing m frames names cs p → o ≢ Stopped → p ≢ Stopped
+      → AgreeUpToAnswers (events_of bs) (events_of cs) (o ≡ p)

@@ -48,7 +48,8 @@ is_found_open (f ∷ fs) n = (is_opened f.outcome && nat_eq n f.number) || is_fo
 -- frame has the value found for its number, and each value found is bound there.
 pub record IsWhatWasFound (fs : List Found) (s : StageState) : Type 0 where
   pub opens : (n : ℕ) → s.is_open n ≡ is_found_open fs n
-  pub binds : (n : ℕ) (b : Bound) → bound_at n (own_frame s.frames) ≡ Some b → (f : Found) × Contains fs f × (f.number ≡ n) × (f.outcome ≡ Gave b.value)
+  pub binds : (n : ℕ) (b : Bound) → bound_at n (own_frame s.frames) ≡ Some b → (f : Found) × Contains fs f
+      × (f.number ≡ n) × (f.outcome ≡ Gave b.value)
   pub settles : (f : Found) (v : Value) → Contains fs f → f.outcome ≡ Gave v
       → (b : Bound) × (bound_at f.number (own_frame s.frames) ≡ Some b) × (b.value ≡ v)
 
@@ -64,10 +65,15 @@ pub record AreOfOneModule (m : Constants) (lists : Bool) (outer : Frames) (n : M
 -- a run that reaches it and is not stopped in it. The standing of a stage that finishes is what it found, and the
 -- refusal of any other is one that it found.
 pub record ConstAgrees : Type 0 where
-  pub states : (m : Constants) (lists : Bool) (outer : Frames) (fs : List Found) (s : StageState) → Stage m (at_start lists outer) m.assignments.order fs (Gave s) → IsWhatWasFound fs s
-  pub refusals : (m : Constants) (lists : Bool) (outer : Frames) (fs : List Found) (r : Refusal) → IsResolvedConst m.assignments outer
-      → Stage m (at_start lists outer) m.assignments.order fs (Refused r) → (f : Found) × Contains fs f × (f.outcome ≡ Refused r)
-  pub blocks : (m : Constants) (lists : Bool) (outer : Frames) (n : Module) (others : Frames) (fs : List Found) (o : Outcome StageState) (bs : List Block) (p : Outcome Frames)
+  pub states : (m : Constants) (lists : Bool) (outer : Frames) (fs : List Found) (s : StageState)
+      → Stage m (at_start lists outer) m.assignments.order fs (Gave s) → IsWhatWasFound fs s
+  pub refusals : (m : Constants) (lists : Bool) (outer : Frames) (fs : List Found) (r : Refusal)
+      → IsResolvedConst m.assignments outer
+      → Stage m (at_start lists outer) m.assignments.order fs (Refused r) → (f : Found) × Contains fs f
+      × (f.outcome ≡ Refused r)
+  pub blocks : (m : Constants) (lists : Bool) (outer : Frames) (n : Module) (others : Frames) (fs : List Found)
+      (o : Outcome StageState) (bs : List Block) (p : Outcome Frames)
       → AreOfOneModule m lists outer n others → IsResolvedConst m.assignments outer → IsResolvedModule n others
       → Stage m (at_start lists outer) m.assignments.order fs o → Run lexically n ([] ∷ others) n.assignments.order bs p
-      → (f : Found) (b : Block) → Contains fs f → Contains bs b → f.number ≡ b.number → b.outcome ≢ Stopped → Predicts (is_found_open fs) f.outcome b
+      → (f : Found) (b : Block) → Contains fs f → Contains bs b → f.number ≡ b.number → b.outcome ≢ Stopped
+      → Predicts (is_found_open fs) f.outcome b

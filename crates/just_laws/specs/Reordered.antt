@@ -10,7 +10,8 @@ use Rattle.just_soundness.specs.Laws.{AreAnsweredAlike, AreSame}
 
 -- the module in another order, with other references
 abbrev pub reordered : Module → List Token → (ℕ → Bool) → Module
-reordered m order referenced = record m { assignments = record { all = m.assignments.all; order = order; referenced = referenced } }
+reordered m order referenced =
+    record m { assignments = record { all = m.assignments.all; order = order; referenced = referenced } }
 
 -- some name of the order is that of a referenced assignment with this number
 pub record IsTakenIn (m : Module) (n : ℕ) : Type 0 where
@@ -25,20 +26,25 @@ pub record IsTakenIn (m : Module) (n : ℕ) : Type 0 where
 pub record Agree (m w : Module) (bs cs : List Block) (o p : Outcome Frames) : Type 0 where
   -- an assignment that both reach, and neither is stopped in, has one value or refusal, by the same questions, frames
   -- aside
-  pub blocks : (b c : Block) → Contains bs b → Contains cs c → b.number ≡ c.number → b.outcome ≢ Stopped → c.outcome ≢ Stopped → (b.outcome ≡ c.outcome) × AreSame b.events c.events
+  pub blocks : (b c : Block) → Contains bs b → Contains cs c → b.number ≡ c.number → b.outcome ≢ Stopped
+      → c.outcome ≢ Stopped → (b.outcome ≡ c.outcome) × AreSame b.events c.events
   -- if one is refused at an assignment that the other reaches, so is the other
-  pub refusals : (b c : Block) (r : Refusal) → Contains bs b → Contains cs c → b.number ≡ c.number → b.outcome ≡ Refused r → c.outcome ≢ Stopped → p ≡ Refused r
+  pub refusals : (b c : Block) (r : Refusal) → Contains bs b → Contains cs c → b.number ≡ c.number
+      → b.outcome ≡ Refused r → c.outcome ≢ Stopped → p ≡ Refused r
   -- if both finish, a number that both bind has one binding
-  pub values : (frames last : Frames) (n : ℕ) (b c : Bound) → o ≡ Gave frames → p ≡ Gave last → bound_at n (own_frame frames) ≡ Some b → bound_at n (own_frame last) ≡ Some c → b ≡ c
+  pub values : (frames last : Frames) (n : ℕ) (b c : Bound) → o ≡ Gave frames → p ≡ Gave last
+      → bound_at n (own_frame frames) ≡ Some b → bound_at n (own_frame last) ≡ Some c → b ≡ c
   -- if one finishes, so does the other, provided it takes nothing else and is not stopped; the first binds all that it
   -- binds
   pub finishes : (frames : Frames) → o ≡ Gave frames → ((n : ℕ) → IsTakenIn w n → IsTakenIn m n) → p ≢ Stopped
-      → (last : Frames) × (p ≡ Gave last) × ((n : ℕ) (b : Bound) → bound_at n (own_frame last) ≡ Some b → bound_at n (own_frame frames) ≡ Some b)
+      → (last : Frames) × (p ≡ Gave last)
+      × ((n : ℕ) (b : Bound) → bound_at n (own_frame last) ≡ Some b → bound_at n (own_frame frames) ≡ Some b)
 
 -- Confluence of orders. Two resolved runs of one module in two orders, or with two sets of references, agree if
 -- whatever both ask, frames aside, is answered alike.
 abbrev pub OrdersAgree : Type 0
-OrdersAgree = (m : Module) (order : List Token) (referenced : ℕ → Bool) (outer : Frames) (bs cs : List Block) (o p : Outcome Frames)
+OrdersAgree = (m : Module) (order : List Token) (referenced : ℕ → Bool) (outer : Frames) (bs cs : List Block)
+    (o p : Outcome Frames)
     → let w = reordered m order referenced in
     IsResolvedModule m outer → IsResolvedModule w outer
     → Run lexically m ([] ∷ outer) m.assignments.order bs o → Run lexically w ([] ∷ outer) order cs p

@@ -12,7 +12,8 @@ IsLast bs b = (front : List Block) × (bs ≡ front ++ (b ∷ []))
 -- The end of a run agrees with its blocks.
 pub record EndsAsItsBlocks (bs : List Block) (o : Outcome Frames) : Type 0 where
   -- each binding of a finished run has a block with its value
-  pub bindings : (frames : Frames) (n : ℕ) (bound : Bound) → o ≡ Gave frames → bound_at n (own_frame frames) ≡ Some bound
+  pub bindings : (frames : Frames) (n : ℕ) (bound : Bound) → o ≡ Gave frames
+      → bound_at n (own_frame frames) ≡ Some bound
       → (b : Block) × Contains bs b × (b.number ≡ n) × (b.outcome ≡ Gave bound.value)
   -- each block of a finished run has a value, which is bound
   pub values : (frames : Frames) (b : Block) → o ≡ Gave frames → Contains bs b

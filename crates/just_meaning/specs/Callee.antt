@@ -1,5 +1,6 @@
 -- What a called name stands for.
-use Rattle.std.specs.Prelude.{◌≡◌, ℕ, ◌==◌, nat_le, ◌&&◌, Bool, true, false, List, length, Option, Some, None, if◌then◌else◌}
+use Rattle.std.specs.Prelude.{◌≡◌, ℕ, ◌==◌, nat_le, ◌&&◌, Bool, true, false, List, length, Option, Some, None}
+use Rattle.std.specs.Prelude.{if◌then◌else◌}
 use Rattle.just_syntax.specs.Plain.{Text, Function}
 use Rattle.just_builtins.specs.Argument.{IsExpected}
 use Rattle.just_builtins.specs.Shape.{fewest_arguments, most_arguments}

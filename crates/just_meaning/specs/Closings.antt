@@ -17,7 +17,15 @@ with_parameters frame (p ∷ ps) (v ∷ vs) = with_parameters (with_bound frame 
 abbrev pub inside : Names → Situation → Function → List Value → Situation
 inside names s f vs =
     let frame = with_parameters [] f.parameters vs in
-    record { names = over frame names; environment = s.environment; recipe = s.recipe; is_dependency = s.is_dependency; lists = s.lists; shown = frame ∷ s.below; below = frame ∷ s.below }
+    record {
+      names = over frame names;
+      environment = s.environment;
+      recipe = s.recipe;
+      is_dependency = s.is_dependency;
+      lists = s.lists;
+      shown = frame ∷ s.below;
+      below = frame ∷ s.below;
+    }
 
 -- lexical scope: a body reads its own parameters and the base, and nothing of its caller
 abbrev pub lexical : Program → Names → ℕ → Deeper

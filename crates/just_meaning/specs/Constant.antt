@@ -29,7 +29,16 @@ constant is_open (note x rest) = unless_refused (constantly is_open x) (constant
 abbrev pub nowhere : Program
 nowhere = record {
   fixed = record {
-    config = record { dry_run = false; invocation_directory = []; jobs = None; quiet = false; shell = None; shell_args = None; shell_command = false };
+    config = record {
+      dry_run = false;
+      invocation_directory = [];
+      jobs = None;
+      quiet = false;
+      shell = None;
+      shell_args =
+          None;
+      shell_command = false;
+    };
     dotenv = [];
     justfile = [];
     search_directory = [];

@@ -14,7 +14,8 @@ string means context e = bind (means e) (λ v. done (text_in context v))
 
 -- Text as written, with `{{{{` for `{{`. If it continues a line, its leading white space is dropped.
 abbrev pub fragment_text : Bool → Text → Text
-fragment_text continues text = let t = replaced text (codes "{{{{") (codes "{{") in if continues then trim_start t else t
+fragment_text continues text = let t =
+    replaced text (codes "{{{{") (codes "{{") in if continues then trim_start t else t
 
 -- the text of a fragment, or its interpolation, joined
 abbrev pub fragment : (Expr → Tree Value) → Bool → Fragment → Tree Text
@@ -24,7 +25,8 @@ fragment means continues (Interpolation e) = bind (means e) (λ v. gives (joined
 -- The text of a line: its fragments in order. The first may continue the line before.
 abbrev pub line : (Expr → Tree Value) → Bool → List Fragment → Tree Text
 line means continued [] = gives []
-line means continued (f ∷ fs) = bind (fragment means continued f) (λ text. bind (line means false fs) (λ rest. gives (text ++ rest)))
+line means continued (f ∷ fs) =
+    bind (fragment means continued f) (λ text. bind (line means false fs) (λ rest. gives (text ++ rest)))
 
 -- the expressions of a line
 abbrev pub line_expressions : List Fragment → List Expr

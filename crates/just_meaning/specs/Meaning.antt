@@ -1,10 +1,15 @@
 -- An operational semantics of expressions, given as interaction trees: what an expression asks, in order, and its
 -- value. One line per form.
-use Rattle.std.specs.Prelude.{ℕ, suc, Bool, true, false, not, List, [], ◌∷◌, ◌++◌, length, Option, Some, None, nat_eq, if◌then◌else◌}
+use Rattle.std.specs.Prelude.{ℕ, suc, Bool, true, false, not, List, [], ◌∷◌, ◌++◌, length, Option, Some, None, nat_eq}
+use Rattle.std.specs.Prelude.{if◌then◌else◌}
 use Rattle.std.specs.List.{flat_map}
-use Rattle.just_syntax.specs.Plain.{Text, Token, Literal, Expr, And, Assert, AssertOnly, Backtick, Call, Comparison, Concatenation, Conditional, ConditionalOnly, FormatString, Group, Join, JoinOnly, ListOf, ListConcatenation, Not, Or, StringLiteral, Variable, Exprs, Nil, Cons, count, Pieces, NoPiece, Piece, Function}
+use Rattle.just_syntax.specs.Plain.{Text, Token, Literal, Expr, And, Assert, AssertOnly, Backtick, Call, Comparison}
+use Rattle.just_syntax.specs.Plain.{Concatenation, Conditional, ConditionalOnly, FormatString, Group, Join, JoinOnly}
+use Rattle.just_syntax.specs.Plain.{ListOf, ListConcatenation, Not, Or, StringLiteral, Variable, Exprs, Nil, Cons}
+use Rattle.just_syntax.specs.Plain.{count, Pieces, NoPiece, Piece, Function}
 use Rattle.just_syntax.specs.declared.conditional_operator.ConditionalOperator.{ConditionalOperator}
-use Rattle.just_syntax.specs.declared.conditional_operator.ConditionalOperator.TheVariants.{Inequality, RegexMatch, RegexMismatch}
+use Rattle.just_syntax.specs.declared.conditional_operator.ConditionalOperator.TheVariants.{Inequality, RegexMatch}
+use Rattle.just_syntax.specs.declared.conditional_operator.ConditionalOperator.TheVariants.{RegexMismatch}
 use Rattle.just_syntax.specs.declared.list_operator.ListOperator.{ListOperator}
 use Rattle.just_syntax.specs.declared.list_operator.ListOperator.TheVariants as operators
 use Rattle.just_syntax.specs.StringContext as contexts
@@ -73,7 +78,8 @@ answered t _ = Stopped
 
 -- what a command expression evaluates to: its text in backticks in a dry run, else the host's answer
 abbrev pub command_value : Fixed → List (Text × Text) → Frames → Text → Token → Tree Value
-command_value f environment shown text t = if f.config.dry_run then gives (((96 ∷ text) ++ 96 ∷ []) ∷ []) else ask (command_question f environment shown text None) (λ a. done (answered t a))
+command_value f environment shown text t = if f.config.dry_run then gives (((96 ∷ text) ++ 96 ∷ []) ∷ [])
+    else ask (command_question f environment shown text None) (λ a. done (answered t a))
 
 abbrev pub command : Fixed → Situation → Text → Token → Tree Value
 command f s text t = note (Command t) (command_value f s.environment s.shown text t)
@@ -89,7 +95,14 @@ argument is_text t v = if is_text then one_text t v else gives v
 
 -- the context of a call of a built-in function
 abbrev pub built_in_context : Program → Situation → Token → function.Context
-built_in_context c s t = record { environment = s.environment; fixed = c.fixed; is_dependency = s.is_dependency; name = t; recipe = s.recipe }
+built_in_context c s t = record {
+  environment = s.environment;
+  fixed = c.fixed;
+  is_dependency = s.is_dependency;
+  name =
+      t;
+  recipe = s.recipe;
+}
 
 -- a built-in function's own message is a refusal
 abbrev pub returned : Token → Called → Tree Value
@@ -116,8 +129,10 @@ texts_of f t i v = argument (is_text f i) t v
 -- recursion limit, then for their number.
 abbrev pub called : Program → Token → Callee → Deeper → Situation → ℕ → Row → Tree Value
 called c t (Defined f) AtLimit s n row = refuses (refusal.RecursionLimit f.name)
-called c t (Defined f) (WithinLimit run) s n row = if nat_eq n (length f.parameters) then bind (row as_it_is) (run f s) else refuses (Internal (miscounted_text t.lexeme) t)
-called c t (BuiltIn f) d s n row = if accepts (BuiltIn f) n then bind (row (texts_of f t)) (built_in_call c s t f) else refuses (Internal (miscounted_text t.lexeme) t)
+called c t (Defined f) (WithinLimit run) s n row = if nat_eq n (length f.parameters) then bind (row as_it_is) (run f s)
+    else refuses (Internal (miscounted_text t.lexeme) t)
+called c t (BuiltIn f) d s n row = if accepts (BuiltIn f) n then bind (row (texts_of f t)) (built_in_call c s t f)
+    else refuses (Internal (miscounted_text t.lexeme) t)
 called c t LeftOut d s n row = refuses (refusal.LeftOut t)
 called c t Unknown d s n row = refuses (Internal (unknown_function_text t.lexeme) t)
 
@@ -156,7 +171,8 @@ compared _ v w = from_condition (is_same v w)
 
 -- whether two values are equal or differ; a regular expression operator is refused before its operands are evaluated
 abbrev pub comparison : ConditionalOperator → Token → Tree Value → Tree Value → Tree Value
-comparison o t l r = if is_regex o then refuses (refusal.LeftOutRegex t) else bind l (λ v. bind r (λ w. gives (compared o v w)))
+comparison o t l r =
+    if is_regex o then refuses (refusal.LeftOutRegex t) else bind l (λ v. bind r (λ w. gives (compared o v w)))
 
 -- what an assertion that holds evaluates to: the condition's value with lists, one empty text without
 abbrev pub asserted : Bool → Value → Value
@@ -165,7 +181,8 @@ asserted false v = [] ∷ []
 
 -- a condition that must be truthy; otherwise a refusal with the message
 abbrev pub assertion : Bool → Token → Tree Value → Tree Text → Tree Value
-assertion lists t condition message = bind condition (λ v. if is_truthy v then gives (asserted lists v) else bind message (λ text. refuses (refusal.Assert text t)))
+assertion lists t condition message = bind condition (λ v. if is_truthy v then gives (asserted lists v)
+    else bind message (λ text. refuses (refusal.Assert text t)))
 
 abbrev pub unindented_if : Bool → Text → Text
 unindented_if indented text = if indented then unindented text else text
@@ -184,7 +201,8 @@ abbrev mutual
   eval c d s (Assert e m t) = assertion s.lists t (eval c d s e) (bind (eval c d s m) (λ w. gives (joined w)))
   eval c d s (AssertOnly e t) = assertion s.lists t (eval c d s e) (gives ((96 ∷ printed e) ++ 96 ∷ []))
   eval c d s (Backtick text t) = command c.fixed s text t
-  eval c d s (Call t es) = note (Entered t) (called c t (callee c.functions t.lexeme) d s (count es) (eval_row c d s 0 es))
+  eval c d s (Call t es) =
+      note (Entered t) (called c t (callee c.functions t.lexeme) d s (count es) (eval_row c d s 0 es))
   eval c d s (Comparison l o r t) = comparison o t (eval c d s l) (eval c d s r)
   eval c d s (Concatenation l t r) = combination operators.Concatenate (eval c d s l) t (eval c d s r)
   eval c d s (Conditional e a b) = choice (eval c d s e) (eval c d s a) (eval c d s b)
@@ -203,12 +221,14 @@ abbrev mutual
   -- the values of all, in their order, from an index on
   pub eval_row : Program → Deeper → Situation → ℕ → Exprs → Row
   eval_row c d s i Nil look = gives []
-  eval_row c d s i (Cons e es) look = bind (bind (eval c d s e) (look i)) (λ v. bind (eval_row c d s (suc i) es look) (λ vs. gives (v ∷ vs)))
+  eval_row c d s i (Cons e es) look =
+      bind (bind (eval c d s e) (look i)) (λ v. bind (eval_row c d s (suc i) es look) (λ vs. gives (v ∷ vs)))
 
   -- each interpolation joined, and the text after it
   pub eval_pieces : Program → Deeper → Situation → Pieces → Tree Text
   eval_pieces c d s NoPiece = gives []
-  eval_pieces c d s (Piece e literal pieces) = bind (eval c d s e) (λ v. bind (eval_pieces c d s pieces) (λ text. gives ((joined v ++ literal.cooked) ++ text)))
+  eval_pieces c d s (Piece e literal pieces) =
+      bind (eval c d s e) (λ v. bind (eval_pieces c d s pieces) (λ text. gives ((joined v ++ literal.cooked) ++ text)))
 
 -- ---- optional parts
 

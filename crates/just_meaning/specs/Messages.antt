@@ -18,10 +18,6 @@ unknown_function_text name = (codes "unknown function `" ++ name) ++ codes "`"
 abbrev pub miscounted_text : Text → Text
 miscounted_text name = (codes "function `" ++ name) ++ codes "` called with a wrong number of arguments"
 
--- about a built-in function whose shape is not that of its tag; no name stands for one
-abbrev pub shapeless_text : Text → Text
-shapeless_text name = (codes "function `" ++ name) ++ codes "` has no such shape"
-
 -- about a name in the order that is no assignment's
 abbrev pub unknown_assignment_text : Text → Text
 unknown_assignment_text name = (codes "unknown assignment `" ++ name) ++ codes "`"

@@ -21,11 +21,30 @@ pub record Module : Type 0 where
 
 -- an assignment reads the bindings so far; a called body's frame is put on all of them
 abbrev pub situation_at : Bool → Frames → Situation
-situation_at lists frames = record { names = value_in frames; environment = []; recipe = None; is_dependency = false; lists = lists; shown = frames; below = frames }
+situation_at lists frames = record {
+  names = value_in frames;
+  environment = [];
+  recipe = None;
+  is_dependency = false;
+  lists = lists;
+  shown = frames;
+  below = frames;
+}
 
 -- the binding of an assignment
 abbrev pub bound_of : Bool → Assignment → Value → Bound
-bound_of export a v = record { attributes = []; eager = a.eager; export = a.export || export; file_depth = 0; name = a.name; number = a.number; prelude = false; private = a.private; value = v }
+bound_of export a v = record {
+  attributes = [];
+  eager = a.eager;
+  export = a.export || export;
+  file_depth = 0;
+  name =
+      a.name;
+  number = a.number;
+  prelude = false;
+  private = a.private;
+  value = v;
+}
 
 -- the binding of an assignment of a module
 abbrev pub bound_in : Module → Assignment → Value → Bound
@@ -54,7 +73,9 @@ dynamically m frames = dynamic m.program (m.limit - 1)
 
 -- the value of an assignment, from the frames so far
 abbrev pub assigned : Closing → Module → Frames → Assignment → Tree Value
-assigned closing m frames a = or_override (m.overrides a.number) (eval m.program (closing m frames) (situation_at m.program.fixed.settings.lists frames) a.value)
+assigned closing m frames a =
+    or_override (m.overrides a.number)
+    (eval m.program (closing m frames) (situation_at m.program.fixed.settings.lists frames) a.value)
 
 -- one assignment that was evaluated: its number, its events, and how it ended
 pub record Block : Type 0 where
@@ -78,23 +99,36 @@ pub data Run (closing : Closing) (m : Module) : Frames → List Token → List B
   Finished : {frames : Frames} → Run closing m frames [] [] (Gave frames)
   Stops : {frames : Frames} {left : List Token} → Run closing m frames left [] Stopped
   -- there is no such assignment
-  Unknown : {frames : Frames} {t : Token} {left : List Token} → assignment_at m.assignments t.lexeme ≡ None → Run closing m frames (t ∷ left) [] (Refused (Internal (unknown_assignment_text t.lexeme) t))
+  Unknown : {frames : Frames} {t : Token} {left : List Token} → assignment_at m.assignments t.lexeme ≡ None
+      → Run closing m frames (t ∷ left) [] (Refused (Internal (unknown_assignment_text t.lexeme) t))
   -- it is not referenced
-  Passes : {frames : Frames} {t : Token} {left : List Token} {bs : List Block} {o : Outcome Frames} → (a : Assignment) → assignment_at m.assignments t.lexeme ≡ Some a → m.assignments.referenced a.number ≡ false → Run closing m frames left bs o → Run closing m frames (t ∷ left) bs o
+  Passes : {frames : Frames} {t : Token} {left : List Token} {bs : List Block} {o : Outcome Frames} → (a : Assignment)
+      → assignment_at m.assignments t.lexeme ≡ Some a → m.assignments.referenced a.number ≡ false
+      → Run closing m frames left bs o → Run closing m frames (t ∷ left) bs o
   -- it is already bound
-  Skips : {frames : Frames} {t : Token} {left : List Token} {bs : List Block} {o : Outcome Frames} → (a : Assignment) (b : Bound) → assignment_at m.assignments t.lexeme ≡ Some a → m.assignments.referenced a.number ≡ true → innermost a.number frames ≡ Some b → Run closing m frames left bs o → Run closing m frames (t ∷ left) bs o
+  Skips : {frames : Frames} {t : Token} {left : List Token} {bs : List Block} {o : Outcome Frames}
+      → (a : Assignment) (b : Bound) → assignment_at m.assignments t.lexeme ≡ Some a → m.assignments.referenced a.number
+      ≡ true → innermost a.number frames ≡ Some b → Run closing m frames left bs o
+      → Run closing m frames (t ∷ left) bs o
   -- its value is bound
-  Binds : {frames : Frames} {t : Token} {left : List Token} {bs : List Block} {o : Outcome Frames} → (a : Assignment) (es : List Event) (v : Value) → IsTaken m frames t a → Path freely (assigned closing m frames a) es (Gave v)
-      → Run closing m (bound_innermost frames (bound_of m.program.fixed.settings.export a v)) left bs o → Run closing m frames (t ∷ left) (record { number = a.number; events = es; outcome = Gave v } ∷ bs) o
+  Binds : {frames : Frames} {t : Token} {left : List Token} {bs : List Block} {o : Outcome Frames}
+      → (a : Assignment) (es : List Event) (v : Value) → IsTaken m frames t a
+      → Path freely (assigned closing m frames a) es (Gave v)
+      → Run closing m (bound_innermost frames (bound_of m.program.fixed.settings.export a v)) left bs o
+      → Run closing m frames (t ∷ left) (record { number = a.number; events = es; outcome = Gave v } ∷ bs) o
   -- it is refused
-  Breaks : {frames : Frames} {t : Token} {left : List Token} → (a : Assignment) (es : List Event) (r : Refusal) → IsTaken m frames t a → Path freely (assigned closing m frames a) es (Refused r)
-      → Run closing m frames (t ∷ left) (record { number = a.number; events = es; outcome = Refused r } ∷ []) (Refused r)
+  Breaks : {frames : Frames} {t : Token} {left : List Token} → (a : Assignment) (es : List Event) (r : Refusal)
+      → IsTaken m frames t a → Path freely (assigned closing m frames a) es (Refused r)
+      → Run closing m frames (t ∷ left) (record { number = a.number; events = es; outcome = Refused r } ∷ [])
+      (Refused r)
   -- it is stopped
-  Halts : {frames : Frames} {t : Token} {left : List Token} → (a : Assignment) (es : List Event) → IsTaken m frames t a → Path freely (assigned closing m frames a) es Stopped
+  Halts : {frames : Frames} {t : Token} {left : List Token} → (a : Assignment) (es : List Event) → IsTaken m frames t a
+      → Path freely (assigned closing m frames a) es Stopped
       → Run closing m frames (t ∷ left) (record { number = a.number; events = es; outcome = Stopped } ∷ []) Stopped
 
 -- Some blocks form a run to the outcome, and their questions take the host's state from `old` to `new`.
-pub record Ran {S : Type 0} (step : Step S) (old : S) (closing : Closing) (m : Module) (frames : Frames) (names : List Token) (outcome : Outcome Frames) (new : S) : Type 0 where
+pub record Ran {S : Type 0} (step : Step S) (old : S) (closing : Closing) (m : Module) (frames : Frames)
+    (names : List Token) (outcome : Outcome Frames) (new : S) : Type 0 where
   pub blocks : List Block
   pub run : Run closing m frames names blocks outcome
   pub chain : Chain step old (events_of blocks) new

@@ -1,5 +1,7 @@
 -- What a recipe's parameters mean: the environment that its attributes give, the positional words, and the bindings.
-use Rattle.std.specs.Prelude.{◌≡◌, ◌||◌, ℕ, zero, suc, Bool, true, false, List, [], ◌∷◌, ◌++◌, length, Option, Some, None, nat_eq, if◌then◌else◌}
+use Rattle.std.specs.Prelude.{◌≡◌, ◌||◌, ℕ, zero, suc, Bool, true, false, List, [], ◌∷◌, ◌++◌, length, Option, Some}
+use Rattle.std.specs.Prelude.{None, nat_eq, if◌then◌else◌}
+use Rattle.std.specs.List.{AllByRecursion}
 use Rattle.std.specs.BTreeMap.{insert_entry}
 use Rattle.std.specs.Cmp.Lexicographic.{slice_cmp}
 use Rattle.std.specs.Ordering.{nat_cmp}
@@ -32,7 +34,10 @@ with_variable environment key (x ∷ xs) = insert_entry (slice_cmp nat_cmp) envi
 -- the environment so far. A value of no element sets no variable.
 abbrev pub environment : Meanings → Situation → List (Attribute × Token) → Tree (List (Text × Text))
 environment means s [] = gives s.environment
-environment means s ((Env key value, name) ∷ left) = bind (string (means s) (EnvKey name) key) (λ k. bind (means s value) (λ v. environment means (record s { environment = with_variable s.environment k v }) left))
+environment means s ((Env key value, name) ∷ left) =
+    bind (string (means s) (EnvKey name) key)
+    (λ k. bind (means s value)
+    (λ v. environment means (record s { environment = with_variable s.environment k v }) left))
 environment means s ((Other, name) ∷ left) = environment means s left
 
 -- ---- one parameter
@@ -43,7 +48,8 @@ is_star _ = false
 
 -- no element, if the parameter may have none
 abbrev pub none_or_refused : Text → Parameter → Outcome Value
-none_or_refused recipe p = if is_star p.kind || p.flag then Gave [] else Refused (EmptyListArgument p.name.lexeme recipe)
+none_or_refused recipe p =
+    if is_star p.kind || p.flag then Gave [] else Refused (EmptyListArgument p.name.lexeme recipe)
 
 -- the value for an empty argument: the default, or no element
 abbrev pub default_or_none : (Expr → Tree Value) → Text → Parameter → Option Expr → Tree Value
@@ -59,7 +65,8 @@ repeated (suc n) v = v ++ repeated n v
 -- value, once for each of the argument's elements
 abbrev pub argument_or_value : (Expr → Tree Value) → Bool → Value → Option Expr → Tree Value
 argument_or_value means is_dependency argument None = gives argument
-argument_or_value means is_dependency argument (Some e) = if is_dependency then gives argument else bind (means e) (λ v. gives (repeated (length argument) v))
+argument_or_value means is_dependency argument (Some e) =
+    if is_dependency then gives argument else bind (means e) (λ v. gives (repeated (length argument) v))
 
 abbrev pub valued : (Expr → Tree Value) → Bool → Text → Parameter → Value → Tree Value
 valued means is_dependency recipe p [] = default_or_none means recipe p p.default
@@ -73,7 +80,8 @@ judged p v Undecided = Stopped
 
 -- the value of a parameter, after the check
 abbrev pub checked : (Expr → Tree Value) → Bool → Text → Parameter → Value → Tree Value
-checked means is_dependency recipe p argument = bind (valued means is_dependency recipe p argument) (λ v. check p v (λ a. done (judged p v a)))
+checked means is_dependency recipe p argument =
+    bind (valued means is_dependency recipe p argument) (λ v. check p v (λ a. done (judged p v a)))
 
 -- the positional words that a parameter's value gives: its elements if there may be many, else one word
 abbrev pub words_of : Parameter → Value → List Text
@@ -81,7 +89,17 @@ words_of p v = if is_variadic p.kind || p.multiple then v else joined v ∷ []
 
 -- the binding of a parameter: its value with lists, else one text
 abbrev pub parameter_bound : Bool → Parameter → Value → Bound
-parameter_bound lists p v = record { attributes = []; eager = false; export = p.export; file_depth = 0; name = p.name; number = p.number; prelude = false; private = false; value = if lists then v else joined v ∷ [] }
+parameter_bound lists p v = record {
+  attributes = [];
+  eager = false;
+  export = p.export;
+  file_depth = 0;
+  name = p.name;
+  number = p.number;
+  prelude = false;
+  private = false;
+  value = if lists then v else joined v ∷ [];
+}
 
 -- ---- all parameters
 
@@ -100,16 +118,17 @@ seeing frames s = record s { names = value_in frames; shown = frames }
 abbrev pub bindings : Meanings → Text → Situation → List Text → List Parameter → List Value → Tree Arguments
 bindings means recipe s words (p ∷ ps) (argument ∷ arguments) =
     bind (checked (means s) s.is_dependency recipe p argument)
-    (λ v. bindings means recipe (seeing (bound_innermost s.shown (parameter_bound s.lists p v)) s) (words ++ words_of p v) ps arguments)
+    (λ v. bindings means recipe (seeing (bound_innermost s.shown (parameter_bound s.lists p v)) s)
+    (words ++ words_of p v) ps arguments)
 bindings means recipe s words _ _ = gives (record { frames = s.shown; words = words; environment = s.environment })
 
 -- The attributes first, then the number of arguments, then the parameters.
 abbrev pub parameters : Meanings → Situation → Recipe → List Parameter → List Value → Tree Arguments
 parameters means s recipe ps arguments =
     bind (environment means s recipe.attributes)
-    (λ e. if nat_eq (length arguments) (length ps) then bindings means recipe.name.lexeme (record s { environment = e }) [] ps arguments else refuses (Internal mismatched_text recipe.name))
+    (λ e. if nat_eq (length arguments) (length ps) then bindings means recipe.name.lexeme (record s { environment = e })
+    [] ps arguments else refuses (Internal mismatched_text recipe.name))
 
 -- each value that a frame binds has one element
 abbrev pub HaveOneElement : Frame → Type 0
-HaveOneElement [] = Unit {0}
-HaveOneElement (b ∷ bs) = (length b.1.value ≡ 1) × HaveOneElement bs
+HaveOneElement frame = AllByRecursion (λ b. length b.1.value ≡ 1) frame

@@ -1,6 +1,10 @@
 -- What an expression reaches: what occurs in it and in the bodies of the functions that it calls.
-use Rattle.std.specs.Prelude.{◌≡◌, ◌⊎◌, ℕ, List, [], ◌∷◌, Option, Some}
-use Rattle.just_syntax.specs.Plain.{Text, Token, Function, Expr, And, Assert, AssertOnly, Backtick, Call, Comparison, Concatenation, Conditional, ConditionalOnly, FormatString, Group, Join, JoinOnly, ListOf, ListConcatenation, Not, Or, StringLiteral, Variable, Exprs, Nil, Cons, count, Pieces, NoPiece, Piece}
+use Rattle.std.specs.Prelude.{◌≡◌, ◌⊎◌, ℕ, List, map, Option, Some}
+use Rattle.just_syntax.specs.Plain.{Text, Token, Function, Expr, And, Assert, AssertOnly, Backtick, Call, Comparison}
+use Rattle.just_syntax.specs.Plain.{Concatenation, Conditional, ConditionalOnly, FormatString, Group, Join, JoinOnly}
+use Rattle.just_syntax.specs.Plain.{ListOf, ListConcatenation, Not, Or, StringLiteral, Variable, Exprs, Nil, Cons}
+use Rattle.just_syntax.specs.Plain.{count, Pieces, NoPiece, Piece}
+use Rattle.just_syntax.specs.Lists.{IsIn}
 use Rattle.just_syntax.specs.Keyed.{value_at}
 
 -- the function with a name
@@ -45,13 +49,13 @@ abbrev mutual
 
 -- the number is that of one of these parameters
 abbrev pub IsAmong : List (Token × ℕ) → ℕ → Type 0
-IsAmong [] n = ⊥
-IsAmong (p ∷ ps) n = (p.1 ≡ n) ⊎ IsAmong ps n
+IsAmong parameters n = IsIn (map (λ p. p.1) parameters) n
 
 -- the functions that are called, and those that their bodies call
 pub data Reaches (functions : List Function) : Expr → Text → Type 0 where
   Here : {e : Expr} {name : Text} → (n : ℕ) → Occurs e (CallOf name n) → Reaches functions e name
-  Later : {e : Expr} {further : Text} → (name : Text) (n : ℕ) → Occurs e (CallOf name n) → (f : Function) → function_at functions name ≡ Some f → Reaches functions f.body further → Reaches functions e further
+  Later : {e : Expr} {further : Text} → (name : Text) (n : ℕ) → Occurs e (CallOf name n) → (f : Function)
+      → function_at functions name ≡ Some f → Reaches functions f.body further → Reaches functions e further
 
 -- the number is read in the body of a reached function and is not its own parameter's
 pub record ReadsBeyond (functions : List Function) (e : Expr) (n : ℕ) : Type 0 where

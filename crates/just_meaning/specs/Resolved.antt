@@ -1,5 +1,6 @@
 -- When a module is resolved.
 use Rattle.std.specs.Prelude.{◌≡◌, ◌⊎◌, ℕ, true, List, [], ◌∷◌, ◌++◌, map, Option, Some, None, if◌then◌else◌}
+use Rattle.std.specs.List.{AllByRecursion, flat_map}
 use Rattle.just_syntax.specs.Plain.{Token, Assignment, Function, Expr}
 use Rattle.just_syntax.specs.Lists.{IsIn}
 use Rattle.just_value.specs.Value.{Value, Names}
@@ -14,10 +15,12 @@ IsKnown functions (VariableOf None) = ⊥
 IsKnown functions (VariableOf (Some n)) = Unit {0}
 IsKnown functions (CallOf name n) = Accepts (callee functions name) n
 
--- everything that occurs in these expressions is known
+-- everything that occurs in the expression is known
+abbrev pub MentionsKnown : List Function → Expr → Type 0
+MentionsKnown functions e = (x : Mention) → Occurs e x → IsKnown functions x
+
 abbrev pub AllKnown : List Function → List Expr → Type 0
-AllKnown functions [] = Unit {0}
-AllKnown functions (e ∷ es) = ((x : Mention) → Occurs e x → IsKnown functions x) × AllKnown functions es
+AllKnown functions es = AllByRecursion (MentionsKnown functions) es
 
 -- no number occurs twice
 abbrev pub AreDistinct : List ℕ → Type 0
@@ -26,8 +29,7 @@ AreDistinct (n ∷ ns) = (IsIn ns n → ⊥) × AreDistinct ns
 
 -- the numbers of all parameters
 abbrev pub parameter_numbers : List Function → List ℕ
-parameter_numbers [] = []
-parameter_numbers (f ∷ fs) = map (λ p. p.1) f.parameters ++ parameter_numbers fs
+parameter_numbers functions = flat_map (λ f. map (λ p. p.1) f.parameters) functions
 
 -- a name has a value
 abbrev pub HasValue : Names → ℕ → Type 0
@@ -35,8 +37,8 @@ HasValue names n = (v : Value) × (names n ≡ Some v)
 
 -- each of these names is that of an assignment
 abbrev pub AreAssignments : Assignments → List Token → Type 0
-AreAssignments assignments [] = Unit {0}
-AreAssignments assignments (t ∷ left) = ((a : Assignment) × (assignment_at assignments t.lexeme ≡ Some a)) × AreAssignments assignments left
+AreAssignments assignments names =
+    AllByRecursion (λ t. (a : Assignment) × (assignment_at assignments t.lexeme ≡ Some a)) names
 
 abbrev pub with_taken : Assignments → Option Assignment → List ℕ → List ℕ
 with_taken assignments None taken = taken
@@ -47,7 +49,8 @@ with_taken assignments (Some a) taken = if assignments.referenced a.number then 
 abbrev pub AreInOrder : List Function → Assignments → Frames → List ℕ → List Token → Type 0
 AreInOrder functions assignments outer taken [] = Unit {0}
 AreInOrder functions assignments outer taken (t ∷ left) =
-    ((a : Assignment) → assignment_at assignments t.lexeme ≡ Some a → assignments.referenced a.number ≡ true → (n : ℕ) → Reads functions a.value n → IsIn taken n ⊎ HasValue (value_in outer) n)
+    ((a : Assignment) → assignment_at assignments t.lexeme ≡ Some a → assignments.referenced a.number ≡ true → (n : ℕ)
+    → Reads functions a.value n → IsIn taken n ⊎ HasValue (value_in outer) n)
     × AreInOrder functions assignments outer (with_taken assignments (assignment_at assignments t.lexeme) taken) left
 
 -- Numbers are distinct, no parameter is bound outside, every variable has a number, every call has as many arguments as
@@ -67,8 +70,7 @@ abbrev pub IsNumbered : Expr → Type 0
 IsNumbered e = Occurs e (VariableOf None) → ⊥
 
 abbrev pub AllNumbered : List Expr → Type 0
-AllNumbered [] = Unit {0}
-AllNumbered (e ∷ es) = IsNumbered e × AllNumbered es
+AllNumbered es = AllByRecursion IsNumbered es
 
 -- The same before any run, where no function is entered: the numbers of assignments are distinct, every variable has a
 -- number, the order names only assignments, and every variable that occurs in an assignment is taken before it.

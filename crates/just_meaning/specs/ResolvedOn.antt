@@ -1,5 +1,6 @@
 -- When expressions, lines and settings are resolved on a const evaluator.
 use Rattle.std.specs.Prelude.{◌≡◌, ◌⊎◌, ℕ, true, List, [], ◌∷◌, ◌++◌, Some}
+use Rattle.std.specs.List.{AllByRecursion}
 use Rattle.just_syntax.specs.Plain as plain
 use Rattle.just_syntax.specs.Plain.{Expr, Interpreter, Set}
 use Rattle.just_value.specs.Frames.{value_in}
@@ -14,8 +15,7 @@ pub record IsResolvedOn (s : StageState) (e : Expr) : Type 0 where
   pub known : (n : ℕ) → Occurs e (VariableOf (Some n)) → HasValue (value_in s.frames) n ⊎ (s.is_open n ≡ true)
 
 abbrev pub AllResolvedOn : StageState → List Expr → Type 0
-AllResolvedOn s [] = Unit {0}
-AllResolvedOn s (e ∷ es) = IsResolvedOn s e × AllResolvedOn s es
+AllResolvedOn s es = AllByRecursion (IsResolvedOn s) es
 
 -- the expressions of a command and its arguments
 abbrev pub interpreter_expressions : Interpreter Expr → List Expr

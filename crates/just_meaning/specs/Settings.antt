@@ -61,20 +61,28 @@ kept s _ = s
 
 -- settings with one more
 abbrev pub with_setting : Evaluates → Settings → Token → plain.Setting → Outcome Settings
-with_setting evaluates s name (plain.DotenvCommand e) = and_then (evaluates e) (λ v. Gave (record s { dotenv_command = v }))
-with_setting evaluates s name (plain.DotenvFilename e) = and_then (evaluates e) (λ v. Gave (record s { dotenv_filename = v }))
+with_setting evaluates s name (plain.DotenvCommand e) =
+    and_then (evaluates e) (λ v. Gave (record s { dotenv_command = v }))
+with_setting evaluates s name (plain.DotenvFilename e) =
+    and_then (evaluates e) (λ v. Gave (record s { dotenv_filename = v }))
 with_setting evaluates s name (plain.DotenvPath e) = and_then (evaluates e) (λ v. Gave (record s { dotenv_path = v }))
-with_setting evaluates s name (plain.ScriptInterpreter i) = and_then (interpreter evaluates name i) (λ command. Gave (record s { script_interpreter = Some command }))
-with_setting evaluates s name (plain.Shell i) = and_then (interpreter evaluates name i) (λ command. Gave (record s { shell = Some command }))
-with_setting evaluates s name (plain.Tempdir e) = and_then (const_string evaluates (contexts.Setting name) e) (λ text. Gave (record s { tempdir = Some text }))
-with_setting evaluates s name (plain.WindowsShell i) = and_then (interpreter evaluates name i) (λ command. Gave (record s { windows_shell = Some command }))
-with_setting evaluates s name (plain.WorkingDirectory e) = and_then (const_string evaluates (contexts.Setting name) e) (λ text. Gave (record s { working_directory = Some text }))
+with_setting evaluates s name (plain.ScriptInterpreter i) =
+    and_then (interpreter evaluates name i) (λ command. Gave (record s { script_interpreter = Some command }))
+with_setting evaluates s name (plain.Shell i) =
+    and_then (interpreter evaluates name i) (λ command. Gave (record s { shell = Some command }))
+with_setting evaluates s name (plain.Tempdir e) =
+    and_then (const_string evaluates (contexts.Setting name) e) (λ text. Gave (record s { tempdir = Some text }))
+with_setting evaluates s name (plain.WindowsShell i) =
+    and_then (interpreter evaluates name i) (λ command. Gave (record s { windows_shell = Some command }))
+with_setting evaluates s name (plain.WorkingDirectory e) = and_then (const_string evaluates (contexts.Setting name) e)
+    (λ text. Gave (record s { working_directory = Some text }))
 with_setting evaluates s name x = Gave (kept s x)
 
 -- settings with several more, one after another
 abbrev pub with_settings : Evaluates → Settings → List Set → Outcome Settings
 with_settings evaluates s [] = Gave s
-with_settings evaluates s (x ∷ xs) = and_then (with_setting evaluates s x.name x.value) (λ s'. with_settings evaluates s' xs)
+with_settings evaluates s (x ∷ xs) =
+    and_then (with_setting evaluates s x.name x.value) (λ s'. with_settings evaluates s' xs)
 
 -- the settings of a module
 abbrev pub settings : Evaluates → List Set → Outcome Settings

@@ -68,19 +68,34 @@ pub data Stage (m : Constants) : StageState → List Token → List Found → Ou
   Finished : {s : StageState} → Stage m s [] [] (Gave s)
   Stops : {s : StageState} {left : List Token} → Stage m s left [] Stopped
   -- there is no such assignment
-  Unknown : {s : StageState} {t : Token} {left : List Token} → assignment_at m.assignments t.lexeme ≡ None → Stage m s (t ∷ left) [] (Refused (Internal (unknown_assignment_text t.lexeme) t))
+  Unknown : {s : StageState} {t : Token} {left : List Token} → assignment_at m.assignments t.lexeme ≡ None
+      → Stage m s (t ∷ left) [] (Refused (Internal (unknown_assignment_text t.lexeme) t))
   -- it is not referenced
-  Passes : {s : StageState} {t : Token} {left : List Token} {fs : List Found} {o : Outcome StageState} → (a : Assignment) → assignment_at m.assignments t.lexeme ≡ Some a → m.assignments.referenced a.number ≡ false → Stage m s left fs o → Stage m s (t ∷ left) fs o
+  Passes : {s : StageState} {t : Token} {left : List Token} {fs : List Found} {o : Outcome StageState}
+      → (a : Assignment) → assignment_at m.assignments t.lexeme ≡ Some a → m.assignments.referenced a.number ≡ false
+      → Stage m s left fs o → Stage m s (t ∷ left) fs o
   -- it is already bound
-  Skips : {s : StageState} {t : Token} {left : List Token} {fs : List Found} {o : Outcome StageState} → (a : Assignment) (b : Bound) → assignment_at m.assignments t.lexeme ≡ Some a → m.assignments.referenced a.number ≡ true → innermost a.number s.frames ≡ Some b → Stage m s left fs o → Stage m s (t ∷ left) fs o
+  Skips : {s : StageState} {t : Token} {left : List Token} {fs : List Found} {o : Outcome StageState}
+      → (a : Assignment) (b : Bound) → assignment_at m.assignments t.lexeme ≡ Some a → m.assignments.referenced a.number
+      ≡ true → innermost a.number s.frames ≡ Some b → Stage m s left fs o → Stage m s (t ∷ left) fs o
   -- it is already open
-  StaysOpen : {s : StageState} {t : Token} {left : List Token} {fs : List Found} {o : Outcome StageState} → (a : Assignment) → assignment_at m.assignments t.lexeme ≡ Some a → m.assignments.referenced a.number ≡ true → s.is_open a.number ≡ true → Stage m s left fs o → Stage m s (t ∷ left) fs o
+  StaysOpen : {s : StageState} {t : Token} {left : List Token} {fs : List Found} {o : Outcome StageState}
+      → (a : Assignment) → assignment_at m.assignments t.lexeme ≡ Some a → m.assignments.referenced a.number ≡ true
+      → s.is_open a.number ≡ true → Stage m s left fs o → Stage m s (t ∷ left) fs o
   -- it is settled: its value is bound
-  Settles : {s : StageState} {t : Token} {left : List Token} {fs : List Found} {o : Outcome StageState} → (a : Assignment) (v : Value) → IsNew m s t a → const_assigned m s a ≡ Gave v → Stage m (with_settled s (bound_of false a v)) left fs o → Stage m s (t ∷ left) (record { number = a.number; outcome = Gave v } ∷ fs) o
+  Settles : {s : StageState} {t : Token} {left : List Token} {fs : List Found} {o : Outcome StageState}
+      → (a : Assignment) (v : Value) → IsNew m s t a → const_assigned m s a ≡ Gave v
+      → Stage m (with_settled s (bound_of false a v)) left fs o
+      → Stage m s (t ∷ left) (record { number = a.number; outcome = Gave v } ∷ fs) o
   -- it is open, and the stage continues
-  Opens : {s : StageState} {t : Token} {left : List Token} {fs : List Found} {o : Outcome StageState} → (a : Assignment) (c : ConstRefusal) → IsNew m s t a → const_assigned m s a ≡ Refused (Const c) → Stage m (with_open s a.number) left fs o → Stage m s (t ∷ left) (record { number = a.number; outcome = Refused (Const c) } ∷ fs) o
+  Opens : {s : StageState} {t : Token} {left : List Token} {fs : List Found} {o : Outcome StageState}
+      → (a : Assignment) (c : ConstRefusal) → IsNew m s t a → const_assigned m s a ≡ Refused (Const c)
+      → Stage m (with_open s a.number) left fs o
+      → Stage m s (t ∷ left) (record { number = a.number; outcome = Refused (Const c) } ∷ fs) o
   -- any other refusal ends the stage
-  Breaks : {s : StageState} {t : Token} {left : List Token} → (a : Assignment) (r : Refusal) → IsFinal r → IsNew m s t a → const_assigned m s a ≡ Refused r → Stage m s (t ∷ left) (record { number = a.number; outcome = Refused r } ∷ []) (Refused r)
+  Breaks : {s : StageState} {t : Token} {left : List Token} → (a : Assignment) (r : Refusal) → IsFinal r → IsNew m s t a
+      → const_assigned m s a ≡ Refused r
+      → Stage m s (t ∷ left) (record { number = a.number; outcome = Refused r } ∷ []) (Refused r)
 
 -- a const stage over these names ends with this outcome
 abbrev pub Staged : Constants → StageState → List Token → Outcome StageState → Type 0

@@ -38,7 +38,11 @@ is_referenced_in (Some set) n = list_any (nat_eq n) set.now.keys
 
 -- assignments in an order; the referenced numbers are those of the set, or all
 abbrev pub ordered_view : {S : Type 0} → List Assignment → List Name → Option (Bor (HashSet ℕ S)) → Assignments
-ordered_view assignments order references = record { all = map assignment_view assignments; order = map name_view order; referenced = is_referenced_in references }
+ordered_view assignments order references = record {
+  all = map assignment_view assignments;
+  order = map name_view order;
+  referenced = is_referenced_in references;
+}
 
 -- the assignments of a module; the referenced numbers are those of the set, or all
 abbrev pub assignments_view : {S : Type 0} → Justfile → Option (Bor (HashSet ℕ S)) → Assignments
@@ -57,21 +61,39 @@ module_view c references = record {
 }
 
 -- the inputs of a run, from the arguments of its call
-abbrev pub run_of : {S : Type 0} → Bor Config → Bor (BTreeMap (String Global) (String Global)) → Bor Justfile → Bor (HashMap ℕ (String Global) (BuildHasherDefault FoldHasher)) → Bor Scope → Bor Search → ℕ → Option (Bor (HashSet ℕ S)) → Module
+abbrev pub run_of : {S : Type 0} → Bor Config → Bor (BTreeMap (String Global) (String Global)) → Bor Justfile
+    → Bor (HashMap ℕ (String Global) (BuildHasherDefault FoldHasher)) → Bor Scope → Bor Search → ℕ
+    → Option (Bor (HashSet ℕ S)) → Module
 run_of config dotenv justfile overrides parent search limit references =
-    module_view (record { config = config; dotenv = dotenv; «module» = justfile; overrides = overrides; recursion_limit = limit; scope = parent; search = search }) references
+    module_view (record {
+      config = config;
+      dotenv = dotenv;
+      «module» = justfile;
+      overrides = overrides;
+      recursion_limit = limit;
+      scope = parent;
+      search = search;
+    }) references
 
 -- the inputs of a const stage, from the arguments of its call
-abbrev pub constants_of : {A S T : Type 0} → List Assignment → List Name → HashMap ℕ (String A) S → HashSet ℕ T → Constants
+abbrev pub constants_of : {A S T : Type 0} → List Assignment → List Name → HashMap ℕ (String A) S
+    → HashSet ℕ T → Constants
 constants_of assignments order overrides references = record {
-  assignments = record { all = map assignment_view assignments; order = map name_view order; referenced = λ n. list_any (nat_eq n) references.keys };
+  assignments = record {
+    all = map assignment_view assignments;
+    order = map name_view order;
+    referenced =
+        λ n. list_any (nat_eq n) references.keys;
+  };
   overrides = text_numbered overrides;
 }
 
 -- what is evaluated for a recipe in a context, in these frames, is resolved
 abbrev pub IsResolvedWith : ExecutionContext → Frames → List (Attribute × Token) → List Parameter → List Expr → Type 0
-IsResolvedWith c frames attributes parameters expressions = IsResolvedHere (functions_view c.module.now) (map assignment_view c.module.now.assignments) (frames_view c.scope.now) frames attributes parameters expressions
+IsResolvedWith c frames attributes parameters expressions = IsResolvedHere (functions_view c.module.now)
+    (map assignment_view c.module.now.assignments) (frames_view c.scope.now) frames attributes parameters expressions
 
 -- the program, the pending calls and the situation of a recipe in a context, in these frames
 abbrev pub recipe_in : ExecutionContext → List (Text × Text) → Bool → Option Text → Frames → Here
-recipe_in c environment is_dependency recipe frames = in_recipe (program_view c) (c.recursion_limit - 1) (frames_view c.scope.now) environment is_dependency recipe frames
+recipe_in c environment is_dependency recipe frames =
+    in_recipe (program_view c) (c.recursion_limit - 1) (frames_view c.scope.now) environment is_dependency recipe frames

@@ -1,18 +1,15 @@
 -- The walk over the functions that an expression reaches: it scans each of them, and none twice.
-use Rattle.std.proofs.Common.{◌≡◌, ◌↔◌, ◌⊎◌, inl, inr, ⊎_elim, ℕ, suc, ◌+◌, ◌<◌, ◌≤◌, ◌||◌, Bool, true, false, cond, List, [], ◌∷◌, ◌++◌, length, map, Option, Some, None, refl, ap, sym, ◌∙◌, subst, arith, IsTrue, IsSome, is_some, Bor, length-append}
-use Rattle.std.specs.Option.{option_to_list}
+use Rattle.std.proofs.Common.{◌≡◌, ◌↔◌, ◌⊎◌, inl, inr, ⊎_elim, ℕ, suc, ◌+◌, ◌<◌, ◌≤◌, ◌||◌, Bool, true, false, cond, List, [], ◌∷◌, ◌++◌, length, map, Option}
+use Rattle.std.proofs.Common.{Some, None, refl, ap, sym, ◌∙◌, subst, arith, IsTrue, IsSome, is_some, Bor, length-append, option_to_list}
 use Rattle.std.proofs.lemmas.List.{map-append}
-use Rattle.just_resolution.specs.Seen.{texts}
+use Rattle.just_resolution.specs.Prelude.{CallOf, Expr, FindsBeyond, FindsBody, FindsUnreadable, Function, IsAdmitted, IsAmong, IsIn, Occurs, ReadsWithin, Text}
+use Rattle.just_resolution.specs.Prelude.{Token, VariableOf, called_names, calls_of, function_at, sites_in, texts}
 use Rattle.std.specs.Str.{bytes_eq}
 use Rattle.std.proofs.lemmas.Bool.{or_cases, or_left, or_right}
 use Rattle.std.proofs.lemmas.Slice.Eq.{bytes_eq-Decides}
-use Rattle.just_syntax.specs.Plain.{Text, Token, Function, Expr}
-use Rattle.just_syntax.specs.Lists.{IsIn}
 use Rattle.just_syntax.proofs.Lists.{in_append}
-use Rattle.just_resolution.specs.Admitted.{FindsBeyond, FindsBody, FindsUnreadable, IsAdmitted, ReadsWithin}
-use Rattle.just_resolution.specs.Sites.{called_names, calls_of, sites_in}
 use Rattle.just_meaning.proofs.Reached.{reaches_on}
-use Rattle.just_meaning.specs.Reaches.{VariableOf, CallOf, IsAmong, Reaches, Here, Later, Occurs, function_at}
+use Rattle.just_meaning.specs.Reaches.{Reaches, Here, Later}
 use Rattle.just_resolution.proofs.Occurrences.{all_called, all_may_be_read, reads_all, unreadable_alike}
 
 -- a set with one more name
@@ -29,8 +26,10 @@ IsSettled admitted pending t = IsTrue (admitted t) ⊎ IsIn pending t
 pub record IsWalked (functions : List Function) (e : Expr) (here readable : ℕ → Bool) (admitted : Text → Bool) (pending : List Text) : Type 0 where
   pub start : (name : Text) (n : ℕ) → Occurs e (CallOf name n) → IsSettled admitted pending name
   pub own : (n : ℕ) → Occurs e (VariableOf (Some n)) → IsTrue (here n)
-  pub reads : (name : Text) (f : Function) → IsTrue (admitted name) → function_at functions name ≡ Some f → (n : ℕ) → Occurs f.body (VariableOf (Some n)) → IsAmong f.parameters n ⊎ IsTrue (readable n)
-  pub calls : (name : Text) (f : Function) → IsTrue (admitted name) → function_at functions name ≡ Some f → (further : Text) (n : ℕ) → Occurs f.body (CallOf further n) → IsSettled admitted pending further
+  pub reads : (name : Text) (f : Function) → IsTrue (admitted name) → function_at functions name ≡ Some f → (n : ℕ) → Occurs f.body (VariableOf (Some n))
+      → IsAmong f.parameters n ⊎ IsTrue (readable n)
+  pub calls : (name : Text) (f : Function) → IsTrue (admitted name) → function_at functions name ≡ Some f → (further : Text) (n : ℕ)
+      → Occurs f.body (CallOf further n) → IsSettled admitted pending further
   pub reached : (name : Text) → IsIn pending name → Reaches functions e name
 
 -- with no own numbers, what may be read is readable
@@ -38,7 +37,8 @@ pub own_out : (own readable : Bool) → own ≡ false → IsTrue (own || readabl
 own_out own readable off h = subst (λ b. (b || readable) ≡ true) off h
 
 -- what is found in the body of a function that a look-up found
-pub body_found : (o : Option Function) (f : Function) (own readable : ℕ → Bool) (r : Option Token) → o ≡ Some f → ((n : ℕ) → IsTrue (own n) ↔ IsAmong f.parameters n) → FindsUnreadable (λ n. IsTrue (own n || readable n)) (sites_in f.body) r →
+pub body_found : (o : Option Function) (f : Function) (own readable : ℕ → Bool) (r : Option Token) → o ≡ Some f
+    → ((n : ℕ) → IsTrue (own n) ↔ IsAmong f.parameters n) → FindsUnreadable (λ n. IsTrue (own n || readable n)) (sites_in f.body) r →
     FindsBody o (λ n. IsTrue (readable n)) r
 body_found o f own readable r found owns h =
     subst (λ (p : Option Function). FindsBody p (λ n. IsTrue (readable n)) r) (sym found)
@@ -49,13 +49,16 @@ body_found o f own readable r found owns h =
     )) (sites_in f.body) r h)
 
 -- nothing is found in a function's body: it reads only its parameters and what is readable
-pub body_reads : (o : Option Function) (readable : ℕ → Bool) (r : Option Token) → is_some r ≡ false → FindsBody o (λ n. IsTrue (readable n)) r → (f : Function) → o ≡ Some f → (n : ℕ) → Occurs f.body (VariableOf (Some n)) → IsAmong f.parameters n ⊎ IsTrue (readable n)
+pub body_reads : (o : Option Function) (readable : ℕ → Bool) (r : Option Token) → is_some r ≡ false → FindsBody o (λ n. IsTrue (readable n)) r → (f : Function)
+    → o ≡ Some f → (n : ℕ) → Occurs f.body (VariableOf (Some n)) → IsAmong f.parameters n ⊎ IsTrue (readable n)
 body_reads o readable r none h f found =
-    reads_all (λ n. IsAmong f.parameters n ⊎ IsTrue (readable n)) f.body r none (subst (λ (p : Option Function). FindsBody p (λ n. IsTrue (readable n)) r) found h)
+    reads_all (λ n. IsAmong f.parameters n ⊎ IsTrue (readable n)) f.body r none
+    (subst (λ (p : Option Function). FindsBody p (λ n. IsTrue (readable n)) r) found h)
 
 module _ (functions : List Function) where
   -- a closed set that holds what an expression calls holds what it reaches
-  reached_admitted : {e : Expr} {name : Text} (readable : ℕ → Bool) (admitted : Text → Bool) → IsAdmitted functions readable admitted → ((t : Text) (n : ℕ) → Occurs e (CallOf t n) → IsTrue (admitted t)) → Reaches functions e name → IsTrue (admitted name)
+  reached_admitted : {e : Expr} {name : Text} (readable : ℕ → Bool) (admitted : Text → Bool) → IsAdmitted functions readable admitted
+      → ((t : Text) (n : ℕ) → Occurs e (CallOf t n) → IsTrue (admitted t)) → Reaches functions e name → IsTrue (admitted name)
   reached_admitted {name = name} readable admitted closed start (Here n s) = start name n s
   reached_admitted readable admitted closed start (Later mid n s f found rest) =
       reached_admitted readable admitted closed (λ t k there. closed.calls mid f (start mid n s) found t k there) rest
@@ -65,7 +68,8 @@ module _ (functions : List Function) where
     AllReadable = ReadsWithin functions e here readable
 
     -- at the start nothing more is admitted, and what the expression calls is pending
-    pub begins : (admitted : Text → Bool) (pending : List Text) → IsAdmitted functions readable admitted → pending ≡ called_names (sites_in e) → ((n : ℕ) → Occurs e (VariableOf (Some n)) → IsTrue (here n)) → IsWalked functions e here readable admitted pending
+    pub begins : (admitted : Text → Bool) (pending : List Text) → IsAdmitted functions readable admitted → pending ≡ called_names (sites_in e)
+        → ((n : ℕ) → Occurs e (VariableOf (Some n)) → IsTrue (here n)) → IsWalked functions e here readable admitted pending
     begins admitted pending closed is own = record {
       start = λ name n s. inr (subst (λ names. IsIn names name) (sym is) ((all_called e name).1 (n, s)));
       own = own;
@@ -75,51 +79,62 @@ module _ (functions : List Function) where
     }
 
     -- what is found in the expression itself
-    pub found_at_once : (own : ℕ → Bool) (r : Option Token) → is_some r ≡ true → ((n : ℕ) → own n ≡ false) → FindsUnreadable (λ n. IsTrue (own n || here n)) (sites_in e) r → FindsBeyond functions e here readable r
+    pub found_at_once : (own : ℕ → Bool) (r : Option Token) → is_some r ≡ true → ((n : ℕ) → own n ≡ false)
+        → FindsUnreadable (λ n. IsTrue (own n || here n)) (sites_in e) r → FindsBeyond functions e here readable r
     found_at_once own r some none h = by r some
-        (unreadable_alike (λ n. IsTrue (own n || here n)) (λ n. IsTrue (here n)) (λ n. ((λ k. own_out (own n) (here n) (none n) k), (λ k. or_right (own n) (here n) k))) (sites_in e) r h)
+        (unreadable_alike (λ n. IsTrue (own n || here n)) (λ n. IsTrue (here n))
+        (λ n. ((λ k. own_out (own n) (here n) (none n) k), (λ k. or_right (own n) (here n) k))) (sites_in e) r h)
       where
         by : (q : Option Token) → is_some q ≡ true → FindsUnreadable (λ n. IsTrue (here n)) (sites_in e) q → FindsBeyond functions e here readable q
         by None some_q k = absurd (let bad : false ≡ true = some_q in cc)
         by (Some v) some_q k = inl k
 
     -- nothing is found in the expression itself
-    pub reads_at_once : (own : ℕ → Bool) (r : Option Token) → is_some r ≡ false → ((n : ℕ) → own n ≡ false) → FindsUnreadable (λ n. IsTrue (own n || here n)) (sites_in e) r → (n : ℕ) → Occurs e (VariableOf (Some n)) → IsTrue (here n)
+    pub reads_at_once : (own : ℕ → Bool) (r : Option Token) → is_some r ≡ false → ((n : ℕ) → own n ≡ false)
+        → FindsUnreadable (λ n. IsTrue (own n || here n)) (sites_in e) r → (n : ℕ) → Occurs e (VariableOf (Some n)) → IsTrue (here n)
     reads_at_once own r nothing none h n s = own_out (own n) (here n) (none n) (reads_all (λ k. IsTrue (own k || here k)) e r nothing h n s)
 
     -- what is found in the body of a reached function
-    pub found_within : (admitted : Text → Bool) (front pending : List Text) (name : Text) (r : Option Token) → IsWalked functions e here readable admitted pending → pending ≡ front ++ name ∷ [] → is_some r ≡ true →
+    pub found_within : (admitted : Text → Bool) (front pending : List Text) (name : Text) (r : Option Token)
+        → IsWalked functions e here readable admitted pending → pending ≡ front ++ name ∷ [] → is_some r ≡ true →
         FindsBody (function_at functions name) (λ n. IsTrue (readable n)) r → FindsBeyond functions e here readable r
     found_within admitted front pending name r w is some h = by r (function_at functions name) refl some h
       where
         reached : Reaches functions e name
         reached = w.reached name (subst (λ names. IsIn names name) (sym is) ((in_append front (name ∷ []) name).1 (inr (inl refl))))
 
-        by : (q : Option Token) (o : Option Function) → function_at functions name ≡ o → is_some q ≡ true → FindsBody o (λ n. IsTrue (readable n)) q → FindsBeyond functions e here readable q
+        by : (q : Option Token) (o : Option Function) → function_at functions name ≡ o → is_some q ≡ true → FindsBody o (λ n. IsTrue (readable n)) q
+            → FindsBeyond functions e here readable q
         by None o found some_q k = absurd (let bad : false ≡ true = some_q in cc)
         by (Some v) None found some_q k = absurd (let bad : Some v ≡ None = k in cc)
         by (Some v) (Some f) found some_q k =
             inr ((all_may_be_read (λ n. IsTrue (here n)) e).1 w.own, record { name = name; function = f; reached = reached; found = found; first = k })
 
-    module _ (admitted next_admitted : Text → Bool) (front next : List Text) (name : Text) (w : IsWalked functions e here readable admitted (front ++ name ∷ [])) (adds : Adds admitted next_admitted name) (kept : (t : Text) → IsIn front t → IsIn next t) where
+    module _ (admitted next_admitted : Text → Bool) (front next : List Text) (name : Text)
+        (w : IsWalked functions e here readable admitted (front ++ name ∷ [])) (adds : Adds admitted next_admitted name) (kept : (t : Text) → IsIn front t
+        → IsIn next t) where
       settled_on : (t : Text) → IsSettled admitted (front ++ name ∷ []) t → IsSettled next_admitted next t
       settled_on t h = ⊎_elim (λ a. inl ((adds t).1 (inr a)))
           (λ k. ⊎_elim (λ j. inr (kept t j)) (λ j. ⊎_elim (λ same. inl ((adds t).1 (inl same))) (λ bad. absurd bad) j) ((in_append front (name ∷ []) t).0 k)) h
 
       -- one more name is admitted: its function reads only what it may, and what it calls is admitted or pending
-      step : ((f : Function) → function_at functions name ≡ Some f → (n : ℕ) → Occurs f.body (VariableOf (Some n)) → IsAmong f.parameters n ⊎ IsTrue (readable n)) →
-          ((f : Function) → function_at functions name ≡ Some f → (further : Text) (n : ℕ) → Occurs f.body (CallOf further n) → IsSettled next_admitted next further) →
+      step : ((f : Function) → function_at functions name ≡ Some f → (n : ℕ) → Occurs f.body (VariableOf (Some n)) → IsAmong f.parameters n
+          ⊎ IsTrue (readable n)) →
+          ((f : Function) → function_at functions name ≡ Some f → (further : Text) (n : ℕ) → Occurs f.body (CallOf further n)
+          → IsSettled next_admitted next further) →
           ((t : Text) → IsIn next t → Reaches functions e t) → IsWalked functions e here readable next_admitted next
       step reads calls reached = record {
         start = λ t n s. settled_on t (w.start t n s);
         own = w.own;
         reads = λ t f h found n s. ⊎_elim (λ same. reads f (ap (function_at functions) same ∙ found) n s) (λ old. w.reads t f old found n s) ((adds t).0 h);
-        calls = λ t f h found further n s. ⊎_elim (λ same. calls f (ap (function_at functions) same ∙ found) further n s) (λ old. settled_on further (w.calls t f old found further n s)) ((adds t).0 h);
+        calls = λ t f h found further n s. ⊎_elim (λ same. calls f (ap (function_at functions) same ∙ found) further n s)
+            (λ old. settled_on further (w.calls t f old found further n s)) ((adds t).0 h);
         reached = reached;
       }
 
     -- the last pending name was already admitted
-    pub passes : (admitted next_admitted : Text → Bool) (front : List Text) (name : Text) → IsWalked functions e here readable admitted (front ++ name ∷ []) → Adds admitted next_admitted name → IsTrue (admitted name) →
+    pub passes : (admitted next_admitted : Text → Bool) (front : List Text) (name : Text) → IsWalked functions e here readable admitted (front ++ name ∷ [])
+        → Adds admitted next_admitted name → IsTrue (admitted name) →
         IsWalked functions e here readable next_admitted front
     passes admitted next_admitted front name w adds there =
         step admitted next_admitted front front name w adds (λ t h. h)
@@ -128,7 +143,8 @@ module _ (functions : List Function) where
         (λ t h. w.reached t ((in_append front (name ∷ []) t).1 (inl h)))
 
     -- the last pending name is admitted now, and what its body calls is pending
-    pub admits : (admitted next_admitted : Text → Bool) (front next : List Text) (name : Text) → IsWalked functions e here readable admitted (front ++ name ∷ []) → Adds admitted next_admitted name →
+    pub admits : (admitted next_admitted : Text → Bool) (front next : List Text) (name : Text)
+        → IsWalked functions e here readable admitted (front ++ name ∷ []) → Adds admitted next_admitted name →
         ((f : Function) → function_at functions name ≡ Some f → (n : ℕ) → Occurs f.body (VariableOf (Some n)) → IsAmong f.parameters n ⊎ IsTrue (readable n)) →
         next ≡ front ++ calls_of (function_at functions name) → IsWalked functions e here readable next_admitted next
     admits admitted next_admitted front next name w adds reads is =
@@ -142,7 +158,8 @@ module _ (functions : List Function) where
       where
         called_reached : (o : Option Function) → function_at functions name ≡ o → (t : Text) → IsIn (calls_of o) t → Reaches functions e t
         called_reached None found t h = absurd h
-        called_reached (Some f) found t h = let call = (all_called f.body t).0 h in reaches_on functions f call.0 (w.reached name ((in_append front (name ∷ []) name).1 (inr (inl refl)))) found call.1
+        called_reached (Some f) found t h = let call =
+            (all_called f.body t).0 h in reaches_on functions f call.0 (w.reached name ((in_append front (name ∷ []) name).1 (inr (inl refl)))) found call.1
 
     -- nothing is pending
     pub closes : (admitted : Text → Bool) → IsWalked functions e here readable admitted [] → IsAdmitted functions readable admitted
@@ -193,13 +210,16 @@ module _ (admitted next : Text → Bool) (kept : (t : Text) → IsTrue (admitted
   work_falls (g ∷ gs) name f found off on = by (bytes_eq name g.name.lexeme) refl found (λ later. work_falls gs name f later off on)
     where
       by : (b : Bool) → bytes_eq name g.name.lexeme ≡ b → cond b (Some g) (function_at gs name) ≡ Some f →
-          (function_at gs name ≡ Some f → work gs next + suc (length (called_names (sites_in f.body))) ≤ work gs admitted) → work (g ∷ gs) next + suc (length (called_names (sites_in f.body))) ≤ work (g ∷ gs) admitted
+          (function_at gs name ≡ Some f → work gs next + suc (length (called_names (sites_in f.body))) ≤ work gs admitted)
+          → work (g ∷ gs) next + suc (length (called_names (sites_in f.body))) ≤ work (g ∷ gs) admitted
       by true e is again =
           let key : name ≡ g.name.lexeme = (bytes_eq-Decides name g.name.lexeme).0 e in
           let same : g ≡ f = cc in
-          let here = part_falls (admitted g.name.lexeme) (next g.name.lexeme) (suc (length (called_names (sites_in g.body)))) (ap admitted (sym key) ∙ off) (ap next (sym key) ∙ on) in
+          let here = part_falls (admitted g.name.lexeme) (next g.name.lexeme) (suc (length (called_names (sites_in g.body)))) (ap admitted (sym key) ∙ off)
+          (ap next (sym key) ∙ on) in
           let rest = work_kept gs in
-          let size : length (called_names (sites_in g.body)) ≡ length (called_names (sites_in f.body)) = ap (λ (h : Function). length (called_names (sites_in h.body))) same in
+          let size : length (called_names (sites_in g.body)) ≡ length (called_names (sites_in f.body)) =
+          ap (λ (h : Function). length (called_names (sites_in h.body))) same in
           omega (arith, here, rest, size)
       by false e is again =
           let here = part_kept (admitted g.name.lexeme) (next g.name.lexeme) (suc (length (called_names (sites_in g.body)))) (kept g.name.lexeme) in
@@ -207,7 +227,8 @@ module _ (admitted next : Text → Bool) (kept : (t : Text) → IsTrue (admitted
           omega (arith, here, rest)
 
   -- the work decreases by what becomes pending, and by one
-  pub work_left : (fs : List Function) (name : Text) → admitted name ≡ false → next name ≡ true → work fs next + length (calls_of (function_at fs name)) ≤ work fs admitted
+  pub work_left : (fs : List Function) (name : Text) → admitted name ≡ false → next name ≡ true
+      → work fs next + length (calls_of (function_at fs name)) ≤ work fs admitted
   work_left fs name off on = by (function_at fs name) refl
     where
       by : (o : Option Function) → function_at fs name ≡ o → work fs next + length (calls_of o) ≤ work fs admitted
@@ -215,14 +236,16 @@ module _ (admitted next : Text → Bool) (kept : (t : Text) → IsTrue (admitted
       by (Some f) found = let rest = work_falls fs name f found off on in omega (arith, rest)
 
 -- the last pending name is removed
-pub falls_passed : (fs : List Function) (admitted next : Text → Bool) (front pending : List Text) (name : Text) → Adds admitted next name → pending ≡ front ++ name ∷ [] → work fs next + length front < work fs admitted + length pending
+pub falls_passed : (fs : List Function) (admitted next : Text → Bool) (front pending : List Text) (name : Text) → Adds admitted next name
+    → pending ≡ front ++ name ∷ [] → work fs next + length front < work fs admitted + length pending
 falls_passed fs admitted next front pending name adds is =
     let rest = work_kept admitted next (λ t h. (adds t).1 (inr h)) fs in
     let size : length pending ≡ length front + 1 = ap length is ∙ length-append front (name ∷ []) in
     omega (arith, rest, size)
 
 -- it is removed, and what its body calls is pending
-pub falls_admitted : (fs : List Function) (admitted next_admitted : Text → Bool) (front next pending : List Text) (name : Text) → Adds admitted next_admitted name → admitted name ≡ false → pending ≡ front ++ name ∷ [] →
+pub falls_admitted : (fs : List Function) (admitted next_admitted : Text → Bool) (front next pending : List Text) (name : Text)
+    → Adds admitted next_admitted name → admitted name ≡ false → pending ≡ front ++ name ∷ [] →
     next ≡ front ++ calls_of (function_at fs name) → work fs next_admitted + length next < work fs admitted + length pending
 falls_admitted fs admitted next_admitted front next pending name adds off is calls =
     let rest = work_left admitted next_admitted (λ t h. (adds t).1 (inr h)) fs name off ((adds name).1 (inl refl)) in
@@ -233,7 +256,8 @@ falls_admitted fs admitted next_admitted front next pending name adds off is cal
 -- ---- operations of the code
 
 -- popping the last element of a list
-pub last_popped : {X Y : Type 0} (seen : X → Y) (old new : List X) (r : Option X) (x : X) → old ≡ new ++ option_to_list r → r ≡ Some x → map seen old ≡ map seen new ++ seen x ∷ []
+pub last_popped : {X Y : Type 0} (seen : X → Y) (old new : List X) (r : Option X) (x : X) → old ≡ new ++ option_to_list r → r ≡ Some x
+    → map seen old ≡ map seen new ++ seen x ∷ []
 last_popped seen old new r x is some = ap (map seen) (is ∙ ap (λ o. new ++ option_to_list o) some) ∙ map-append seen new (x ∷ [])
 
 -- popping nothing
@@ -242,7 +266,8 @@ none_popped seen [] r none some = refl
 none_popped seen (x ∷ xs) r none some = absurd (let h : is_some r ≡ true = some (omega arith) in let e : is_some r ≡ false = ap is_some none in cc)
 
 -- popping the last name of a list
-pub popped : (old new : List (Bor Text)) (r : Option (Bor Text)) (name : Bor Text) → old ≡ new ++ option_to_list r → r ≡ Some name → texts old ≡ texts new ++ name.now ∷ []
+pub popped : (old new : List (Bor Text)) (r : Option (Bor Text)) (name : Bor Text) → old ≡ new ++ option_to_list r → r ≡ Some name
+    → texts old ≡ texts new ++ name.now ∷ []
 popped = last_popped (λ b. b.now)
 
 -- no name is left

@@ -1,15 +1,8 @@
 -- What a search decides.
 use Rattle.std.proofs.Common.{◌≡◌, ◌↔◌, ℕ, Bool, true, false, List, [], map, Option, Some, None, is_some, not, option_map, refl, ap, sym, ◌∙◌, IsTrue}
-use Rattle.just_syntax.specs.Plain.{Token, Expr, Function}
-use Rattle.just_syntax.specs.Lists.{IsIn}
-use Rattle.just_value.specs.Frames.{Frames, value_in}
-use Rattle.just_meaning.specs.Assignments.{Assignments}
-use Rattle.just_meaning.specs.Reaches.{Mention, Occurs}
-use Rattle.just_meaning.specs.Resolved.{AllKnown, AreAssignments, AreDistinct, AreInOrder, HasValue, IsKnown}
-use Rattle.just_resolution.specs.Admitted.{FindsBeyond, FindsBound, FindsUnknown, ReadsWithin}
-use Rattle.just_resolution.specs.Fault.{ModuleFault, BoundParameter, IsFaulty, IsSound, mention_fault, name_places, number_places}
-use Rattle.just_resolution.specs.First.{Finds}
-use Rattle.just_resolution.specs.Sites.{all_sites, sites_in}
+use Rattle.just_resolution.specs.Prelude.{AllKnown, AreAssignments, AreDistinct, AreInOrder, Assignments, BoundParameter, Expr, Finds, FindsBeyond, FindsBound}
+use Rattle.just_resolution.specs.Prelude.{FindsUnknown, Frames, Function, HasValue, IsFaulty, IsIn, IsKnown, IsSound, Mention, ModuleFault, Occurs, ReadsWithin}
+use Rattle.just_resolution.specs.Prelude.{Token, all_sites, mention_fault, name_places, number_places, sites_in, value_in}
 use Rattle.just_resolution.proofs.Faults.{all_distinct, apart, names_if, unbound_if, unreadable_apart}
 use Rattle.just_resolution.proofs.Finding.{finds_none, some_seen}
 use Rattle.just_resolution.proofs.Occurrences.{fault_unknown, known_all, sound_occurs}
@@ -45,38 +38,49 @@ as_seen seen o = ((λ h. some_seen seen o ∙ h), (λ h. sym (some_seen seen o) 
 
 module _ {A : Type 0} (seen : A → ModuleFault) (o : Option A) where
   pub distinct_decided : (functions : List Function) (assignments : Assignments) (outer : Frames) (ps : List (Token × ℕ)) →
-      Finds (IsSound functions assignments outer) (IsFaulty functions assignments outer) (number_places [] ps) (option_map seen o) → (is_some o ≡ false) ↔ AreDistinct (map (λ p. p.1) ps)
+      Finds (IsSound functions assignments outer) (IsFaulty functions assignments outer) (number_places [] ps) (option_map seen o) → (is_some o ≡ false)
+      ↔ AreDistinct (map (λ p. p.1) ps)
   distinct_decided functions assignments outer ps found =
       through (as_seen seen o) (through
-      (finds_none (IsSound functions assignments outer) (IsFaulty functions assignments outer) (apart functions assignments outer) (number_places [] ps) (option_map seen o) found)
+      (finds_none (IsSound functions assignments outer) (IsFaulty functions assignments outer) (apart functions assignments outer) (number_places [] ps)
+      (option_map seen o) found)
       (all_distinct functions assignments outer ps))
 
-  pub bound_decided : (outer : Frames) (ps : List (Token × ℕ)) → FindsBound outer ps (option_map seen o) → (is_some o ≡ false) ↔ ((n : ℕ) → IsIn (map (λ p. p.1) ps) n → HasValue (value_in outer) n → ⊥)
+  pub bound_decided : (outer : Frames) (ps : List (Token × ℕ)) → FindsBound outer ps (option_map seen o) → (is_some o ≡ false)
+      ↔ ((n : ℕ) → IsIn (map (λ p. p.1) ps) n → HasValue (value_in outer) n → ⊥)
   bound_decided outer ps found =
       through (as_seen seen o) (through
-      (finds_none (λ p. HasValue (value_in outer) p.1 → ⊥) (λ p f. (BoundParameter p.0 ≡ f) × HasValue (value_in outer) p.1) (λ p f bad fine. fine bad.1) ps (option_map seen o) found)
+      (finds_none (λ p. HasValue (value_in outer) p.1 → ⊥) (λ p f. (BoundParameter p.0 ≡ f) × HasValue (value_in outer) p.1) (λ p f bad fine. fine bad.1) ps
+      (option_map seen o) found)
       (unbound_if outer ps))
 
-  pub known_decided : (functions : List Function) (e : Expr) → FindsUnknown functions (sites_in e) (option_map seen o) → (is_some o ≡ false) ↔ ((x : Mention) → Occurs e x → IsKnown functions x)
+  pub known_decided : (functions : List Function) (e : Expr) → FindsUnknown functions (sites_in e) (option_map seen o) → (is_some o ≡ false)
+      ↔ ((x : Mention) → Occurs e x → IsKnown functions x)
   known_decided functions e found =
       through (as_seen seen o) (through
-      (finds_none (λ s. IsKnown functions s.mention) (λ s f. mention_fault functions s.token s.mention ≡ Some f) (λ s f. fault_unknown functions s.token s.mention f) (sites_in e) (option_map seen o) found)
+      (finds_none (λ s. IsKnown functions s.mention) (λ s f. mention_fault functions s.token s.mention ≡ Some f)
+      (λ s f. fault_unknown functions s.token s.mention f) (sites_in e) (option_map seen o) found)
       (sound_occurs (IsKnown functions) e))
 
-  pub all_known_decided : (functions : List Function) (es : List Expr) → FindsUnknown functions (all_sites es) (option_map seen o) → (is_some o ≡ false) ↔ AllKnown functions es
+  pub all_known_decided : (functions : List Function) (es : List Expr) → FindsUnknown functions (all_sites es) (option_map seen o) → (is_some o ≡ false)
+      ↔ AllKnown functions es
   all_known_decided functions es found =
       through (as_seen seen o) (through
-      (finds_none (λ s. IsKnown functions s.mention) (λ s f. mention_fault functions s.token s.mention ≡ Some f) (λ s f. fault_unknown functions s.token s.mention f) (all_sites es) (option_map seen o) found)
+      (finds_none (λ s. IsKnown functions s.mention) (λ s f. mention_fault functions s.token s.mention ≡ Some f)
+      (λ s f. fault_unknown functions s.token s.mention f) (all_sites es) (option_map seen o) found)
       (known_all functions es))
 
   pub order_decided : (functions : List Function) (assignments : Assignments) (outer : Frames) (order : List Token) →
-      Finds (IsSound functions assignments outer) (IsFaulty functions assignments outer) (name_places assignments [] order) (option_map seen o) → (is_some o ≡ false) ↔ (AreAssignments assignments order × AreInOrder functions assignments outer [] order)
+      Finds (IsSound functions assignments outer) (IsFaulty functions assignments outer) (name_places assignments [] order) (option_map seen o)
+      → (is_some o ≡ false) ↔ (AreAssignments assignments order × AreInOrder functions assignments outer [] order)
   order_decided functions assignments outer order found =
       through (as_seen seen o) (through
-      (finds_none (IsSound functions assignments outer) (IsFaulty functions assignments outer) (apart functions assignments outer) (name_places assignments [] order) (option_map seen o) found)
+      (finds_none (IsSound functions assignments outer) (IsFaulty functions assignments outer) (apart functions assignments outer)
+      (name_places assignments [] order) (option_map seen o) found)
       (names_if functions assignments outer [] order))
 
-pub beyond_decided : {A : Type 0} (seen : A → Token) (o : Option A) (functions : List Function) (e : Expr) (here readable : ℕ → Bool) → FindsBeyond functions e here readable (option_map seen o) → (is_some o ≡ false) ↔ ReadsWithin functions e here readable
+pub beyond_decided : {A : Type 0} (seen : A → Token) (o : Option A) (functions : List Function) (e : Expr) (here readable : ℕ → Bool)
+    → FindsBeyond functions e here readable (option_map seen o) → (is_some o ≡ false) ↔ ReadsWithin functions e here readable
 beyond_decided seen None functions e here readable found = ((λ h. found), (λ within. refl))
 beyond_decided seen (Some x) functions e here readable found = (
   (λ h. absurd (let e : true ≡ false = h in cc)),

@@ -1,6 +1,9 @@
 -- Searches among items, one after another.
 use Rattle.std.proofs.Common.{◌≡◌, ◌↔◌, inl, inr, ⊎_elim, true, false, List, [], ◌∷◌, ◌++◌, map, Option, Some, None, is_some, option_map, refl, sym, subst}
-use Rattle.just_resolution.specs.First.{AllSound, Finds, IsFirstFaulty}
+use Rattle.std.specs.List.{AllByRecursion}
+use Rattle.just_syntax.proofs.Lists.{all_alike, all_append, all_map}
+use Rattle.just_resolution.specs.Prelude.{Finds}
+use Rattle.just_resolution.specs.First.{IsFirstFaulty}
 
 -- ---- options
 
@@ -13,15 +16,11 @@ none_or_some None h = refl
 none_or_some (Some x) h = absurd (let e : true ≡ false = h in cc)
 
 module _ {X F : Type 0} (sound : X → Type 0) (faulty : X → F → Type 0) where
-  pub sound_append : (xs ys : List X) → AllSound sound (xs ++ ys) ↔ (AllSound sound xs × AllSound sound ys)
-  sound_append [] ys = ((λ h. (tt, h)), (λ h. h.1))
-  sound_append (x ∷ xs) ys = let rest = sound_append xs ys in ((λ h. let r = rest.0 h.1 in ((h.0, r.0), r.1)), (λ h. (h.0.0, rest.1 (h.0.1, h.1))))
-
   first_left : (xs ys : List X) (f : F) → IsFirstFaulty sound (λ x. faulty x f) xs → IsFirstFaulty sound (λ x. faulty x f) (xs ++ ys)
   first_left [] ys f h = absurd h
   first_left (x ∷ xs) ys f h = ⊎_elim (λ bad. inl bad) (λ later. inr (later.0, first_left xs ys f later.1)) h
 
-  first_right : (xs ys : List X) (f : F) → AllSound sound xs → IsFirstFaulty sound (λ x. faulty x f) ys → IsFirstFaulty sound (λ x. faulty x f) (xs ++ ys)
+  first_right : (xs ys : List X) (f : F) → AllByRecursion sound xs → IsFirstFaulty sound (λ x. faulty x f) ys → IsFirstFaulty sound (λ x. faulty x f) (xs ++ ys)
   first_right [] ys f all h = h
   first_right (x ∷ xs) ys f all h = inr (all.0, first_right xs ys f all.1 h)
 
@@ -31,13 +30,13 @@ module _ {X F : Type 0} (sound : X → Type 0) (faulty : X → F → Type 0) whe
   finds_left xs ys (Some f) some h = first_left xs ys f h
 
   -- each item is sound if nothing is found
-  pub sound_if : (xs : List X) (r : Option F) → is_some r ≡ false → Finds sound faulty xs r → AllSound sound xs
+  pub sound_if : (xs : List X) (r : Option F) → is_some r ≡ false → Finds sound faulty xs r → AllByRecursion sound xs
   sound_if xs None none h = h
   sound_if xs (Some f) none h = absurd (let e : true ≡ false = none in cc)
 
   -- what is found after a sound front
-  pub finds_right : (xs ys : List X) (r : Option F) → AllSound sound xs → Finds sound faulty ys r → Finds sound faulty (xs ++ ys) r
-  finds_right xs ys None all h = (sound_append xs ys).1 (all, h)
+  pub finds_right : (xs ys : List X) (r : Option F) → AllByRecursion sound xs → Finds sound faulty ys r → Finds sound faulty (xs ++ ys) r
+  finds_right xs ys None all h = (all_append sound xs ys).1 (all, h)
   finds_right xs ys (Some f) all h = first_right xs ys f all h
 
   -- what is found among the rest is found among all
@@ -64,46 +63,35 @@ module _ {X F : Type 0} (sound : X → Type 0) (faulty : X → F → Type 0) whe
 
   -- none is left
   pub leads_end : (left all : List X) → left ≡ [] → Leads left all → Finds sound faulty all None
-  leads_end left all none before = before None (subst (AllSound sound) (sym none) tt)
+  leads_end left all none before = before None (subst (AllByRecursion sound) (sym none) tt)
 
   module _ (apart : (x : X) (f : F) → faulty x f → sound x → ⊥) where
-    pub not_sound : (xs : List X) (f : F) → IsFirstFaulty sound (λ x. faulty x f) xs → AllSound sound xs → ⊥
+    pub not_sound : (xs : List X) (f : F) → IsFirstFaulty sound (λ x. faulty x f) xs → AllByRecursion sound xs → ⊥
     not_sound [] f h all = h
     not_sound (x ∷ xs) f h all = ⊎_elim (λ bad. apart x f bad all.0) (λ later. not_sound xs f later.1 all.1) h
 
     -- nothing is found exactly if each item is sound
-    pub finds_none : (xs : List X) (r : Option F) → Finds sound faulty xs r → (is_some r ≡ false) ↔ AllSound sound xs
+    pub finds_none : (xs : List X) (r : Option F) → Finds sound faulty xs r → (is_some r ≡ false) ↔ AllByRecursion sound xs
     finds_none xs None h = ((λ e. h), (λ all. refl))
     finds_none xs (Some f) h = ((λ e. absurd (let off : true ≡ false = e in cc)), (λ all. absurd (not_sound xs f h all)))
 
 -- a search among items through a view of them
 module _ {X Y F : Type 0} (sound : Y → Type 0) (faulty : Y → F → Type 0) (on : X → Y) where
-  pub sound_map : (xs : List X) → AllSound (λ x. sound (on x)) xs → AllSound sound (map on xs)
-  sound_map [] h = tt
-  sound_map (x ∷ xs) h = (h.0, sound_map xs h.1)
-
-  pub sound_back : (xs : List X) → AllSound sound (map on xs) → AllSound (λ x. sound (on x)) xs
-  sound_back [] h = tt
-  sound_back (x ∷ xs) h = (h.0, sound_back xs h.1)
-
   first_map : (xs : List X) (f : F) → IsFirstFaulty (λ x. sound (on x)) (λ x. faulty (on x) f) xs → IsFirstFaulty sound (λ y. faulty y f) (map on xs)
   first_map [] f h = absurd h
   first_map (x ∷ xs) f h = ⊎_elim (λ bad. inl bad) (λ later. inr (later.0, first_map xs f later.1)) h
 
   pub finds_map : (xs : List X) (r : Option F) → Finds (λ x. sound (on x)) (λ x f. faulty (on x) f) xs r → Finds sound faulty (map on xs) r
-  finds_map xs None h = sound_map xs h
+  finds_map xs None h = (all_map sound on xs).1 h
   finds_map xs (Some f) h = first_map xs f h
 
 -- the same search with equivalent properties
-module _ {X F : Type 0} (sound other : X → Type 0) (faulty wrong : X → F → Type 0) (on : (x : X) → sound x → other x) (bad : (x : X) (f : F) → faulty x f → wrong x f) where
-  sound_alike : (xs : List X) → AllSound sound xs → AllSound other xs
-  sound_alike [] h = tt
-  sound_alike (x ∷ xs) h = (on x h.0, sound_alike xs h.1)
-
+module _ {X F : Type 0} (sound other : X → Type 0) (faulty wrong : X → F → Type 0) (on : (x : X) → sound x → other x) (bad : (x : X) (f : F)
+    → faulty x f → wrong x f) where
   first_alike : (xs : List X) (f : F) → IsFirstFaulty sound (λ x. faulty x f) xs → IsFirstFaulty other (λ x. wrong x f) xs
   first_alike [] f h = absurd h
   first_alike (x ∷ xs) f h = ⊎_elim (λ k. inl (bad x f k)) (λ later. inr (on x later.0, first_alike xs f later.1)) h
 
   pub finds_alike : (xs : List X) (r : Option F) → Finds sound faulty xs r → Finds other wrong xs r
-  finds_alike xs None h = sound_alike xs h
+  finds_alike xs None h = all_alike sound other on xs h
   finds_alike xs (Some f) h = first_alike xs f h

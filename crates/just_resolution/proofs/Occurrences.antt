@@ -1,20 +1,19 @@
 -- What occurs in an expression occurs at its sites.
-use Rattle.std.proofs.Common.{◌≡◌, ◌↔◌, ◌⊎◌, inl, inr, ⊎_elim, ℕ, Bool, true, false, List, [], ◌∷◌, ◌++◌, Option, Some, None, is_some, refl, ap, sym, ◌∙◌, subst, IsTrue, append_assoc}
-use Rattle.std.specs.List.{list_all}
+use Rattle.std.proofs.Common.{◌≡◌, ◌↔◌, ◌⊎◌, inl, inr, ⊎_elim, ℕ, Bool, true, false, List, [], ◌∷◌, ◌++◌, map, Option, Some, None, is_some, refl, ap, sym, ◌∙◌}
+use Rattle.std.proofs.Common.{subst, IsTrue, append_assoc}
+use Rattle.std.specs.List.{AllByRecursion, list_all}
 use Rattle.std.proofs.lemmas.Bool.{and_parts, and_from}
 use Rattle.std.proofs.lemmas.List.{append-nil}
-use Rattle.just_syntax.specs.Plain.{Text, Token, Function, Expr, And, Assert, AssertOnly, Backtick, Call, Comparison, Concatenation, Conditional, ConditionalOnly, FormatString, Group, Join, JoinOnly, ListOf, ListConcatenation, Not, Or, StringLiteral, Variable, Exprs, Nil, Cons, count, Pieces, NoPiece, Piece}
-use Rattle.just_syntax.specs.Lists.{IsIn}
-use Rattle.just_meaning.specs.Callee.{accepts, callee}
+use Rattle.just_resolution.specs.Prelude.{AllKnown, CallOf, Expr, FindsUnreadable, Function, IsIn, IsKnown, IsNumbered, MayBeRead, Mention, ModuleFault, Occurs}
+use Rattle.just_resolution.specs.Prelude.{Site, Text, Token, VariableOf, accepts, all_sites, called_names, callee, count, is_numbered, may_occur, mention_fault}
+use Rattle.just_resolution.specs.Prelude.{name_called, sites, sites_in, sites_of_pieces, sites_of_row, with_call_site}
+use Rattle.just_syntax.specs.Plain.{And, Assert, AssertOnly, Backtick, Call, Comparison, Concatenation, Conditional, ConditionalOnly, FormatString, Group, Join}
+use Rattle.just_syntax.specs.Plain.{JoinOnly, ListOf, ListConcatenation, Not, Or, StringLiteral, Variable, Exprs, Nil, Cons, Pieces, NoPiece, Piece}
 use Rattle.just_meaning.proofs.Callees.{callable}
-use Rattle.just_meaning.specs.Reaches.{Mention, VariableOf, CallOf, Occurs, OccursIn, OccursInPieces}
-use Rattle.just_meaning.specs.Resolved.{AllKnown, IsKnown, IsNumbered}
-use Rattle.just_resolution.specs.Admitted.{FindsUnreadable, is_numbered, may_occur}
-use Rattle.just_resolution.specs.Fault.{ModuleFault, mention_fault}
-use Rattle.just_resolution.specs.First.{AllSound}
-use Rattle.just_resolution.specs.Sites.{Site, all_sites, called_names, name_called, sites, sites_in, sites_of_row, sites_of_pieces, with_call_site}
-use Rattle.just_resolution.specs.Unreadable.{AllMayBeRead, MayBeRead}
-use Rattle.just_resolution.proofs.Finding.{finds_alike, sound_append, sound_if}
+use Rattle.just_meaning.specs.Reaches.{OccursIn, OccursInPieces}
+use Rattle.just_resolution.specs.Unreadable.{AllMayBeRead}
+use Rattle.just_syntax.proofs.Lists.{all_append}
+use Rattle.just_resolution.proofs.Finding.{finds_alike, sound_if}
 
 -- ---- what is in a list
 
@@ -22,8 +21,7 @@ use Rattle.just_resolution.proofs.Finding.{finds_alike, sound_append, sound_if}
 
 -- it occurs at one of these sites
 abbrev pub Mentioned : List Site → Mention → Type 0
-Mentioned [] x = ⊥
-Mentioned (s ∷ ss) x = (s.mention ≡ x) ⊎ Mentioned ss x
+Mentioned ss x = IsIn (map (λ s. s.mention) ss) x
 
 -- an impossible alternative adds nothing
 same : {A E : Type 0} → (E → ⊥) → A ↔ (A ⊎ E)
@@ -83,7 +81,7 @@ mentioned e x = let all = occurs x e [] in ((λ h. ⊎_elim (λ k. absurd k) (λ
 -- ---- sites that are sound
 
 module _ (P : Mention → Type 0) where
-  all_sound : (ss : List Site) → AllSound (λ s. P s.mention) ss ↔ ((x : Mention) → Mentioned ss x → P x)
+  all_sound : (ss : List Site) → AllByRecursion (λ s. P s.mention) ss ↔ ((x : Mention) → Mentioned ss x → P x)
   all_sound [] = ((λ h x k. absurd k), (λ h. tt))
   all_sound (s ∷ ss) =
       let rest = all_sound ss in (
@@ -92,7 +90,7 @@ module _ (P : Mention → Type 0) where
       )
 
   -- each site of an expression is sound if what occurs there is
-  pub sound_occurs : (e : Expr) → AllSound (λ s. P s.mention) (sites_in e) ↔ ((x : Mention) → Occurs e x → P x)
+  pub sound_occurs : (e : Expr) → AllByRecursion (λ s. P s.mention) (sites_in e) ↔ ((x : Mention) → Occurs e x → P x)
   sound_occurs e =
       let all = all_sound (sites_in e) in (
         (λ h x s. all.0 h x ((mentioned e x).1 s)),
@@ -102,12 +100,12 @@ module _ (P : Mention → Type 0) where
 -- ---- what is known
 
 -- each site of some expressions is known
-pub known_all : (functions : List Function) (es : List Expr) → AllSound (λ s. IsKnown functions s.mention) (all_sites es) ↔ AllKnown functions es
+pub known_all : (functions : List Function) (es : List Expr) → AllByRecursion (λ s. IsKnown functions s.mention) (all_sites es) ↔ AllKnown functions es
 known_all functions [] = ((λ h. tt), (λ h. tt))
 known_all functions (e ∷ es) =
     let rest = known_all functions es in
     let here = sound_occurs (IsKnown functions) e in
-    let both = sound_append {F = ModuleFault} (λ s. IsKnown functions s.mention) (λ s f. mention_fault functions s.token s.mention ≡ Some f) (sites_in e) (all_sites es) in (
+    let both = all_append (λ s. IsKnown functions s.mention) (sites_in e) (all_sites es) in (
       (λ h. let b = both.0 h in (here.0 b.0, rest.0 b.1)),
       (λ h. both.1 (here.1 h.0, rest.1 h.1)),
     )
@@ -133,7 +131,7 @@ no_fault_known functions t (CallOf name n) h = by (accepts (callee functions nam
 
 -- ---- what has a number
 
-all_true : (test : Mention → Bool) (ss : List Site) → IsTrue (list_all (λ s. test s.mention) ss) ↔ AllSound (λ s. IsTrue (test s.mention)) ss
+all_true : (test : Mention → Bool) (ss : List Site) → IsTrue (list_all (λ s. test s.mention) ss) ↔ AllByRecursion (λ s. IsTrue (test s.mention)) ss
 all_true test [] = ((λ h. tt), (λ h. refl))
 all_true test (s ∷ ss) =
     let rest = all_true test ss in (
@@ -175,9 +173,11 @@ all_may_be_read readable e =
     )
 
 -- if no variable is found that may not be read, all may be read
-pub reads_all : (readable : ℕ → Type 0) (e : Expr) (r : Option Token) → is_some r ≡ false → FindsUnreadable readable (sites_in e) r → (n : ℕ) → Occurs e (VariableOf (Some n)) → readable n
+pub reads_all : (readable : ℕ → Type 0) (e : Expr) (r : Option Token) → is_some r ≡ false → FindsUnreadable readable (sites_in e) r → (n : ℕ)
+    → Occurs e (VariableOf (Some n)) → readable n
 reads_all readable e r none found =
-    (all_may_be_read readable e).0 (sound_if (λ s. MayBeRead readable s.mention) (λ s v. (s.token ≡ v) × (MayBeRead readable s.mention → ⊥)) (sites_in e) r none found)
+    (all_may_be_read readable e).0 (sound_if (λ s. MayBeRead readable s.mention) (λ s v. (s.token ≡ v) × (MayBeRead readable s.mention → ⊥))
+    (sites_in e) r none found)
 
 may_alike : (P Q : ℕ → Type 0) → ((n : ℕ) → P n → Q n) → (x : Mention) → MayBeRead P x → MayBeRead Q x
 may_alike P Q on (VariableOf None) h = tt
@@ -187,12 +187,14 @@ may_alike P Q on (CallOf name k) h = tt
 -- the same is readable
 pub unreadable_alike : (P Q : ℕ → Type 0) → ((n : ℕ) → P n ↔ Q n) → (ss : List Site) (r : Option Token) → FindsUnreadable P ss r → FindsUnreadable Q ss r
 unreadable_alike P Q same ss r h =
-    finds_alike (λ s. MayBeRead P s.mention) (λ s. MayBeRead Q s.mention) (λ s v. (s.token ≡ v) × (MayBeRead P s.mention → ⊥)) (λ s v. (s.token ≡ v) × (MayBeRead Q s.mention → ⊥))
+    finds_alike (λ s. MayBeRead P s.mention) (λ s. MayBeRead Q s.mention) (λ s v. (s.token ≡ v) × (MayBeRead P s.mention → ⊥)) (λ s v. (s.token ≡ v)
+    × (MayBeRead Q s.mention → ⊥))
     (λ s k. may_alike P Q (λ n. (same n).0) s.mention k) (λ s v k. (k.0, λ j. k.1 (may_alike Q P (λ n. (same n).1) s.mention j))) ss r h
 
 -- ---- called names
 
-one_called : (x : Mention) (name : Text) (rest : List Text) (R : ℕ → Type 0) → IsIn rest name ↔ ((n : ℕ) × R n) → IsIn (name_called x ++ rest) name ↔ ((n : ℕ) × ((x ≡ CallOf name n) ⊎ R n))
+one_called : (x : Mention) (name : Text) (rest : List Text) (R : ℕ → Type 0) → IsIn rest name ↔ ((n : ℕ) × R n) → IsIn (name_called x ++ rest) name
+    ↔ ((n : ℕ) × ((x ≡ CallOf name n) ⊎ R n))
 one_called (CallOf t k) name rest R later = (
   (λ h. ⊎_elim (λ e. (k, inl (ap (λ (u : Text). CallOf u k) e))) (λ j. let l = later.0 j in (l.0, inr l.1)) h),
   (λ h. ⊎_elim (λ e. inl (cc)) (λ j. inr (later.1 (h.0, j))) h.1),
@@ -209,7 +211,8 @@ named_called (s ∷ ss) name = one_called s.mention name (called_names ss) (λ n
 -- the names called at one more site
 pub called_more : (ss : List Site) (s : Site) → called_names (ss ++ s ∷ []) ≡ called_names ss ++ name_called s.mention
 called_more [] s = append-nil (name_called s.mention)
-called_more (r ∷ ss) s = ap (λ names. name_called r.mention ++ names) (called_more ss s) ∙ sym (append_assoc (name_called r.mention) (called_names ss) (name_called s.mention))
+called_more (r ∷ ss) s =
+    ap (λ names. name_called r.mention ++ names) (called_more ss s) ∙ sym (append_assoc (name_called r.mention) (called_names ss) (name_called s.mention))
 
 -- the names that an expression calls
 pub all_called : (e : Expr) (name : Text) → IsIn (called_names (sites_in e)) name ↔ ((n : ℕ) × Occurs e (CallOf name n))

@@ -1,9 +1,8 @@
 -- Expressions with unboxed parts.
 use Rattle.std.proofs.Common.{◌≡◌, List, ap}
 use Rattle.just_syntax.specs.declared.expression.Expression.TheViews as expressions
-use Rattle.just_syntax.specs.View.{name_view, view, views, piece_views}
+use Rattle.just_resolution.specs.Prelude.{Site, name_view, piece_views, sites, sites_of_call, sites_of_pieces, sites_of_row, view, views}
 use Rattle.just_syntax.proofs.Rows.{view_list, view_call, view_format_string}
-use Rattle.just_resolution.specs.Sites.{Site, sites, sites_of_call, sites_of_row, sites_of_pieces}
 
 module _ (ss : List Site) where
   pub sites_list : (es : _) (t : _) → sites ss (view (expressions.List es t)) ≡ sites_of_row ss (views es.items)

@@ -1,5 +1,6 @@
 -- The members of sets after an insertion, and the rest of lists.
-use Rattle.std.proofs.Common.{◌≡◌, ◌↔◌, ◌⊎◌, inl, inr, ⊎_elim, ℕ, suc, ◌+◌, ◌-◌, ◌<◌, arith, length-drop, Bool, true, false, cond, List, [], ◌∷◌, ◌++◌, length, map, take, drop, drop-cons, add-one, get_or, Bor, refl, ap, sym, ◌∙◌, subst, IsTrue}
+use Rattle.std.proofs.Common.{◌≡◌, ◌↔◌, ◌⊎◌, inl, inr, ⊎_elim, ℕ, suc, ◌+◌, ◌-◌, ◌<◌, arith, length-drop, Bool, true, false, cond, List, [], ◌∷◌, ◌++◌, length}
+use Rattle.std.proofs.Common.{map, take, drop, drop-cons, add-one, get_or, Bor, refl, ap, sym, ◌∙◌, subst, IsTrue}
 use Rattle.std.specs.Bool.{Decides}
 use Rattle.std.specs.BTreeSet.{BTreeSet, contains}
 use Rattle.std.specs.BTreeMap.{is_at}
@@ -13,9 +14,7 @@ use Rattle.std.proofs.lemmas.List.{drop-map, map_more, take_all}
 use Rattle.std.proofs.Math.Seq.{drop-append_seam}
 use Rattle.std.proofs.lemmas.Map.Text.{is_eq-slice_cmp}
 use Rattle.std.proofs.lemmas.Slice.Eq.{bytes_eq-Decides}
-use Rattle.just_syntax.specs.Plain.{Text, Token}
-use Rattle.just_meaning.specs.Reaches.{IsAmong}
-use Rattle.just_resolution.specs.Seen.{is_name_in, is_number_in}
+use Rattle.just_resolution.specs.Prelude.{IsAmong, Text, Token, is_name_in, is_number_in}
 
 number_decides : (k n : ℕ) → Decides (eq_by_cmp nat_cmp k n) (k ≡ n)
 number_decides k n = ((λ h. eqb-true k n (sym (unsigned_tied k n) ∙ h)), (λ e. unsigned_tied k n ∙ eq-eqb k n e))
@@ -30,16 +29,19 @@ added P true b x d is = ((λ h. inl (d.0 refl)), (λ h. is))
 added P false b x d is = ((λ h. inr (sym is ∙ h)), (λ h. ⊎_elim (λ p. absurd (let e : false ≡ true = d.1 p in cc)) (λ k. is ∙ k) h))
 
 -- a set with one more number
-pub number_added : (old new : BTreeSet ℕ) (k : ℕ) → ((q : ℕ) → contains nat_cmp new q ≡ cond (is_at (nat_cmp k) q) true (contains nat_cmp old q)) → (n : ℕ) → IsTrue (is_number_in new n) ↔ ((k ≡ n) ⊎ IsTrue (is_number_in old n))
+pub number_added : (old new : BTreeSet ℕ) (k : ℕ) → ((q : ℕ) → contains nat_cmp new q ≡ cond (is_at (nat_cmp k) q) true (contains nat_cmp old q)) → (n : ℕ)
+    → IsTrue (is_number_in new n) ↔ ((k ≡ n) ⊎ IsTrue (is_number_in old n))
 number_added old new k updates n = added (k ≡ n) (eq_by_cmp nat_cmp k n) (is_number_in old n) (is_number_in new n) (number_decides k n) (updates n)
 
 abbrev name_cmp : Bor Text → Bor Text → Ordering
 name_cmp x y = slice_cmp nat_cmp x.now y.now
 
 -- a set with one more name
-pub name_added : (old new : BTreeSet (Bor Text)) (name : Bor Text) → ((q : Bor Text) → contains name_cmp new q ≡ cond (is_at (name_cmp name) q) true (contains name_cmp old q)) → (t : Text) →
+pub name_added : (old new : BTreeSet (Bor Text)) (name : Bor Text)
+    → ((q : Bor Text) → contains name_cmp new q ≡ cond (is_at (name_cmp name) q) true (contains name_cmp old q)) → (t : Text) →
     IsTrue (is_name_in new t) ↔ ((name.now ≡ t) ⊎ IsTrue (is_name_in old t))
-name_added old new name updates t = added (name.now ≡ t) (is_eq (slice_cmp nat_cmp name.now t)) (is_name_in old t) (is_name_in new t) (name_decides name.now t) (updates (record { ref_ptr = (0, 0); now = t }))
+name_added old new name updates t = added (name.now ≡ t) (is_eq (slice_cmp nat_cmp name.now t)) (is_name_in old t) (is_name_in new t) (name_decides name.now t)
+    (updates (record { ref_ptr = (0, 0); now = t }))
 
 -- nothing is in an empty set
 pub no_number : (set : BTreeSet ℕ) → set.keys ≡ [] → (n : ℕ) → is_number_in set n ≡ false
@@ -67,7 +69,8 @@ among_append (x ∷ xs) p n =
     )
 
 -- one more item was visited
-pub taken_more : {X Y : Type 0} (seen : X → Y) (xs : List X) (i : ℕ) (x : X) → i < length xs → x ≡ get_or xs i x → map seen (take (i + 1) xs) ≡ map seen (take i xs) ++ seen x ∷ []
+pub taken_more : {X Y : Type 0} (seen : X → Y) (xs : List X) (i : ℕ) (x : X) → i < length xs → x ≡ get_or xs i x
+    → map seen (take (i + 1) xs) ≡ map seen (take i xs) ++ seen x ∷ []
 taken_more seen xs i x within is = map_more seen xs i x within ∙ ap (λ y. map seen (take i xs) ++ seen y ∷ []) (sym is)
 
 -- one parameter more
@@ -82,6 +85,8 @@ own_more pair xs i x old new n within is was now =
     )
 
 -- dropping a list leaves what was appended to it
-pub after : {X Y : Type 0} (seen : X → Y) (all : List X) (first more : List Y) (n : ℕ) → map seen all ≡ first ++ more → n ≡ length first → map seen (take (length all - n) (drop n all)) ≡ more
+pub after : {X Y : Type 0} (seen : X → Y) (all : List X) (first more : List Y) (n : ℕ) → map seen all ≡ first ++ more → n ≡ length first
+    → map seen (take (length all - n) (drop n all)) ≡ more
 after seen all first more n is size =
-    ap (map seen) (take_all (length all - n) (drop n all) (let l = length-drop n all in omega (arith, l))) ∙ sym (drop-map seen n all) ∙ ap (drop n) is ∙ ap (λ k. drop k (first ++ more)) size ∙ drop-append_seam first more
+    ap (map seen) (take_all (length all - n) (drop n all) (let l = length-drop n all in omega (arith, l))) ∙ sym (drop-map seen n all) ∙ ap (drop n) is
+    ∙ ap (λ k. drop k (first ++ more)) size ∙ drop-append_seam first more

@@ -10,4 +10,5 @@ use Rattle.just_meaning.specs.Resolved.{AreDistinct, HasValue, parameter_numbers
 abbrev pub AreApart : List Function → List Assignment → Frames → Frames → List Parameter → Type 0
 AreApart functions assignments base frames parameters =
     AreDistinct (map (λ a. a.number) assignments ++ parameter_numbers functions ++ map (λ p. p.number) parameters)
-    × ((n : ℕ) → IsIn (parameter_numbers functions ++ map (λ p. p.number) parameters) n → HasValue (value_in frames) n ⊎ HasValue (value_in base) n → ⊥)
+    × ((n : ℕ) → IsIn (parameter_numbers functions ++ map (λ p. p.number) parameters) n → HasValue (value_in frames) n
+    ⊎ HasValue (value_in base) n → ⊥)

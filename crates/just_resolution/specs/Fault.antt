@@ -1,11 +1,13 @@
 -- Why a module is not resolved: the places that are checked, in order, and the faults there.
-use Rattle.std.specs.Prelude.{◌≡◌, ◌⊎◌, ℕ, Bool, true, false, List, [], ◌∷◌, ◌++◌, map, codes, Option, Some, None, if◌then◌else◌}
+use Rattle.std.specs.Prelude.{◌≡◌, ◌⊎◌, ℕ, Bool, true, false, List, [], ◌∷◌, ◌++◌, map, codes, Option, Some, None}
+use Rattle.std.specs.Prelude.{if◌then◌else◌}
 use Rattle.just_syntax.specs.Plain.{Text, Token, Assignment, Expr, Function}
 use Rattle.just_syntax.specs.Lists.{IsIn}
 use Rattle.just_value.specs.Frames.{Frames, value_in}
 use Rattle.just_meaning.specs.Assignments.{Assignments, assignment_at}
 use Rattle.just_meaning.specs.Callee.{Callee, Unknown, accepts, callee}
-use Rattle.just_meaning.specs.Messages.{miscounted_text, unevaluated_text, unknown_assignment_text, unknown_function_text, unresolved_text}
+use Rattle.just_meaning.specs.Messages.{miscounted_text, unevaluated_text, unknown_assignment_text}
+use Rattle.just_meaning.specs.Messages.{unknown_function_text, unresolved_text}
 use Rattle.just_meaning.specs.Reaches.{Mention, VariableOf, CallOf, Reads}
 use Rattle.just_meaning.specs.Resolved.{HasValue, IsKnown, with_taken}
 use Rattle.just_resolution.specs.First.{IsFirstFaulty}
@@ -36,8 +38,10 @@ fault_token (UntakenVariable assignment variable) = variable
 -- its message; if evaluation is refused for it, the message is the same
 abbrev pub module_fault_text : ModuleFault → Text
 module_fault_text (ArgumentCountMismatch function n) = miscounted_text function.lexeme
-module_fault_text (BoundParameter parameter) = (codes "parameter `" ++ parameter.lexeme) ++ codes "` has a number that is bound outside"
-module_fault_text (DuplicateNumber variable) = (codes "variable `" ++ variable.lexeme) ++ codes "` has the number of another variable"
+module_fault_text (BoundParameter parameter) =
+    (codes "parameter `" ++ parameter.lexeme) ++ codes "` has a number that is bound outside"
+module_fault_text (DuplicateNumber variable) =
+    (codes "variable `" ++ variable.lexeme) ++ codes "` has the number of another variable"
 module_fault_text (UndefinedFunction function) = unknown_function_text function.lexeme
 module_fault_text (UndefinedVariable variable) = unresolved_text variable.lexeme
 module_fault_text (UnknownAssignment assignment) = unknown_assignment_text assignment.lexeme
@@ -67,17 +71,20 @@ mention_fault functions t (CallOf name n) = call_fault (callee functions name) t
 abbrev pub MayComeNext : List Function → Assignments → (ℕ → Type 0) → Token → Type 0
 MayComeNext functions assignments readable t =
     ((a : Assignment) × (assignment_at assignments t.lexeme ≡ Some a))
-    × ((a : Assignment) → assignment_at assignments t.lexeme ≡ Some a → assignments.referenced a.number ≡ true → (n : ℕ) → Reads functions a.value n → readable n)
+    × ((a : Assignment) → assignment_at assignments t.lexeme ≡ Some a → assignments.referenced a.number ≡ true → (n : ℕ)
+    → Reads functions a.value n → readable n)
 
 -- an assignment reads a variable that is not readable
 abbrev pub ReadsUntaken : List Function → (ℕ → Type 0) → Assignment → ModuleFault → Type 0
-ReadsUntaken functions readable a f = (variable : Token) × (UntakenVariable a.name variable ≡ f) × IsUnreadable functions readable readable a.value variable
+ReadsUntaken functions readable a f = (variable : Token) × (UntakenVariable a.name variable ≡ f)
+    × IsUnreadable functions readable readable a.value variable
 
 -- the name is no assignment's, or that of a referenced assignment that reads such a variable
 abbrev pub IsMisplaced : List Function → Assignments → (ℕ → Type 0) → Token → ModuleFault → Type 0
 IsMisplaced functions assignments readable t f =
     ((UnknownAssignment t ≡ f) × (assignment_at assignments t.lexeme ≡ None))
-    ⊎ ((a : Assignment) × (assignment_at assignments t.lexeme ≡ Some a) × (assignments.referenced a.number ≡ true) × ReadsUntaken functions readable a f)
+    ⊎ ((a : Assignment) × (assignment_at assignments t.lexeme ≡ Some a) × (assignments.referenced a.number ≡ true)
+    × ReadsUntaken functions readable a f)
 
 -- ---- places
 
@@ -132,7 +139,8 @@ site_places es = map SiteOf (all_sites es)
 
 abbrev pub name_places : Assignments → List ℕ → List Token → List CheckedPlace
 name_places assignments taken [] = []
-name_places assignments taken (t ∷ left) = NameOf t taken ∷ name_places assignments (with_taken assignments (assignment_at assignments t.lexeme) taken) left
+name_places assignments taken (t ∷ left) =
+    NameOf t taken ∷ name_places assignments (with_taken assignments (assignment_at assignments t.lexeme) taken) left
 
 -- The places of a module that are checked, in order: the numbers of assignments and parameters, whether a parameter is
 -- bound outside, what occurs in assignments and in bodies, and the evaluation order.
@@ -146,4 +154,5 @@ places functions assignments =
 
 -- it is a fault at one of the places, and the places before it have none
 abbrev pub IsFirstFault : List Function → Assignments → Frames → ModuleFault → Type 0
-IsFirstFault functions assignments outer f = IsFirstFaulty (IsSound functions assignments outer) (λ place. IsFaulty functions assignments outer place f) (places functions assignments)
+IsFirstFault functions assignments outer f = IsFirstFaulty (IsSound functions assignments outer)
+    (λ place. IsFaulty functions assignments outer place f) (places functions assignments)

@@ -1,10 +1,6 @@
 -- The first faulty item of a list.
 use Rattle.std.specs.Prelude.{◌⊎◌, List, [], ◌∷◌, Option, Some, None}
-
--- each of them is sound
-abbrev pub AllSound : {X : Type 0} → (X → Type 0) → List X → Type 0
-AllSound sound [] = Unit {0}
-AllSound sound (x ∷ xs) = sound x × AllSound sound xs
+use Rattle.std.specs.List.{AllByRecursion}
 
 -- one of them is faulty, and those before it are sound
 abbrev pub IsFirstFaulty : {X : Type 0} → (X → Type 0) → (X → Type 0) → List X → Type 0
@@ -13,5 +9,5 @@ IsFirstFaulty sound faulty (x ∷ xs) = faulty x ⊎ (sound x × IsFirstFaulty s
 
 -- the result of a search among them: nothing if each is sound, or the fault of the first that is not
 abbrev pub Finds : {X F : Type 0} → (X → Type 0) → (X → F → Type 0) → List X → Option F → Type 0
-Finds sound faulty xs None = AllSound sound xs
+Finds sound faulty xs None = AllByRecursion sound xs
 Finds sound faulty xs (Some f) = IsFirstFaulty sound (λ x. faulty x f) xs

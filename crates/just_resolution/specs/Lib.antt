@@ -5,3 +5,4 @@ pub mod Fault
 pub mod Admitted
 pub mod Apart
 pub mod Seen
+pub mod Prelude

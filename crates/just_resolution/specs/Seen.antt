@@ -19,7 +19,8 @@ use Rattle.just_resolution.specs.declared.readable.Readable.{Readable}
 use Rattle.just_resolution.specs.declared.site.Mention.{Mention}
 use Rattle.just_resolution.specs.declared.site.Mention.TheVariants.{Call, Variable}
 use Rattle.just_resolution.specs.declared.site.Site as declared_site
-use Rattle.just_resolution.specs.Fault.{ModuleFault, ArgumentCountMismatch, BoundParameter, DuplicateNumber, UndefinedFunction, UndefinedVariable, UnknownAssignment, UntakenVariable}
+use Rattle.just_resolution.specs.Fault.{ModuleFault, ArgumentCountMismatch, BoundParameter, DuplicateNumber}
+use Rattle.just_resolution.specs.Fault.{UndefinedFunction, UndefinedVariable, UnknownAssignment, UntakenVariable}
 use Rattle.just_resolution.specs.Sites.{Site}
 
 abbrev pub mention_view : Name → Mention → reaches.Mention
@@ -39,7 +40,8 @@ module_fault_view (faults.DuplicateNumber variable) = DuplicateNumber (name_view
 module_fault_view (faults.UndefinedFunction function) = UndefinedFunction (name_view function)
 module_fault_view (faults.UndefinedVariable variable) = UndefinedVariable (name_view variable)
 module_fault_view (faults.UnknownAssignment assignment) = UnknownAssignment (name_view assignment)
-module_fault_view (faults.UntakenVariable assignment variable) = UntakenVariable (name_view assignment) (name_view variable)
+module_fault_view (faults.UntakenVariable assignment variable) =
+    UntakenVariable (name_view assignment) (name_view variable)
 
 abbrev pub texts : List (Bor Text) → List Text
 texts names = map (λ name. name.now) names

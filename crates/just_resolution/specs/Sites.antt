@@ -1,6 +1,9 @@
 -- Where variables and calls occur in an expression, in order.
 use Rattle.std.specs.Prelude.{ℕ, List, [], ◌∷◌, ◌++◌, Option, Some, None}
-use Rattle.just_syntax.specs.Plain.{Text, Token, Function, Expr, And, Assert, AssertOnly, Backtick, Call, Comparison, Concatenation, Conditional, ConditionalOnly, FormatString, Group, Join, JoinOnly, ListOf, ListConcatenation, Not, Or, StringLiteral, Variable, Exprs, Nil, Cons, count, Pieces, NoPiece, Piece}
+use Rattle.just_syntax.specs.Plain.{Text, Token, Function, Expr, And, Assert, AssertOnly, Backtick, Call, Comparison}
+use Rattle.just_syntax.specs.Plain.{Concatenation, Conditional, ConditionalOnly, FormatString, Group, Join, JoinOnly}
+use Rattle.just_syntax.specs.Plain.{ListOf, ListConcatenation, Not, Or, StringLiteral, Variable, Exprs, Nil, Cons}
+use Rattle.just_syntax.specs.Plain.{count, Pieces, NoPiece, Piece}
 use Rattle.just_meaning.specs.Reaches.{Mention, VariableOf, CallOf}
 
 -- a variable or a call, and the token of its name

@@ -1,8 +1,9 @@
 -- The first variable that may not be read, in an expression or in the bodies that it reaches.
 use Rattle.std.specs.Prelude.{◌≡◌, ◌⊎◌, ℕ, List, Some, None}
+use Rattle.std.specs.List.{AllByRecursion}
 use Rattle.just_syntax.specs.Plain.{Text, Token, Expr, Function}
 use Rattle.just_meaning.specs.Reaches.{Mention, VariableOf, CallOf, IsAmong, Reaches, function_at}
-use Rattle.just_resolution.specs.First.{AllSound, IsFirstFaulty}
+use Rattle.just_resolution.specs.First.{IsFirstFaulty}
 use Rattle.just_resolution.specs.Sites.{sites_in}
 
 -- a variable's number is readable, if it has one
@@ -13,14 +14,16 @@ MayBeRead readable (CallOf name n) = Unit {0}
 
 -- each variable in an expression may be read
 abbrev pub AllMayBeRead : (ℕ → Type 0) → Expr → Type 0
-AllMayBeRead readable e = AllSound (λ s. MayBeRead readable s.mention) (sites_in e)
+AllMayBeRead readable e = AllByRecursion (λ s. MayBeRead readable s.mention) (sites_in e)
 
 -- the first variable in an expression that may not be read
 abbrev pub IsFirstUnreadable : (ℕ → Type 0) → Expr → Token → Type 0
-IsFirstUnreadable readable e variable = IsFirstFaulty (λ s. MayBeRead readable s.mention) (λ s. (s.token ≡ variable) × (MayBeRead readable s.mention → ⊥)) (sites_in e)
+IsFirstUnreadable readable e variable = IsFirstFaulty (λ s. MayBeRead readable s.mention) (λ s. (s.token ≡ variable)
+    × (MayBeRead readable s.mention → ⊥)) (sites_in e)
 
 -- the first variable in the body of a reached function that is neither its parameter nor readable
-pub record IsUnreadableBeyond (functions : List Function) (readable : ℕ → Type 0) (e : Expr) (variable : Token) : Type 0 where
+pub record IsUnreadableBeyond (functions : List Function) (readable : ℕ → Type 0) (e : Expr)
+    (variable : Token) : Type 0 where
   pub name : Text
   pub function : Function
   pub reached : Reaches functions e name
@@ -30,4 +33,5 @@ pub record IsUnreadableBeyond (functions : List Function) (readable : ℕ → Ty
 -- An expression reads a variable that it may not: the first one in its own text or, if it has none, the first in a body
 -- that it reaches. By itself it may read other numbers than bodies may.
 abbrev pub IsUnreadable : List Function → (ℕ → Type 0) → (ℕ → Type 0) → Expr → Token → Type 0
-IsUnreadable functions here readable e variable = IsFirstUnreadable here e variable ⊎ (AllMayBeRead here e × IsUnreadableBeyond functions readable e variable)
+IsUnreadable functions here readable e variable =
+    IsFirstUnreadable here e variable ⊎ (AllMayBeRead here e × IsUnreadableBeyond functions readable e variable)

@@ -1,13 +1,10 @@
 // The first variable that may not be read: in an expression, or in the functions that it reaches.
 
-ghost use Rattle.std.specs.Prelude.{◌≡◌, ◌⊎◌, ◌++◌, ◌||◌, ℕ, IfOk, IsNone, MatchOption, OnOk, IsTrue, Some, map};
-ghost use Rattle.std.specs.Option.{option_map};
-ghost use Rattle.just_syntax.specs.Plain.{Function};
-ghost use Rattle.just_syntax.specs.View.{function_view, name_view, view};
-ghost use Rattle.just_meaning.specs.Reaches.{IsAmong, Occurs, VariableOf, function_at};
-ghost use Rattle.just_resolution.specs.Admitted.{FindsBeyond, FindsBody, FindsUnreadable, IsAdmitted, may_be_read, may_occur};
-ghost use Rattle.just_resolution.specs.Seen.{is_name_in, is_number_in, is_readable, site_view, sites_view, texts};
-ghost use Rattle.just_resolution.specs.Sites.{called_names, calls_of, name_called, sites_in};
+ghost use Rattle.std.specs.Prelude.{IfOk, IsNone, IsTrue, OnOk, Some, map, option_map, ◌++◌, ◌||◌, ◌≡◌};
+ghost use Rattle.just_resolution.specs.Prelude.{FindsBeyond, FindsBody, FindsUnreadable, IsAdmitted, called_names};
+ghost use Rattle.just_resolution.specs.Prelude.{calls_of, function_at, function_view, is_name_in, is_number_in};
+ghost use Rattle.just_resolution.specs.Prelude.{is_readable, may_be_read, may_occur, name_called, name_view, site_view};
+ghost use Rattle.just_resolution.specs.Prelude.{sites_in, sites_view, texts, view};
 
 use crate::numbers::own_numbers;
 use crate::readable::Readable;
@@ -37,9 +34,12 @@ pub(crate) fn first_unreadable<'src>(
     admitted: &mut BTreeSet<&'src str>,
     expression: &Expression<'src>,
 ) -> Result<Option<Name<'src>>, OutOfMemory>
-    requires closed { IsAdmitted (map function_view functions.now) (is_readable readable.now) (is_name_in admitted.old) }
-    ensures exact { IfOk result (λ found. FindsBeyond (map function_view functions.now) (view expression.now) (is_readable here.now) (is_readable readable.now) (option_map name_view found)) }
-    ensures closed { IfOk result (λ found. IsNone found → IsAdmitted (map function_view functions.now) (is_readable readable.now) (is_name_in admitted.new)) }
+    requires closed { IsAdmitted (map function_view functions.now) (is_readable readable.now)
+        (is_name_in admitted.old) }
+    ensures exact { IfOk result (λ found. FindsBeyond (map function_view functions.now) (view expression.now)
+        (is_readable here.now) (is_readable readable.now) (option_map name_view found)) }
+    ensures closed { IfOk result (λ found. IsNone found
+        → IsAdmitted (map function_view functions.now) (is_readable readable.now) (is_name_in admitted.new)) }
 {
     let mut pending = Vec::new(alloc);
     let own = BTreeSet::new(alloc);
@@ -69,8 +69,10 @@ fn look_through_function<'src>(
     pending: &mut Vec<&'src str>,
     name: &str,
 ) -> Result<Option<Name<'src>>, OutOfMemory>
-    ensures reads { IfOk result (λ found. FindsBody (function_at (map function_view functions.now) name.now) (λ n. IsTrue (is_readable readable.now n)) (option_map name_view found)) }
-    ensures calls { IfOk result (λ found. IsNone found → texts pending.new.items ≡ texts pending.old.items ++ calls_of (function_at (map function_view functions.now) name.now)) }
+    ensures reads { IfOk result (λ found. FindsBody (function_at (map function_view functions.now) name.now)
+        (λ n. IsTrue (is_readable readable.now n)) (option_map name_view found)) }
+    ensures calls { IfOk result (λ found. IsNone found → texts pending.new.items ≡ texts pending.old.items
+        ++ calls_of (function_at (map function_view functions.now) name.now)) }
 {
     match functions.get(name) {
         Some(function) => {
@@ -90,8 +92,11 @@ fn look_through<'src>(
     pending: &mut Vec<&'src str>,
     expression: &Expression<'src>,
 ) -> Result<Option<Name<'src>>, OutOfMemory>
-    ensures reads { IfOk result (λ found. FindsUnreadable (λ n. IsTrue (is_number_in own.now n || is_readable readable.now n)) (sites_in (view expression.now)) (option_map name_view found)) }
-    ensures calls { IfOk result (λ found. IsNone found → texts pending.new.items ≡ texts pending.old.items ++ called_names (sites_in (view expression.now))) }
+    ensures reads { IfOk result
+        (λ found. FindsUnreadable (λ n. IsTrue (is_number_in own.now n || is_readable readable.now n))
+        (sites_in (view expression.now)) (option_map name_view found)) }
+    ensures calls { IfOk result (λ found. IsNone found → texts pending.new.items ≡ texts pending.old.items
+        ++ called_names (sites_in (view expression.now))) }
 {
     let sites = sites_in(alloc, expression)?;
     let unreadable = first_unreadable_site(readable, own, &sites);
@@ -108,7 +113,8 @@ fn first_unreadable_site<'src>(
     own: &BTreeSet<Number>,
     sites: &[Site<'src>],
 ) -> Option<Name<'src>>
-    ensures { FindsUnreadable (λ n. IsTrue (is_number_in own.now n || is_readable readable.now n)) (sites_view sites.now) (option_map name_view result) }
+    ensures { FindsUnreadable (λ n. IsTrue (is_number_in own.now n || is_readable readable.now n))
+        (sites_view sites.now) (option_map name_view result) }
 {
     for site in sites {
         if !may_occur(readable, own, site) {
@@ -120,7 +126,8 @@ fn first_unreadable_site<'src>(
 
 // Whether it is a call, or a variable whose number, if it has one, is own or readable.
 fn may_occur(readable: &Readable, own: &BTreeSet<Number>, site: &Site) -> bool
-    ensures { result ≡ may_occur (λ n. is_number_in own.now n || is_readable readable.now n) (site_view site.now).mention }
+    ensures { result ≡ may_occur (λ n. is_number_in own.now n || is_readable readable.now n)
+        (site_view site.now).mention }
 {
     match site.mention {
         Mention::Call { arguments: _ } => true,

@@ -1,9 +1,8 @@
 // The expressions that are evaluated for a recipe.
 
-ghost use Rattle.std.specs.Prelude.{IfOk, OnOk, [], map, ◌++◌, ◌≡◌};
-ghost use Rattle.just_syntax.specs.View.{attributes_view, recipe_parameter_view, view};
-ghost use Rattle.just_meaning.specs.Here.{attribute_expressions, expressions_of, parameter_expressions, some_expression};
-ghost use Rattle.just_resolution.specs.Seen.{attributes_of, expressions_view};
+ghost use Rattle.std.specs.Prelude.{IfOk, ◌≡◌};
+ghost use Rattle.just_resolution.specs.Prelude.{attribute_expressions, attributes_of, attributes_view, expressions_of};
+ghost use Rattle.just_resolution.specs.Prelude.{expressions_view, recipe_parameter_view};
 
 use just_syntax::attribute::Attribute;
 use just_syntax::attribute_set::AttributeSet;

@@ -1,9 +1,7 @@
 // Why a module is not resolved.
 
 ghost use Rattle.std.specs.Prelude.{◌≡◌};
-ghost use Rattle.just_syntax.specs.View.{token_view};
-ghost use Rattle.just_resolution.specs.Fault.{fault_token};
-ghost use Rattle.just_resolution.specs.Seen.{module_fault_view};
+ghost use Rattle.just_resolution.specs.Prelude.{fault_token, module_fault_view, token_view};
 
 use just_syntax::name::Name;
 use just_syntax::token::Token;

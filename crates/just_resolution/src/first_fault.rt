@@ -1,11 +1,8 @@
 // Why a module is not resolved.
 
-ghost use Rattle.std.specs.Prelude.{◌↔◌, IfOk, IfSome, IsNone};
-ghost use Rattle.just_value.specs.View.{frames_view};
-ghost use Rattle.just_meaning.specs.Resolved.{IsResolved};
-ghost use Rattle.just_meaning.specs.View.{assignments_view, functions_view};
-ghost use Rattle.just_resolution.specs.Fault.{IsFirstFault};
-ghost use Rattle.just_resolution.specs.Seen.{module_fault_view};
+ghost use Rattle.std.specs.Prelude.{IfOk, IfSome, IsNone, ◌↔◌};
+ghost use Rattle.just_resolution.specs.Prelude.{IsFirstFault, IsResolved, assignments_view, frames_view};
+ghost use Rattle.just_resolution.specs.Prelude.{functions_view, module_fault_view};
 
 use crate::fault::Fault;
 use crate::known::{bodies_fault, values_fault};
@@ -43,8 +40,13 @@ pub fn first_fault<'src, 'run>(
     parent: &Scope<'src, 'run>,
     variable_references: Option<&HashSet<Number>>,
 ) -> Result<Option<Fault<'src>>, OutOfMemory>
-    ensures exact { IfOk result (λ fault. IsNone fault ↔ IsResolved (functions_view «module».now) (assignments_view «module».now variable_references.entry) (frames_view parent.now)) }
-    ensures first { IfOk result (λ fault. IfSome fault (λ found. IsFirstFault (functions_view «module».now) (assignments_view «module».now variable_references.entry) (frames_view parent.now) (module_fault_view found))) }
+    ensures exact { IfOk result (λ fault. IsNone fault
+        ↔ IsResolved (functions_view «module».now) (assignments_view «module».now variable_references.entry)
+        (frames_view parent.now)) }
+    ensures first { IfOk result
+        (λ fault. IfSome fault (λ found. IsFirstFault (functions_view «module».now)
+        (assignments_view «module».now variable_references.entry) (frames_view parent.now)
+        (module_fault_view found))) }
 {
     let numbering = numbering_fault(alloc, module, parent)?;
     if numbering.is_some() {

@@ -1,16 +1,13 @@
 // What is evaluated for a recipe: whether its numbers clash, and whether everything is known and bound before it is
 // read.
 
-ghost use Rattle.std.specs.Prelude.{◌↔◌, ◌++◌, IfOk, IsTrue, [], map};
-ghost use Rattle.just_syntax.specs.View.{assignment_view, function_view, recipe_parameter_view, view};
-ghost use Rattle.just_value.specs.Frames.{value_in};
-ghost use Rattle.just_value.specs.View.{frames_view};
-ghost use Rattle.just_meaning.specs.Here.{AllReadable, AreReadableInTurn, attribute_expressions, parameter_expressions};
-ghost use Rattle.just_meaning.specs.Resolved.{AllKnown, HasValue};
-ghost use Rattle.just_meaning.specs.View.{functions_view};
-ghost use Rattle.just_resolution.specs.Admitted.{IsAdmitted, MayAllOccur, MayFollowInTurn, MayOccur};
-ghost use Rattle.just_resolution.specs.Apart.{AreApart};
-ghost use Rattle.just_resolution.specs.Seen.{IsSameReader, attributes_of, expressions_view, is_name_in, is_readable};
+ghost use Rattle.std.specs.Prelude.{IfOk, IsTrue, [], map, ◌++◌, ◌↔◌};
+ghost use Rattle.just_resolution.specs.Prelude.{AllKnown, AllReadable, AreApart, AreReadableInTurn, HasValue};
+ghost use Rattle.just_resolution.specs.Prelude.{IsAdmitted, IsSameReader, MayAllOccur, MayFollowInTurn, MayOccur};
+ghost use Rattle.just_resolution.specs.Prelude.{assignment_view, attribute_expressions, attributes_of};
+ghost use Rattle.just_resolution.specs.Prelude.{expressions_view, frames_view, function_view, functions_view};
+ghost use Rattle.just_resolution.specs.Prelude.{is_name_in, is_readable, parameter_expressions, recipe_parameter_view};
+ghost use Rattle.just_resolution.specs.Prelude.{value_in, view};
 
 use crate::admitted::first_unreadable;
 use crate::expressions::{expressions_of, recipe_expressions};
@@ -39,7 +36,9 @@ pub(crate) fn are_parameters_apart<'src>(
     base: &Scope<'src, '_>,
     parameters: &[Parameter<'src>],
 ) -> Result<bool, OutOfMemory>
-    ensures { IfOk result (λ answer. IsTrue answer ↔ AreApart (functions_view «module».now) (map assignment_view «module».now.assignments) (frames_view base.now) (frames_view scope.now) (map recipe_parameter_view parameters.now)) }
+    ensures { IfOk result (λ answer. IsTrue answer
+        ↔ AreApart (functions_view «module».now) (map assignment_view «module».now.assignments)
+        (frames_view base.now) (frames_view scope.now) (map recipe_parameter_view parameters.now)) }
 {
     let mut numbers = assignment_numbers(alloc, &module.assignments)?;
     let first_parameter = numbers.len();
@@ -64,9 +63,13 @@ pub(crate) fn are_readable_here<'src, 'run>(
     parameters: &[Parameter<'src>],
     expressions: Vec<&Expression<'src>>,
 ) -> Result<bool, OutOfMemory>
-    ensures { let functions = functions_view context.now.«module».now in let own = value_in (frames_view scope.now) in let base = value_in (frames_view context.now.scope.now) in
-        let attributes = attribute_expressions (attributes_of recipe.entry) in let ps = map recipe_parameter_view parameters.now in let es = expressions_view expressions.entry.items in
-        IfOk result (λ answer. IsTrue answer ↔ (AllKnown functions (attributes ++ parameter_expressions ps ++ es) × AllReadable functions base (HasValue own) (attributes ++ es) × AreReadableInTurn functions base own [] ps)) }
+    ensures { let functions = functions_view context.now.«module».now in let own = value_in (frames_view scope.now) in
+        let base = value_in (frames_view context.now.scope.now) in
+        let attributes = attribute_expressions (attributes_of recipe.entry) in let ps =
+        map recipe_parameter_view parameters.now in let es = expressions_view expressions.entry.items in
+        IfOk result (λ answer. IsTrue answer ↔ (AllKnown functions (attributes ++ parameter_expressions ps ++ es)
+        × AllReadable functions base (HasValue own) (attributes ++ es)
+        × AreReadableInTurn functions base own [] ps)) }
 {
     let mut reader = Reader {
         functions: &context.module.functions,
@@ -95,10 +98,14 @@ impl<'src> Reader<'src, '_, '_> {
         alloc: Global,
         expression: &Expression<'src>,
     ) -> Result<bool, OutOfMemory>
-        requires closed { IsAdmitted (map function_view self.old.functions.now) (is_readable self.old.bodies) (is_name_in self.old.admitted) }
+        requires closed { IsAdmitted (map function_view self.old.functions.now) (is_readable self.old.bodies)
+            (is_name_in self.old.admitted) }
         ensures same { IsSameReader self.old self.new }
-        ensures exact { IfOk result (λ answer. IsTrue answer ↔ MayOccur (map function_view self.old.functions.now) (is_readable self.old.here) (is_readable self.old.bodies) (view expression.now)) }
-        ensures closed { IfOk result (λ answer. IsTrue answer → IsAdmitted (map function_view self.old.functions.now) (is_readable self.old.bodies) (is_name_in self.new.admitted)) }
+        ensures exact { IfOk result (λ answer. IsTrue answer ↔ MayOccur (map function_view self.old.functions.now)
+            (is_readable self.old.here) (is_readable self.old.bodies) (view expression.now)) }
+        ensures closed { IfOk result (λ answer. IsTrue answer
+            → IsAdmitted (map function_view self.old.functions.now) (is_readable self.old.bodies)
+            (is_name_in self.new.admitted)) }
     {
         if expression_fault(alloc, self.functions, expression)?.is_some() {
             return Ok(false);
@@ -120,10 +127,14 @@ impl<'src> Reader<'src, '_, '_> {
         alloc: Global,
         expressions: Vec<&Expression<'src>>,
     ) -> Result<bool, OutOfMemory>
-        requires closed { IsAdmitted (map function_view self.old.functions.now) (is_readable self.old.bodies) (is_name_in self.old.admitted) }
+        requires closed { IsAdmitted (map function_view self.old.functions.now) (is_readable self.old.bodies)
+            (is_name_in self.old.admitted) }
         ensures same { IsSameReader self.old self.new }
-        ensures exact { IfOk result (λ answer. IsTrue answer ↔ MayAllOccur (map function_view self.old.functions.now) (is_readable self.old.here) (is_readable self.old.bodies) (expressions_view expressions.entry.items)) }
-        ensures closed { IfOk result (λ answer. IsTrue answer → IsAdmitted (map function_view self.old.functions.now) (is_readable self.old.bodies) (is_name_in self.new.admitted)) }
+        ensures exact { IfOk result (λ answer. IsTrue answer ↔ MayAllOccur (map function_view self.old.functions.now)
+            (is_readable self.old.here) (is_readable self.old.bodies) (expressions_view expressions.entry.items)) }
+        ensures closed { IfOk result (λ answer. IsTrue answer
+            → IsAdmitted (map function_view self.old.functions.now) (is_readable self.old.bodies)
+            (is_name_in self.new.admitted)) }
     {
         let mut left = expressions;
         while let Some(expression) = left.pop() {
@@ -143,9 +154,14 @@ impl<'src> Reader<'src, '_, '_> {
         parameters: &[Parameter<'src>],
         expressions: Vec<&Expression<'src>>,
     ) -> Result<bool, OutOfMemory>
-        requires closed { IsAdmitted (map function_view self.old.functions.now) (is_readable self.old.bodies) (is_name_in self.old.admitted) }
-        ensures { let functions = map function_view self.old.functions.now in let may_occur = MayAllOccur functions (is_readable self.old.here) (is_readable self.old.bodies) in
-            IfOk result (λ answer. IsTrue answer ↔ (may_occur (attribute_expressions (attributes_of recipe.entry)) × may_occur (expressions_view expressions.entry.items) × MayFollowInTurn functions (λ n. IsTrue (is_readable self.old.here n)) (is_readable self.old.bodies) (map recipe_parameter_view parameters.now))) }
+        requires closed { IsAdmitted (map function_view self.old.functions.now) (is_readable self.old.bodies)
+            (is_name_in self.old.admitted) }
+        ensures { let functions = map function_view self.old.functions.now in let may_occur =
+            MayAllOccur functions (is_readable self.old.here) (is_readable self.old.bodies) in
+            IfOk result (λ answer. IsTrue answer ↔ (may_occur (attribute_expressions (attributes_of recipe.entry))
+            × may_occur (expressions_view expressions.entry.items)
+            × MayFollowInTurn functions (λ n. IsTrue (is_readable self.old.here n))
+            (is_readable self.old.bodies) (map recipe_parameter_view parameters.now))) }
     {
         if !self.may_all_occur(alloc, expressions)? {
             return Ok(false);
@@ -164,8 +180,11 @@ impl<'src> Reader<'src, '_, '_> {
         alloc: Global,
         parameters: &[Parameter<'src>],
     ) -> Result<bool, OutOfMemory>
-        requires closed { IsAdmitted (map function_view self.old.functions.now) (is_readable self.old.bodies) (is_name_in self.old.admitted) }
-        ensures exact { IfOk result (λ answer. IsTrue answer ↔ MayFollowInTurn (map function_view self.old.functions.now) (λ n. IsTrue (is_readable self.old.here n)) (is_readable self.old.bodies) (map recipe_parameter_view parameters.now)) }
+        requires closed { IsAdmitted (map function_view self.old.functions.now) (is_readable self.old.bodies)
+            (is_name_in self.old.admitted) }
+        ensures exact { IfOk result (λ answer. IsTrue answer
+            ↔ MayFollowInTurn (map function_view self.old.functions.now) (λ n. IsTrue (is_readable self.old.here n))
+            (is_readable self.old.bodies) (map recipe_parameter_view parameters.now)) }
     {
         for parameter in parameters {
             let own = expressions_of(alloc, parameter)?;

@@ -1,15 +1,11 @@
 // The first variable without a number, or call that its name does not take.
 
-ghost use Rattle.std.specs.Prelude.{◌≡◌, ◌↔◌, IfOk, IsTrue, map, not};
+ghost use Rattle.std.specs.Prelude.{IfOk, IsTrue, map, not, option_map, ◌↔◌, ◌≡◌};
 ghost use Rattle.std.specs.List.{list_all};
-ghost use Rattle.std.specs.Option.{option_map};
-ghost use Rattle.just_syntax.specs.View.{assignment_view, function_view, name_view, view};
-ghost use Rattle.just_meaning.specs.Callee.{accepts, callee, undefined};
-ghost use Rattle.just_meaning.specs.Resolved.{AllNumbered, IsNumbered};
-ghost use Rattle.just_resolution.specs.Admitted.{FindsUnknown, is_numbered};
-ghost use Rattle.just_resolution.specs.Fault.{call_fault, is_unknown, mention_fault};
-ghost use Rattle.just_resolution.specs.Seen.{module_fault_view, site_view, sites_view};
-ghost use Rattle.just_resolution.specs.Sites.{all_sites, sites_in};
+ghost use Rattle.just_resolution.specs.Prelude.{AllNumbered, FindsUnknown, IsNumbered, accepts, all_sites};
+ghost use Rattle.just_resolution.specs.Prelude.{assignment_view, call_fault, callee, function_view, is_numbered};
+ghost use Rattle.just_resolution.specs.Prelude.{is_unknown, mention_fault, module_fault_view, name_view, site_view};
+ghost use Rattle.just_resolution.specs.Prelude.{sites_in, sites_view, undefined, view};
 
 use crate::fault::Fault;
 use crate::site::{Mention, Site};
@@ -69,7 +65,8 @@ fn call_fault<'src>(
     name: &Name<'src>,
     arguments: usize,
 ) -> Option<Fault<'src>>
-    ensures { let seen = name_view name.now in option_map module_fault_view result ≡ call_fault (callee (map function_view functions.now) seen.lexeme) seen arguments }
+    ensures { let seen = name_view name.now in option_map module_fault_view result
+        ≡ call_fault (callee (map function_view functions.now) seen.lexeme) seen arguments }
 {
     let function = *name;
     if is_callable(functions, name.lexeme(), arguments) {
@@ -89,7 +86,8 @@ fn site_fault<'src>(
     functions: &Table<FunctionDefinition<'src>>,
     site: &Site<'src>,
 ) -> Option<Fault<'src>>
-    ensures { let seen = site_view site.now in option_map module_fault_view result ≡ mention_fault (map function_view functions.now) seen.token seen.mention }
+    ensures { let seen = site_view site.now in option_map module_fault_view result
+        ≡ mention_fault (map function_view functions.now) seen.token seen.mention }
 {
     let variable = site.name;
     match site.mention {
@@ -104,7 +102,8 @@ fn sites_fault<'src>(
     functions: &Table<FunctionDefinition<'src>>,
     sites: &[Site<'src>],
 ) -> Option<Fault<'src>>
-    ensures { FindsUnknown (map function_view functions.now) (sites_view sites.now) (option_map module_fault_view result) }
+    ensures { FindsUnknown (map function_view functions.now) (sites_view sites.now)
+        (option_map module_fault_view result) }
 {
     for site in sites {
         let fault = site_fault(functions, site);
@@ -121,7 +120,8 @@ pub(crate) fn expression_fault<'src>(
     functions: &Table<FunctionDefinition<'src>>,
     expression: &Expression<'src>,
 ) -> Result<Option<Fault<'src>>, OutOfMemory>
-    ensures { IfOk result (λ fault. FindsUnknown (map function_view functions.now) (sites_in (view expression.now)) (option_map module_fault_view fault)) }
+    ensures { IfOk result (λ fault. FindsUnknown (map function_view functions.now) (sites_in (view expression.now))
+        (option_map module_fault_view fault)) }
 {
     let sites = sites_in(alloc, expression)?;
     Ok(sites_fault(functions, &sites))
@@ -133,7 +133,9 @@ pub(crate) fn values_fault<'src>(
     functions: &Table<FunctionDefinition<'src>>,
     assignments: &Table<Assignment<'src>>,
 ) -> Result<Option<Fault<'src>>, OutOfMemory>
-    ensures { IfOk result (λ fault. FindsUnknown (map function_view functions.now) (all_sites (map (λ a. a.value) (map assignment_view assignments.now))) (option_map module_fault_view fault)) }
+    ensures { IfOk result (λ fault. FindsUnknown (map function_view functions.now)
+        (all_sites (map (λ a. a.value) (map assignment_view assignments.now)))
+        (option_map module_fault_view fault)) }
 {
     for assignment in assignments {
         let fault = expression_fault(alloc, functions, &assignment.value)?;
@@ -149,7 +151,9 @@ pub(crate) fn bodies_fault<'src>(
     alloc: Global,
     functions: &Table<FunctionDefinition<'src>>,
 ) -> Result<Option<Fault<'src>>, OutOfMemory>
-    ensures { let all = map function_view functions.now in IfOk result (λ fault. FindsUnknown all (all_sites (map (λ f. f.body) all)) (option_map module_fault_view fault)) }
+    ensures { let all = map function_view functions.now in
+        IfOk result (λ fault. FindsUnknown all (all_sites (map (λ f. f.body) all))
+        (option_map module_fault_view fault)) }
 {
     for function in functions {
         let fault = expression_fault(alloc, functions, &function.body)?;
@@ -190,7 +194,8 @@ pub(crate) fn are_values_numbered(
     alloc: Global,
     assignments: &Table<Assignment>,
 ) -> Result<bool, OutOfMemory>
-    ensures { IfOk result (λ answer. IsTrue answer ↔ AllNumbered (map (λ a. a.value) (map assignment_view assignments.now))) }
+    ensures { IfOk result (λ answer. IsTrue answer
+        ↔ AllNumbered (map (λ a. a.value) (map assignment_view assignments.now))) }
 {
     for assignment in assignments {
         if !is_expression_numbered(alloc, &assignment.value)? {

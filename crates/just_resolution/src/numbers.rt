@@ -1,18 +1,11 @@
 // The numbers of assignments and parameters: the first that occurs twice, and the first that is bound outside.
 
-ghost use Rattle.std.specs.Prelude.{◌≡◌, ◌↔◌, ◌++◌, ℕ, List, [], ◌∷◌, IfOk, OnOk, IsTrue, map};
-ghost use Rattle.std.specs.Option.{option_map};
-ghost use Rattle.just_syntax.specs.Plain.{Function};
-ghost use Rattle.just_syntax.specs.View.{assignment_view, function_view, name_view, parameter_view, recipe_parameter_view};
-ghost use Rattle.just_value.specs.Frames.{Frames};
-ghost use Rattle.just_value.specs.View.{frames_view};
-ghost use Rattle.just_meaning.specs.Assignments.{Assignments};
-ghost use Rattle.just_meaning.specs.Reaches.{IsAmong};
-ghost use Rattle.just_meaning.specs.View.{functions_view};
-ghost use Rattle.just_resolution.specs.Admitted.{FindsBound};
-ghost use Rattle.just_resolution.specs.Fault.{IsFaulty, IsSound, number_places, numbered_assignments, parameter_places, numbered_parameters};
-ghost use Rattle.just_resolution.specs.First.{Finds};
-ghost use Rattle.just_resolution.specs.Seen.{module_fault_view, is_number_in};
+ghost use Rattle.std.specs.Prelude.{IfOk, IsTrue, List, OnOk, [], map, option_map, ℕ, ◌++◌, ◌↔◌, ◌∷◌, ◌≡◌};
+ghost use Rattle.just_resolution.specs.Prelude.{Assignments, Finds, FindsBound, Frames, Function, IsAmong, IsFaulty};
+ghost use Rattle.just_resolution.specs.Prelude.{IsSound, assignment_view, frames_view, function_view, functions_view};
+ghost use Rattle.just_resolution.specs.Prelude.{is_number_in, module_fault_view, number_places, numbered_assignments};
+ghost use Rattle.just_resolution.specs.Prelude.{numbered_parameters, parameter_places, parameter_view};
+ghost use Rattle.just_resolution.specs.Prelude.{recipe_parameter_view};
 
 use crate::fault::Fault;
 use just_host::justfile::Justfile;
@@ -34,9 +27,12 @@ pub(crate) fn numbering_fault<'src>(
     module: &Justfile<'src>,
     parent: &Scope<'src, '_>,
 ) -> Result<Option<Fault<'src>>, OutOfMemory>
-    ensures { let parameters = numbered_parameters (functions_view «module».now) in let outer = frames_view parent.now in
-        IfOk result (λ fault. (functions : List Function) (assignments : Assignments) → Finds (IsSound functions assignments outer) (IsFaulty functions assignments outer)
-        (number_places [] (numbered_assignments (map assignment_view «module».now.assignments) ++ parameters) ++ parameter_places parameters) (option_map module_fault_view fault)) }
+    ensures { let parameters = numbered_parameters (functions_view «module».now) in let outer =
+        frames_view parent.now in
+        IfOk result (λ fault. (functions : List Function) (assignments : Assignments)
+        → Finds (IsSound functions assignments outer) (IsFaulty functions assignments outer)
+        (number_places [] (numbered_assignments (map assignment_view «module».now.assignments) ++ parameters)
+        ++ parameter_places parameters) (option_map module_fault_view fault)) }
 {
     let mut numbers = assignment_numbers(alloc, &module.assignments)?;
     let first_parameter = numbers.len();
@@ -53,7 +49,8 @@ pub(crate) fn assignment_numbers<'src>(
     alloc: Global,
     assignments: &Table<Assignment<'src>>,
 ) -> Result<Vec<(Name<'src>, Number)>, OutOfMemory>
-    ensures { IfOk result (λ numbers. map parameter_view numbers.items ≡ numbered_assignments (map assignment_view assignments.now)) }
+    ensures { IfOk result (λ numbers. map parameter_view numbers.items
+        ≡ numbered_assignments (map assignment_view assignments.now)) }
 {
     let mut numbers = Vec::new(alloc);
     for assignment in assignments {
@@ -67,7 +64,8 @@ pub(crate) fn add_parameter_numbers<'src>(
     numbers: &mut Vec<(Name<'src>, Number)>,
     functions: &Table<FunctionDefinition<'src>>,
 ) -> Result<(), OutOfMemory>
-    ensures { OnOk result (map parameter_view numbers.new.items ≡ map parameter_view numbers.old.items ++ numbered_parameters (map function_view functions.now)) }
+    ensures { OnOk result (map parameter_view numbers.new.items ≡ map parameter_view numbers.old.items
+        ++ numbered_parameters (map function_view functions.now)) }
 {
     for function in functions {
         numbers.extend_from_slice(&function.parameters)?;
@@ -80,7 +78,8 @@ pub(crate) fn add_recipe_numbers<'src>(
     numbers: &mut Vec<(Name<'src>, Number)>,
     parameters: &[Parameter<'src>],
 ) -> Result<(), OutOfMemory>
-    ensures { OnOk result (map parameter_view numbers.new.items ≡ map parameter_view numbers.old.items ++ map (λ p. (p.name, p.number)) (map recipe_parameter_view parameters.now)) }
+    ensures { OnOk result (map parameter_view numbers.new.items ≡ map parameter_view numbers.old.items
+        ++ map (λ p. (p.name, p.number)) (map recipe_parameter_view parameters.now)) }
 {
     for parameter in parameters {
         add_number(numbers, &parameter.name, parameter.number)?;
@@ -107,7 +106,9 @@ pub(crate) fn number_fault<'src>(
     alloc: Global,
     numbers: &[(Name<'src>, Number)],
 ) -> Result<Option<Fault<'src>>, OutOfMemory>
-    ensures { IfOk result (λ fault. (functions : List Function) (assignments : Assignments) (outer : Frames) → Finds (IsSound functions assignments outer) (IsFaulty functions assignments outer) (number_places [] (map parameter_view numbers.now)) (option_map module_fault_view fault)) }
+    ensures { IfOk result (λ fault. (functions : List Function) (assignments : Assignments) (outer : Frames)
+        → Finds (IsSound functions assignments outer) (IsFaulty functions assignments outer)
+        (number_places [] (map parameter_view numbers.now)) (option_map module_fault_view fault)) }
 {
     let mut seen = BTreeSet::new(alloc);
     for (name, number) in numbers {
@@ -123,7 +124,8 @@ pub(crate) fn parameter_fault<'src>(
     scope: &Scope,
     parameters: &[(Name<'src>, Number)],
 ) -> Option<Fault<'src>>
-    ensures { FindsBound (frames_view scope.now) (map parameter_view parameters.now) (option_map module_fault_view result) }
+    ensures { FindsBound (frames_view scope.now) (map parameter_view parameters.now)
+        (option_map module_fault_view result) }
 {
     for (name, number) in parameters {
         if scope.value(*number).is_some() {
@@ -142,7 +144,8 @@ pub fn own_numbers(
     alloc: Global,
     parameters: &[(Name, Number)],
 ) -> Result<BTreeSet<Number>, OutOfMemory>
-    ensures { IfOk result (λ own. (n : ℕ) → IsTrue (is_number_in own n) ↔ IsAmong (map parameter_view parameters.now) n) }
+    ensures { IfOk result (λ own. (n : ℕ) → IsTrue (is_number_in own n)
+        ↔ IsAmong (map parameter_view parameters.now) n) }
 {
     let mut own = BTreeSet::new(alloc);
     for (_, number) in parameters {

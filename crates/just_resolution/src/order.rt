@@ -1,16 +1,10 @@
 // The first name of an evaluation order that may not come next.
 
-ghost use Rattle.std.specs.Prelude.{◌≡◌, ◌↔◌, ◌⊎◌, ℕ, [], IfOk, IsNone, IsTrue, MatchOption, Some, map};
-ghost use Rattle.std.specs.Option.{option_map};
-ghost use Rattle.just_syntax.specs.Plain.{Token};
-ghost use Rattle.just_syntax.specs.View.{assignment_view, function_view, name_view};
-ghost use Rattle.just_value.specs.View.{frames_view};
-ghost use Rattle.just_meaning.specs.Resolved.{AreDistinct};
-ghost use Rattle.just_meaning.specs.View.{ordered_view};
-ghost use Rattle.just_resolution.specs.Admitted.{FindsMisplaced, IsAdmitted, IsNumberOf, IsTakenBy, ReadsReadable};
-ghost use Rattle.just_resolution.specs.Fault.{IsFaulty, IsSound, ReadsUntaken, name_places};
-ghost use Rattle.just_resolution.specs.First.{Finds};
-ghost use Rattle.just_resolution.specs.Seen.{module_fault_view, is_name_in, is_readable, is_taken};
+ghost use Rattle.std.specs.Prelude.{IfOk, IsNone, IsTrue, MatchOption, Some, [], map, option_map, ℕ, ◌↔◌, ◌≡◌, ◌⊎◌};
+ghost use Rattle.just_resolution.specs.Prelude.{AreDistinct, Finds, FindsMisplaced, IsAdmitted, IsFaulty, IsNumberOf};
+ghost use Rattle.just_resolution.specs.Prelude.{IsSound, IsTakenBy, ReadsReadable, ReadsUntaken, assignment_view};
+ghost use Rattle.just_resolution.specs.Prelude.{frames_view, function_view, is_name_in, is_readable, is_taken};
+ghost use Rattle.just_resolution.specs.Prelude.{module_fault_view, name_places, name_view, ordered_view};
 
 use crate::admitted::first_unreadable;
 use crate::fault::Fault;
@@ -37,8 +31,11 @@ pub(crate) fn order_fault<'src>(
     variable_references: Option<&HashSet<Number>>,
 ) -> Result<Option<Fault<'src>>, OutOfMemory>
     requires distinct { AreDistinct (map (λ a. a.number) (map assignment_view assignments.now)) }
-    ensures { let all = map function_view functions.now in let ordered = ordered_view assignments.now evaluation_order.now variable_references.entry in
-        IfOk result (λ fault. Finds (IsSound all ordered (frames_view outer.now)) (IsFaulty all ordered (frames_view outer.now)) (name_places ordered [] ordered.order) (option_map module_fault_view fault)) }
+    ensures { let all = map function_view functions.now in let ordered =
+        ordered_view assignments.now evaluation_order.now variable_references.entry in
+        IfOk result (λ fault. Finds (IsSound all ordered (frames_view outer.now))
+        (IsFaulty all ordered (frames_view outer.now)) (name_places ordered [] ordered.order)
+        (option_map module_fault_view fault)) }
 {
     let mut readable = Readable::new(alloc, outer);
     let mut admitted = BTreeSet::new(alloc);
@@ -72,14 +69,18 @@ fn take_next<'src>(
 ) -> Result<Option<Fault<'src>>, OutOfMemory>
     requires distinct { AreDistinct (map (λ a. a.number) (map assignment_view assignments.now)) }
     requires taken { let all = ordered_view assignments.now [] variable_references in
-        IsTakenBy (map function_view functions.now) all (is_taken readable.old) (is_readable readable.old) (is_name_in admitted.old) }
+        IsTakenBy (map function_view functions.now) all (is_taken readable.old) (is_readable readable.old)
+        (is_name_in admitted.old) }
     ensures outer { readable.new.outer ≡ readable.old.outer }
     ensures exact { let all = ordered_view assignments.now [] variable_references.entry in
-        IfOk result (λ fault. FindsMisplaced (map function_view functions.now) all (is_readable readable.old) (name_view name.now) (option_map module_fault_view fault)) }
+        IfOk result (λ fault. FindsMisplaced (map function_view functions.now) all (is_readable readable.old)
+        (name_view name.now) (option_map module_fault_view fault)) }
     ensures number { let all = ordered_view assignments.now [] variable_references.entry in
-        IfOk result (λ fault. IsNone fault → (n : ℕ) → IsTrue (is_taken readable.new n) ↔ (IsTrue (is_taken readable.old n) ⊎ IsNumberOf all (name_view name.now) n)) }
+        IfOk result (λ fault. IsNone fault → (n : ℕ) → IsTrue (is_taken readable.new n)
+        ↔ (IsTrue (is_taken readable.old n) ⊎ IsNumberOf all (name_view name.now) n)) }
     ensures taken { let all = ordered_view assignments.now [] variable_references.entry in
-        IfOk result (λ fault. IsNone fault → IsTakenBy (map function_view functions.now) all (is_taken readable.new) (is_readable readable.new) (is_name_in admitted.new)) }
+        IfOk result (λ fault. IsNone fault → IsTakenBy (map function_view functions.now) all (is_taken readable.new)
+        (is_readable readable.new) (is_name_in admitted.new)) }
 {
     match assignments.get(name.lexeme()) {
         Some(assignment) => {
@@ -103,12 +104,18 @@ fn take<'src>(
     admitted: &mut BTreeSet<&'src str>,
     assignment: &Assignment<'src>,
 ) -> Result<Option<Fault<'src>>, OutOfMemory>
-    requires closed { IsAdmitted (map function_view functions.now) (is_readable readable.old) (is_name_in admitted.old) }
+    requires closed { IsAdmitted (map function_view functions.now) (is_readable readable.old)
+        (is_name_in admitted.old) }
     ensures outer { readable.new.outer ≡ readable.old.outer }
     ensures exact { let seen = assignment_view assignment.now in
-        IfOk result (λ fault. MatchOption fault (ReadsReadable (map function_view functions.now) (is_readable readable.old) seen) (λ found. ReadsUntaken (map function_view functions.now) (λ n. IsTrue (is_readable readable.old n)) seen (module_fault_view found))) }
-    ensures taken { IfOk result (λ fault. IsNone fault → (n : ℕ) → IsTrue (is_taken readable.new n) ↔ (IsTrue (is_taken readable.old n) ⊎ (assignment.now.number ≡ n))) }
-    ensures closed { IfOk result (λ fault. IsNone fault → IsAdmitted (map function_view functions.now) (is_readable readable.old) (is_name_in admitted.new)) }
+        IfOk result
+        (λ fault. MatchOption fault (ReadsReadable (map function_view functions.now) (is_readable readable.old)
+        seen) (λ found. ReadsUntaken (map function_view functions.now)
+        (λ n. IsTrue (is_readable readable.old n)) seen (module_fault_view found))) }
+    ensures taken { IfOk result (λ fault. IsNone fault → (n : ℕ) → IsTrue (is_taken readable.new n)
+        ↔ (IsTrue (is_taken readable.old n) ⊎ (assignment.now.number ≡ n))) }
+    ensures closed { IfOk result (λ fault. IsNone fault
+        → IsAdmitted (map function_view functions.now) (is_readable readable.old) (is_name_in admitted.new)) }
 {
     let value = &assignment.value;
     let unreadable = first_unreadable(alloc, functions, readable, readable, admitted, value)?;

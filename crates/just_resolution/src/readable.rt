@@ -1,6 +1,6 @@
 // What an assignment of the order may read.
 
-ghost use Rattle.std.specs.Prelude.{◌≡◌, ◌↔◌, ◌⊎◌, ℕ, false, IsTrue, OnOk};
+ghost use Rattle.std.specs.Prelude.{IsTrue, OnOk, false, ℕ, ◌↔◌, ◌≡◌, ◌⊎◌};
 
 use just_syntax::number::Number;
 use just_syntax::out_of_memory::OutOfMemory;
@@ -48,7 +48,8 @@ impl<'src, 'scope, 'run> Readable<'src, 'scope, 'run> {
 
     // Takes a number.
     pub(crate) fn take(&mut self, number: Number) -> Result<(), OutOfMemory>
-        ensures taken { OnOk result ((n : ℕ) → IsTrue (is_taken self.new n) ↔ (IsTrue (is_taken self.old n) ⊎ (number ≡ n))) }
+        ensures taken { OnOk result ((n : ℕ) → IsTrue (is_taken self.new n)
+            ↔ (IsTrue (is_taken self.old n) ⊎ (number ≡ n))) }
         ensures outer { self.new.outer ≡ self.old.outer }
     {
         self.taken.insert(number)?;

@@ -1,7 +1,7 @@
 // Which variables are referenced.
 
 ghost use Rattle.std.specs.Prelude.{◌≡◌};
-ghost use Rattle.just_meaning.specs.View.{is_referenced_in};
+ghost use Rattle.just_resolution.specs.Prelude.{is_referenced_in};
 
 use just_syntax::number::Number;
 use std::collections::HashSet;

@@ -1,9 +1,7 @@
 // Whether a module is resolved.
 
-ghost use Rattle.std.specs.Prelude.{◌↔◌, IfOk, IsTrue};
-ghost use Rattle.just_value.specs.View.{frames_view};
-ghost use Rattle.just_meaning.specs.Resolved.{IsResolved};
-ghost use Rattle.just_meaning.specs.View.{assignments_view, functions_view};
+ghost use Rattle.std.specs.Prelude.{IfOk, IsTrue, ◌↔◌};
+ghost use Rattle.just_resolution.specs.Prelude.{IsResolved, assignments_view, frames_view, functions_view};
 
 use crate::first_fault::first_fault;
 use just_host::justfile::Justfile;
@@ -40,7 +38,9 @@ pub fn resolved<'src, 'run>(
     parent: &Scope<'src, 'run>,
     variable_references: Option<&HashSet<Number>>,
 ) -> Result<bool, OutOfMemory>
-    ensures exact { IfOk result (λ answer. IsTrue answer ↔ IsResolved (functions_view «module».now) (assignments_view «module».now variable_references.entry) (frames_view parent.now)) }
+    ensures exact { IfOk result (λ answer. IsTrue answer
+        ↔ IsResolved (functions_view «module».now) (assignments_view «module».now variable_references.entry)
+        (frames_view parent.now)) }
 {
     Ok(first_fault(alloc, module, parent, variable_references)?.is_none())
 }

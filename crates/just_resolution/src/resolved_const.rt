@@ -1,10 +1,8 @@
 // Whether assignments before any run are resolved.
 
-ghost use Rattle.std.specs.Prelude.{◌↔◌, IfOk, IsTrue, Some, map};
-ghost use Rattle.just_syntax.specs.View.{assignment_view};
-ghost use Rattle.just_value.specs.View.{frames_view};
-ghost use Rattle.just_meaning.specs.Resolved.{AllNumbered, AreDistinct, IsResolvedConst};
-ghost use Rattle.just_meaning.specs.View.{ordered_view};
+ghost use Rattle.std.specs.Prelude.{IfOk, IsTrue, Some, map, ◌↔◌};
+ghost use Rattle.just_resolution.specs.Prelude.{AllNumbered, AreDistinct, IsResolvedConst, assignment_view};
+ghost use Rattle.just_resolution.specs.Prelude.{frames_view, ordered_view};
 
 use crate::known::are_values_numbered;
 use crate::numbers::{assignment_numbers, number_fault};
@@ -45,7 +43,9 @@ pub fn resolved_const<'src, 'run>(
     scope: &Scope<'src, 'run>,
     variable_references: &HashSet<Number>,
 ) -> Result<bool, OutOfMemory>
-    ensures exact { IfOk result (λ answer. IsTrue answer ↔ IsResolvedConst (ordered_view assignments.now evaluation_order.now (Some variable_references.entry)) (frames_view scope.now)) }
+    ensures exact { IfOk result (λ answer. IsTrue answer
+        ↔ IsResolvedConst (ordered_view assignments.now evaluation_order.now (Some variable_references.entry))
+        (frames_view scope.now)) }
 {
     if !are_numbered(alloc, assignments)? {
         return Ok(false);
@@ -68,7 +68,8 @@ fn are_numbered<'src>(
     assignments: &Table<Assignment<'src>>,
 ) -> Result<bool, OutOfMemory>
     ensures { let all = map assignment_view assignments.now in
-        IfOk result (λ answer. IsTrue answer ↔ (AreDistinct (map (λ a. a.number) all) × AllNumbered (map (λ a. a.value) all))) }
+        IfOk result (λ answer. IsTrue answer
+        ↔ (AreDistinct (map (λ a. a.number) all) × AllNumbered (map (λ a. a.value) all))) }
 {
     let numbers = assignment_numbers(alloc, assignments)?;
     if number_fault(alloc, &numbers)?.is_some() {

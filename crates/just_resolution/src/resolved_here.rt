@@ -1,12 +1,8 @@
 // Whether what is evaluated for a recipe is resolved.
 
-ghost use Rattle.std.specs.Prelude.{◌↔◌, IfOk, IsTrue, map};
-ghost use Rattle.just_syntax.specs.View.{assignment_view, recipe_parameter_view};
-ghost use Rattle.just_value.specs.View.{frames_view};
-ghost use Rattle.just_meaning.specs.Resolved.{AllKnown};
-ghost use Rattle.just_meaning.specs.View.{IsResolvedWith, functions_view};
-ghost use Rattle.just_resolution.specs.Apart.{AreApart};
-ghost use Rattle.just_resolution.specs.Seen.{attributes_of, expressions_view};
+ghost use Rattle.std.specs.Prelude.{IfOk, IsTrue, map, ◌↔◌};
+ghost use Rattle.just_resolution.specs.Prelude.{AllKnown, AreApart, IsResolvedWith, assignment_view, attributes_of};
+ghost use Rattle.just_resolution.specs.Prelude.{expressions_view, frames_view, functions_view, recipe_parameter_view};
 
 use crate::here::{are_parameters_apart, are_readable_here};
 use crate::known::bodies_fault;
@@ -42,7 +38,9 @@ pub fn resolved_here<'src, 'run>(
     parameters: &[Parameter<'src>],
     expressions: Vec<&Expression<'src>>,
 ) -> Result<bool, OutOfMemory>
-    ensures exact { IfOk result (λ answer. IsTrue answer ↔ IsResolvedWith context.now (frames_view scope.now) (attributes_of recipe.entry) (map recipe_parameter_view parameters.now) (expressions_view expressions.entry.items)) }
+    ensures exact { IfOk result (λ answer. IsTrue answer ↔ IsResolvedWith context.now (frames_view scope.now)
+        (attributes_of recipe.entry) (map recipe_parameter_view parameters.now)
+        (expressions_view expressions.entry.items)) }
 {
     if !are_apart_and_known(alloc, context, scope, parameters)? {
         return Ok(false);
@@ -59,7 +57,10 @@ fn are_apart_and_known<'src, 'run>(
     parameters: &[Parameter<'src>],
 ) -> Result<bool, OutOfMemory>
     ensures { let module_now = context.now.«module».now in let functions = functions_view module_now in
-        IfOk result (λ answer. IsTrue answer ↔ (AreApart functions (map assignment_view module_now.assignments) (frames_view context.now.scope.now) (frames_view scope.now) (map recipe_parameter_view parameters.now) × AllKnown functions (map (λ f. f.body) functions))) }
+        IfOk result (λ answer. IsTrue answer
+        ↔ (AreApart functions (map assignment_view module_now.assignments) (frames_view context.now.scope.now)
+        (frames_view scope.now) (map recipe_parameter_view parameters.now)
+        × AllKnown functions (map (λ f. f.body) functions))) }
 {
     let module = context.module;
     if !are_parameters_apart(alloc, module, scope, context.scope, parameters)? {

@@ -1,10 +1,9 @@
 // Where variables and calls occur in an expression, in order.
 
-ghost use Rattle.std.specs.Prelude.{◌≡◌, ◌++◌, [], ◌∷◌, IfOk, OnOk};
-ghost use Rattle.std.specs.Option.{option_map};
-ghost use Rattle.just_syntax.specs.View.{name_view, piece_views, view, views};
-ghost use Rattle.just_resolution.specs.Seen.{mention_view, sites_view};
-ghost use Rattle.just_resolution.specs.Sites.{sites, sites_in, sites_of_call, sites_of_some, sites_of_pieces, sites_of_row, with_call_site, with_variable_site};
+ghost use Rattle.std.specs.Prelude.{IfOk, OnOk, [], option_map, ◌++◌, ◌∷◌, ◌≡◌};
+ghost use Rattle.just_resolution.specs.Prelude.{mention_view, name_view, piece_views, sites, sites_in, sites_of_call};
+ghost use Rattle.just_resolution.specs.Prelude.{sites_of_pieces, sites_of_row, sites_of_some, sites_view, view, views};
+ghost use Rattle.just_resolution.specs.Prelude.{with_call_site, with_variable_site};
 
 use crate::site::{Mention, Site};
 use just_syntax::expression::Expression;
@@ -95,7 +94,8 @@ fn add_both<'src>(
     lhs: &Expression<'src>,
     rhs: &Expression<'src>,
 ) -> Result<(), OutOfMemory>
-    ensures { OnOk result (sites_view all.new.items ≡ sites (sites (sites_view all.old.items) (view lhs.now)) (view rhs.now)) }
+    ensures { OnOk result (sites_view all.new.items
+        ≡ sites (sites (sites_view all.old.items) (view lhs.now)) (view rhs.now)) }
 {
     add(all, lhs)?;
     add(all, rhs)
@@ -107,7 +107,8 @@ fn add_some<'src>(
     all: &mut Vec<Site<'src>>,
     expression: Option<&Expression<'src>>,
 ) -> Result<(), OutOfMemory>
-    ensures { OnOk result (sites_view all.new.items ≡ sites_of_some (sites_view all.old.items) (option_map (λ e. view e.now) expression.entry)) }
+    ensures { OnOk result (sites_view all.new.items ≡ sites_of_some (sites_view all.old.items)
+        (option_map (λ e. view e.now) expression.entry)) }
 {
     match expression {
         Some(expression) => add(all, expression),
@@ -122,7 +123,9 @@ fn add_assert<'src>(
     condition: &Expression<'src>,
     message: Option<&Expression<'src>>,
 ) -> Result<(), OutOfMemory>
-    ensures { OnOk result (sites_view all.new.items ≡ sites_of_some (sites (sites_view all.old.items) (view condition.now)) (option_map (λ e. view e.now) message.entry)) }
+    ensures { OnOk result (sites_view all.new.items
+        ≡ sites_of_some (sites (sites_view all.old.items) (view condition.now))
+        (option_map (λ e. view e.now) message.entry)) }
 {
     add(all, condition)?;
     add_some(all, message)
@@ -136,7 +139,9 @@ fn add_conditional<'src>(
     consequence: &Expression<'src>,
     otherwise: Option<&Expression<'src>>,
 ) -> Result<(), OutOfMemory>
-    ensures { OnOk result (sites_view all.new.items ≡ sites_of_some (sites (sites (sites_view all.old.items) (view condition.now)) (view consequence.now)) (option_map (λ e. view e.now) otherwise.entry)) }
+    ensures { OnOk result (sites_view all.new.items
+        ≡ sites_of_some (sites (sites (sites_view all.old.items) (view condition.now)) (view consequence.now))
+        (option_map (λ e. view e.now) otherwise.entry)) }
 {
     add_both(all, condition, consequence)?;
     add_some(all, otherwise)
@@ -149,7 +154,9 @@ fn add_join<'src>(
     lhs: Option<&Expression<'src>>,
     rhs: &Expression<'src>,
 ) -> Result<(), OutOfMemory>
-    ensures { OnOk result (sites_view all.new.items ≡ sites (sites_of_some (sites_view all.old.items) (option_map (λ e. view e.now) lhs.entry)) (view rhs.now)) }
+    ensures { OnOk result (sites_view all.new.items
+        ≡ sites (sites_of_some (sites_view all.old.items) (option_map (λ e. view e.now) lhs.entry))
+        (view rhs.now)) }
 {
     add_some(all, lhs)?;
     add(all, rhs)
@@ -162,7 +169,8 @@ fn add_call<'src>(
     name: &Name<'src>,
     arguments: &[Expression<'src>],
 ) -> Result<(), OutOfMemory>
-    ensures { OnOk result (sites_view all.new.items ≡ sites_of_call (sites_view all.old.items) (name_view name.now) (views arguments.now)) }
+    ensures { OnOk result (sites_view all.new.items ≡ sites_of_call (sites_view all.old.items) (name_view name.now)
+        (views arguments.now)) }
 {
     add_one_call(all, name, arguments.len())?;
     add_row(all, arguments)
@@ -188,7 +196,8 @@ fn add_pieces<'src>(
     all: &mut Vec<Site<'src>>,
     expressions: &[(Expression<'src>, StringLiteral<'src>)],
 ) -> Result<(), OutOfMemory>
-    ensures { OnOk result (sites_view all.new.items ≡ sites_of_pieces (sites_view all.old.items) (piece_views expressions.now)) }
+    ensures { OnOk result (sites_view all.new.items ≡ sites_of_pieces (sites_view all.old.items)
+        (piece_views expressions.now)) }
 {
     for (expression, _) in expressions {
         add(all, expression)?;
@@ -204,7 +213,8 @@ fn add_one_call<'src>(
     name: &Name<'src>,
     arguments: usize,
 ) -> Result<(), OutOfMemory>
-    ensures { OnOk result (sites_view all.new.items ≡ with_call_site (sites_view all.old.items) (name_view name.now) arguments) }
+    ensures { OnOk result (sites_view all.new.items ≡ with_call_site (sites_view all.old.items)
+        (name_view name.now) arguments) }
 {
     add_site(all, name, Mention::Call { arguments })
 }
@@ -216,7 +226,8 @@ fn add_variable<'src>(
     name: &Name<'src>,
     number: Option<Number>,
 ) -> Result<(), OutOfMemory>
-    ensures { OnOk result (sites_view all.new.items ≡ with_variable_site (sites_view all.old.items) (name_view name.now) number) }
+    ensures { OnOk result (sites_view all.new.items ≡ with_variable_site (sites_view all.old.items)
+        (name_view name.now) number) }
 {
     add_site(all, name, Mention::Variable { number })
 }
@@ -227,7 +238,8 @@ fn add_site<'src>(
     name: &Name<'src>,
     mention: Mention,
 ) -> Result<(), OutOfMemory>
-    ensures { OnOk result (sites_view all.new.items ≡ sites_view all.old.items ++ (record { token = name_view name.now; mention = mention_view name.now mention }) ∷ []) }
+    ensures { OnOk result (sites_view all.new.items ≡ sites_view all.old.items
+        ++ (record { token = name_view name.now; mention = mention_view name.now mention }) ∷ []) }
 {
     match all.push(Site {
         name: *name,

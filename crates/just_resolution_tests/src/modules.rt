@@ -83,10 +83,7 @@ fn list<'a>(rt: &impl Abort, alloc: Global, parts: &[Part<'a>]) -> Expression<'a
     for (offset, part) in parts.iter().enumerate() {
         push(rt, &mut elements, made(rt, alloc, *part, offset));
     }
-    Expression::List {
-        elements,
-        token: name("[").token,
-    }
+    Expression::list(elements, name("[").token)
 }
 
 // Adds an item to a table.

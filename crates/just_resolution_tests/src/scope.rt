@@ -91,16 +91,7 @@ pub(crate) fn from_parameters<'a>(
 }
 
 fn parameter(lexeme: &str, number: u64) -> Parameter<'_> {
-    Parameter {
-        default: None,
-        export: false,
-        flag: false,
-        kind: ParameterKind::Singular,
-        multiple: false,
-        name: name(lexeme),
-        number: Number::new(number),
-        value: None,
-    }
+    Parameter::new(name(lexeme), Number::new(number), ParameterKind::Singular)
 }
 
 // Binds a number to a text.

@@ -16,7 +16,7 @@ use std::process::Abort;
 // Variables and their numbers.
 const VARIABLES: &[Variable] = &[("b", 2, &[]), ("c", 9, &[]), ("a", 4, &[])];
 
-// Names, and the numbers of the variables that they stand for.
+// Names, and the numbers of the variables that they denote.
 const NUMBERS: &[(&str, Option<u64>)] = &[
     ("a", Some(4)),
     ("b", Some(2)),

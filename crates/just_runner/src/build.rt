@@ -48,16 +48,9 @@ pub(crate) fn parameters<'src>(alloc: Global) -> Result<Vec<Parameter<'src>>, Ou
 fn output<'src>(alloc: Global) -> Result<Parameter<'src>, OutOfMemory> {
     let out = Expression::literal(alloc, "out", "'out'")?;
     let beside = Expression::join(alloc, Some(variable("target", 0)), token("/"), out)?;
-    Ok(Parameter {
-        default: Some(beside),
-        export: false,
-        flag: false,
-        kind: ParameterKind::Singular,
-        multiple: false,
-        name: name("output"),
-        number: Number::new(1),
-        value: None,
-    })
+    let mut output = Parameter::new(name("output"), Number::new(1), ParameterKind::Singular);
+    output.default = Some(beside);
+    Ok(output)
 }
 
 /// A line, and whether it continues the line before.

@@ -49,7 +49,7 @@ fn explain_in(
     explained
 }
 
-// The same for a call: its parameters first, and then its lines.
+// The same for a call: its parameters first, then the positional words and the environment, and then its lines.
 fn explain_called<'src>(
     alloc: Global,
     context: &ExecutionContext<'src, '_>,
@@ -63,16 +63,11 @@ fn explain_called<'src>(
         asked: Vec::new(alloc),
     };
     match called.evaluate(alloc, &mut host, context) {
-        Ok((scope, positional, env)) => explain_given(
-            alloc,
-            context,
-            &scope,
-            called,
-            text,
-            &mut host,
-            &positional,
-            env,
-        ),
+        Ok((scope, positional, env)) => {
+            explain_questions(text, &host.asked)?;
+            explain_environment(text, &positional, &env)?;
+            explain_lines(alloc, context, &scope, called, text, &mut host, env)
+        }
         Err(error) => {
             explain_questions(text, &host.asked)?;
             explain_refusal(text, &error)
@@ -108,24 +103,6 @@ fn explain_questions(text: &mut String, asked: &[String]) -> Result<(), OutOfMem
         writeln!(text, "  asked for `{command}`")?;
     }
     Ok(())
-}
-
-// Adds these, then the positional words and the environment, and then the lines.
-fn explain_given<'src>(
-    alloc: Global,
-    context: &ExecutionContext<'src, '_>,
-    scope: &Scope<'src, '_>,
-    called: &Called<'src>,
-    text: &mut String,
-    host: &mut Calendar,
-    positional: &[String],
-    env: BTreeMap<String, String>,
-) -> Result<(), OutOfMemory>
-    requires may_call { 0 < context.now.recursion_limit }
-{
-    explain_questions(text, &host.asked)?;
-    explain_environment(text, positional, &env)?;
-    explain_lines(alloc, context, scope, called, text, host, env)
 }
 
 // Adds the positional words and the environment.
@@ -231,7 +208,7 @@ impl<'src> Called<'src> {
 }
 
 // The first word is for the first parameter, the second for the second, and the others are for the last, which takes
-// any number. An empty argument stands for the default.
+// any number. An empty argument means the default.
 fn arguments(alloc: Global, words: &str) -> Result<Vec<Value>, OutOfMemory> {
     let mut words = words.split_whitespace();
     let mut arguments = Vec::new(alloc);

@@ -1,7 +1,8 @@
 -- Hosts that fail from some question on.
 use Rattle.std.specs.Prelude.{◌≡◌, ℕ, zero, suc, codes}
 use Rattle.just_value.specs.Refusal.{Message, NoMemory}
-use Rattle.just_host.specs.Question.{Question, Answer, Blind, CommandOf, TextOf, ExistsAt, NumberOf, Failed, UnlessNoMemory}
+use Rattle.just_host.specs.Question.{Question, Answer, Blind, CommandOf, TextOf, ExistsAt, NumberOf, Failed}
+use Rattle.just_host.specs.Question.{UnlessNoMemory}
 use Rattle.just_host.specs.Interaction.{Step}
 use Rattle.just_script.specs.declared.fail_at.How.{How}
 use Rattle.just_script.specs.declared.fail_at.How.TheVariants.{Fault, Memory}
@@ -34,4 +35,5 @@ PassesOr step (suc n) how old question answer new left = step old question answe
 PassesOr step zero how old question answer new left = Fails step how old question answer new × (left ≡ 0)
 
 abbrev pub PassesOrFails : {S : Type 0} → Step S → Failing S → Question → Answer → Failing S → Type 0
-PassesOrFails step old question answer new = PassesOr step old.left old.how old.host question answer new.host new.left × (new.how ≡ old.how)
+PassesOrFails step old question answer new =
+    PassesOr step old.left old.how old.host question answer new.host new.left × (new.how ≡ old.how)

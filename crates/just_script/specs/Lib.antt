@@ -1,3 +1,4 @@
 pub mod Script
 pub mod Failing
 pub mod View
+pub mod Prelude

@@ -3,7 +3,8 @@ use Rattle.std.specs.Prelude.{◌≡◌, ℕ, Bool, false, List, [], ◌∷◌, 
 use Rattle.std.specs.Str.{bytes_eq}
 use Rattle.just_syntax.specs.Plain.{Text}
 use Rattle.just_value.specs.Refusal.{Message}
-use Rattle.just_host.specs.Question.{Blind, CommandOf, TextOf, ExistsAt, NumberOf, Answer, Replied, Failed, Absent, Found, Numbered, UnlessNoMemory}
+use Rattle.just_host.specs.Question.{Blind, CommandOf, TextOf, ExistsAt, NumberOf, Answer, Replied, Failed, Absent}
+use Rattle.just_host.specs.Question.{Found, Numbered, UnlessNoMemory}
 
 -- commands, each with the text that always answers it, and the remaining answers
 pub record Script : Type 0 where
@@ -16,7 +17,8 @@ pub record Script : Type 0 where
 -- the text of the last pair with this command, or `found` if there is none
 abbrev pub text_after : Option Text → Text → List (Text × Text) → Option Text
 text_after found command [] = found
-text_after found command (pair ∷ pairs) = text_after (if bytes_eq pair.0 command then Some pair.1 else found) command pairs
+text_after found command (pair ∷ pairs) =
+    text_after (if bytes_eq pair.0 command then Some pair.1 else found) command pairs
 
 -- the text of the last pair with this command
 abbrev pub text_for : Text → List (Text × Text) → Option Text
@@ -40,7 +42,8 @@ AnswersNext (reply ∷ replies) answer = answer ≡ reply
 
 -- The same script with other remaining replies.
 abbrev pub with_replies : Script → List Answer → Script
-with_replies old replies = record { always = old.always; replies = replies; texts = old.texts; exists = old.exists; numbers = old.numbers }
+with_replies old replies =
+    record { always = old.always; replies = replies; texts = old.texts; exists = old.exists; numbers = old.numbers }
 
 -- A command with a fixed text gets that text, or `NoMemory`, and the script is unchanged. Any other command takes the
 -- next reply.
@@ -52,8 +55,32 @@ AnswersCommand None old answer new = AnswersNext old.replies answer × (new ≡ 
 abbrev pub AnswersByScript : Script → Blind → Answer → Script → Type 0
 AnswersByScript old (CommandOf c) answer new = AnswersCommand (text_for c.command old.always) old answer new
 AnswersByScript old (TextOf q) answer new =
-    (answer ≡ first_or Absent old.texts) × (new ≡ record { always = old.always; replies = old.replies; texts = after_first old.texts; exists = old.exists; numbers = old.numbers })
+    (answer ≡ first_or Absent old.texts)
+    × (new ≡ record {
+      always = old.always;
+      replies = old.replies;
+      texts = after_first old.texts;
+      exists =
+          old.exists;
+      numbers = old.numbers;
+    })
 AnswersByScript old (ExistsAt path) answer new =
-    (answer ≡ Found (first_or false old.exists)) × (new ≡ record { always = old.always; replies = old.replies; texts = old.texts; exists = after_first old.exists; numbers = old.numbers })
+    (answer ≡ Found (first_or false old.exists))
+    × (new ≡ record {
+      always = old.always;
+      replies = old.replies;
+      texts = old.texts;
+      exists =
+          after_first old.exists;
+      numbers = old.numbers;
+    })
 AnswersByScript old (NumberOf q) answer new =
-    (answer ≡ Numbered (first_or 0 old.numbers)) × (new ≡ record { always = old.always; replies = old.replies; texts = old.texts; exists = old.exists; numbers = after_first old.numbers })
+    (answer ≡ Numbered (first_or 0 old.numbers))
+    × (new ≡ record {
+      always = old.always;
+      replies = old.replies;
+      texts = old.texts;
+      exists = old.exists;
+      numbers =
+          after_first old.numbers;
+    })

@@ -1,11 +1,7 @@
 // A host that fails from some question on.
 
-ghost use Rattle.std.specs.Prelude.{◌≡◌, false, suc, true};
-ghost use Rattle.just_value.specs.View.{fault_view};
-ghost use Rattle.just_host.specs.Question.{Failed, UnlessNoMemory};
-ghost use Rattle.just_host.specs.View.{text_replied};
-ghost use Rattle.just_script.specs.Failing.{broken};
-ghost use Rattle.just_script.specs.View.{failing_view};
+ghost use Rattle.std.specs.Prelude.{false, suc, true, ◌≡◌};
+ghost use Rattle.just_script.specs.Prelude.{Failed, UnlessNoMemory, broken, failing_view, fault_view, text_replied};
 
 use just_host::command_question::CommandQuestion;
 use just_host::host::Host;
@@ -62,7 +58,8 @@ impl<H: Host> Host for FailAt<H> {
     ghost use Rattle.just_script.specs.Failing.{PassesOrFails};
     ghost use Rattle.just_script.specs.View.{failing_view};
 
-    ghost step = { λ old question answer new. PassesOrFails H.step (failing_view old) question answer (failing_view new) };
+    ghost step = { λ old question answer new. PassesOrFails H.step (failing_view old) question answer
+        (failing_view new) };
 
     fn command(
         &mut self,

@@ -1,12 +1,8 @@
 // A host that answers by a script.
 
-ghost use Rattle.std.specs.Prelude.{◌≡◌, map, string_bytes};
-ghost use Rattle.std.specs.Option.{option_map};
-ghost use Rattle.just_host.specs.Question.{Replied, UnlessNoMemory};
-ghost use Rattle.just_host.specs.View.{replied, text_replied};
-ghost use Rattle.just_script.specs.Script.{text_for};
-ghost use Rattle.just_syntax.specs.View.{pair_view};
-ghost use Rattle.just_script.specs.View.{script_view};
+ghost use Rattle.std.specs.Prelude.{map, option_map, ◌≡◌};
+ghost use Rattle.just_script.specs.Prelude.{Replied, UnlessNoMemory, pair_view, replied, script_view, text_for};
+ghost use Rattle.just_script.specs.Prelude.{text_replied};
 
 use just_host::command_question::CommandQuestion;
 use just_host::host::Host;
@@ -61,7 +57,8 @@ impl Host for ScriptedHost {
     ghost use Rattle.just_script.specs.Script.{AnswersByScript};
     ghost use Rattle.just_script.specs.View.{script_view};
 
-    ghost step = { λ old question answer new. AnswersByScript (script_view old) question.blind answer (script_view new) };
+    ghost step = { λ old question answer new. AnswersByScript (script_view old) question.blind answer
+        (script_view new) };
 
     fn command(
         &mut self,

@@ -3,22 +3,22 @@ use Rattle.std.proofs.Common.{◌≡◌, ℕ, Bool, true, false, List, if◌then
 use Rattle.just_syntax.specs.Plain.{Text, Token, Expr}
 use Rattle.just_value.specs.ConstEval.{IsConstEval}
 use Rattle.just_value.specs.ConstRefusal as constants
+use Rattle.just_value.specs.ConstRefusal.{ConstRefusal}
 use Rattle.just_value.specs.Value.{Value, Names}
 use Rattle.just_value.specs.Refusal.{Refusal, Const}
 use Rattle.just_value.specs.Outcome.{Outcome, Gave, Refused, Stopped, UnlessStopped}
-use Rattle.just_host.specs.Interaction.{Note, Event, Read, Entered, Command, Tree, done, ask, note, check, bind, Path, Ends, Stops, Asks, Notes, Checks, Shuts, Chain, Runs, Step}
+use Rattle.just_host.specs.Interaction.{Note, Event, Read, Entered, Command, Tree, done, ask, note, check, bind, Path, Ends, Stops, Asks, Notes, Checks, Shuts}
+use Rattle.just_host.specs.Interaction.{Chain, Runs, Step}
 use Rattle.just_meaning.specs.Constant.{constant, constantly, unless_refused}
 use Rattle.just_meaning.specs.Internal.{IfRefused}
 use Rattle.just_meaning.specs.Reaches.{Mention, VariableOf, CallOf, Occurs}
 use Rattle.just_meaning.specs.Meaning.{Program, Situation, Deeper, eval, named, variable}
 use Rattle.just_meaning.specs.Module.{or_override}
-use Rattle.just_soundness.proofs.Forms.{OfForms, holds_eval}
+use Rattle.just_soundness.proofs.Forms.{IsCongruence, OfForms, related_eval}
 
 -- Under the const rules the tree reaches no question and no check, and each of its refusals has this property.
 abbrev pub AllConst : {A : Type 0} → (Refusal → Type 0) → (ℕ → Bool) → Tree A → Type 0
-AllConst P is_open (done (Gave a)) = Unit {0}
-AllConst P is_open (done (Refused r)) = P r
-AllConst P is_open (done Stopped) = Unit {0}
+AllConst P is_open (done o) = IfRefused P o
 AllConst P is_open (ask q next) = ⊥
 AllConst P is_open (check p v next) = ⊥
 AllConst P is_open (note x rest) = constantly is_open x ≡ None → AllConst P is_open rest
@@ -37,32 +37,36 @@ module _ (P : Refusal → Type 0) (is_open : ℕ → Bool) where
   const_bind (check p v next) go h k = absurd h
   const_bind (note x rest) go h k = λ e. const_bind rest go (h e) k
 
+  pub const_congruence : IsCongruence (λ A t u. AllConst P is_open t)
+  const_congruence = record { gave = λ A a. tt; bound = λ A B t u go on h k. const_bind t go h k }
+
   module _ (allows : OfForms P) where
     module _ (c : Program) (d : Deeper) (s : Situation) where
       -- a call and a command are refused before any of their parts is evaluated
       pub const_eval : (e : Expr) → ((x : Mention) → Occurs e x → Fine P is_open s.names x) → AllConst P is_open (eval c d s e)
-      const_eval = holds_eval (λ A t. AllConst P is_open t) (λ A a. tt) (λ A B t go h k. const_bind t go h k) allows
-          c d s (Fine P is_open s.names) (λ text t. λ e. absurd (cc)) (λ t es fine row. λ e. absurd (cc)) (λ number fine t. fine t)
+      const_eval = related_eval (λ A t u. AllConst P is_open t) const_congruence allows
+          c c d d s s refl (Fine P is_open s.names) (λ text t. λ e. absurd (cc)) (λ t es fine row. λ e. absurd (cc)) (λ number fine t. fine t)
 
   pub const_override : (o : Option Text) (t : Tree Value) → AllConst P is_open t → AllConst P is_open (or_override o t)
   const_override (Some text) t h = tt
   const_override None t h = h
 
   -- the outcome of such a tree has this property, or is a refusal of the const rules
-  const_unless : {A : Type 0} (r : Option Refusal) (o : Outcome A) → ((s : Refusal) → r ≡ Some s → P s) → (r ≡ None → IfRefused P o) → IfRefused P (unless_refused r o)
+  const_unless : {A : Type 0} (r : Option Refusal) (o : Outcome A) → ((s : Refusal) → r ≡ Some s → P s) → (r ≡ None → IfRefused P o)
+      → IfRefused P (unless_refused r o)
   const_unless (Some r) o h k = h r refl
   const_unless None o h k = k refl
 
-  pub const_refused : {A : Type 0} (t : Tree A) → ((x : Note) (s : Refusal) → constantly is_open x ≡ Some s → P s) → AllConst P is_open t → IfRefused P (constant is_open t)
-  const_refused (done (Gave a)) shut h = tt
-  const_refused (done (Refused r)) shut h = h
-  const_refused (done Stopped) shut h = tt
+  pub const_refused : {A : Type 0} (t : Tree A) → ((x : Note) (s : Refusal) → constantly is_open x ≡ Some s → P s) → AllConst P is_open t
+      → IfRefused P (constant is_open t)
+  const_refused (done o) shut h = h
   const_refused (ask q next) shut h = absurd h
   const_refused (check p v next) shut h = absurd h
   const_refused (note x rest) shut h = const_unless (constantly is_open x) (constant is_open rest) (shut x) (λ e. const_refused rest shut (h e))
 
   -- unless it is stopped, a trace of such a tree ends with the tree's outcome and asks nothing
-  pub const_path : {A : Type 0} (t : Tree A) {es : List Event} {o : Outcome A} → AllConst P is_open t → Path (constantly is_open) t es o → UnlessStopped o (constant is_open t)
+  pub const_path : {A : Type 0} (t : Tree A) {es : List Event} {o : Outcome A} → AllConst P is_open t → Path (constantly is_open) t es o
+      → UnlessStopped o (constant is_open t)
   const_path (done (Gave a)) h Ends = refl
   const_path (done (Refused r)) h Ends = refl
   const_path (done Stopped) h Ends = tt
@@ -72,7 +76,8 @@ module _ (P : Refusal → Type 0) (is_open : ℕ → Bool) where
   const_path (note x rest) {o = o} h (Notes e p) = subst (λ r. UnlessStopped o (unless_refused r (constant is_open rest))) (sym e) (const_path rest (h e) p)
   const_path (note x rest) h (Shuts {r = r} e) = subst (λ s. UnlessStopped (Refused r) (unless_refused s (constant is_open rest))) (sym e) refl
 
-  pub const_asks_nothing : {A S : Type 0} (step : Step S) (old new : S) (t : Tree A) {es : List Event} {o : Outcome A} → AllConst P is_open t → Path (constantly is_open) t es o → Chain step old es new → old ≡ new
+  pub const_asks_nothing : {A S : Type 0} (step : Step S) (old new : S) (t : Tree A) {es : List Event} {o : Outcome A} → AllConst P is_open t
+      → Path (constantly is_open) t es o → Chain step old es new → old ≡ new
   const_asks_nothing step old new t h Ends chain = chain
   const_asks_nothing step old new t h Stops chain = chain
   const_asks_nothing step old new (ask q next) h (Asks p) chain = absurd h
@@ -90,14 +95,16 @@ OfSome P None = Unit {0}
 allows_all : OfForms IsConstEval
 allows_all = record { assertion = λ message t. tt; operation = λ l o r t. tt; regex = λ t. tt }
 
-shut_alike : (is_open : ℕ → Bool) (x : Note) (s : Refusal) → constantly is_open x ≡ Some s → IsConstEval s
-shut_alike is_open (Read t n) s e = by (is_open n) e
+-- the refusals of the const rules themselves
+pub shut_such : (P : Refusal → Type 0) → ((c : ConstRefusal) → P (Const c)) → (is_open : ℕ → Bool) (x : Note) (s : Refusal)
+    → constantly is_open x ≡ Some s → P s
+shut_such P const is_open (Read t n) s e = by (is_open n) e
   where
-    by : (b : Bool) → (if b then Some (Const (constants.Variable t)) else None) ≡ Some s → IsConstEval s
-    by true e = subst (OfSome IsConstEval) e tt
+    by : (b : Bool) → (if b then Some (Const (constants.Variable t)) else None) ≡ Some s → P s
+    by true e = subst (OfSome P) e (const (constants.Variable t))
     by false e = absurd (cc)
-shut_alike is_open (Entered t) s e = subst (OfSome IsConstEval) e tt
-shut_alike is_open (Command t) s e = subst (OfSome IsConstEval) e tt
+shut_such P const is_open (Entered t) s e = subst (OfSome P) e (const (constants.FunctionCall t))
+shut_such P const is_open (Command t) s e = subst (OfSome P) e (const (constants.Backtick t))
 
 named_alike : (is_open : ℕ → Bool) (t : Token) (o : Option Value) → AllConst IsConstEval is_open (done (named t o))
 named_alike is_open t None = tt
@@ -123,7 +130,13 @@ unless_such P (Gave a) w e h = tt
 unless_such P (Refused r) w e h = subst (IfRefused P) (sym e) h
 unless_such P Stopped w e h = tt
 
-pub const_outcome : {S A : Type 0} {step : Step S} {old new : S} (is_open : ℕ → Bool) (t : Tree A) (o : Outcome A) → AllConst IsConstEval is_open t → Runs (constantly is_open) step old t o new → HasConstOutcome is_open t o old new
+pub const_outcome : {S A : Type 0} {step : Step S} {old new : S} (is_open : ℕ → Bool) (t : Tree A) (o : Outcome A) → AllConst IsConstEval is_open t
+    → Runs (constantly is_open) step old t o new → HasConstOutcome is_open t o old new
 const_outcome {step = step} {old = old} {new = new} is_open t o h r =
     let determined = const_path IsConstEval is_open t h r.path in
-    record { determined = determined; still = const_asks_nothing IsConstEval is_open step old new t h r.path r.chain; few = unless_such IsConstEval o _ determined (const_refused IsConstEval is_open t (shut_alike is_open) h) }
+    record {
+      determined = determined;
+      still = const_asks_nothing IsConstEval is_open step old new t h r.path r.chain;
+      few =
+          unless_such IsConstEval o _ determined (const_refused IsConstEval is_open t (shut_such IsConstEval (λ c. tt) is_open) h);
+    }

@@ -16,7 +16,8 @@ AllEnd P (note x rest) = AllEnd P rest
 AllEnd P (check p v next) = (a : Verdict) → AllEnd P (next a)
 
 -- continues from each outcome
-pub ends_bind : {A B : Type 0} (P : Outcome A → Type 0) (Q : Outcome B → Type 0) (t : Tree A) (go : A → Tree B) → AllEnd P t → ((o : Outcome A) → P o → AllEnd Q (bind (done o) go)) → AllEnd Q (bind t go)
+pub ends_bind : {A B : Type 0} (P : Outcome A → Type 0) (Q : Outcome B → Type 0) (t : Tree A) (go : A → Tree B) → AllEnd P t
+    → ((o : Outcome A) → P o → AllEnd Q (bind (done o) go)) → AllEnd Q (bind t go)
 ends_bind P Q (done o) go h k = k o h
 ends_bind P Q (ask q next) go h k = λ a. ends_bind P Q (next a) go (h a) k
 ends_bind P Q (note x rest) go h k = ends_bind P Q rest go h k
@@ -52,22 +53,26 @@ HasCount n (Gave vs) = length vs ≡ n
 HasCount n (Refused r) = Unit {0}
 HasCount n Stopped = Unit {0}
 
-pub row_counts : (c : Program) (d : Deeper) (s : Situation) (i : ℕ) (es : Exprs) (look : ℕ → Value → Tree Value) → AllEnd (HasCount (count es)) (eval_row c d s i es look)
+pub row_counts : (c : Program) (d : Deeper) (s : Situation) (i : ℕ) (es : Exprs) (look : ℕ → Value → Tree Value)
+    → AllEnd (HasCount (count es)) (eval_row c d s i es look)
 row_counts c d s i Nil look = refl
-row_counts c d s i (Cons e es) look = ends_bind (λ o. Unit {0}) (HasCount (suc (count es))) (bind (eval c d s e) (look i)) _ (ends_any (bind (eval c d s e) (look i))) (one (row_counts c d s (suc i) es look))
+row_counts c d s i (Cons e es) look = ends_bind (λ o. Unit {0}) (HasCount (suc (count es))) (bind (eval c d s e) (look i)) _
+    (ends_any (bind (eval c d s e) (look i))) (one (row_counts c d s (suc i) es look))
   where
     more : (v : Value) (o : Outcome (List Value)) → HasCount (count es) o → AllEnd (HasCount (suc (count es))) (bind (done o) (λ vs. gives (v ∷ vs)))
     more v (Gave vs) h = ap suc h
     more v (Refused r) h = tt
     more v Stopped h = tt
 
-    one : AllEnd (HasCount (count es)) (eval_row c d s (suc i) es look) → (o : Outcome Value) → Unit {0} → AllEnd (HasCount (suc (count es))) (bind (done o) (λ v. bind (eval_row c d s (suc i) es look) (λ vs. gives (v ∷ vs))))
+    one : AllEnd (HasCount (count es)) (eval_row c d s (suc i) es look) → (o : Outcome Value) → Unit {0}
+        → AllEnd (HasCount (suc (count es))) (bind (done o) (λ v. bind (eval_row c d s (suc i) es look) (λ vs. gives (v ∷ vs))))
     one rest (Gave v) h = ends_bind (HasCount (count es)) (HasCount (suc (count es))) (eval_row c d s (suc i) es look) _ rest (more v)
     one rest (Refused r) h = tt
     one rest Stopped h = tt
 
 -- two continuations that agree on the values that the tree may give
-pub ends_same : {A B : Type 0} (P : Outcome A → Type 0) (t : Tree A) (go other : A → Tree B) → AllEnd P t → ((a : A) → P (Gave a) → go a ≡ other a) → bind t go ≡ bind t other
+pub ends_same : {A B : Type 0} (P : Outcome A → Type 0) (t : Tree A) (go other : A → Tree B) → AllEnd P t → ((a : A) → P (Gave a) → go a ≡ other a)
+    → bind t go ≡ bind t other
 ends_same P (done (Gave a)) go other h same = same a h
 ends_same P (done (Refused r)) go other h same = refl
 ends_same P (done Stopped) go other h same = refl

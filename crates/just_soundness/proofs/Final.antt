@@ -4,25 +4,28 @@ use Rattle.just_syntax.specs.Plain.{Text, Token, Function, Expr}
 use Rattle.just_value.specs.Value.{Value}
 use Rattle.just_value.specs.Frames.{Frames, value_in}
 use Rattle.just_value.specs.Outcome.{Outcome}
-use Rattle.just_host.specs.Interaction.{Tree, bind}
+use Rattle.just_host.specs.Interaction.{Tree}
 use Rattle.just_meaning.specs.Callee.{Callee, Defined, BuiltIn, LeftOut, Unknown, accepts, callee}
 use Rattle.just_meaning.specs.Closings.{dynamic, inside}
 use Rattle.just_meaning.specs.Internal.{IfRefused, IsFinal}
 use Rattle.just_meaning.specs.Meaning.{Program, Situation, Deeper, AtLimit, WithinLimit, Row, as_it_is, called, eval, named}
-use Rattle.just_meaning.specs.Module.{Module, Block, Run, Finished, Stops, Unknown as NoAssignment, Passes, Skips, Binds, Breaks, Halts, assigned, dynamically, or_override}
+use Rattle.just_meaning.specs.Module.{Module, Block, Run, Finished, Stops, Unknown as NoAssignment, Passes, Skips, Binds, Breaks, Halts, assigned, dynamically}
 use Rattle.just_meaning.specs.Reaches.{Mention, VariableOf, CallOf}
 use Rattle.just_soundness.proofs.Ends.{ends_path}
-use Rattle.just_soundness.proofs.Refused.{AllRefused, Fits, IsRowRefused, Permits, refused_bind, refused_built_in, refused_eval, refused_if}
+use Rattle.just_soundness.proofs.Refused.{AllRefused, Fits, IsRowRefused, Permits, refused_bind, refused_built_in, refused_eval, refused_if, refused_override}
 
 -- no outcome of the tree is a refusal of the const rules
 abbrev pub AllFinal : {A : Type 0} → Tree A → Type 0
 AllFinal t = AllRefused IsFinal t
 
 permits_final : Permits IsFinal
-permits_final = record { forms = record { assertion = λ message t. tt; operation = λ l o r t. tt; regex = λ t. tt }; command = λ t f. tt; function = λ t message. tt; list = λ context v. tt }
-
-pub final_bind : {A B : Type 0} (t : Tree A) (go : A → Tree B) → AllFinal t → ((a : A) → AllFinal (go a)) → AllFinal (bind t go)
-final_bind t go h k = refused_bind IsFinal t go h k
+permits_final = record {
+  forms = record { assertion = λ message t. tt; operation = λ l o r t. tt; regex = λ t. tt };
+  command = λ t f. tt;
+  function =
+      λ t message. tt;
+  list = λ context v. tt;
+}
 
 final_named : (t : Token) (o : Option Value) → IfRefused IsFinal (named t o)
 final_named t (Some v) = tt
@@ -40,7 +43,8 @@ Any f n = Unit {0}
 module _ (c : Program) (s : Situation) where
   final_called : (t : Token) (f : Callee) (d : Deeper) (n : ℕ) (row : Row) → IsFinalDeeper d → IsRowRefused IsFinal row → AllFinal (called c t f d s n row)
   final_called t (Defined f) AtLimit n row deeper h = tt
-  final_called t (Defined f) (WithinLimit run) n row deeper h = refused_if IsFinal (nat_eq n (length f.parameters)) _ _ (final_bind (row as_it_is) (run f s) (h as_it_is (λ i v. tt)) (λ vs. deeper f s vs)) tt
+  final_called t (Defined f) (WithinLimit run) n row deeper h =
+      refused_if IsFinal (nat_eq n (length f.parameters)) _ _ (refused_bind IsFinal (row as_it_is) (run f s) (h as_it_is (λ i v. tt)) (λ vs. deeper f s vs)) tt
   final_called t (BuiltIn f) d n row deeper h = refused_if IsFinal (accepts (BuiltIn f) n) _ _ (refused_built_in IsFinal permits_final c s t f row h) tt
   final_called t LeftOut d n row deeper h = tt
   final_called t Unknown d n row deeper h = tt
@@ -51,18 +55,16 @@ module _ (c : Program) (s : Situation) where
   final_mention (CallOf f n) = tt
 
   pub final_eval : (d : Deeper) → IsFinalDeeper d → (e : Expr) → AllFinal (eval c d s e)
-  final_eval d deeper e = refused_eval IsFinal permits_final c d s Any (λ t n row among counted h. final_called t (callee c.functions t.lexeme) d n row deeper h) e (λ x occurs. final_mention x)
+  final_eval d deeper e = refused_eval IsFinal permits_final c d s Any (λ t n row among counted h. final_called t (callee c.functions t.lexeme) d n row deeper
+      h) e (λ x occurs. final_mention x)
 
 pub final_dynamic : (c : Program) (n : ℕ) → IsFinalDeeper (dynamic c n)
 final_dynamic c zero = tt
 final_dynamic c (suc n) = λ f s vs. final_eval c (inside (value_in s.below) s f vs) (dynamic c n) (final_dynamic c n) f.body
 
-pub final_override : (o : Option Text) (t : Tree Value) → AllFinal t → AllFinal (or_override o t)
-final_override (Some text) t h = tt
-final_override None t h = h
-
 -- a run under dynamic scope, of any module
-pub run_is_final : (m : Module) {frames : Frames} {left : List Token} {bs : List Block} {o : Outcome Frames} → Run dynamically m frames left bs o → IfRefused IsFinal o
+pub run_is_final : (m : Module) {frames : Frames} {left : List Token} {bs : List Block} {o : Outcome Frames} → Run dynamically m frames left bs o
+    → IfRefused IsFinal o
 run_is_final m Finished = tt
 run_is_final m Stops = tt
 run_is_final m (NoAssignment f) = tt
@@ -70,5 +72,6 @@ run_is_final m (Passes a f e r) = run_is_final m r
 run_is_final m (Skips a b f e g r) = run_is_final m r
 run_is_final m (Binds a es v k p r) = run_is_final m r
 run_is_final m {frames = frames} (Breaks a es s k p) =
-    ends_path (IfRefused IsFinal) tt (assigned dynamically m frames a) (final_override (m.overrides a.number) _ (final_eval m.program _ (dynamically m frames) (final_dynamic m.program (m.limit - 1)) a.value)) p
+    ends_path (IfRefused IsFinal) tt (assigned dynamically m frames a)
+    (refused_override IsFinal (m.overrides a.number) _ (final_eval m.program _ (dynamically m frames) (final_dynamic m.program (m.limit - 1)) a.value)) p
 run_is_final m (Halts a es k p) = tt

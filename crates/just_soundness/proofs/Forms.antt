@@ -1,6 +1,8 @@
--- Properties of the trees of all expressions that follow from those of their parts: one recursion over the forms.
-use Rattle.std.proofs.Common.{inl, inr, ℕ, suc, Bool, true, false, List, [], ◌∷◌, ◌++◌, if◌then◌else◌, Option, Some, None, refl}
-use Rattle.just_syntax.specs.Plain.{Text, Token, Expr, And, Assert, AssertOnly, Backtick, Call, Comparison, Concatenation, Conditional, ConditionalOnly, FormatString, Group, Join, JoinOnly, ListOf, ListConcatenation, Not, Or, StringLiteral, Variable, Exprs, Nil, Cons, count, Pieces, NoPiece, Piece}
+-- A logical relation of interaction trees, and its fundamental lemma: one recursion over the forms of expression.
+use Rattle.std.proofs.Common.{inl, inr, ℕ, suc, Bool, true, false, List, [], ◌∷◌, ◌++◌, if◌then◌else◌, Option, Some, None, refl, subst, ◌≡◌}
+use Rattle.just_syntax.specs.Plain.{Text, Token, Expr, And, Assert, AssertOnly, Backtick, Call, Comparison, Concatenation, Conditional, ConditionalOnly}
+use Rattle.just_syntax.specs.Plain.{FormatString, Group, Join, JoinOnly, ListOf, ListConcatenation, Not, Or, StringLiteral, Variable, Exprs, Nil, Cons, count}
+use Rattle.just_syntax.specs.Plain.{Pieces, NoPiece, Piece}
 use Rattle.just_syntax.specs.Printed.{printed}
 use Rattle.just_syntax.specs.declared.list_operator.ListOperator.{ListOperator}
 use Rattle.just_syntax.specs.declared.list_operator.ListOperator.TheVariants as operators
@@ -10,7 +12,8 @@ use Rattle.just_value.specs.Applied.{applied, value_or_lists}
 use Rattle.just_value.specs.Refusal as refusal
 use Rattle.just_value.specs.Refusal.{Refusal}
 use Rattle.just_host.specs.Interaction.{Tree, done, bind, gives, refuses}
-use Rattle.just_meaning.specs.Meaning.{Program, Situation, Deeper, Row, as_it_is, assertion, combination, eval, eval_row, eval_pieces, is_regex, variable}
+use Rattle.just_meaning.specs.Meaning.{Program, Situation, Deeper, Row, as_it_is, asserted, assertion, combination, eval, eval_row, eval_pieces, is_regex}
+use Rattle.just_meaning.specs.Meaning.{variable}
 use Rattle.just_meaning.specs.Reaches.{Mention, VariableOf, CallOf, Occurs, OccursIn, OccursInPieces}
 
 -- the refusals of the forms themselves have this property
@@ -19,70 +22,108 @@ pub record OfForms (P : Refusal → Type 0) : Type 0 where
   pub operation : (l : Value) (o : ListOperator) (r : Value) (t : Token) → P (refusal.ListOperation l o r t)
   pub regex : (t : Token) → P (refusal.LeftOutRegex t)
 
-module _ (H : (A : Type 0) → Tree A → Type 0) (gave : (A : Type 0) (a : A) → H A (gives a))
-    (bound : (A B : Type 0) (t : Tree A) (go : A → Tree B) → H A t → ((a : A) → H B (go a)) → H B (bind t go)) where
-  -- the property holds of a row if it holds of the function that each value is passed to
-  abbrev pub HoldsOfRow : Row → Type 0
-  HoldsOfRow row = (look : ℕ → Value → Tree Value) → ((i : ℕ) (v : Value) → H Value (look i v)) → H (List Value) (row look)
+-- the relation holds of a value and itself, and it is closed under `bind`
+pub record IsCongruence (R : (A : Type 0) → Tree A → Tree A → Type 0) : Type 1 where
+  pub gave : (A : Type 0) (a : A) → R A (gives a) (gives a)
+  pub bound : (A B : Type 0) (t u : Tree A) (go on : A → Tree B) → R A t u → ((a : A) → R B (go a) (on a)) → R B (bind t go) (bind u on)
 
-  holds_two : {A B D : Type 0} (t : Tree A) (u : Tree B) (go : A → B → Tree D) → H A t → H B u → ((v : A) (w : B) → H D (go v w)) → H D (bind t (λ v. bind u (go v)))
-  holds_two t u go h k l = bound _ _ t _ h (λ v. bound _ _ u (go v) k (l v))
+pub equality : IsCongruence (λ A t u. t ≡ u)
+equality = record { gave = λ A a. refl; bound = λ A B t u go on h k. λ i. bind (h i) (λ a. k a i) }
 
-  pub holds_if : {A : Type 0} (b : Bool) (x y : Tree A) → H A x → H A y → H A (if b then x else y)
-  holds_if true x y h k = h
-  holds_if false x y h k = k
+-- rows are related if each value is passed to a function that is related to itself
+abbrev pub AreRowsRelated : ((A : Type 0) → Tree A → Tree A → Type 0) → Row → Row → Type 0
+AreRowsRelated R row other = (look : ℕ → Value → Tree Value) → ((i : ℕ) (v : Value) → R Value (look i v) (look i v)) → R (List Value) (row look) (other look)
 
-  module _ (refused : OfForms (λ r. H Value (refuses r))) where
-    holds_lists : (o : Option Value) (xs : Value) (k : ListOperator) (ys : Value) (t : Token) → H Value (done (value_or_lists o xs k ys t))
-    holds_lists (Some v) xs k ys t = gave _ v
-    holds_lists None xs k ys t = refused.operation xs k ys t
+module _ (R : (A : Type 0) → Tree A → Tree A → Type 0) (congruence : IsCongruence R) where
+  pub related_bind : {A B : Type 0} {t u : Tree A} {go on : A → Tree B} → R A t u → ((a : A) → R B (go a) (on a)) → R B (bind t go) (bind u on)
+  related_bind h k = congruence.bound _ _ _ _ _ _ h k
 
-    holds_both : (o : ListOperator) (l r : Tree Value) (t : Token) → H Value l → H Value r → H Value (combination o l t r)
-    holds_both o l r t h k = holds_two l r _ h k (λ v w. holds_lists (applied (separator o) v w) v o w t)
+  related_two : {A B D : Type 0} {t t' : Tree A} {u u' : Tree B} (go : A → B → Tree D) → R A t t' → R B u u' → ((v : A) (w : B) → R D (go v w) (go v w))
+      → R D (bind t (λ v. bind u (go v))) (bind t' (λ v. bind u' (go v)))
+  related_two go h k l = related_bind h (λ v. related_bind k (λ w. l v w))
 
-    holds_assertion : (lists : Bool) (t : Token) (e : Tree Value) (m : Tree Text) → H Value e → H Text m → H Value (assertion lists t e m)
-    holds_assertion lists t e m h k = bound _ _ e _ h (λ v. holds_if (is_truthy v) _ _ (gave _ _) (bound _ _ m _ k (λ text. refused.assertion text t)))
+  pub related_if : {A : Type 0} (b : Bool) {x y x' y' : Tree A} → R A x x' → R A y y' → R A (if b then x else y) (if b then x' else y')
+  related_if true h k = h
+  related_if false h k = k
 
-    -- Commands, calls and variables are parameters. A call may use that the property holds of the row of its arguments.
-    module _ (c : Program) (d : Deeper) (s : Situation) (Fits : Mention → Type 0) (commands : (text : Text) (t : Token) → H Value (eval c d s (Backtick text t)))
-        (calls : (t : Token) (es : Exprs) → Fits (CallOf t.lexeme (count es)) → HoldsOfRow (eval_row c d s 0 es) → H Value (eval c d s (Call t es)))
-        (variables : (number : Option ℕ) → Fits (VariableOf number) → (t : Token) → H Value (variable t number s.names)) where
+  module _ (refused : OfForms (λ r. R Value (refuses r) (refuses r))) where
+    related_lists : (o : Option Value) (xs : Value) (k : ListOperator) (ys : Value) (t : Token)
+        → R Value (done (value_or_lists o xs k ys t)) (done (value_or_lists o xs k ys t))
+    related_lists (Some v) xs k ys t = congruence.gave _ v
+    related_lists None xs k ys t = refused.operation xs k ys t
+
+    related_both : (o : ListOperator) (t : Token) {l r l' r' : Tree Value} → R Value l l' → R Value r r' → R Value (combination o l t r) (combination o l' t r')
+    related_both o t h k = related_two _ h k (λ v w. related_lists (applied (separator o) v w) v o w t)
+
+    related_assertion : {lists other : Bool} → lists ≡ other → (t : Token) {e e' : Tree Value} {m m' : Tree Text} → R Value e e' → R Text m m'
+        → R Value (assertion lists t e m) (assertion other t e' m')
+    related_assertion {lists = lists} same t h k =
+        related_bind h (λ v. related_if (is_truthy v) (subst (λ b. R Value (gives (asserted lists v)) (gives (asserted b v))) same (congruence.gave _ _))
+        (related_bind k (λ text. refused.assertion text t)))
+
+    -- The two sides may differ in all but the lists flag. Commands, calls and variables are parameters. A call may use
+    -- that the rows of its arguments are related.
+    module _ (c c' : Program) (d d' : Deeper) (s s' : Situation) (lists : s.lists ≡ s'.lists) (Fits : Mention → Type 0)
+        (commands : (text : Text) (t : Token) → R Value (eval c d s (Backtick text t)) (eval c' d' s' (Backtick text t)))
+        (calls : (t : Token) (es : Exprs) → Fits (CallOf t.lexeme (count es)) → AreRowsRelated R (eval_row c d s 0 es) (eval_row c' d' s' 0 es)
+        → R Value (eval c d s (Call t es)) (eval c' d' s' (Call t es)))
+        (variables : (number : Option ℕ) → Fits (VariableOf number) → (t : Token) → R Value (variable t number s.names) (variable t number s'.names)) where
       abbrev AllFit : (Mention → Type 0) → Type 0
       AllFit occurs = (x : Mention) → occurs x → Fits x
 
       mutual
-        pub holds_eval : (e : Expr) → AllFit (Occurs e) → H Value (eval c d s e)
-        holds_eval (And l r) fit = bound _ _ (eval c d s l) _ (holds_eval l (λ x y. fit x (inl y))) (λ v. holds_if (is_truthy v) _ _ (holds_eval r (λ x y. fit x (inr y))) (gave _ _))
-        holds_eval (Assert e m t) fit =
-            holds_assertion s.lists t (eval c d s e) (bind (eval c d s m) (λ w. gives (joined w))) (holds_eval e (λ x y. fit x (inl y)))
-            (bound _ _ (eval c d s m) _ (holds_eval m (λ x y. fit x (inr y))) (λ w. gave _ _))
-        holds_eval (AssertOnly e t) fit = holds_assertion s.lists t (eval c d s e) (gives ((96 ∷ printed e) ++ 96 ∷ [])) (holds_eval e fit) (gave _ _)
-        holds_eval (Backtick text t) fit = commands text t
-        holds_eval (Call t es) fit = calls t es (fit (CallOf t.lexeme (count es)) (inl refl)) (λ look h. holds_row 0 es look h (λ x y. fit x (inr y)))
-        holds_eval (Comparison l o r t) fit =
-            holds_if (is_regex o) _ _ (refused.regex t) (holds_two (eval c d s l) (eval c d s r) _ (holds_eval l (λ x y. fit x (inl y))) (holds_eval r (λ x y. fit x (inr y))) (λ v w. gave _ _))
-        holds_eval (Concatenation l t r) fit = holds_both operators.Concatenate (eval c d s l) (eval c d s r) t (holds_eval l (λ x y. fit x (inl y))) (holds_eval r (λ x y. fit x (inr y)))
-        holds_eval (Conditional e a b) fit =
-            bound _ _ (eval c d s e) _ (holds_eval e (λ x y. fit x (inl y))) (λ v. holds_if (is_truthy v) _ _ (holds_eval a (λ x y. fit x (inr (inl y)))) (holds_eval b (λ x y. fit x (inr (inr y)))))
-        holds_eval (ConditionalOnly e a) fit = bound _ _ (eval c d s e) _ (holds_eval e (λ x y. fit x (inl y))) (λ v. holds_if (is_truthy v) _ _ (holds_eval a (λ x y. fit x (inr y))) (gave _ _))
-        holds_eval (FormatString start pieces) fit = bound _ _ (eval_pieces c d s pieces) _ (holds_pieces pieces fit) (λ text. gave _ _)
-        holds_eval (Group e) fit = holds_eval e fit
-        holds_eval (Join l t r) fit = holds_both operators.Join (eval c d s l) (eval c d s r) t (holds_eval l (λ x y. fit x (inl y))) (holds_eval r (λ x y. fit x (inr y)))
-        holds_eval (JoinOnly t r) fit = holds_both operators.Join (gives ([] ∷ [])) (eval c d s r) t (gave _ _) (holds_eval r fit)
-        holds_eval (ListOf es t) fit = bound _ _ (eval_row c d s 0 es as_it_is) _ (holds_row 0 es as_it_is (λ i v. gave _ v) fit) (λ vs. gave _ _)
-        holds_eval (ListConcatenation l t r) fit = holds_two (eval c d s l) (eval c d s r) _ (holds_eval l (λ x y. fit x (inl y))) (holds_eval r (λ x y. fit x (inr y))) (λ v w. gave _ _)
-        holds_eval (Not e) fit = bound _ _ (eval c d s e) _ (holds_eval e fit) (λ v. gave _ _)
-        holds_eval (Or l r) fit = bound _ _ (eval c d s l) _ (holds_eval l (λ x y. fit x (inl y))) (λ v. holds_if (is_truthy v) _ _ (gave _ v) (holds_eval r (λ x y. fit x (inr y))))
-        holds_eval (StringLiteral literal) fit = gave _ _
-        holds_eval (Variable t number) fit = variables number (fit (VariableOf number) refl) t
+        pub related_eval : (e : Expr) → AllFit (Occurs e) → R Value (eval c d s e) (eval c' d' s' e)
+        related_eval (And l r) fit =
+            related_bind (related_eval l (λ x y. fit x (inl y))) (λ v. related_if (is_truthy v) (related_eval r (λ x y. fit x (inr y))) (congruence.gave _ _))
+        related_eval (Assert e m t) fit =
+            related_assertion lists t (related_eval e (λ x y. fit x (inl y)))
+            (related_bind (related_eval m (λ x y. fit x (inr y))) (λ w. congruence.gave _ (joined w)))
+        related_eval (AssertOnly e t) fit = related_assertion lists t (related_eval e fit) (congruence.gave _ ((96 ∷ printed e) ++ 96 ∷ []))
+        related_eval (Backtick text t) fit = commands text t
+        related_eval (Call t es) fit = calls t es (fit (CallOf t.lexeme (count es)) (inl refl)) (λ look h. related_row 0 es look h (λ x y. fit x (inr y)))
+        related_eval (Comparison l o r t) fit =
+            related_if (is_regex o) (refused.regex t) (related_two _ (related_eval l (λ x y. fit x (inl y))) (related_eval r (λ x y. fit x (inr y)))
+            (λ v w. congruence.gave _ _))
+        related_eval (Concatenation l t r) fit =
+            related_both operators.Concatenate t (related_eval l (λ x y. fit x (inl y))) (related_eval r (λ x y. fit x (inr y)))
+        related_eval (Conditional e a b) fit =
+            related_bind (related_eval e (λ x y. fit x (inl y))) (λ v. related_if (is_truthy v) (related_eval a (λ x y. fit x (inr (inl y))))
+            (related_eval b (λ x y. fit x (inr (inr y)))))
+        related_eval (ConditionalOnly e a) fit =
+            related_bind (related_eval e (λ x y. fit x (inl y))) (λ v. related_if (is_truthy v) (related_eval a (λ x y. fit x (inr y))) (congruence.gave _ _))
+        related_eval (FormatString start pieces) fit = related_bind (related_pieces pieces fit) (λ text. congruence.gave _ _)
+        related_eval (Group e) fit = related_eval e fit
+        related_eval (Join l t r) fit = related_both operators.Join t (related_eval l (λ x y. fit x (inl y))) (related_eval r (λ x y. fit x (inr y)))
+        related_eval (JoinOnly t r) fit = related_both operators.Join t (congruence.gave _ ([] ∷ [])) (related_eval r fit)
+        related_eval (ListOf es t) fit = related_bind (related_row 0 es as_it_is (λ i v. congruence.gave _ v) fit) (λ vs. congruence.gave _ _)
+        related_eval (ListConcatenation l t r) fit =
+            related_two _ (related_eval l (λ x y. fit x (inl y))) (related_eval r (λ x y. fit x (inr y))) (λ v w. congruence.gave _ _)
+        related_eval (Not e) fit = related_bind (related_eval e fit) (λ v. congruence.gave _ _)
+        related_eval (Or l r) fit =
+            related_bind (related_eval l (λ x y. fit x (inl y))) (λ v. related_if (is_truthy v) (congruence.gave _ v) (related_eval r (λ x y. fit x (inr y))))
+        related_eval (StringLiteral literal) fit = congruence.gave _ _
+        related_eval (Variable t number) fit = variables number (fit (VariableOf number) refl) t
 
-        holds_row : (i : ℕ) (es : Exprs) (look : ℕ → Value → Tree Value) → ((i : ℕ) (v : Value) → H Value (look i v)) → AllFit (OccursIn es) → H (List Value) (eval_row c d s i es look)
-        holds_row i Nil look h fit = gave _ []
-        holds_row i (Cons e es) look h fit =
-            bound _ _ (bind (eval c d s e) (look i)) _ (bound _ _ (eval c d s e) (look i) (holds_eval e (λ x y. fit x (inl y))) (λ v. h i v))
-            (λ v. bound _ _ (eval_row c d s (suc i) es look) _ (holds_row (suc i) es look h (λ x y. fit x (inr y))) (λ vs. gave _ _))
+        related_row : (i : ℕ) (es : Exprs) (look : ℕ → Value → Tree Value) → ((i : ℕ) (v : Value) → R Value (look i v) (look i v)) → AllFit (OccursIn es)
+            → R (List Value) (eval_row c d s i es look) (eval_row c' d' s' i es look)
+        related_row i Nil look h fit = congruence.gave _ []
+        related_row i (Cons e es) look h fit = related_two _ (related_bind (related_eval e (λ x y. fit x (inl y))) (λ v. h i v))
+            (related_row (suc i) es look h (λ x y. fit x (inr y))) (λ v vs. congruence.gave _ _)
 
-        holds_pieces : (pieces : Pieces) → AllFit (OccursInPieces pieces) → H Text (eval_pieces c d s pieces)
-        holds_pieces NoPiece fit = gave _ []
-        holds_pieces (Piece e literal pieces) fit =
-            bound _ _ (eval c d s e) _ (holds_eval e (λ x y. fit x (inl y))) (λ v. bound _ _ (eval_pieces c d s pieces) _ (holds_pieces pieces (λ x y. fit x (inr y))) (λ text. gave _ _))
+        related_pieces : (pieces : Pieces) → AllFit (OccursInPieces pieces) → R Text (eval_pieces c d s pieces) (eval_pieces c' d' s' pieces)
+        related_pieces NoPiece fit = congruence.gave _ []
+        related_pieces (Piece e literal pieces) fit =
+            related_two _ (related_eval e (λ x y. fit x (inl y))) (related_pieces pieces (λ x y. fit x (inr y))) (λ v text. congruence.gave _ _)
+
+-- the same for a property of one tree
+pub holds_eval : (H : (A : Type 0) → Tree A → Type 0) → ((A : Type 0) (a : A) → H A (gives a))
+    → ((A B : Type 0) (t : Tree A) (go : A → Tree B) → H A t → ((a : A) → H B (go a)) → H B (bind t go))
+    → OfForms (λ r. H Value (refuses r)) → (c : Program) (d : Deeper) (s : Situation) (Fits : Mention → Type 0)
+    → ((text : Text) (t : Token) → H Value (eval c d s (Backtick text t)))
+    → ((t : Token) (es : Exprs) → Fits (CallOf t.lexeme (count es)) → AreRowsRelated (λ A t u. H A t) (eval_row c d s 0 es) (eval_row c d s 0 es)
+    → H Value (eval c d s (Call t es)))
+    → ((number : Option ℕ) → Fits (VariableOf number) → (t : Token) → H Value (variable t number s.names)) → (e : Expr) → ((x : Mention) → Occurs e x → Fits x)
+    → H Value (eval c d s e)
+holds_eval H gave bound refused c d s Fits commands calls variables e fit =
+    related_eval (λ A t u. H A t) (record { gave = gave; bound = λ A B t u go on h k. bound A B t go h k }) refused c c d d s s refl Fits commands
+    calls variables e fit

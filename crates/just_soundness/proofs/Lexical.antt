@@ -1,29 +1,30 @@
 -- Soundness of lexical scoping: on a resolved module dynamic scope means what lexical scope does, so pending calls do
 -- not matter.
-use Rattle.std.proofs.Common.{◌≡◌, ⊎_elim, inl, inr, ℕ, zero, suc, Bool, true, false, List, [], ◌∷◌, ◌++◌, length, map, Option, Some, None, nat_eq, if◌then◌else◌, refl, sym, ap, ◌∙◌, subst, arith}
+use Rattle.std.proofs.Common.{◌≡◌, ⊎_elim, inr, ℕ, zero, suc, Bool, true, false, List, [], ◌∷◌, length, map, Option, Some, None, nat_eq, if◌then◌else◌, refl}
+use Rattle.std.proofs.Common.{sym, ap, ◌∙◌, subst, arith}
 use Rattle.std.proofs.lemmas.Bool.Decides.{nat_tests}
-use Rattle.just_syntax.specs.Plain.{Text, Token, Assignment, Function, Expr, And, Assert, AssertOnly, Backtick, Call, Comparison, Concatenation, Conditional, ConditionalOnly, FormatString, Group, Join, JoinOnly, ListOf, ListConcatenation, Not, Or, StringLiteral, Variable, Exprs, Nil, Cons, count, Pieces, NoPiece, Piece}
-use Rattle.just_syntax.specs.Printed.{printed}
-use Rattle.just_syntax.specs.declared.list_operator.ListOperator.TheVariants as operators
+use Rattle.just_syntax.specs.Plain.{Text, Token, Assignment, Function, Expr, Call, Exprs, count}
 use Rattle.just_syntax.specs.Lists.{IsIn}
-use Rattle.just_value.specs.Value.{Value, Names, joined}
+use Rattle.just_value.specs.Value.{Value, Names}
 use Rattle.just_value.specs.Frames.{Frames, value_in}
 use Rattle.just_value.specs.Refusal.{Internal}
 use Rattle.just_value.specs.Outcome.{Outcome, Gave, Refused, Stopped}
-use Rattle.just_host.specs.Interaction.{Read, Entered, Path, Tree, done, note, bind, gives, refuses, freely}
+use Rattle.just_host.specs.Interaction.{Read, Entered, Path, done, note, bind, refuses, freely}
 use Rattle.just_builtins.specs.Table.{function_named, is_left_out}
 use Rattle.just_builtins.specs.declared.function.Function as built_in
 use Rattle.just_meaning.specs.Callee.{Callee, Defined, BuiltIn, LeftOut, built_in_or_unknown, callee, defined_or, undefined}
 use Rattle.just_meaning.specs.Callee as callees
 use Rattle.just_meaning.specs.Assignments.{Assignments, assignment_at}
-use Rattle.just_meaning.specs.Reaches.{Mention, VariableOf, CallOf, function_at, IsAmong, Occurs, OccursIn, OccursInPieces, Reaches, Here, ReadsBeyond}
+use Rattle.just_meaning.specs.Reaches.{Mention, VariableOf, CallOf, function_at, IsAmong, Occurs, Reaches, Here, ReadsBeyond}
 use Rattle.just_meaning.specs.Resolved.{IsResolved, AreInOrder, parameter_numbers, with_taken}
 use Rattle.just_meaning.specs.Messages.{miscounted_text}
-use Rattle.just_meaning.specs.Meaning.{Program, Situation, Deeper, Row, as_it_is, assertion, called, choice, combination, comparison, conjunction, disjunction, eval, eval_row, eval_pieces, flatten, formatted, named, negation, succession}
+use Rattle.just_meaning.specs.Meaning.{Program, Situation, Deeper, Row, as_it_is, called, eval, eval_row, named, variable}
 use Rattle.just_meaning.specs.Closings.{lexical, dynamic, inside}
-use Rattle.just_meaning.specs.Module.{Module, Block, Run, Finished, Stops, Unknown, Passes, Skips, Binds, Breaks, Halts, assigned, dynamically, lexically, or_override, situation_at}
+use Rattle.just_meaning.specs.Module.{Module, Block, Run, Finished, Stops, Unknown, Passes, Skips, Binds, Breaks, Halts, assigned, dynamically, lexically}
+use Rattle.just_meaning.specs.Module.{or_override, situation_at}
 use Rattle.just_soundness.specs.Laws.{PendingCallsDoNotMatter}
 use Rattle.just_soundness.proofs.Ends.{AllEnd, HasCount, row_counts, ends_same}
+use Rattle.just_soundness.proofs.Forms.{AreRowsRelated, equality, related_eval}
 use Rattle.just_soundness.proofs.Overlays.{parameters_other, parameters_same}
 use Rattle.just_meaning.proofs.Reached.{reaches_on}
 use Rattle.just_soundness.proofs.Reached.{among_all, apart_numbers, taken_assigned}
@@ -31,7 +32,8 @@ use Rattle.just_soundness.proofs.Reached.{among_all, apart_numbers, taken_assign
 -- ---- what an expression means depends only on what it reads and calls
 
 abbrev with_names : Names → Situation → Situation
-with_names names s = record { names = names; environment = s.environment; recipe = s.recipe; is_dependency = s.is_dependency; lists = s.lists; shown = s.shown; below = s.below }
+with_names names s =
+    record { names = names; environment = s.environment; recipe = s.recipe; is_dependency = s.is_dependency; lists = s.lists; shown = s.shown; below = s.below }
 
 -- the condition on everything that occurs in an expression
 abbrev ReadsSame : (Text → Type 0) → Names → Names → Mention → Type 0
@@ -44,42 +46,22 @@ abbrev IsRowOf : ℕ → Row → Type 0
 IsRowOf n row = AllEnd (HasCount n) (row as_it_is)
 
 module _ (c : Program) (d d' : Deeper) (C : Text → Type 0) (s : Situation) (names : Names)
-    (same_call : (t : Token) (n : ℕ) (row : Row) → C t.lexeme → IsRowOf n row → called c t (callee c.functions t.lexeme) d s n row ≡ called c t (callee c.functions t.lexeme) d' (with_names names s) n row) where
-  abbrev AllReadSame : (Mention → Type 0) → Type 0
-  AllReadSame occurs = (x : Mention) → occurs x → ReadsSame C s.names names x
+    (same_call : (t : Token) (n : ℕ) (row : Row) → C t.lexeme → IsRowOf n row → called c t (callee c.functions t.lexeme) d s n row
+    ≡ called c t (callee c.functions t.lexeme) d' (with_names names s) n row) where
+  same_variable : (number : Option ℕ) → ReadsSame C s.names names (VariableOf number) → (t : Token) → variable t number s.names ≡ variable t number names
+  same_variable None h t = refl
+  same_variable (Some n) h t = ap (λ o. note (Read t n) (done (named t o))) h
 
-  mutual
-    same_eval : (e : Expr) → AllReadSame (Occurs e) → eval c d s e ≡ eval c d' (with_names names s) e
-    same_eval (And l r) same_reads = λ i. conjunction (same_eval l (λ x h. same_reads x (inl h)) i) (same_eval r (λ x h. same_reads x (inr h)) i)
-    same_eval (Assert e m t) same_reads = λ i. assertion s.lists t (same_eval e (λ x h. same_reads x (inl h)) i) (bind (same_eval m (λ x h. same_reads x (inr h)) i) (λ w. gives (joined w)))
-    same_eval (AssertOnly e t) same_reads = λ i. assertion s.lists t (same_eval e same_reads i) (gives ((96 ∷ printed e) ++ 96 ∷ []))
-    same_eval (Backtick text t) same_reads = refl
-    same_eval (Call t es) same_reads =
-        (λ i. note (Entered t) (called c t (callee c.functions t.lexeme) d s (count es) (λ look. same_row 0 es look (λ x h. same_reads x (inr h)) i)))
-        ∙ ap (note (Entered t)) (same_call t (count es) (eval_row c d' (with_names names s) 0 es) (same_reads (CallOf t.lexeme (count es)) (inl refl)) (row_counts c d' (with_names names s) 0 es as_it_is))
-    same_eval (Comparison l o r t) same_reads = λ i. comparison o t (same_eval l (λ x h. same_reads x (inl h)) i) (same_eval r (λ x h. same_reads x (inr h)) i)
-    same_eval (Concatenation l t r) same_reads = λ i. combination operators.Concatenate (same_eval l (λ x h. same_reads x (inl h)) i) t (same_eval r (λ x h. same_reads x (inr h)) i)
-    same_eval (Conditional e a b) same_reads = λ i. choice (same_eval e (λ x h. same_reads x (inl h)) i) (same_eval a (λ x h. same_reads x (inr (inl h))) i) (same_eval b (λ x h. same_reads x (inr (inr h))) i)
-    same_eval (ConditionalOnly e a) same_reads = λ i. choice (same_eval e (λ x h. same_reads x (inl h)) i) (same_eval a (λ x h. same_reads x (inr h)) i) (gives [])
-    same_eval (FormatString start pieces) same_reads = λ i. bind (same_pieces pieces same_reads i) (λ text. gives (formatted start text ∷ []))
-    same_eval (Group e) same_reads = same_eval e same_reads
-    same_eval (Join l t r) same_reads = λ i. combination operators.Join (same_eval l (λ x h. same_reads x (inl h)) i) t (same_eval r (λ x h. same_reads x (inr h)) i)
-    same_eval (JoinOnly t r) same_reads = λ i. combination operators.Join (gives ([] ∷ [])) t (same_eval r same_reads i)
-    same_eval (ListOf es t) same_reads = λ i. bind (same_row 0 es as_it_is same_reads i) (λ vs. gives (flatten vs))
-    same_eval (ListConcatenation l t r) same_reads = λ i. succession (same_eval l (λ x h. same_reads x (inl h)) i) (same_eval r (λ x h. same_reads x (inr h)) i)
-    same_eval (Not e) same_reads = λ i. negation (same_eval e same_reads i)
-    same_eval (Or l r) same_reads = λ i. disjunction (same_eval l (λ x h. same_reads x (inl h)) i) (same_eval r (λ x h. same_reads x (inr h)) i)
-    same_eval (StringLiteral literal) same_reads = refl
-    same_eval (Variable t None) same_reads = refl
-    same_eval (Variable t (Some n)) same_reads = ap (λ o. note (Read t n) (done (named t o))) (same_reads (VariableOf (Some n)) refl)
+  same_call_of : (t : Token) (es : Exprs) → C t.lexeme → AreRowsRelated (λ A t u. t ≡ u) (eval_row c d s 0 es) (eval_row c d' (with_names names s) 0 es)
+      → eval c d s (Call t es) ≡ eval c d' (with_names names s) (Call t es)
+  same_call_of t es reached h =
+      (λ i. note (Entered t) (called c t (callee c.functions t.lexeme) d s (count es) (λ look. h look (λ k v. refl) i)))
+      ∙ ap (note (Entered t)) (same_call t (count es) (eval_row c d' (with_names names s) 0 es) reached (row_counts c d' (with_names names s) 0 es as_it_is))
 
-    same_row : (k : ℕ) (es : Exprs) (look : ℕ → Value → Tree Value) → AllReadSame (OccursIn es) → eval_row c d s k es look ≡ eval_row c d' (with_names names s) k es look
-    same_row k Nil look same_reads = refl
-    same_row k (Cons e es) look same_reads = λ i. bind (bind (same_eval e (λ x h. same_reads x (inl h)) i) (look k)) (λ v. bind (same_row (suc k) es look (λ x h. same_reads x (inr h)) i) (λ vs. gives (v ∷ vs)))
-
-    same_pieces : (pieces : Pieces) → AllReadSame (OccursInPieces pieces) → eval_pieces c d s pieces ≡ eval_pieces c d' (with_names names s) pieces
-    same_pieces NoPiece same_reads = refl
-    same_pieces (Piece e literal pieces) same_reads = λ i. bind (same_eval e (λ x h. same_reads x (inl h)) i) (λ v. bind (same_pieces pieces (λ x h. same_reads x (inr h)) i) (λ text. gives ((joined v ++ literal.cooked) ++ text)))
+  same_eval : (e : Expr) → ((x : Mention) → Occurs e x → ReadsSame C s.names names x) → eval c d s e ≡ eval c d' (with_names names s) e
+  same_eval =
+      related_eval (λ A t u. t ≡ u) equality (record { assertion = λ message t. refl; operation = λ l o r t. refl; regex = λ t. refl })
+      c c d d' s (with_names names s) refl (ReadsSame C s.names names) (λ text t. refl) same_call_of same_variable
 
 -- a name that the file does not define has a meaning that reads no names
 same_undefined : (c : Program) (d d' : Deeper) (s : Situation) (names : Names) (t : Token) (n : ℕ) (row : Row) (out : Bool) (found : Option built_in.Function) →
@@ -96,15 +78,18 @@ IsApart functions e = (n : ℕ) → ReadsBeyond functions e n → IsIn (paramete
 
 module _ (c : Program) (C : Text → Type 0)
     (closed : (name further : Text) (f : Function) (n : ℕ) → C name → function_at c.functions name ≡ Some f → Occurs f.body (CallOf further n) → C further)
-    (apart : (name : Text) (f : Function) (n : ℕ) → C name → function_at c.functions name ≡ Some f → Occurs f.body (VariableOf (Some n)) → (IsAmong f.parameters n → ⊥) → IsIn (parameter_numbers c.functions) n → ⊥) where
+    (apart : (name : Text) (f : Function) (n : ℕ) → C name → function_at c.functions name ≡ Some f → Occurs f.body (VariableOf (Some n))
+    → (IsAmong f.parameters n → ⊥) → IsIn (parameter_numbers c.functions) n → ⊥) where
   -- except for parameters, the names are those of the base
   abbrev IsOnBase : Names → Names → Type 0
   IsOnBase names base = (n : ℕ) → (IsIn (parameter_numbers c.functions) n → ⊥) → names n ≡ base n
 
   abbrev IsLexical : ℕ → Type 0
-  IsLexical k = (s : Situation) (base names : Names) (e : Expr) → ((x : Mention) → Occurs e x → ReadsSame C s.names names x) → IsOnBase (value_in s.below) base → eval c (dynamic c k) s e ≡ eval c (lexical c base k) (with_names names s) e
+  IsLexical k = (s : Situation) (base names : Names) (e : Expr) → ((x : Mention) → Occurs e x → ReadsSame C s.names names x) → IsOnBase (value_in s.below) base
+      → eval c (dynamic c k) s e ≡ eval c (lexical c base k) (with_names names s) e
 
-  same_body : (k : ℕ) → IsLexical k → (s : Situation) (base names : Names) → IsOnBase (value_in s.below) base → (name : Text) (f : Function) (vs : List Value) → C name → function_at c.functions name ≡ Some f → length f.parameters ≡ length vs →
+  same_body : (k : ℕ) → IsLexical k → (s : Situation) (base names : Names) → IsOnBase (value_in s.below) base → (name : Text) (f : Function) (vs : List Value)
+      → C name → function_at c.functions name ≡ Some f → length f.parameters ≡ length vs →
       eval c (dynamic c k) (inside (value_in s.below) s f vs) f.body ≡ eval c (lexical c base k) (inside base (with_names names s) f vs) f.body
   same_body k again s base names on name f vs reached found fits =
       again (inside (value_in s.below) s f vs) base (inside base (with_names names s) f vs).names f.body same_reads
@@ -112,34 +97,47 @@ module _ (c : Program) (C : Text → Type 0)
     where
       same_reads : (x : Mention) → Occurs f.body x → ReadsSame C (inside (value_in s.below) s f vs).names (inside base (with_names names s) f vs).names x
       same_reads (VariableOf None) h = tt
-      same_reads (VariableOf (Some n)) h = parameters_same f.parameters vs (value_in s.below) n fits base (λ beyond. on n (apart name f n reached found h beyond))
+      same_reads (VariableOf (Some n)) h =
+          parameters_same f.parameters vs (value_in s.below) n fits base (λ beyond. on n (apart name f n reached found h beyond))
       same_reads (CallOf further n) h = closed name further f n reached found h
 
-  same_called : (k : ℕ) → IsLexical k → (s : Situation) (base names : Names) → IsOnBase (value_in s.below) base → (t : Token) (n : ℕ) (row : Row) → C t.lexeme → IsRowOf n row → (found : Option Function) → function_at c.functions t.lexeme ≡ found →
-      called c t (defined_or found (undefined t.lexeme)) (dynamic c (suc k)) s n row ≡ called c t (defined_or found (undefined t.lexeme)) (lexical c base (suc k)) (with_names names s) n row
-  same_called k again s base names on t n row reached counted None e = same_undefined c (dynamic c (suc k)) (lexical c base (suc k)) s names t n row (is_left_out t.lexeme) (function_named t.lexeme)
+  same_called : (k : ℕ) → IsLexical k → (s : Situation) (base names : Names) → IsOnBase (value_in s.below) base → (t : Token) (n : ℕ) (row : Row) → C t.lexeme
+      → IsRowOf n row → (found : Option Function) → function_at c.functions t.lexeme ≡ found →
+      called c t (defined_or found (undefined t.lexeme)) (dynamic c (suc k)) s n row
+      ≡ called c t (defined_or found (undefined t.lexeme)) (lexical c base (suc k)) (with_names names s) n row
+  same_called k again s base names on t n row reached counted None e =
+      same_undefined c (dynamic c (suc k)) (lexical c base (suc k)) s names t n row (is_left_out t.lexeme) (function_named t.lexeme)
   same_called k again s base names on t n row reached counted (Some f) e = test (nat_eq n (length f.parameters)) refl
     where
       test : (b : Bool) → nat_eq n (length f.parameters) ≡ b →
-          (if b then bind (row as_it_is) (λ vs. eval c (dynamic c k) (inside (value_in s.below) s f vs) f.body) else refuses (Internal (miscounted_text t.lexeme) t))
-          ≡ (if b then bind (row as_it_is) (λ vs. eval c (lexical c base k) (inside base (with_names names s) f vs) f.body) else refuses (Internal (miscounted_text t.lexeme) t))
+          (if b then bind (row as_it_is) (λ vs. eval c (dynamic c k) (inside (value_in s.below) s f vs) f.body)
+          else refuses (Internal (miscounted_text t.lexeme) t))
+          ≡ (if b then bind (row as_it_is) (λ vs. eval c (lexical c base k) (inside base (with_names names s) f vs) f.body)
+          else refuses (Internal (miscounted_text t.lexeme) t))
       test false is = refl
-      test true is = ends_same (HasCount n) (row as_it_is) _ _ counted (λ vs l. same_body k again s base names on t.lexeme f vs reached e (let same : n ≡ length f.parameters = grind (arith, nat_tests) in sym same ∙ sym l))
+      test true is =
+          ends_same (HasCount n) (row as_it_is) _ _ counted
+          (λ vs l. same_body k again s base names on t.lexeme f vs reached e (let same : n ≡ length f.parameters =
+          grind (arith, nat_tests) in sym same ∙ sym l))
 
   dynamic_lexical : (k : ℕ) → IsLexical k
-  dynamic_lexical zero s base names e same_reads on = same_eval c (dynamic c 0) (lexical c base 0) C s names (λ t n row reached counted. at_limit (callee c.functions t.lexeme) t n row) e same_reads
+  dynamic_lexical zero s base names e same_reads on =
+      same_eval c (dynamic c 0) (lexical c base 0) C s names (λ t n row reached counted. at_limit (callee c.functions t.lexeme) t n row) e same_reads
     where
-      at_limit : (found : Callee) (t : Token) (n : ℕ) (row : Row) → called c t found (dynamic c 0) s n row ≡ called c t found (lexical c base 0) (with_names names s) n row
+      at_limit : (found : Callee) (t : Token) (n : ℕ) (row : Row) → called c t found (dynamic c 0) s n row
+          ≡ called c t found (lexical c base 0) (with_names names s) n row
       at_limit (Defined f) t n row = refl
       at_limit (BuiltIn f) t n row = refl
       at_limit LeftOut t n row = refl
       at_limit callees.Unknown t n row = refl
   dynamic_lexical (suc k) s base names e same_reads on =
       same_eval c (dynamic c (suc k)) (lexical c base (suc k)) C s names
-      (λ t n row reached counted. same_called k (λ s base names e. dynamic_lexical k s base names e) s base names on t n row reached counted (function_at c.functions t.lexeme) refl) e same_reads
+      (λ t n row reached counted. same_called k (λ s base names e. dynamic_lexical k s base names e) s base names on t n row reached counted
+      (function_at c.functions t.lexeme) refl) e same_reads
 
 -- if bodies read no other function's parameters, dynamic scope means what lexical scope does
-pub dynamic_is_lexical : (c : Program) (k : ℕ) (s : Situation) (e : Expr) → IsApart c.functions e → eval c (dynamic c k) s e ≡ eval c (lexical c (value_in s.below) k) s e
+pub dynamic_is_lexical : (c : Program) (k : ℕ) (s : Situation) (e : Expr) → IsApart c.functions e
+    → eval c (dynamic c k) s e ≡ eval c (lexical c (value_in s.below) k) s e
 dynamic_is_lexical c k s e apart =
     dynamic_lexical c (Reaches c.functions e)
     (λ name further f n reached found occurs. reaches_on c.functions f n reached found occurs)
@@ -156,29 +154,38 @@ dynamic_is_lexical c k s e apart =
 -- each taken assignment reads no parameter through a body of another function
 abbrev pub AreApart : List Function → Assignments → List Token → Type 0
 AreApart functions assignments [] = Unit {0}
-AreApart functions assignments (t ∷ left) = ((a : Assignment) → assignment_at assignments t.lexeme ≡ Some a → assignments.referenced a.number ≡ true → IsApart functions a.value) × AreApart functions assignments left
+AreApart functions assignments (t ∷ left) = ((a : Assignment) → assignment_at assignments t.lexeme ≡ Some a → assignments.referenced a.number ≡ true
+    → IsApart functions a.value) × AreApart functions assignments left
 
 module _ (functions : List Function) (assignments : Assignments) (outer : Frames) (resolved : IsResolved functions assignments outer) where
-  pub are_apart : (taken : List ℕ) (left : List Token) → ((n : ℕ) → IsIn taken n → IsIn (map (λ a. a.number) assignments.all) n) → AreInOrder functions assignments outer taken left → AreApart functions assignments left
+  pub are_apart : (taken : List ℕ) (left : List Token) → ((n : ℕ) → IsIn taken n → IsIn (map (λ a. a.number) assignments.all) n)
+      → AreInOrder functions assignments outer taken left → AreApart functions assignments left
   are_apart taken [] assigned h = tt
   are_apart taken (t ∷ left) assigned h = (
-    λ a found referenced n beyond parameter. ⊎_elim (λ one. apart_numbers _ _ n resolved.distinct (assigned n one) parameter) (λ bound. resolved.unbound n parameter bound) (h.0 a found referenced n (inr beyond)),
+    λ a found referenced n beyond parameter. ⊎_elim (λ one. apart_numbers _ _ n resolved.distinct (assigned n one) parameter)
+        (λ bound. resolved.unbound n parameter bound) (h.0 a found referenced n (inr beyond)),
     are_apart (with_taken assignments (assignment_at assignments t.lexeme) taken) left (λ n one. taken_assigned assignments t.lexeme taken n assigned one) h.1,
   )
 
 module _ (m : Module) where
   assigned_same : (frames : Frames) (a : Assignment) → IsApart m.program.functions a.value → assigned dynamically m frames a ≡ assigned lexically m frames a
-  assigned_same frames a apart = ap (or_override (m.overrides a.number)) (dynamic_is_lexical m.program _ (situation_at m.program.fixed.settings.lists frames) a.value apart)
+  assigned_same frames a apart =
+      ap (or_override (m.overrides a.number)) (dynamic_is_lexical m.program _ (situation_at m.program.fixed.settings.lists frames) a.value apart)
 
-  pub run_lexical : {frames : Frames} {left : List Token} {bs : List Block} {o : Outcome Frames} → AreApart m.program.functions m.assignments left → Run dynamically m frames left bs o → Run lexically m frames left bs o
+  pub run_lexical : {frames : Frames} {left : List Token} {bs : List Block} {o : Outcome Frames} → AreApart m.program.functions m.assignments left
+      → Run dynamically m frames left bs o → Run lexically m frames left bs o
   run_lexical h Finished = Finished
   run_lexical h Stops = Stops
   run_lexical h (Unknown f) = Unknown f
   run_lexical h (Passes a f e r) = Passes a f e (run_lexical h.1 r)
   run_lexical h (Skips a b f e g r) = Skips a b f e g (run_lexical h.1 r)
-  run_lexical {frames = frames} h (Binds a es v t p r) = Binds a es v t (subst (λ u. Path freely u es (Gave v)) (assigned_same frames a (h.0 a t.found t.referenced)) p) (run_lexical h.1 r)
-  run_lexical {frames = frames} h (Breaks a es s t p) = Breaks a es s t (subst (λ u. Path freely u es (Refused s)) (assigned_same frames a (h.0 a t.found t.referenced)) p)
-  run_lexical {frames = frames} h (Halts a es t p) = Halts a es t (subst (λ u. Path freely u es Stopped) (assigned_same frames a (h.0 a t.found t.referenced)) p)
+  run_lexical {frames = frames} h (Binds a es v t p r) =
+      Binds a es v t (subst (λ u. Path freely u es (Gave v)) (assigned_same frames a (h.0 a t.found t.referenced)) p) (run_lexical h.1 r)
+  run_lexical {frames = frames} h (Breaks a es s t p) =
+      Breaks a es s t (subst (λ u. Path freely u es (Refused s)) (assigned_same frames a (h.0 a t.found t.referenced)) p)
+  run_lexical {frames = frames} h (Halts a es t p) =
+      Halts a es t (subst (λ u. Path freely u es Stopped) (assigned_same frames a (h.0 a t.found t.referenced)) p)
 
 pub pending_calls_do_not_matter : PendingCallsDoNotMatter
-pending_calls_do_not_matter m outer bs o resolved r = run_lexical m (are_apart m.program.functions m.assignments outer resolved [] m.assignments.order (λ n none. absurd none) resolved.in_order) r
+pending_calls_do_not_matter m outer bs o resolved r =
+    run_lexical m (are_apart m.program.functions m.assignments outer resolved [] m.assignments.order (λ n none. absurd none) resolved.in_order) r

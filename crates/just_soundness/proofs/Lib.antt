@@ -2,13 +2,14 @@ pub mod Ends
 pub mod Forms
 pub mod Refused
 pub mod Bound
+pub mod Taken
 pub mod Overlays
 pub mod Reached
 pub mod Alike
 pub mod Lexical
-pub mod Internal
 pub mod Constants
 pub mod ConstInternal
+pub mod Internal
 pub mod Final
 pub mod Here
 pub mod Recipe

@@ -44,17 +44,23 @@ abbrev IsOne : Arguments → Type 0
 IsOne a = HaveOneElement (own_frame a.frames)
 
 module _ (means : Meanings) where
-  one_bindings : (recipe : Text) (s : Situation) (frame : Frame) (outer : Frames) → s.shown ≡ frame ∷ outer → HaveOneElement frame → s.lists ≡ false → (words : List Text) (ps : List Parameter) (arguments : List Value) → AllEnd (IfGave IsOne) (bindings means recipe s words ps arguments)
+  one_bindings : (recipe : Text) (s : Situation) (frame : Frame) (outer : Frames) → s.shown ≡ frame ∷ outer → HaveOneElement frame → s.lists ≡ false
+      → (words : List Text) (ps : List Parameter) (arguments : List Value) → AllEnd (IfGave IsOne) (bindings means recipe s words ps arguments)
   one_bindings recipe s frame outer is one off words [] arguments = subst (λ fs. HaveOneElement (own_frame fs)) (sym is) one
   one_bindings recipe s frame outer is one off words (p ∷ ps) [] = subst (λ fs. HaveOneElement (own_frame fs)) (sym is) one
   one_bindings recipe s frame outer is one off words (p ∷ ps) (argument ∷ arguments) =
       bind_gave IsOne (checked (means s) s.is_dependency recipe p argument) _
       (λ v. let b = parameter_bound s.lists p v in
-      one_bindings recipe (seeing (bound_innermost s.shown b) s) (with_bound frame b) outer (ap (λ fs. bound_innermost fs b) is) (one_put frame b (one_bound s.lists p v off) one) off (words ++ words_of p v) ps arguments)
+      one_bindings recipe (seeing (bound_innermost s.shown b) s) (with_bound frame b) outer (ap (λ fs. bound_innermost fs b) is)
+      (one_put frame b (one_bound s.lists p v off) one) off (words ++ words_of p v) ps arguments)
 
-  pub one_parameters : (s : Situation) (outer : Frames) → s.shown ≡ [] ∷ outer → s.lists ≡ false → (recipe : Recipe) (ps : List Parameter) (arguments : List Value) → AllEnd (IfGave IsOne) (parameters means s recipe ps arguments)
-  one_parameters s outer is off recipe ps arguments = bind_gave IsOne (environment means s recipe.attributes) _ (λ e. by e (nat_eq (length arguments) (length ps)))
+  pub one_parameters : (s : Situation) (outer : Frames) → s.shown ≡ [] ∷ outer → s.lists ≡ false
+      → (recipe : Recipe) (ps : List Parameter) (arguments : List Value) → AllEnd (IfGave IsOne) (parameters means s recipe ps arguments)
+  one_parameters s outer is off recipe ps arguments =
+      bind_gave IsOne (environment means s recipe.attributes) _ (λ e. by e (nat_eq (length arguments) (length ps)))
     where
-      by : (e : List (Text × Text)) (b : Bool) → AllEnd (IfGave IsOne) (if b then bindings means recipe.name.lexeme (record s { environment = e }) [] ps arguments else refuses (Internal mismatched_text recipe.name))
+      by : (e : List (Text × Text)) (b : Bool)
+          → AllEnd (IfGave IsOne) (if b then bindings means recipe.name.lexeme (record s { environment = e }) [] ps arguments
+          else refuses (Internal mismatched_text recipe.name))
       by e true = one_bindings recipe.name.lexeme (record s { environment = e }) [] outer is tt off [] ps arguments
       by e false = tt

@@ -32,7 +32,8 @@ module _ (ps : List (Token × ℕ)) (vs : List Value) (names : Names) (n : ℕ) 
   parameters_other out = ⊎_elim (λ own. absurd (out own.0)) (λ other. other.1 names) (overlaid ps vs [] n e)
 
   -- two maps of names that agree beyond the parameters
-  pub parameters_same : (base : Names) → ((IsAmong ps n → ⊥) → names n ≡ base n) → over (with_parameters [] ps vs) names n ≡ over (with_parameters [] ps vs) base n
+  pub parameters_same : (base : Names) → ((IsAmong ps n → ⊥) → names n ≡ base n) → over (with_parameters [] ps vs) names n
+      ≡ over (with_parameters [] ps vs) base n
   parameters_same base h = ⊎_elim (λ own. own.1.1 names ∙ sym (own.1.1 base)) (λ other. other.1 names ∙ h other.0 ∙ sym (other.1 base)) (overlaid ps vs [] n e)
 
   -- each parameter has a value, and so does each name that has one beyond them

@@ -1,7 +1,8 @@
 -- Settings whose variables are bound or open meet no refusal that is Internal.
-use Rattle.std.proofs.Common.{List, [], ◌∷◌, ◌++◌}
+use Rattle.std.proofs.Common.{List, [], ◌∷◌}
 use Rattle.just_syntax.specs.Plain as plain
 use Rattle.just_syntax.specs.Plain.{Token, Expr, Interpreter, Set}
+use Rattle.just_syntax.proofs.Lists.{all_front, all_after}
 use Rattle.just_value.specs.Value.{Value}
 use Rattle.just_value.specs.Outcome.{Outcome, Gave, Refused, Stopped, and_then}
 use Rattle.just_host.specs.Settings.{Settings}
@@ -19,14 +20,6 @@ then_not (Gave a) go h k = k a
 then_not (Refused r) go h k = h
 then_not Stopped go h k = tt
 
-resolved_front : (s : StageState) (es fs : List Expr) → AllResolvedOn s (es ++ fs) → AllResolvedOn s es
-resolved_front s [] fs h = tt
-resolved_front s (e ∷ es) fs h = (h.0, resolved_front s es fs h.1)
-
-resolved_after : (s : StageState) (es fs : List Expr) → AllResolvedOn s (es ++ fs) → AllResolvedOn s fs
-resolved_after s [] fs h = h
-resolved_after s (e ∷ es) fs h = resolved_after s es fs h.1
-
 command_not : (setting : Token) (v : Value) → IsNotInternal (command_of setting v)
 command_not setting [] = λ none. none
 command_not setting (command ∷ arguments) = tt
@@ -39,22 +32,29 @@ module _ (s : StageState) where
   elements_not [] h = tt
   elements_not (e ∷ es) h = then_not (const_value s e) _ (value_not e h.0) (λ v. then_not (elements (const_value s) es) _ (elements_not es h.1) (λ w. tt))
 
-  pub interpreter_not : (setting : Token) (i : Interpreter Expr) → AllResolvedOn s (interpreter_expressions i) → IsNotInternal (interpreter (const_value s) setting i)
-  interpreter_not setting i h = then_not (elements (const_value s) (interpreter_expressions i)) _ (elements_not (interpreter_expressions i) h) (λ v. command_not setting v)
+  pub interpreter_not : (setting : Token) (i : Interpreter Expr) → AllResolvedOn s (interpreter_expressions i)
+      → IsNotInternal (interpreter (const_value s) setting i)
+  interpreter_not setting i h =
+      then_not (elements (const_value s) (interpreter_expressions i)) _ (elements_not (interpreter_expressions i) h) (λ v. command_not setting v)
 
-  setting_not : (settings : Settings) (name : Token) (x : plain.Setting) → AllResolvedOn s (setting_expressions x) → IsNotInternal (with_setting (const_value s) settings name x)
+  setting_not : (settings : Settings) (name : Token) (x : plain.Setting) → AllResolvedOn s (setting_expressions x)
+      → IsNotInternal (with_setting (const_value s) settings name x)
   setting_not settings name (plain.DotenvCommand e) h = then_not (const_value s e) _ (value_not e h.0) (λ v. tt)
   setting_not settings name (plain.DotenvFilename e) h = then_not (const_value s e) _ (value_not e h.0) (λ v. tt)
   setting_not settings name (plain.DotenvPath e) h = then_not (const_value s e) _ (value_not e h.0) (λ v. tt)
   setting_not settings name (plain.ScriptInterpreter i) h = then_not (interpreter (const_value s) name i) _ (interpreter_not name i h) (λ v. tt)
   setting_not settings name (plain.Shell i) h = then_not (interpreter (const_value s) name i) _ (interpreter_not name i h) (λ v. tt)
-  setting_not settings name (plain.Tempdir e) h = then_not (and_then (const_value s e) _) _ (then_not (const_value s e) _ (value_not e h.0) (λ v. text_not _ v)) (λ v. tt)
+  setting_not settings name (plain.Tempdir e) h =
+      then_not (and_then (const_value s e) _) _ (then_not (const_value s e) _ (value_not e h.0) (λ v. text_not _ v)) (λ v. tt)
   setting_not settings name (plain.WindowsShell i) h = then_not (interpreter (const_value s) name i) _ (interpreter_not name i h) (λ v. tt)
-  setting_not settings name (plain.WorkingDirectory e) h = then_not (and_then (const_value s e) _) _ (then_not (const_value s e) _ (value_not e h.0) (λ v. text_not _ v)) (λ v. tt)
+  setting_not settings name (plain.WorkingDirectory e) h =
+      then_not (and_then (const_value s e) _) _ (then_not (const_value s e) _ (value_not e h.0) (λ v. text_not _ v)) (λ v. tt)
   setting_not settings name _ h = tt
 
-  pub settings_not : (settings : Settings) (sets : List Set) → AllResolvedOn s (set_expressions sets) → IsNotInternal (with_settings (const_value s) settings sets)
+  pub settings_not : (settings : Settings) (sets : List Set) → AllResolvedOn s (set_expressions sets)
+      → IsNotInternal (with_settings (const_value s) settings sets)
   settings_not settings [] h = tt
   settings_not settings (x ∷ xs) h =
-      then_not (with_setting (const_value s) settings x.name x.value) _ (setting_not settings x.name x.value (resolved_front s (setting_expressions x.value) (set_expressions xs) h))
-      (λ next. settings_not next xs (resolved_after s (setting_expressions x.value) (set_expressions xs) h))
+      then_not (with_setting (const_value s) settings x.name x.value) _
+      (setting_not settings x.name x.value (all_front (IsResolvedOn s) (setting_expressions x.value) (set_expressions xs) h))
+      (λ next. settings_not next xs (all_after (IsResolvedOn s) (setting_expressions x.value) (set_expressions xs) h))

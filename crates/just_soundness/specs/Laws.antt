@@ -33,20 +33,33 @@ AreSame _ _ = ⊥
 
 -- a situation with other frames
 abbrev pub with_frames : Frames → Frames → Situation → Situation
-with_frames shown below s = record { names = s.names; environment = s.environment; recipe = s.recipe; is_dependency = s.is_dependency; lists = s.lists; shown = shown; below = below }
+with_frames shown below s = record {
+  names = s.names;
+  environment = s.environment;
+  recipe = s.recipe;
+  is_dependency =
+      s.is_dependency;
+  lists = s.lists;
+  shown = shown;
+  below = below;
+}
 
 -- Non-interference of frames. Two evaluations of an expression that differ only in the frames have one outcome and,
 -- frames aside, the same events, if neither is stopped and both are answered alike.
 abbrev pub FramesDoNotMatter : Type 0
-FramesDoNotMatter = (c : Program) (base : Names) (calls : ℕ) (s : Situation) (shown below : Frames) (e : Expr) (es fs : List Event) (o p : Outcome Value)
-    → Path freely (eval c (lexical c base calls) s e) es o → Path freely (eval c (lexical c base calls) (with_frames shown below s) e) fs p → o ≢ Stopped → p ≢ Stopped → AreAnsweredAlike es fs → (o ≡ p) × AreSame es fs
+FramesDoNotMatter = (c : Program) (base : Names) (calls : ℕ) (s : Situation) (shown below : Frames) (e : Expr)
+    (es fs : List Event) (o p : Outcome Value)
+    → Path freely (eval c (lexical c base calls) s e) es o
+    → Path freely (eval c (lexical c base calls) (with_frames shown below s) e) fs p → o ≢ Stopped → p ≢ Stopped
+    → AreAnsweredAlike es fs → (o ≡ p) × AreSame es fs
 
 -- ---- runs of resolved modules
 
 -- Soundness of lexical scoping: a run under dynamic scope is a run under lexical scope.
 abbrev pub PendingCallsDoNotMatter : Type 0
 PendingCallsDoNotMatter = (m : Module) (outer : Frames) (bs : List Block) (o : Outcome Frames)
-    → IsResolvedModule m outer → Run dynamically m ([] ∷ outer) m.assignments.order bs o → Run lexically m ([] ∷ outer) m.assignments.order bs o
+    → IsResolvedModule m outer → Run dynamically m ([] ∷ outer) m.assignments.order bs o
+    → Run lexically m ([] ∷ outer) m.assignments.order bs o
 
 -- Progress: a run meets none of the refusals that only an unresolved module meets.
 abbrev pub ResolvedIsNeverInternal : Type 0

@@ -15,13 +15,16 @@ separated_whole : (case : List ℕ) (status : ℕ) (answer : List ℕ) → Separ
 separated_whole case status answer = rw (drop-append_seam case (after status answer)) refl
 
 -- it is the first separator, so the case ends there
-ends_first : (file case : List ℕ) (status : ℕ) (answer : List ℕ) (at : ℕ) → SeparatedAt file at → UnseparatedTo file at → UnseparatedTo file (length case) → file ≡ stored_file case status answer → at ≡ length case
+ends_first : (file case : List ℕ) (status : ℕ) (answer : List ℕ) (at : ℕ) → SeparatedAt file at → UnseparatedTo file at → UnseparatedTo file (length case)
+    → file ≡ stored_file case status answer → at ≡ length case
 ends_first file case status answer at here before_here before_end same =
     let there : SeparatedAt file (length case) = rw same (separated_whole case status answer) in
-    ⊎_elim (λ e. e) (⊎_elim (λ before. absurd (before_end at before here)) (λ after. absurd (before_here (length case) after there))) (cases_order at (length case))
+    ⊎_elim (λ e. e) (⊎_elim (λ before. absurd (before_end at before here)) (λ after. absurd (before_here (length case) after there)))
+    (cases_order at (length case))
 
 -- the bytes after the first separator
-pub after_first : (file case : List ℕ) (status : ℕ) (answer : List ℕ) (at : ℕ) → SeparatedAt file at → UnseparatedTo file at → UnseparatedTo file (length case) → file ≡ stored_file case status answer → drop 4 (drop at file) ≡ (48 + status) ∷ (10 ∷ answer)
+pub after_first : (file case : List ℕ) (status : ℕ) (answer : List ℕ) (at : ℕ) → SeparatedAt file at → UnseparatedTo file at → UnseparatedTo file (length case)
+    → file ≡ stored_file case status answer → drop 4 (drop at file) ≡ (48 + status) ∷ (10 ∷ answer)
 after_first file case status answer at here before_here before_end same =
     rw (ends_first file case status answer at here before_here before_end same, same, drop-append_seam case (after status answer)) refl
 

@@ -3,7 +3,7 @@
 use std::io;
 
 /// How many runs agree with what is constant before them, and how many variables are settled, open or refused.
-#[derive(Clone, Copy, Debug, PartialEq, Eq)]
+#[derive(Clone, Copy, Debug, Default, PartialEq, Eq)]
 pub(crate) struct BorneOut {
     runs: usize,
     settled: usize,
@@ -12,16 +12,6 @@ pub(crate) struct BorneOut {
 }
 
 impl BorneOut {
-    /// A count of no run.
-    pub(crate) fn new() -> BorneOut {
-        BorneOut {
-            runs: 0,
-            settled: 0,
-            open: 0,
-            refused: 0,
-        }
-    }
-
     /// Counts a run with its constants.
     pub(crate) fn count(&mut self, constants: &str) {
         self.runs = self.runs.saturating_add(1);

@@ -1,14 +1,11 @@
 // Cases that are cut after a byte.
 
 use crate::difference::Difference;
+use crate::evaluated::answered;
 use crate::stored_case::StoredCase;
 use crate::tally::Tally;
-use just_bench::program::run;
 use just_syntax::out_of_memory::OutOfMemory;
 use std::alloc::Global;
-
-// Longer cases are skipped.
-const LONGEST: usize = 600;
 
 /// Cuts a case after each byte. Returns the first cut whose answer is neither a bad line at the cut nor that of a whole
 /// case.
@@ -18,13 +15,8 @@ pub(crate) fn check_cuts(
     stored: &StoredCase,
 ) -> Result<Option<Difference>, OutOfMemory> {
     let case = stored.case;
-    if case.len() > LONGEST {
-        return Ok(None);
-    }
     for length in 0..case.len() {
-        let is_expected = is_cut_expected(alloc, stored, &case[..length])?;
-        tally.count(!is_expected);
-        if !is_expected {
+        if tally.count(!is_cut_expected(alloc, stored, &case[..length])?) {
             return Ok(Some(Difference::Cut { length }));
         }
     }
@@ -33,9 +25,7 @@ pub(crate) fn check_cuts(
 
 // Whether the rest of a cut case has an answer that the stored answer allows.
 fn is_cut_expected(alloc: Global, stored: &StoredCase, left: &[u8]) -> Result<bool, OutOfMemory> {
-    let mut case = left;
-    let mut answer = Vec::new(alloc);
-    let status = run(alloc, &mut case, &mut answer);
+    let (status, answer) = answered(alloc, left);
     if status != 1 {
         return is_whole(alloc, stored, left, status, &answer);
     }
@@ -74,8 +64,7 @@ fn is_whole(
     let mut whole = Vec::new(alloc);
     whole.extend_from_slice(left)?;
     whole.push(b'\n')?;
-    let mut again = Vec::new(alloc);
-    let status_again = run(alloc, &mut whole.as_slice(), &mut again);
+    let (status_again, again) = answered(alloc, &whole);
     if status_again != status || again.as_slice() != answer {
         return Ok(false);
     }

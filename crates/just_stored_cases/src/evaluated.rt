@@ -1,14 +1,21 @@
-// The program's answer to a case with another ending.
+// The program's answers.
 
 use just_bench::program::run;
 use just_syntax::out_of_memory::OutOfMemory;
 use std::alloc::Global;
 
+/// Returns the status and the answer of the program for a case.
+pub(crate) fn answered(alloc: Global, case: &[u8]) -> (u8, Vec<u8>) {
+    let mut reader = case;
+    let mut answer = Vec::new(alloc);
+    let status = run(alloc, &mut reader, &mut answer);
+    (status, answer)
+}
+
 /// Returns the program's answer to a case that ends with these lines. An answer that is not UTF-8 counts as empty.
 pub(crate) fn evaluated(alloc: Global, described: &str, end: &str) -> Result<String, OutOfMemory> {
     let case = format!(in alloc; "{described}\n{end}")?;
-    let mut answer = Vec::new(alloc);
-    run(alloc, &mut case.as_bytes(), &mut answer);
+    let (_, answer) = answered(alloc, case.as_bytes());
     Ok(String::from_utf8(answer).unwrap_or(String::new(alloc)))
 }
 
@@ -20,6 +27,16 @@ pub(crate) fn contains_line(text: &str, sought: &str) -> bool {
         }
     }
     false
+}
+
+/// The one of these names that equals the given one.
+pub(crate) fn named<'text>(names: &[&'text str], sought: &str) -> Option<&'text str> {
+    for name in names {
+        if *name == sought {
+            return Some(*name);
+        }
+    }
+    None
 }
 
 /// The first of two runs in an answer to `blocks`.

@@ -1,6 +1,6 @@
 // The constants of a case, as its runs show them.
 
-use crate::evaluated::{evaluated, first_run};
+use crate::evaluated::{evaluated, first_run, named};
 use crate::watched::watched;
 use just_syntax::out_of_memory::OutOfMemory;
 use std::alloc::Global;
@@ -74,16 +74,6 @@ pub(crate) fn taken<'text>(
         }
     }
     Ok(names)
-}
-
-// The one of these names that equals the given one.
-fn named<'text>(names: &[&'text str], sought: &str) -> Option<&'text str> {
-    for name in names {
-        if *name == sought {
-            return Some(*name);
-        }
-    }
-    None
 }
 
 // The last lines of a case that evaluates the variables that are not open, in order.
@@ -160,16 +150,10 @@ fn is_shut(alloc: Global, open: &[&str], line: &str) -> Result<bool, OutOfMemory
         return Ok(true);
     }
     for name in open {
-        if line == unevaluated(alloc, name)?.as_str() {
+        let unevaluated = format!(in alloc; "attempted to evaluate unevaluated variable `{name}`")?;
+        if line == format!(in alloc; "refused 6 Internal \"{unevaluated}\"")?.as_str() {
             return Ok(true);
         }
     }
     Ok(false)
-}
-
-// The refusal of a run that reads a variable before it has a value.
-fn unevaluated(alloc: Global, name: &str) -> Result<String, OutOfMemory> {
-    Ok(format!(in alloc;
-        "refused 6 Internal \"attempted to evaluate unevaluated variable `{name}`\""
-    )?)
 }

@@ -16,10 +16,12 @@ pub(crate) struct StoredCase<'file> {
 
 /// Cuts a file at the first line break that `=> ` follows. A digit and a line break must come next.
 pub(crate) fn cut(file: &[u8]) -> Option<StoredCase<'_>>
-    ensures together { IfSome result (λ stored. file.now ≡ stored_file stored.case.now stored.status stored.answer.now) }
+    ensures together { IfSome result (λ stored. file.now ≡ stored_file stored.case.now stored.status
+        stored.answer.now) }
     ensures digit { IfSome result (λ stored. stored.status < 10) }
     ensures first { IfSome result (λ stored. UnseparatedTo file.now (length stored.case.now)) }
-    ensures none { result ≡ None → (case : List ℕ) (status : ℕ) (answer : List ℕ) → status < 10 → UnseparatedTo file.now (length case) → file.now ≢ stored_file case status answer }
+    ensures none { result ≡ None → (case : List ℕ) (status : ℕ) (answer : List ℕ) → status < 10
+        → UnseparatedTo file.now (length case) → file.now ≢ stored_file case status answer }
 {
     for at in 0..file.len() {
         if let Some(after) = file[at..].strip_prefix(SEPARATOR) {
@@ -39,7 +41,8 @@ pub(crate) fn cut(file: &[u8]) -> Option<StoredCase<'_>>
 fn status_line(bytes: &[u8]) -> Option<(u8, &[u8])>
     ensures cut { IfSome result (λ cut. bytes.now ≡ (48 + cut.0) ∷ 10 ∷ cut.1.now) }
     ensures digit { IfSome result (λ cut. cut.0 < 10) }
-    ensures none { result ≡ None → (status : ℕ) (answer : List ℕ) → status < 10 → bytes.now ≢ (48 + status) ∷ 10 ∷ answer }
+    ensures none { result ≡ None → (status : ℕ) (answer : List ℕ) → status < 10
+        → bytes.now ≢ (48 + status) ∷ 10 ∷ answer }
 {
     let (digit, rest) = bytes.split_first()?;
     let (line_break, answer) = rest.split_first()?;

@@ -4,61 +4,12 @@ use crate::difference::Difference;
 use crate::stored_case::StoredCase;
 use crate::tally::Tally;
 use just_bench::program::run;
+use just_script::pieces::{PieceReader, PieceWriter};
 use just_syntax::out_of_memory::OutOfMemory;
 use std::alloc::Global;
-use std::io::{self, Read, Write};
-
-// Longer cases are skipped.
-const LONGEST: usize = 600;
 
 // The largest number of pieces in which a case is read or an answer is written.
 const PIECES: usize = 8;
-
-// Gives a text in pieces, and fails after some reads.
-#[derive(Drop)]
-struct FailingReader<'text> {
-    text: &'text [u8],
-    piece: usize,
-    good_reads: usize,
-}
-
-impl Read for FailingReader<'_> {
-    fn read(&mut self, buf: &mut [u8]) -> io::Result<usize> {
-        if self.good_reads == 0 {
-            return Err(io::Error::from(io::ErrorKind::BrokenPipe));
-        }
-        self.good_reads -= 1;
-        let count = self.piece.min(self.text.len()).min(buf.len());
-        let (piece, rest) = self.text.split_at(count);
-        buf[..count].copy_from_slice(piece);
-        self.text = rest;
-        Ok(count)
-    }
-}
-
-// Takes a text in pieces, and fails after some writes and when it is flushed.
-#[derive(Drop)]
-struct FailingWriter {
-    written: Vec<u8>,
-    piece: usize,
-    good_writes: usize,
-}
-
-impl Write for FailingWriter {
-    fn write(&mut self, buf: &[u8]) -> io::Result<usize> {
-        if self.good_writes == 0 {
-            return Err(io::Error::from(io::ErrorKind::BrokenPipe));
-        }
-        self.good_writes -= 1;
-        let count = self.piece.min(buf.len());
-        self.written.extend_from_slice(&buf[..count])?;
-        Ok(count)
-    }
-
-    fn flush(&mut self) -> io::Result<()> {
-        Err(io::Error::from(io::ErrorKind::BrokenPipe))
-    }
-}
 
 /// Reads a case and writes its answer in pieces. Each read fails in turn, then each write, then the flush. Returns the
 /// first failure after which the status is not 1, or something else is written than what precedes the failure.
@@ -67,24 +18,17 @@ pub(crate) fn check_streams(
     tally: &mut Tally,
     stored: &StoredCase,
 ) -> Result<Option<Difference>, OutOfMemory> {
-    if stored.case.len() > LONGEST {
-        return Ok(None);
-    }
     // One more read finds the end of the case.
     let piece = piece_of(stored.case);
     for reads in 0..pieces(stored.case, piece).saturating_add(1) {
-        let ends = ends_at_read(alloc, stored, piece, reads);
-        tally.count(!ends);
-        if !ends {
+        if tally.count(!ends_at_read(alloc, stored, piece, reads)) {
             return Ok(Some(Difference::Read { reads }));
         }
     }
     // After the last write the flush fails.
     let piece = piece_of(stored.answer);
     for writes in 0..pieces(stored.answer, piece).saturating_add(1) {
-        let ends = ends_at_write(alloc, stored, piece, writes);
-        tally.count(!ends);
-        if !ends {
+        if tally.count(!ends_at_write(alloc, stored, piece, writes)) {
             return Ok(Some(Difference::Write { writes }));
         }
     }
@@ -104,11 +48,9 @@ fn pieces(text: &[u8], piece: usize) -> usize {
 // Whether a case whose reads fail after this many ends with status 1 and without an answer.
 fn ends_at_read(alloc: Global, stored: &StoredCase, piece: usize, reads: usize) -> bool {
     let mut answer = Vec::new(alloc);
-    let mut reader = FailingReader {
-        text: stored.case,
-        piece,
-        good_reads: reads,
-    };
+    let mut reader = PieceReader::whole(stored.case);
+    reader.piece = piece;
+    reader.good_reads = reads;
     let status = run(alloc, &mut reader, &mut answer);
     status == 1 && answer.is_empty()
 }
@@ -116,11 +58,10 @@ fn ends_at_read(alloc: Global, stored: &StoredCase, piece: usize, reads: usize) 
 // Whether a case whose writes fail after this many ends with status 1 and with that part of its answer.
 fn ends_at_write(alloc: Global, stored: &StoredCase, piece: usize, writes: usize) -> bool {
     let mut case = stored.case;
-    let mut writer = FailingWriter {
-        written: Vec::new(alloc),
-        piece,
-        good_writes: writes,
-    };
+    let mut writer = PieceWriter::whole(alloc);
+    writer.piece = piece;
+    writer.good_writes = writes;
+    writer.can_flush = false;
     let status = run(alloc, &mut case, &mut writer);
     let length = piece.saturating_mul(writes).min(stored.answer.len());
     status == 1 && writer.written.len() == length && stored.answer.starts_with(&writer.written)

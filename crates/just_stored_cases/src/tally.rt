@@ -3,27 +3,20 @@
 use std::io;
 
 /// How many uses of one kind were tried, and how many of them differ.
-#[derive(Clone, Copy, Debug, PartialEq, Eq)]
+#[derive(Clone, Copy, Debug, Default, PartialEq, Eq)]
 pub(crate) struct Tally {
     tried: usize,
     differing: usize,
 }
 
 impl Tally {
-    /// A tally of nothing.
-    pub(crate) fn new() -> Tally {
-        Tally {
-            tried: 0,
-            differing: 0,
-        }
-    }
-
-    /// Counts one use that was tried.
-    pub(crate) fn count(&mut self, differs: bool) {
+    /// Counts one use that was tried, and returns whether it differs.
+    pub(crate) fn count(&mut self, differs: bool) -> bool {
         self.tried = self.tried.saturating_add(1);
         if differs {
             self.differing = self.differing.saturating_add(1);
         }
+        differs
     }
 
     /// Whether one differs.

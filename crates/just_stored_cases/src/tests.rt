@@ -55,11 +55,11 @@ fn files_that_differ(rt: HostRuntime) {
         differs(
             &rt,
             file,
-            check_file(rt.alloc(), &mut Tallies::new(), file.as_bytes()),
+            check_file(rt.alloc(), &mut Tallies::default(), file.as_bytes()),
             *expected,
         );
     }
-    let unreadable = check_case(&rt, &mut Tallies::new(), "/no/such/folder", "case");
+    let unreadable = check_case(&rt, &mut Tallies::default(), "/no/such/folder", "case");
     assert_eq!(rt; unreadable.ok(), Some(Some(Difference::Unreadable)));
 }
 
@@ -118,7 +118,7 @@ fn uses_differ(
     stored: &StoredCase,
     [failing, cut, failed_write]: [Option<Difference>; 3],
 ) {
-    let mut tally = Tally::new();
+    let mut tally = Tally::default();
     differs(rt, file, check_failing(alloc, &mut tally, stored), failing);
     differs(rt, file, check_cuts(alloc, &mut tally, stored), cut);
     differs(

@@ -1,5 +1,6 @@
 // A case changed so that its runs stop at the first call.
 
+use crate::evaluated::named;
 use just_syntax::out_of_memory::OutOfMemory;
 use std::alloc::Global;
 
@@ -17,7 +18,7 @@ pub(crate) fn watched(alloc: Global, described: &str) -> Result<String, OutOfMem
         }
     }
     for name in names_after(alloc, described, "call ")? {
-        if !contains(&functions, name) {
+        if named(&functions, name).is_none() {
             writeln!(lines, "str\nfun {name}")?;
             functions.push(name)?;
         }
@@ -42,13 +43,4 @@ fn names_after<'text>(
         }
     }
     Ok(names)
-}
-
-fn contains(names: &[&str], sought: &str) -> bool {
-    for name in names {
-        if *name == sought {
-            return true;
-        }
-    }
-    false
 }

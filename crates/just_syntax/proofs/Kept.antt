@@ -13,7 +13,8 @@ use Rattle.std.specs.List.{AllByRecursion}
 use Rattle.std.specs.List.Sorted.{IsStrictlySortedBy}
 use Rattle.std.proofs.lemmas.Map.Text.{is_eq-slice_cmp}
 use Rattle.std.proofs.lemmas.Map.Lookups.{exact_bytes}
-use Rattle.just_syntax.specs.Keyed.{IsKeyed, IsInOrder, value_at, with_value}
+use Rattle.just_syntax.specs.Prelude.{IsInOrder, IsKeyed, value_at, with_value}
+use Rattle.just_syntax.proofs.Maps.{map_choice}
 
 module _ {A V : Type 0} (key : V → List ℕ) where
   -- the keys' bytes are the keys of the values
@@ -22,13 +23,16 @@ module _ {A V : Type 0} (key : V → List ℕ) where
   texts_are_keys (e ∷ es) k = ap (λ t. t ∷ map string_bytes (keys_of es)) k.0 ∙ ap (λ ts. key e.1 ∷ ts) (texts_are_keys es k.1)
 
   -- a look-up by bytes finds the value whose key has these bytes
-  pub value_at_kept : (q : List ℕ) (es : List (String A × V)) → IsKeyed key es → lookup (is_at (λ (k : String A). slice_cmp nat_cmp q (string_bytes k))) es ≡ value_at key q (values_of es)
+  pub value_at_kept : (q : List ℕ) (es : List (String A × V)) → IsKeyed key es → lookup (is_at (λ (k : String A). slice_cmp nat_cmp q (string_bytes k))) es
+      ≡ value_at key q (values_of es)
   value_at_kept q [] k = refl
   value_at_kept q (e ∷ es) k =
-      ap (λ b. cond b (Some e.1) (lookup (is_at (λ (k : String A). slice_cmp nat_cmp q (string_bytes k))) es)) (is_eq-slice_cmp q (string_bytes e.0) ∙ ap (bytes_eq q) k.0)
+      ap (λ b. cond b (Some e.1) (lookup (is_at (λ (k : String A). slice_cmp nat_cmp q (string_bytes k))) es)) (is_eq-slice_cmp q (string_bytes e.0)
+      ∙ ap (bytes_eq q) k.0)
       ∙ ap (cond (bytes_eq q (key e.1)) (Some e.1)) (value_at_kept q es k.1)
 
-  kept_choice : (o : Ordering) (a b c : List (String A × V)) → IsKeyed key a → (o ≡ Equal → IsKeyed key b) → IsKeyed key c → IsKeyed key (match_ordering o a b c)
+  kept_choice : (o : Ordering) (a b c : List (String A × V)) → IsKeyed key a → (o ≡ Equal → IsKeyed key b) → IsKeyed key c
+      → IsKeyed key (match_ordering o a b c)
   kept_choice Less a b c p q r = p
   kept_choice Equal a b c p q r = q refl
   kept_choice Greater a b c p q r = r
@@ -37,23 +41,21 @@ module _ {A V : Type 0} (key : V → List ℕ) where
   pub kept_insert : (es : List (String A × V)) (k : String A) (v : V) → string_bytes k ≡ key v → IsKeyed key es → IsKeyed key (insert_entry string_cmp es k v)
   kept_insert [] k v e h = (e, tt)
   kept_insert (x ∷ xs) k v e h =
-      kept_choice (string_cmp k x.0) _ _ _ (e, h) (λ same. (sym (exact_bytes (string_bytes k) (string_bytes x.0) same) ∙ e, h.1)) (h.0, kept_insert xs k v e h.1)
-
-  values_choice : (o : Ordering) (a b c : List (String A × V)) → values_of (match_ordering o a b c) ≡ match_ordering o (values_of a) (values_of b) (values_of c)
-  values_choice Less a b c = refl
-  values_choice Equal a b c = refl
-  values_choice Greater a b c = refl
+      kept_choice (string_cmp k x.0) _ _ _ (e, h) (λ same. (sym (exact_bytes (string_bytes k) (string_bytes x.0) same) ∙ e, h.1))
+      (h.0, kept_insert xs k v e h.1)
 
   -- and the values are the old ones with this one inserted
-  pub values_insert : (es : List (String A × V)) (k : String A) (v : V) → string_bytes k ≡ key v → IsKeyed key es → values_of (insert_entry string_cmp es k v) ≡ with_value key (values_of es) v
+  pub values_insert : (es : List (String A × V)) (k : String A) (v : V) → string_bytes k ≡ key v → IsKeyed key es → values_of (insert_entry string_cmp es k v)
+      ≡ with_value key (values_of es) v
   values_insert [] k v e h = refl
   values_insert (x ∷ xs) k v e h =
-      values_choice (string_cmp k x.0) ((k, v) ∷ x ∷ xs) ((x.0, v) ∷ xs) (x ∷ insert_entry string_cmp xs k v)
+      map_choice (λ (e : String A × V). e.1) (string_cmp k x.0) ((k, v) ∷ x ∷ xs) ((x.0, v) ∷ xs) (x ∷ insert_entry string_cmp xs k v)
       ∙ ap (λ o. match_ordering o (v ∷ x.1 ∷ values_of xs) (v ∷ values_of xs) (x.1 ∷ values_of (insert_entry string_cmp xs k v)))
       (ap (λ t. slice_cmp nat_cmp t (string_bytes x.0)) e ∙ ap (slice_cmp nat_cmp (key v)) h.0)
       ∙ ap (λ l. match_ordering (slice_cmp nat_cmp (key v) (key x.1)) (v ∷ x.1 ∷ values_of xs) (v ∷ values_of xs) (x.1 ∷ l)) (values_insert xs k v e h.1)
 
-all_texts : {A : Type 0} (x : String A) (ks : List (String A)) → AllByRecursion (λ y. string_cmp x y ≡ Less) ks → AllByRecursion (λ y. slice_cmp nat_cmp (string_bytes x) y ≡ Less) (map string_bytes ks)
+all_texts : {A : Type 0} (x : String A) (ks : List (String A)) → AllByRecursion (λ y. string_cmp x y ≡ Less) ks
+    → AllByRecursion (λ y. slice_cmp nat_cmp (string_bytes x) y ≡ Less) (map string_bytes ks)
 all_texts x [] h = tt
 all_texts x (k ∷ ks) h = (h.0, all_texts x ks h.1)
 
@@ -63,5 +65,6 @@ texts_sorted [] h = tt
 texts_sorted (k ∷ ks) h = (all_texts k ks h.0, texts_sorted ks h.1)
 
 -- the values are in order
-pub in_order : {A V : Type 0} (key : V → List ℕ) (es : List (String A × V)) → IsKeyed key es → IsStrictlySortedBy string_cmp (keys_of es) → IsInOrder key (values_of es)
+pub in_order : {A V : Type 0} (key : V → List ℕ) (es : List (String A × V)) → IsKeyed key es → IsStrictlySortedBy string_cmp (keys_of es)
+    → IsInOrder key (values_of es)
 in_order key es k s = subst (IsStrictlySortedBy (slice_cmp nat_cmp)) (texts_are_keys key es k) (texts_sorted (keys_of es) s)

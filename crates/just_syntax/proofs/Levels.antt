@@ -1,10 +1,10 @@
 -- How many levels fit into a stack budget.
 use Rattle.std.proofs.Common.{◌≡◌, ℕ, ◌*◌, ◌-◌, ◌<◌, ◌≤◌, Bool, true, false, IsTrue, max, suc, refl, ap, arith}
 use Rattle.just_syntax.specs.declared.expression.Expression.TheViews as expressions
-use Rattle.just_syntax.specs.Plain.{Expr, And, Assert, AssertOnly, Backtick, Call, Comparison, Concatenation, Conditional, ConditionalOnly, FormatString, Group, Join, JoinOnly, ListOf, ListConcatenation, Not, Or, StringLiteral, Variable}
-use Rattle.just_syntax.specs.View.{piece_views, view, views}
+use Rattle.just_syntax.specs.Prelude.{Call, FormatString, ListOf, levels, levels_of_pieces, levels_of_row, piece_views, view, views}
+use Rattle.just_syntax.specs.Plain.{Expr, And, Assert, AssertOnly, Backtick, Comparison, Concatenation, Conditional, ConditionalOnly, Group, Join, JoinOnly}
+use Rattle.just_syntax.specs.Plain.{ListConcatenation, Not, Or, StringLiteral, Variable}
 use Rattle.just_syntax.proofs.Rows.{view_call, view_format_string, view_list}
-use Rattle.just_syntax.specs.Levels.{levels, levels_of_pieces, levels_of_row}
 
 pub has_level : (e : Expr) → 1 ≤ levels e
 has_level (And l r) = omega arith

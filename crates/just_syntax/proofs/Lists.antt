@@ -1,6 +1,7 @@
--- Membership in lists that are put together.
-use Rattle.std.proofs.Common.{◌↔◌, ◌⊎◌, inl, inr, ⊎_elim, zero, suc, List, [], ◌∷◌, ◌++◌, arith}
-use Rattle.std.specs.List.{Contains}
+-- Lists: membership, properties of all elements, and the rest from an index on.
+use Rattle.std.proofs.Common.{◌≡◌, ◌↔◌, ◌⊎◌, inl, inr, ⊎_elim, ℕ, zero, suc, ◌+◌, ◌<◌, List, [], ◌∷◌, ◌++◌, map, length, get_or, drop, sym, ap, ◌∙◌, arith}
+use Rattle.std.proofs.Common.{add-one, drop-cons, Contains}
+use Rattle.std.specs.List.{AllByRecursion}
 use Rattle.just_syntax.specs.Lists.{IsIn}
 
 pub in_append : {A : Type 0} (xs ys : List A) (x : A) → IsIn (xs ++ ys) x ↔ (IsIn xs x ⊎ IsIn ys x)
@@ -17,7 +18,7 @@ in_first xs ys x h = (in_append xs ys x).1 (inl h)
 pub in_second : {A : Type 0} (xs ys : List A) (x : A) → IsIn ys x → IsIn (xs ++ ys) x
 in_second xs ys x h = (in_append xs ys x).1 (inr h)
 
--- membership is std's, which goes by position
+-- membership is std's `Contains`, which is by position
 pub in_of : {A : Type 0} (xs : List A) (x : A) → Contains xs x → IsIn xs x
 in_of [] x (k, below, at) = absurd (omega arith)
 in_of (y ∷ ys) x (zero, below, at) = inl at
@@ -27,3 +28,32 @@ pub of_in : {A : Type 0} (xs : List A) (x : A) → IsIn xs x → Contains xs x
 of_in [] x h = absurd h
 of_in (y ∷ ys) x (inl same) = (zero, omega arith, same)
 of_in (y ∷ ys) x (inr later) = let h = of_in ys x later in (suc h.0, omega arith, h.2)
+
+-- ---- properties of all elements
+
+module _ {A : Type 0} (P : A → Type 0) where
+  pub all_append : (xs ys : List A) → AllByRecursion P (xs ++ ys) ↔ (AllByRecursion P xs × AllByRecursion P ys)
+  all_append [] ys = ((λ h. (tt, h)), (λ h. h.1))
+  all_append (x ∷ xs) ys =
+      let rest = all_append xs ys in ((λ h. let r = rest.0 h.1 in ((h.0, r.0), r.1)), (λ h. (h.0.0, rest.1 (h.0.1, h.1))))
+
+  pub all_front : (xs ys : List A) → AllByRecursion P (xs ++ ys) → AllByRecursion P xs
+  all_front xs ys h = ((all_append xs ys).0 h).0
+
+  pub all_after : (xs ys : List A) → AllByRecursion P (xs ++ ys) → AllByRecursion P ys
+  all_after xs ys h = ((all_append xs ys).0 h).1
+
+  pub all_map : {B : Type 0} (f : B → A) (xs : List B) → AllByRecursion P (map f xs) ↔ AllByRecursion (λ x. P (f x)) xs
+  all_map f [] = ((λ h. h), (λ h. h))
+  all_map f (x ∷ xs) = let rest = all_map f xs in ((λ h. (h.0, rest.0 h.1)), (λ h. (h.0, rest.1 h.1)))
+
+  pub all_alike : (Q : A → Type 0) → ((x : A) → P x → Q x) → (xs : List A) → AllByRecursion P xs → AllByRecursion Q xs
+  all_alike Q on [] h = tt
+  all_alike Q on (x ∷ xs) h = (on x h.0, all_alike Q on xs h.1)
+
+-- the rest from an index on, viewed by f, begins with the element there
+pub rest_from : {A B : Type 0} (f : A → B) (xs : List A) (i : ℕ) (x : A) → i < length xs → x ≡ get_or xs i x → map f (drop i xs) ≡ f x ∷ map f (drop (i + 1) xs)
+rest_from f xs i x h is =
+    ap (map f) (drop-cons xs i x h)
+    ∙ ap (λ y. f y ∷ map f (drop (suc i) xs)) (sym is)
+    ∙ ap (λ j. f x ∷ map f (drop j xs)) (sym (add-one i))

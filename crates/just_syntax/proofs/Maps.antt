@@ -8,11 +8,9 @@ use Rattle.std.specs.String.{string_cmp}
 use Rattle.std.specs.declared.cmp.Ordering.{Ordering}
 use Rattle.std.specs.declared.cmp.Ordering.TheVariants.{Less, Equal, Greater}
 use Rattle.std.specs.declared.string.String.{String}
-use Rattle.just_syntax.specs.Keyed.{with_value}
-use Rattle.just_syntax.specs.Plain.{Text}
-use Rattle.just_syntax.specs.View.{pair_view}
+use Rattle.just_syntax.specs.Prelude.{Text, pair_view, with_value}
 
-map_choice : {X Y : Type 0} (f : X → Y) (o : Ordering) (a b c : List X) → map f (match_ordering o a b c) ≡ match_ordering o (map f a) (map f b) (map f c)
+pub map_choice : {X Y : Type 0} (f : X → Y) (o : Ordering) (a b c : List X) → map f (match_ordering o a b c) ≡ match_ordering o (map f a) (map f b) (map f c)
 map_choice f Less a b c = refl
 map_choice f Equal a b c = refl
 map_choice f Greater a b c = refl
@@ -25,7 +23,8 @@ seen_with f key (y ∷ ys) x =
     ∙ ap (λ more. match_ordering (slice_cmp nat_cmp (key (f x)) (key (f y))) (f x ∷ f y ∷ map f ys) (f x ∷ map f ys) (f y ∷ more)) (seen_with f key ys x)
 
 -- a text inserted into a map
-pub pairs_with : {A B : Type 0} (es : List (String A × String B)) (k : String A) (v : String B) → map pair_view (insert_entry string_cmp es k v) ≡ insert_entry (slice_cmp nat_cmp) (map pair_view es) (string_bytes k) (string_bytes v)
+pub pairs_with : {A B : Type 0} (es : List (String A × String B)) (k : String A) (v : String B) → map pair_view (insert_entry string_cmp es k v)
+    ≡ insert_entry (slice_cmp nat_cmp) (map pair_view es) (string_bytes k) (string_bytes v)
 pairs_with [] k v = refl
 pairs_with (e ∷ es) k v =
     map_choice pair_view (string_cmp k e.0) ((k, v) ∷ e ∷ es) ((e.0, v) ∷ es) (e ∷ insert_entry string_cmp es k v)

@@ -1,13 +1,16 @@
 -- Expressions whose parts are not boxes.
-use Rattle.std.proofs.Common.{◌≡◌, ℕ, suc, List, [], ◌∷◌, ◌++◌, ◌+◌, ◌<◌, length, get_or, drop, add-one, drop-cons, codes, refl, ap, sym, ◌∙◌, rules, Option, Some, None, Box, Global}
-use Rattle.std.specs.Option.{option_map}
-use Rattle.just_syntax.specs.declared.expression.Expression.{Expression, Row_of-Expression, end_of-Expression, more_of-Expression, items-the_row-Expression, Row_of-Expression-FormatString-1-2, items-the_row-Expression-FormatString-1-2, end_of-Expression-FormatString-1-2, more_of-Expression-FormatString-1-2}
+use Rattle.std.proofs.Common.{◌≡◌, ℕ, suc, List, [], ◌∷◌, ◌++◌, ◌+◌, ◌<◌, length, get_or, drop, add-one, drop-cons, codes, refl, ap, sym, ◌∙◌, rules, Option}
+use Rattle.std.proofs.Common.{Some, None, Box, Global, option_map}
+use Rattle.just_syntax.specs.declared.expression.Expression.{Expression, Row_of-Expression, end_of-Expression, more_of-Expression, items-the_row-Expression}
+use Rattle.just_syntax.specs.declared.expression.Expression.{Row_of-Expression-FormatString-1-2, items-the_row-Expression-FormatString-1-2}
+use Rattle.just_syntax.specs.declared.expression.Expression.{end_of-Expression-FormatString-1-2, more_of-Expression-FormatString-1-2}
 use Rattle.just_syntax.specs.declared.expression.Expression.TheViews.{the_lemmas}
 use Rattle.just_syntax.specs.declared.expression.Expression.TheViews as expressions
-use Rattle.just_syntax.specs.Plain.{Call, Cons, Piece, ListOf, FormatString, count}
+use Rattle.just_syntax.specs.Prelude.{Call, FormatString, ListOf, assert_view, conditional, join, literal_view, name_view, piece_views, printed, printed_call}
+use Rattle.just_syntax.specs.Prelude.{printed_pieces, printed_row, token_view, view, views}
+use Rattle.just_syntax.specs.Plain.{Cons, Piece, count}
 use Rattle.just_syntax.specs.declared.string_literal.StringLiteral.{StringLiteral as Written}
-use Rattle.just_syntax.specs.Printed.{printed, printed_call, printed_row, printed_pieces}
-use Rattle.just_syntax.specs.View.{assert_view, conditional, join, name_view, token_view, literal_view, view, views, row_view, piece_views, pieces_view}
+use Rattle.just_syntax.specs.View.{row_view, pieces_view}
 
 row_items : {n : _} (row : Row_of-Expression n) → row_view row ≡ views (items-the_row-Expression n row)
 row_items end_of-Expression = refl
@@ -24,15 +27,18 @@ pub count_views : (es : List Expression) → count (views es) ≡ length es
 count_views [] = refl
 count_views (e ∷ es) = ap suc (count_views es)
 
-pub view_assert : (e : Box Expression Global) (m : Option (Box Expression Global)) (name : _) → view (expressions.Assert e m name) ≡ assert_view (view e.value) (option_map (λ b. view b.value) m) (name_view name)
+pub view_assert : (e : Box Expression Global) (m : Option (Box Expression Global)) (name : _)
+    → view (expressions.Assert e m name) ≡ assert_view (view e.value) (option_map (λ b. view b.value) m) (name_view name)
 view_assert e None name = refl
 view_assert e (Some m) name = refl
 
-pub view_conditional : (e a : Box Expression Global) (b : Option (Box Expression Global)) → view (expressions.Conditional e a b) ≡ conditional (view e.value) (view a.value) (option_map (λ b. view b.value) b)
+pub view_conditional : (e a : Box Expression Global) (b : Option (Box Expression Global)) → view (expressions.Conditional e a b)
+    ≡ conditional (view e.value) (view a.value) (option_map (λ b. view b.value) b)
 view_conditional e a None = refl
 view_conditional e a (Some b) = refl
 
-pub view_join : (l : Option (Box Expression Global)) (t : _) (r : Box Expression Global) → view (expressions.Join l t r) ≡ join (option_map (λ b. view b.value) l) (token_view t) (view r.value)
+pub view_join : (l : Option (Box Expression Global)) (t : _) (r : Box Expression Global)
+    → view (expressions.Join l t r) ≡ join (option_map (λ b. view b.value) l) (token_view t) (view r.value)
 view_join None t r = refl
 view_join (Some l) t r = refl
 
@@ -51,12 +57,17 @@ printed_call_is es name = ap printed (view_call es name)
 pub printed_list : (es : _) (t : _) → printed (view (expressions.List es t)) ≡ (codes "[" ++ printed_row [] (views es.items)) ++ codes "]"
 printed_list es t = ap printed (view_list es t)
 
-pub printed_format_string : (start : _) (es : _) → printed (view (expressions.FormatString start es)) ≡ start.lexeme.now ++ printed_pieces (piece_views es.items)
+pub printed_format_string : (start : _) (es : _) → printed (view (expressions.FormatString start es))
+    ≡ start.lexeme.now ++ printed_pieces (piece_views es.items)
 printed_format_string start es = ap printed (view_format_string start es)
 
 -- the rest begins with the item
-pub views_front : (es : List Expression) (i : ℕ) (e : Expression) → i < length es → e ≡ get_or es i e → views (drop i es) ≡ Cons (view e) (views (drop (i + 1) es))
-views_front es i e h is = ap views (drop-cons es i e h) ∙ ap (λ x. Cons (view x) (views (drop (suc i) es))) (sym is) ∙ ap (λ j. Cons (view e) (views (drop j es))) (sym (add-one i))
+pub views_front : (es : List Expression) (i : ℕ) (e : Expression) → i < length es → e ≡ get_or es i e
+    → views (drop i es) ≡ Cons (view e) (views (drop (i + 1) es))
+views_front es i e h is =
+    ap views (drop-cons es i e h) ∙ ap (λ x. Cons (view x) (views (drop (suc i) es))) (sym is) ∙ ap (λ j. Cons (view e) (views (drop j es))) (sym (add-one i))
 
-pub pieces_front : (ps : List (Expression × Written)) (i : ℕ) (p : Expression × Written) → i < length ps → p ≡ get_or ps i p → piece_views (drop i ps) ≡ Piece (view p.0) (literal_view p.1) (piece_views (drop (i + 1) ps))
-pieces_front ps i p h is = ap piece_views (drop-cons ps i p h) ∙ ap (λ x. Piece (view x.0) (literal_view x.1) (piece_views (drop (suc i) ps))) (sym is) ∙ ap (λ j. Piece (view p.0) (literal_view p.1) (piece_views (drop j ps))) (sym (add-one i))
+pub pieces_front : (ps : List (Expression × Written)) (i : ℕ) (p : Expression × Written) → i < length ps → p ≡ get_or ps i p
+    → piece_views (drop i ps) ≡ Piece (view p.0) (literal_view p.1) (piece_views (drop (i + 1) ps))
+pieces_front ps i p h is = ap piece_views (drop-cons ps i p h) ∙ ap (λ x. Piece (view x.0) (literal_view x.1) (piece_views (drop (suc i) ps))) (sym is)
+    ∙ ap (λ j. Piece (view p.0) (literal_view p.1) (piece_views (drop j ps))) (sym (add-one i))

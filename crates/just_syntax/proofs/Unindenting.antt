@@ -1,24 +1,28 @@
 -- The lines of a text, and how many bytes each of them can lose.
-use Rattle.std.proofs.Common.{inl, inr, ◌≡◌, ◌≢◌, ℕ, zero, suc, ◌+◌, ◌<◌, ◌≤◌, min, List, [], ◌∷◌, ◌++◌, length, take, drop, get_or, eqb, Bool, true, false, Option, Some, None, refl, ap, sym, ◌∙◌, arith, IsUtf8, IsCharBoundary}
+use Rattle.std.proofs.Common.{inl, inr, ◌≡◌, ◌≢◌, ℕ, zero, suc, ◌+◌, ◌<◌, ◌≤◌, min, List, [], ◌∷◌, ◌++◌, length, take, drop, get_or, eqb, Bool, true, false}
+use Rattle.std.proofs.Common.{Option, Some, None, refl, ap, sym, ◌∙◌, arith, IsUtf8, IsCharBoundary}
 use Rattle.std.specs.List.{onto_first, prefix_len, common_prefix_len}
 use Rattle.std.proofs.lemmas.Bool.{cond_both, eq-eqb, ne_eqb, eqb-true, or_cases}
 use Rattle.std.proofs.lemmas.List.{append_assoc, length-drop, length-take}
 use Rattle.std.proofs.lemmas.List.Sums.{common_prefix_len-le, prefix_len_passes}
 use Rattle.std.proofs.lemmas.Str.{IsCharBoundary-after_ascii, IsCharBoundary-start}
-use Rattle.just_syntax.specs.Plain.{Text}
-use Rattle.just_syntax.specs.Unindented.{lines, is_blank, is_gap, indentation, common_start, with_line, common_indentation, width, unindented_line, unindented_lines}
+use Rattle.just_syntax.specs.Prelude.{Text, common_indentation, is_gap, lines, unindented_lines}
+use Rattle.just_syntax.specs.Unindented.{is_blank, indentation, common_start, with_line, width, unindented_line}
 
 -- the first line ends after the first newline
-pub lines_cut : (text : Text) (k : ℕ) → k < length text → get_or text k 0 ≡ 10 → ((i : ℕ) → i < k → get_or text i 0 ≢ 10) → lines text ≡ take (suc k) text ∷ lines (drop (suc k) text)
+pub lines_cut : (text : Text) (k : ℕ) → k < length text → get_or text k 0 ≡ 10 → ((i : ℕ) → i < k → get_or text i 0 ≢ 10)
+    → lines text ≡ take (suc k) text ∷ lines (drop (suc k) text)
 lines_cut [] k h e none = absurd (omega arith)
 lines_cut (b ∷ bs) zero h e none = rw (eq-eqb b 10 e) refl
-lines_cut (b ∷ bs) (suc k) h e none = rw (ne_eqb b 10 (none 0 (omega arith))) (ap (onto_first b) (lines_cut bs k (omega arith) e (λ i l. none (suc i) (omega arith))))
+lines_cut (b ∷ bs) (suc k) h e none =
+    rw (ne_eqb b 10 (none 0 (omega arith))) (ap (onto_first b) (lines_cut bs k (omega arith) e (λ i l. none (suc i) (omega arith))))
 
 -- without a newline the text is one line
 pub lines_whole : (text : Text) → 0 < length text → ((i : ℕ) → i < length text → get_or text i 0 ≢ 10) → lines text ≡ text ∷ []
 lines_whole [] some none = absurd (omega arith)
 lines_whole (b ∷ []) some none = rw (ne_eqb b 10 (none 0 (omega arith))) refl
-lines_whole (b ∷ c ∷ cs) some none = rw (ne_eqb b 10 (none 0 (omega arith))) (ap (onto_first b) (lines_whole (c ∷ cs) (omega arith) (λ i l. none (suc i) (omega arith))))
+lines_whole (b ∷ c ∷ cs) some none =
+    rw (ne_eqb b 10 (none 0 (omega arith))) (ap (onto_first b) (lines_whole (c ∷ cs) (omega arith) (λ i l. none (suc i) (omega arith))))
 
 -- only the empty text has no lines
 some_line : (ls : List Text) → 0 < length ls → eqb (length ls) 0 ≡ false
@@ -31,7 +35,8 @@ onto_some b (l ∷ ls) = some_line (l ∷ ls) (omega arith)
 none_left : (text : Text) → eqb (length (lines text)) 0 ≡ eqb (length text) 0
 none_left [] = refl
 none_left (b ∷ bs) =
-    cond_both (eqb b 10) ((b ∷ []) ∷ lines bs) (onto_first b (lines bs)) (λ ls. eqb (length ls) 0 ≡ false) (λ e. some_line ((b ∷ []) ∷ lines bs) (omega arith)) (λ e. onto_some b (lines bs))
+    cond_both (eqb b 10) ((b ∷ []) ∷ lines bs) (onto_first b (lines bs)) (λ ls. eqb (length ls) 0 ≡ false) (λ e. some_line ((b ∷ []) ∷ lines bs) (omega arith))
+    (λ e. onto_some b (lines bs))
     ∙ sym (ne_eqb (length (b ∷ bs)) 0 (λ e. omega arith))
 
 -- each line that is not blank begins with at least this many spaces and tabs
@@ -48,11 +53,13 @@ start_right xs ys = omega (arith, length-take (common_prefix_len (λ x y. eqb x 
 -- the common indentation never grows
 shrinks : (so_far : Text) (ls : List Text) → width (common_indentation (Some so_far) ls) ≤ length so_far
 shrinks so_far [] = omega arith
-shrinks so_far (line ∷ rest) = cond_both (is_blank line) (Some so_far) (Some (common_start so_far (indentation line))) (λ o. width (common_indentation o rest) ≤ length so_far)
+shrinks so_far (line ∷ rest) =
+    cond_both (is_blank line) (Some so_far) (Some (common_start so_far (indentation line))) (λ o. width (common_indentation o rest) ≤ length so_far)
     (λ e. shrinks so_far rest)
     (λ e. let h = shrinks (common_start so_far (indentation line)) rest in omega (arith, h, start_left so_far (indentation line)))
 
-fits_line : (so_far : Option Text) (line : Text) (rest : List Text) → is_blank line ≡ false → width (common_indentation (with_line so_far line) rest) ≤ length (indentation line)
+fits_line : (so_far : Option Text) (line : Text) (rest : List Text) → is_blank line ≡ false
+    → width (common_indentation (with_line so_far line) rest) ≤ length (indentation line)
 fits_line None line rest e = rw e (shrinks (indentation line) rest)
 fits_line (Some t) line rest e = rw e (let h = shrinks (common_start t (indentation line)) rest in omega (arith, h, start_right t (indentation line)))
 
@@ -68,7 +75,8 @@ pub cut_boundary : (line : Text) (n : ℕ) → IsUtf8 line → n ≤ length (ind
 cut_boundary line zero utf8 h = IsCharBoundary-start line utf8
 cut_boundary line (suc n) utf8 h =
     let len = length-take (prefix_len is_gap line) line in
-    let there : IsCharBoundary line (n + 1) = IsCharBoundary-after_ascii line n utf8 (omega arith) (gap_ascii (get_or line n 0) (prefix_len_passes is_gap line n 0 (omega arith))) in
+    let there : IsCharBoundary line (n + 1) =
+    IsCharBoundary-after_ascii line n utf8 (omega arith) (gap_ascii (get_or line n 0) (prefix_len_passes is_gap line n 0 (omega arith))) in
     let same : n + 1 ≡ suc n = omega arith in
     rw same at there
 
@@ -79,8 +87,10 @@ nothing_common xs ys i h =
     omega (arith, both.0, both.1, length-drop i xs, length-drop i ys)
 
 -- one more line is written
-pub line_on : (all line after : Text) (n : ℕ) (is_first : Bool) (is_last : Bool) (text : Text) (whole : Text) → lines text ≡ line ∷ lines after → is_last ≡ eqb (length after) 0
-    → all ++ unindented_lines n is_first (lines text) ≡ whole → (all ++ unindented_line n is_first is_last line) ++ unindented_lines n false (lines after) ≡ whole
+pub line_on : (all line after : Text) (n : ℕ) (is_first : Bool) (is_last : Bool) (text : Text) (whole : Text) → lines text ≡ line ∷ lines after
+    → is_last ≡ eqb (length after) 0
+    → all ++ unindented_lines n is_first (lines text) ≡ whole → (all ++ unindented_line n is_first is_last line) ++ unindented_lines n false (lines after)
+    ≡ whole
 line_on all line after n is_first is_last text whole cut last so_far =
     append_assoc all (unindented_line n is_first is_last line) (unindented_lines n false (lines after))
     ∙ ap (λ b. all ++ (unindented_line n is_first b line ++ unindented_lines n false (lines after))) (last ∙ sym (none_left after))

@@ -1,6 +1,9 @@
 -- The number of levels of an expression.
 use Rattle.std.specs.Prelude.{suc, max, ℕ, Option, Some, None}
-use Rattle.just_syntax.specs.Plain.{Expr, And, Assert, AssertOnly, Backtick, Call, Comparison, Concatenation, Conditional, ConditionalOnly, FormatString, Group, Join, JoinOnly, ListOf, ListConcatenation, Not, Or, StringLiteral, Variable, Exprs, Nil, Cons, Pieces, NoPiece, Piece}
+use Rattle.just_syntax.specs.Plain.{Expr, And, Assert, AssertOnly, Backtick, Call, Comparison, Concatenation}
+use Rattle.just_syntax.specs.Plain.{Conditional, ConditionalOnly, FormatString, Group, Join, JoinOnly, ListOf}
+use Rattle.just_syntax.specs.Plain.{ListConcatenation, Not, Or, StringLiteral, Variable, Exprs, Nil, Cons, Pieces}
+use Rattle.just_syntax.specs.Plain.{NoPiece, Piece}
 
 -- one more than that of its deepest part
 abbrev mutual

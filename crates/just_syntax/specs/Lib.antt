@@ -12,3 +12,4 @@ pub mod View
 pub mod Unindented
 pub mod Levels
 pub mod Lists
+pub mod Prelude

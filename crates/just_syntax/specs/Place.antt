@@ -8,7 +8,8 @@ start_of path = record { column = 0; line = 0; offset = 0; path = path }
 
 -- the token of a text at a place
 abbrev pub token_at : Place → Text → Token
-token_at place lexeme = record { column = place.column; line = place.line; offset = place.offset; lexeme = lexeme; path = place.path }
+token_at place lexeme =
+    record { column = place.column; line = place.line; offset = place.offset; lexeme = lexeme; path = place.path }
 
 -- the token of a text at a place; without a place, at the start of a file whose path is empty
 abbrev pub placed : Option Place → Text → Token

@@ -1,8 +1,12 @@
 -- How expressions are printed.
 use Rattle.std.specs.Prelude.{[], ◌++◌, codes, Option, Some, None}
 use Rattle.just_syntax.specs.declared.conditional_operator.ConditionalOperator.{ConditionalOperator}
-use Rattle.just_syntax.specs.declared.conditional_operator.ConditionalOperator.TheVariants.{Equality, Inequality, RegexMatch, RegexMismatch}
-use Rattle.just_syntax.specs.Plain.{Text, Expr, And, Assert, AssertOnly, Backtick, Call, Comparison, Concatenation, Conditional, ConditionalOnly, FormatString, Group, Join, JoinOnly, ListOf, ListConcatenation, Not, Or, StringLiteral, Variable, Exprs, Nil, Cons, Pieces, NoPiece, Piece}
+use Rattle.just_syntax.specs.declared.conditional_operator.ConditionalOperator.TheVariants.{Equality, Inequality}
+use Rattle.just_syntax.specs.declared.conditional_operator.ConditionalOperator.TheVariants.{RegexMatch, RegexMismatch}
+use Rattle.just_syntax.specs.Plain.{Text, Expr, And, Assert, AssertOnly, Backtick, Call, Comparison, Concatenation}
+use Rattle.just_syntax.specs.Plain.{Conditional, ConditionalOnly, FormatString, Group, Join, JoinOnly, ListOf}
+use Rattle.just_syntax.specs.Plain.{ListConcatenation, Not, Or, StringLiteral, Variable, Exprs, Nil, Cons, Pieces}
+use Rattle.just_syntax.specs.Plain.{NoPiece, Piece}
 
 -- the comparison operator as written
 abbrev pub comparison_text : ConditionalOperator → Text
@@ -22,8 +26,10 @@ printed_assertion condition None = (codes "assert(" ++ condition) ++ codes ")"
 
 -- a conditional, with or without its other branch
 abbrev pub printed_conditional : Text → Text → Option Text → Text
-printed_conditional condition consequence (Some otherwise) = (((((codes "if " ++ condition) ++ codes " { ") ++ consequence) ++ codes " } else { ") ++ otherwise) ++ codes " }"
-printed_conditional condition consequence None = (((codes "if " ++ condition) ++ codes " { ") ++ consequence) ++ codes " }"
+printed_conditional condition consequence (Some otherwise) =
+    (((((codes "if " ++ condition) ++ codes " { ") ++ consequence) ++ codes " } else { ") ++ otherwise) ++ codes " }"
+printed_conditional condition consequence None =
+    (((codes "if " ++ condition) ++ codes " { ") ++ consequence) ++ codes " }"
 
 -- a join, with or without its left side
 abbrev pub printed_join : Option Text → Text → Text

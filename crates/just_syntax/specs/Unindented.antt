@@ -1,5 +1,6 @@
 -- A text without the indentation that its lines share.
-use Rattle.std.specs.Prelude.{ℕ, Bool, true, false, ◌==◌, ◌||◌, ◌++◌, List, [], ◌∷◌, length, take, drop, Option, Some, None, codes, if◌then◌else◌}
+use Rattle.std.specs.Prelude.{ℕ, Bool, true, false, ◌==◌, ◌||◌, ◌++◌, List, [], ◌∷◌, length, take, drop, Option, Some}
+use Rattle.std.specs.Prelude.{None, codes, if◌then◌else◌}
 use Rattle.std.specs.List.{common_prefix_len, list_all, onto_first, take_while}
 use Rattle.just_syntax.specs.Plain.{Text}
 
@@ -45,7 +46,8 @@ width (Some text) = length text
 
 -- a line without its first n bytes; a blank one becomes a newline, or nothing if it is the first or the last
 abbrev pub unindented_line : ℕ → Bool → Bool → Text → Text
-unindented_line n is_first is_last line = if is_blank line then (if is_first || is_last then [] else codes "\n") else drop n line
+unindented_line n is_first is_last line =
+    if is_blank line then (if is_first || is_last then [] else codes "\n") else drop n line
 
 -- whether the line before was the last
 abbrev pub is_none_left : List Text → Bool
@@ -54,7 +56,8 @@ is_none_left rest = length rest == 0
 -- the lines, each without its first n bytes, concatenated
 abbrev pub unindented_lines : ℕ → Bool → List Text → Text
 unindented_lines n is_first [] = []
-unindented_lines n is_first (line ∷ rest) = unindented_line n is_first (is_none_left rest) line ++ unindented_lines n false rest
+unindented_lines n is_first (line ∷ rest) =
+    unindented_line n is_first (is_none_left rest) line ++ unindented_lines n false rest
 
 -- the text without the indentation that its lines share
 abbrev pub unindented : Text → Text

@@ -1,5 +1,6 @@
 -- Variables by their names.
-use Rattle.std.specs.Prelude.{ℕ, Bool, false, List, [], ◌∷◌, ◌++◌, Option, Some, None, nat_eq, unwrap_or, codes, if◌then◌else◌}
+use Rattle.std.specs.Prelude.{ℕ, Bool, false, List, [], ◌∷◌, ◌++◌, Option, Some, None, nat_eq, unwrap_or, codes}
+use Rattle.std.specs.Prelude.{if◌then◌else◌}
 use Rattle.std.specs.Option.{is_some, option_map, option_or}
 use Rattle.just_syntax.specs.Keyed.{value_at}
 use Rattle.just_syntax.specs.OutOfMemory.{no_memory_text}
@@ -12,7 +13,8 @@ number_named assignments name = option_map (λ a. a.number) (value_at (λ a. a.n
 -- the first of some names that no variable has
 abbrev pub first_unknown : List Assignment → List Text → Option Text
 first_unknown assignments [] = None
-first_unknown assignments (name ∷ names) = if is_some (number_named assignments name) then first_unknown assignments names else Some name
+first_unknown assignments (name ∷ names) =
+    if is_some (number_named assignments name) then first_unknown assignments names else Some name
 
 -- whether the variable with this name has the number
 abbrev pub has_number : List Assignment → ℕ → Text → Bool
@@ -21,7 +23,8 @@ has_number assignments n name = unwrap_or (option_map (λ m. nat_eq m n) (number
 -- the text that pairs of a name and a text give a number: of the pairs whose name has this number, the last counts
 abbrev pub given : List Assignment → List (Text × Text) → ℕ → Option Text
 given assignments [] n = None
-given assignments (p ∷ ps) n = option_or (given assignments ps n) (if has_number assignments n p.0 then Some p.1 else None)
+given assignments (p ∷ ps) n =
+    option_or (given assignments ps n) (if has_number assignments n p.0 then Some p.1 else None)
 
 -- the message for a name that no variable has, or for `OutOfMemory`
 abbrev pub variable_error_text : Option Text → Text

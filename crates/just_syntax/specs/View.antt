@@ -9,7 +9,14 @@ use Rattle.just_syntax.specs.declared.token.Token.{Token}
 use Rattle.just_syntax.specs.declared.name.Name.{Name}
 use Rattle.just_syntax.specs.declared.number.Number.{Number}
 use Rattle.just_syntax.specs.declared.string_literal.StringLiteral.{StringLiteral as Written}
-use Rattle.just_syntax.specs.declared.expression.Expression.{Expression, And', Assert', Backtick, Call', Comparison', Concatenation', Conditional', FormatString', Group', Join', List', ListConcatenation', Not', Or', StringLiteral, Variable, Row_of-Expression, end_of-Expression, more_of-Expression, Row_of-Expression-FormatString-1-2, end_of-Expression-FormatString-1-2, more_of-Expression-FormatString-1-2, Held-Expression-Assert-1, None', Some'}
+use Rattle.just_syntax.specs.declared.expression.Expression.{Expression, And', Assert', Backtick, Call', Comparison'}
+use Rattle.just_syntax.specs.declared.expression.Expression.{Concatenation', Conditional', FormatString', Group', Join'}
+use Rattle.just_syntax.specs.declared.expression.Expression.{List', ListConcatenation', Not', Or', StringLiteral}
+use Rattle.just_syntax.specs.declared.expression.Expression.{Variable, Row_of-Expression, end_of-Expression}
+use Rattle.just_syntax.specs.declared.expression.Expression.{more_of-Expression, Row_of-Expression-FormatString-1-2}
+use Rattle.just_syntax.specs.declared.expression.Expression.{end_of-Expression-FormatString-1-2}
+use Rattle.just_syntax.specs.declared.expression.Expression.{more_of-Expression-FormatString-1-2}
+use Rattle.just_syntax.specs.declared.expression.Expression.{Held-Expression-Assert-1, None', Some'}
 use Rattle.just_syntax.specs.declared.assignment.Assignment.{Assignment}
 use Rattle.just_syntax.specs.declared.attribute.Attribute.{Attribute}
 use Rattle.just_syntax.specs.declared.attribute.Attribute.TheVariants.{Env, Other}
@@ -82,7 +89,8 @@ abbrev mutual
 
   pub pieces_view : {n : _} → Row_of-Expression-FormatString-1-2 n → Pieces
   pieces_view end_of-Expression-FormatString-1-2 = plain.NoPiece
-  pieces_view (more_of-Expression-FormatString-1-2 e literal rest) = plain.Piece (view e) (literal_view literal) (pieces_view rest)
+  pieces_view (more_of-Expression-FormatString-1-2 e literal rest) =
+      plain.Piece (view e) (literal_view literal) (pieces_view rest)
 
   pub held_view : Held-Expression-Assert-1 → Option Expr
   held_view None' = None
@@ -99,13 +107,22 @@ piece_views [] = plain.NoPiece
 piece_views (p ∷ ps) = plain.Piece (view p.0) (literal_view p.1) (piece_views ps)
 
 abbrev pub assignment_view : Assignment → plain.Assignment
-assignment_view a = record { eager = a.eager; export = a.export; name = name_view a.name; number = a.number; private = a.private; value = view a.value }
+assignment_view a = record {
+  eager = a.eager;
+  export = a.export;
+  name = name_view a.name;
+  number = a.number;
+  private =
+      a.private;
+  value = view a.value;
+}
 
 abbrev pub parameter_view : Name × Number → plain.Token × ℕ
 parameter_view p = (name_view p.0, p.1)
 
 abbrev pub function_view : FunctionDefinition → plain.Function
-function_view f = record { body = view f.body; name = name_view f.name; parameters = map parameter_view f.parameters.items }
+function_view f =
+    record { body = view f.body; name = name_view f.name; parameters = map parameter_view f.parameters.items }
 
 abbrev pub attribute_view : Attribute → plain.Attribute
 attribute_view (Env key value) = plain.Env (view key) (view value)
@@ -162,7 +179,16 @@ set_view s = record { name = name_view s.name; value = setting_view s.value }
 
 -- the recipe's parameter
 abbrev pub recipe_parameter_view : Parameter → plain.Parameter
-recipe_parameter_view p = record { default = option_map view p.default; export = p.export; flag = p.flag; kind = p.kind; multiple = p.multiple; name = name_view p.name; number = p.number; value = option_map view p.value }
+recipe_parameter_view p = record {
+  default = option_map view p.default;
+  export = p.export;
+  flag = p.flag;
+  kind = p.kind;
+  multiple = p.multiple;
+  name = name_view p.name;
+  number = p.number;
+  value = option_map view p.value;
+}
 
 abbrev pub recipe_view : Recipe → plain.Recipe
 recipe_view r = record { attributes = attributes_view r.attributes; name = name_view r.name }

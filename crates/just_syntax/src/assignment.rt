@@ -1,7 +1,7 @@
 // Assignments.
 
-ghost use Rattle.std.specs.Prelude.{◌≡◌, false};
-ghost use Rattle.just_syntax.specs.View.{assignment_view, name_view, view};
+ghost use Rattle.std.specs.Prelude.{false, ◌≡◌};
+ghost use Rattle.just_syntax.specs.Prelude.{assignment_view, name_view, view};
 
 use crate::expression::Expression;
 use crate::keyed::Keyed;
@@ -22,7 +22,15 @@ pub struct Assignment<'src> {
 impl<'src> Assignment<'src> {
     /// A variable that is neither evaluated early, nor exported, nor private.
     pub fn new(name: Name<'src>, number: Number, value: Expression<'src>) -> Assignment<'src>
-        ensures { assignment_view result ≡ record { eager = false; export = false; name = name_view name.entry; number = number; private = false; value = view value.entry } }
+        ensures { assignment_view result ≡ record {
+          eager = false;
+          export = false;
+          name = name_view name.entry;
+          number =
+              number;
+          private = false;
+          value = view value.entry;
+        } }
     {
         Assignment {
             eager: false,

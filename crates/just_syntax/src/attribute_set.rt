@@ -2,7 +2,7 @@
 
 ghost use Rattle.std.specs.Prelude.{OnErr, OnOk, [], map, ◌++◌, ◌∷◌, ◌≡◌};
 ghost use Rattle.std.specs.Slice.Iter.{iter_rest};
-ghost use Rattle.just_syntax.specs.View.{attribute_view, attributes_view, name_view, named_attribute_view};
+ghost use Rattle.just_syntax.specs.Prelude.{attribute_view, attributes_view, name_view, named_attribute_view};
 
 use crate::attribute::Attribute;
 use crate::name::Name;
@@ -32,7 +32,8 @@ impl<'src> AttributeSet<'src> {
     ///
     /// `OutOfMemory`, if an allocation fails: the set is unchanged, and the attribute is dropped.
     pub fn push(&mut self, attribute: Attribute<'src>, name: Name<'src>) -> Result<(), OutOfMemory>
-        ensures ok { OnOk result (attributes_view self.new ≡ attributes_view self.old ++ (attribute_view attribute.entry, name_view name.entry) ∷ []) }
+        ensures ok { OnOk result (attributes_view self.new ≡ attributes_view self.old
+            ++ (attribute_view attribute.entry, name_view name.entry) ∷ []) }
         ensures err { OnErr result (attributes_view self.new ≡ attributes_view self.old) }
     {
         self.attributes.push((attribute, name))?;

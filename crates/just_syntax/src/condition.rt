@@ -1,10 +1,8 @@
 // Prints an assertion's condition, if the stack budget suffices.
 
-ghost use Rattle.std.specs.Prelude.{IfOk, IsTrue, max, string_bytes, ◌*◌, ◌++◌, ◌∷◌, [], ◌≡◌, ◌≤◌, ◌↔◌};
-ghost use Rattle.std.specs.Option.{option_map};
-ghost use Rattle.just_syntax.specs.Levels.{levels, levels_of_part, levels_of_pieces, levels_of_row};
-ghost use Rattle.just_syntax.specs.Printed.{printed};
-ghost use Rattle.just_syntax.specs.View.{piece_views, view, views};
+ghost use Rattle.std.specs.Prelude.{IfOk, IsTrue, max, option_map, string_bytes, ◌*◌, ◌↔◌, ◌≡◌, ◌≤◌};
+ghost use Rattle.just_syntax.specs.Prelude.{levels, levels_of_part, levels_of_pieces, levels_of_row, piece_views};
+ghost use Rattle.just_syntax.specs.Prelude.{printed, ticked, view, views};
 
 use crate::expression::Expression;
 use crate::out_of_memory::OutOfMemory;
@@ -25,7 +23,7 @@ pub fn in_backticks(
     condition: &Expression,
     budget: usize,
 ) -> Result<String, OutOfMemory>
-    ensures text { IfOk result (λ text. string_bytes text ≡ (96 ∷ printed (view condition.now)) ++ 96 ∷ []) }
+    ensures text { IfOk result (λ text. string_bytes text ≡ ticked (printed (view condition.now))) }
     ensures fits { IfOk result (λ _. PRINTED * levels (view condition.now) ≤ budget) }
 {
     if fits(condition, budget) {
@@ -38,7 +36,7 @@ pub fn in_backticks(
 // The condition in backticks. Out of line, to keep the caller's frame small.
 #[inline(never)]
 fn written(alloc: Global, condition: &Expression) -> Result<String, OutOfMemory>
-    ensures { IfOk result (λ text. string_bytes text ≡ (96 ∷ printed (view condition.now)) ++ 96 ∷ []) }
+    ensures { IfOk result (λ text. string_bytes text ≡ ticked (printed (view condition.now))) }
 {
     Ok(format!(in alloc; "`{condition}`")?)
 }

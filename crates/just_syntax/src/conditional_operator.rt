@@ -1,7 +1,7 @@
 // The operators that compare two values.
 
 ghost use Rattle.std.specs.Prelude.{◌≡◌};
-ghost use Rattle.just_syntax.specs.Printed.{comparison_text};
+ghost use Rattle.just_syntax.specs.Prelude.{comparison_text};
 
 use std::fmt;
 

@@ -1,7 +1,7 @@
 // Values shown in backticks.
 
 ghost use Rattle.std.specs.Prelude.{◌≡◌};
-ghost use Rattle.just_syntax.specs.View.{enclosed};
+ghost use Rattle.just_syntax.specs.Prelude.{enclosed};
 
 use crate::unstyled::write_unstyled;
 use std::fmt;

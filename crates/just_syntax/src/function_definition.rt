@@ -1,7 +1,7 @@
 // Functions defined in the file.
 
-ghost use Rattle.std.specs.Prelude.{◌≡◌, map};
-ghost use Rattle.just_syntax.specs.View.{function_view, name_view, parameter_view, view};
+ghost use Rattle.std.specs.Prelude.{map, ◌≡◌};
+ghost use Rattle.just_syntax.specs.Prelude.{function_view, name_view, parameter_view, view};
 
 use crate::expression::Expression;
 use crate::keyed::Keyed;
@@ -23,7 +23,12 @@ impl<'src> FunctionDefinition<'src> {
         parameters: Vec<(Name<'src>, Number)>,
         body: Expression<'src>,
     ) -> FunctionDefinition<'src>
-        ensures { function_view result ≡ record { body = view body.entry; name = name_view name.entry; parameters = map parameter_view parameters.entry.items } }
+        ensures { function_view result ≡ record {
+          body = view body.entry;
+          name = name_view name.entry;
+          parameters =
+              map parameter_view parameters.entry.items;
+        } }
     {
         FunctionDefinition {
             body,

@@ -1,6 +1,6 @@
 // Values that have keys.
 
-ghost use Rattle.std.specs.Prelude.{◌≡◌, ℕ, List};
+ghost use Rattle.std.specs.Prelude.{List, ℕ, ◌≡◌};
 
 /// A value that has a key.
 pub trait Keyed {

@@ -1,7 +1,7 @@
 // The operators that combine two lists element by element.
 
 ghost use Rattle.std.specs.Prelude.{◌≡◌};
-ghost use Rattle.just_syntax.specs.ListOperator.{separator};
+ghost use Rattle.just_syntax.specs.Prelude.{separator};
 
 use std::fmt;
 

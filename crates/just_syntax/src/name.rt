@@ -1,9 +1,7 @@
 // Names.
 
-ghost use Rattle.std.specs.Prelude.{◌≡◌};
-ghost use Rattle.std.specs.Option.{option_map};
-ghost use Rattle.just_syntax.specs.Place.{placed};
-ghost use Rattle.just_syntax.specs.View.{name_view, place_view};
+ghost use Rattle.std.specs.Prelude.{option_map, ◌≡◌};
+ghost use Rattle.just_syntax.specs.Prelude.{name_view, place_view, placed};
 
 use crate::place::Place;
 use crate::token::Token;

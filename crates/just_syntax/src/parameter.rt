@@ -1,7 +1,7 @@
 // Parameters of recipes.
 
-ghost use Rattle.std.specs.Prelude.{◌≡◌, false, None};
-ghost use Rattle.just_syntax.specs.View.{name_view, recipe_parameter_view};
+ghost use Rattle.std.specs.Prelude.{None, false, ◌≡◌};
+ghost use Rattle.just_syntax.specs.Prelude.{name_view, recipe_parameter_view};
 
 use crate::expression::Expression;
 use crate::name::Name;
@@ -28,7 +28,16 @@ pub struct Parameter<'src> {
 impl<'src> Parameter<'src> {
     /// A parameter that is neither exported nor an option, with no default and no value of its own.
     pub fn new(name: Name<'src>, number: Number, kind: ParameterKind) -> Parameter<'src>
-        ensures { recipe_parameter_view result ≡ record { default = None; export = false; flag = false; kind = kind; multiple = false; name = name_view name.entry; number = number; value = None } }
+        ensures { recipe_parameter_view result ≡ record {
+          default = None;
+          export = false;
+          flag = false;
+          kind = kind;
+          multiple = false;
+          name = name_view name.entry;
+          number = number;
+          value = None;
+        } }
     {
         Parameter {
             default: None,

@@ -1,7 +1,7 @@
 // How many arguments a parameter takes.
 
 ghost use Rattle.std.specs.Prelude.{◌≡◌};
-ghost use Rattle.just_syntax.specs.ParameterKind.{is_variadic};
+ghost use Rattle.just_syntax.specs.Prelude.{is_variadic};
 
 /// How many arguments a parameter takes.
 #[derive(Clone, Copy, Debug, PartialEq, Eq)]

@@ -1,8 +1,7 @@
 // Places in source files.
 
 ghost use Rattle.std.specs.Prelude.{◌≡◌};
-ghost use Rattle.just_syntax.specs.Place.{start_of};
-ghost use Rattle.just_syntax.specs.View.{place_view};
+ghost use Rattle.just_syntax.specs.Prelude.{place_view, start_of};
 
 /// Where a piece of a source file begins: its column, line and offset, all counted from 0, column and offset in bytes;
 /// and the path of the file.

@@ -1,11 +1,11 @@
 // How expressions are printed.
 #![tactic(auto, using(crate::proofs::Styled::styled_steps))]
 
-ghost use Rattle.std.specs.Prelude.{[], map, ◌++◌, codes};
-ghost use Rattle.std.specs.Option.{option_map};
+ghost use Rattle.std.specs.Prelude.{[], codes, option_map, ◌++◌};
 ghost use Rattle.std.specs.Fmt.{WritesStyledOnOk};
-ghost use Rattle.just_syntax.specs.Printed.{between, printed, printed_assertion, printed_call, printed_conditional, printed_join, printed_pieces, printed_row};
-ghost use Rattle.just_syntax.specs.View.{name_view, piece_views, view, views};
+ghost use Rattle.just_syntax.specs.Prelude.{between, name_view, piece_views, printed, printed_assertion, printed_call};
+ghost use Rattle.just_syntax.specs.Prelude.{printed_conditional, printed_join, printed_pieces, printed_row, view};
+ghost use Rattle.just_syntax.specs.Prelude.{views};
 
 use crate::expression::Expression;
 use crate::name::Name;
@@ -78,7 +78,8 @@ fn print_between<W: fmt::Write>(
     rhs: &Expression,
     f: &mut fmt::Formatter<W>,
 ) -> fmt::Result
-    ensures { WritesStyledOnOk W.write_str_gives f.old result (between (printed (view lhs.now)) operator.now (printed (view rhs.now))) f.new }
+    ensures { WritesStyledOnOk W.write_str_gives f.old result
+        (between (printed (view lhs.now)) operator.now (printed (view rhs.now))) f.new }
 {
     print(lhs, f)?;
     f.write_str(" ")?;
@@ -107,7 +108,9 @@ fn print_assert<W: fmt::Write>(
     message: Option<&Expression>,
     f: &mut fmt::Formatter<W>,
 ) -> fmt::Result
-    ensures { WritesStyledOnOk W.write_str_gives f.old result (printed_assertion (printed (view condition.now)) (option_map (λ e. printed (view e.now)) message.entry)) f.new }
+    ensures { WritesStyledOnOk W.write_str_gives f.old result
+        (printed_assertion (printed (view condition.now)) (option_map (λ e. printed (view e.now)) message.entry))
+        f.new }
 {
     f.write_str("assert(")?;
     print(condition, f)?;
@@ -126,7 +129,9 @@ fn print_conditional<W: fmt::Write>(
     otherwise: Option<&Expression>,
     f: &mut fmt::Formatter<W>,
 ) -> fmt::Result
-    ensures { WritesStyledOnOk W.write_str_gives f.old result (printed_conditional (printed (view condition.now)) (printed (view consequence.now)) (option_map (λ e. printed (view e.now)) otherwise.entry)) f.new }
+    ensures { WritesStyledOnOk W.write_str_gives f.old result
+        (printed_conditional (printed (view condition.now)) (printed (view consequence.now))
+        (option_map (λ e. printed (view e.now)) otherwise.entry)) f.new }
 {
     print_after("if ", condition, f)?;
     print_after(" { ", consequence, f)?;
@@ -142,7 +147,8 @@ fn print_conditional<W: fmt::Write>(
 // Prints a group.
 #[cycle(print)]
 fn print_group<W: fmt::Write>(contents: &Expression, f: &mut fmt::Formatter<W>) -> fmt::Result
-    ensures { WritesStyledOnOk W.write_str_gives f.old result ((codes "(" ++ printed (view contents.now)) ++ codes ")") f.new }
+    ensures { WritesStyledOnOk W.write_str_gives f.old result ((codes "(" ++ printed (view contents.now)) ++ codes ")")
+        f.new }
 {
     print_after("(", contents, f)?;
     f.write_str(")")
@@ -155,7 +161,8 @@ fn print_join<W: fmt::Write>(
     rhs: &Expression,
     f: &mut fmt::Formatter<W>,
 ) -> fmt::Result
-    ensures { WritesStyledOnOk W.write_str_gives f.old result (printed_join (option_map (λ e. printed (view e.now)) lhs.entry) (printed (view rhs.now))) f.new }
+    ensures { WritesStyledOnOk W.write_str_gives f.old result
+        (printed_join (option_map (λ e. printed (view e.now)) lhs.entry) (printed (view rhs.now))) f.new }
 {
     match lhs {
         Some(lhs) => print_between(lhs, "/", rhs, f),
@@ -169,7 +176,8 @@ fn print_join<W: fmt::Write>(
 // Prints a list.
 #[cycle(print)]
 fn print_list<W: fmt::Write>(elements: &[Expression], f: &mut fmt::Formatter<W>) -> fmt::Result
-    ensures { WritesStyledOnOk W.write_str_gives f.old result ((codes "[" ++ printed_row [] (views elements.now)) ++ codes "]") f.new }
+    ensures { WritesStyledOnOk W.write_str_gives f.old result ((codes "[" ++ printed_row [] (views elements.now))
+        ++ codes "]") f.new }
 {
     f.write_str("[")?;
     print_row(elements, f)?;
@@ -183,7 +191,8 @@ fn print_call<W: fmt::Write>(
     arguments: &[Expression],
     f: &mut fmt::Formatter<W>,
 ) -> fmt::Result
-    ensures { WritesStyledOnOk W.write_str_gives f.old result (printed_call (name_view name.now).lexeme (printed_row [] (views arguments.now))) f.new }
+    ensures { WritesStyledOnOk W.write_str_gives f.old result
+        (printed_call (name_view name.now).lexeme (printed_row [] (views arguments.now))) f.new }
 {
     f.write_str(name.lexeme())?;
     f.write_str("(")?;
@@ -212,7 +221,8 @@ fn print_format_string<W: fmt::Write>(
     expressions: &[(Expression, StringLiteral)],
     f: &mut fmt::Formatter<W>,
 ) -> fmt::Result
-    ensures { WritesStyledOnOk W.write_str_gives f.old result (start.now.lexeme.now ++ printed_pieces (piece_views expressions.now)) f.new }
+    ensures { WritesStyledOnOk W.write_str_gives f.old result
+        (start.now.lexeme.now ++ printed_pieces (piece_views expressions.now)) f.new }
 {
     f.write_str(start.lexeme)?;
     for (expression, literal) in expressions {

@@ -1,7 +1,7 @@
 // Recipes, as far as evaluation needs them.
 
-ghost use Rattle.std.specs.Prelude.{◌≡◌, []};
-ghost use Rattle.just_syntax.specs.View.{name_view, recipe_view};
+ghost use Rattle.std.specs.Prelude.{[], ◌≡◌};
+ghost use Rattle.just_syntax.specs.Prelude.{name_view, recipe_view};
 
 use crate::attribute_set::AttributeSet;
 use crate::name::Name;

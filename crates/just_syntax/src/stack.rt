@@ -1,8 +1,8 @@
 // How much stack is used and may be used, in bytes. Each number is measured or follows from a measured one:
 // docs/internals/stack.md says how.
 
-/// The stack budget of evaluation on a stack of 8 MiB. The remaining half MiB is for the callers of evaluation, for what
-/// the innermost form calls, and for the host.
+/// The stack budget of evaluation on a stack of 8 MiB. The remaining half MiB is for the callers of evaluation, for
+/// what the innermost form calls, and for the host.
 pub const STACK_BUDGET: usize = 15 * 512 * 1024;
 
 /// The stack budget of evaluation on a stack of 8 MiB in a program run by `rt try`. Such a program is compiled with

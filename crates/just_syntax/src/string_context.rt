@@ -1,8 +1,7 @@
 // The places that require one text.
 
 ghost use Rattle.std.specs.Prelude.{◌≡◌};
-ghost use Rattle.just_syntax.specs.StringContext.{token};
-ghost use Rattle.just_syntax.specs.View.{string_context_view, token_view};
+ghost use Rattle.just_syntax.specs.Prelude.{string_context_view, token, token_view};
 
 use crate::name::Name;
 use crate::token::Token;

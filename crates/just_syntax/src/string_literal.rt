@@ -1,7 +1,7 @@
 // String literals.
 
-ghost use Rattle.std.specs.Prelude.{◌≡◌, false, IfOk};
-ghost use Rattle.just_syntax.specs.View.{literal_view};
+ghost use Rattle.std.specs.Prelude.{IfOk, false, ◌≡◌};
+ghost use Rattle.just_syntax.specs.Prelude.{literal_view};
 
 use crate::out_of_memory::OutOfMemory;
 use std::alloc::Global;
@@ -27,7 +27,11 @@ impl<'src> StringLiteral<'src> {
         text: &str,
         lexeme: &'src str,
     ) -> Result<StringLiteral<'src>, OutOfMemory>
-        ensures { IfOk result (λ l. literal_view l ≡ record { cooked = text.now; lexeme = lexeme.now; indented = false }) }
+        ensures { IfOk result (λ l. literal_view l ≡ record {
+          cooked = text.now;
+          lexeme = lexeme.now;
+          indented = false;
+        }) }
     {
         Ok(StringLiteral {
             cooked: String::from_str(alloc, text)?,

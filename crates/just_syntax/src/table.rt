@@ -1,9 +1,8 @@
 // Tables: values sorted by their keys.
 
-ghost use Rattle.std.specs.Prelude.{◌≡◌, ℕ, List, [], IfOk, OnOk, OnErr, length, map, ◌==◌};
-ghost use Rattle.std.specs.Option.{option_map};
+ghost use Rattle.std.specs.Prelude.{List, OnErr, OnOk, [], length, map, option_map, ◌==◌, ◌≡◌};
 ghost use Rattle.std.specs.Map.Iter.{ShowsInOrder, deref};
-ghost use Rattle.just_syntax.specs.Keyed.{with_value, value_at, IsInOrder};
+ghost use Rattle.just_syntax.specs.Prelude.{IsInOrder, value_at, with_value};
 
 use crate::keyed::Keyed;
 use crate::out_of_memory::OutOfMemory;

@@ -1,9 +1,7 @@
 // Tokens: pieces of a source file.
 
-ghost use Rattle.std.specs.Prelude.{◌≡◌};
-ghost use Rattle.std.specs.Option.{option_map};
-ghost use Rattle.just_syntax.specs.Place.{placed};
-ghost use Rattle.just_syntax.specs.View.{place_view, token_view};
+ghost use Rattle.std.specs.Prelude.{option_map, ◌≡◌};
+ghost use Rattle.just_syntax.specs.Prelude.{place_view, placed, token_view};
 
 use crate::place::Place;
 

@@ -1,6 +1,7 @@
 // Texts without the indentation that their lines share.
 
-ghost use Rattle.std.specs.Prelude.{◌≡◌, ◌<◌, ◌≤◌, ◌∷◌, ◌||◌, ◌==◌, [], ℕ, false, length, IfNone, IfOk, IfSome, None, option_copied, string_bytes};
+ghost use Rattle.std.specs.Prelude.{IfNone, IfOk, IfSome, None, [], false, length, option_copied, string_bytes, ◌<◌};
+ghost use Rattle.std.specs.Prelude.{◌==◌, ◌||◌, ◌∷◌, ◌≡◌, ◌≤◌};
 ghost use Rattle.just_syntax.specs.Unindented as spec;
 
 use crate::out_of_memory::OutOfMemory;

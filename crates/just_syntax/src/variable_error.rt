@@ -1,7 +1,7 @@
 // Errors of looking variables up by name.
 
 ghost use Rattle.std.specs.Prelude.{◌≡◌};
-ghost use Rattle.just_syntax.specs.declared.variable_error.VariableError.TheVariants.{OutOfMemory as Wanted};
+ghost use Rattle.just_syntax.specs.Prelude.{Wanted};
 
 use crate::out_of_memory::OutOfMemory;
 use crate::unstyled::write_unstyled;

@@ -1,9 +1,9 @@
 // Variables by their names.
 
-ghost use Rattle.std.specs.Prelude.{◌≡◌, ℕ, None, Some, IfErr, IfOk, IfSome, OnOk, map, nat_eq, string_bytes};
+ghost use Rattle.std.specs.Prelude.{IfErr, IfOk, IfSome, None, OnOk, Some, map, nat_eq, string_bytes, ℕ, ◌≡◌};
 ghost use Rattle.std.specs.List.{list_any};
-ghost use Rattle.just_syntax.specs.Variables.{first_unknown, given, has_number, number_named};
-ghost use Rattle.just_syntax.specs.View.{assignment_view, pair_view, text_numbered, unknown_name};
+ghost use Rattle.just_syntax.specs.Prelude.{assignment_view, first_unknown, given, has_number, number_named, pair_view};
+ghost use Rattle.just_syntax.specs.Prelude.{text_numbered, unknown_name};
 
 use crate::assignment::Assignment;
 use crate::number::Number;
@@ -35,9 +35,13 @@ pub fn overrides_of<'name>(
     assignments: &Table<Assignment>,
     pairs: &'name [(String, String)],
 ) -> Result<HashMap<Number, String>, VariableError<'name>>
-    ensures given { IfOk result (λ overrides. (n : ℕ) → text_numbered overrides n ≡ given (map assignment_view assignments.now) (map pair_view pairs.now) n) }
-    ensures known { OnOk result (first_unknown (map assignment_view assignments.now) (map (λ pair. string_bytes pair.0) pairs.now) ≡ None) }
-    ensures unknown { IfErr result (λ error. IfSome (unknown_name error) (λ name. first_unknown (map assignment_view assignments.now) (map (λ pair. string_bytes pair.0) pairs.now) ≡ Some name)) }
+    ensures given { IfOk result (λ overrides. (n : ℕ)
+        → text_numbered overrides n ≡ given (map assignment_view assignments.now) (map pair_view pairs.now) n) }
+    ensures known { OnOk result (first_unknown (map assignment_view assignments.now)
+        (map (λ pair. string_bytes pair.0) pairs.now) ≡ None) }
+    ensures unknown { IfErr result
+        (λ error. IfSome (unknown_name error) (λ name. first_unknown (map assignment_view assignments.now)
+        (map (λ pair. string_bytes pair.0) pairs.now) ≡ Some name)) }
 {
     let mut overrides = HashMap::new(alloc);
     for (name, text) in pairs {
@@ -60,9 +64,13 @@ pub fn references_of<'name>(
     assignments: &Table<Assignment>,
     names: &[&'name str],
 ) -> Result<HashSet<Number>, VariableError<'name>>
-    ensures refers { IfOk result (λ set. (n : ℕ) → list_any (nat_eq n) set.keys ≡ list_any (has_number (map assignment_view assignments.now) n) (map (λ name. name.now) names.now)) }
-    ensures known { OnOk result (first_unknown (map assignment_view assignments.now) (map (λ name. name.now) names.now) ≡ None) }
-    ensures unknown { IfErr result (λ error. IfSome (unknown_name error) (λ name. first_unknown (map assignment_view assignments.now) (map (λ name. name.now) names.now) ≡ Some name)) }
+    ensures refers { IfOk result (λ set. (n : ℕ) → list_any (nat_eq n) set.keys
+        ≡ list_any (has_number (map assignment_view assignments.now) n) (map (λ name. name.now) names.now)) }
+    ensures known { OnOk result (first_unknown (map assignment_view assignments.now) (map (λ name. name.now) names.now)
+        ≡ None) }
+    ensures unknown { IfErr result
+        (λ error. IfSome (unknown_name error) (λ name. first_unknown (map assignment_view assignments.now)
+        (map (λ name. name.now) names.now) ≡ Some name)) }
 {
     let numbers = numbers_of(alloc, assignments, names)?;
     Ok(set_of(alloc, &numbers)?)
@@ -74,7 +82,8 @@ pub fn references_of<'name>(
 ///
 /// `OutOfMemory`, if there is no memory for the set: nothing is created.
 pub fn set_of(alloc: Global, numbers: &[Number]) -> Result<HashSet<Number>, OutOfMemory>
-    ensures { IfOk result (λ set. (n : ℕ) → list_any (nat_eq n) set.keys ≡ list_any (λ number. nat_eq number n) numbers.now) }
+    ensures { IfOk result (λ set. (n : ℕ) → list_any (nat_eq n) set.keys
+        ≡ list_any (λ number. nat_eq number n) numbers.now) }
 {
     let mut set = HashSet::new(alloc);
     for number in numbers {
@@ -89,9 +98,13 @@ fn numbers_of<'name>(
     assignments: &Table<Assignment>,
     names: &[&'name str],
 ) -> Result<Vec<Number>, VariableError<'name>>
-    ensures numbers { IfOk result (λ numbers. map (λ number. Some number) numbers.items ≡ map (number_named (map assignment_view assignments.now)) (map (λ name. name.now) names.now)) }
-    ensures known { OnOk result (first_unknown (map assignment_view assignments.now) (map (λ name. name.now) names.now) ≡ None) }
-    ensures unknown { IfErr result (λ error. IfSome (unknown_name error) (λ name. first_unknown (map assignment_view assignments.now) (map (λ name. name.now) names.now) ≡ Some name)) }
+    ensures numbers { IfOk result (λ numbers. map (λ number. Some number) numbers.items
+        ≡ map (number_named (map assignment_view assignments.now)) (map (λ name. name.now) names.now)) }
+    ensures known { OnOk result (first_unknown (map assignment_view assignments.now) (map (λ name. name.now) names.now)
+        ≡ None) }
+    ensures unknown { IfErr result
+        (λ error. IfSome (unknown_name error) (λ name. first_unknown (map assignment_view assignments.now)
+        (map (λ name. name.now) names.now) ≡ Some name)) }
 {
     let mut numbers = Vec::with_capacity(alloc, names.len())?;
     for name in names {

@@ -1,15 +1,21 @@
 -- The components of a path, split at its last slash; `std::path` agrees with them.
-use Rattle.std.proofs.Common.{◌≡◌, ◌≢◌, ◌⊎◌, ℕ, zero, suc, ◌+◌, ◌-◌, ◌<◌, ◌≤◌, List, [], ◌∷◌, ◌++◌, length, take, drop, reverse, get_or, slice_range, Option, Some, None, MatchOption, option_map, true, false, not, ◌&&◌, ◌||◌, cond, eqb, ltb, sym, refl, ap, ap₂, subst, ◌∙◌, inl, inr, arith, zero-add}
+use Rattle.std.proofs.Common.{◌≡◌, ◌≢◌, ◌⊎◌, ℕ, zero, suc, ◌+◌, ◌-◌, ◌<◌, ◌≤◌, List, [], ◌∷◌, ◌++◌, length, take, drop, reverse, get_or, slice_range, Option}
+use Rattle.std.proofs.Common.{Some, None, MatchOption, option_map, true, false, not, ◌&&◌, ◌||◌, cond, eqb, ltb, sym, refl, ap, ap₂, subst, ◌∙◌, inl, inr}
+use Rattle.std.proofs.Common.{arith, zero-add}
 use Rattle.std.specs.List.{onto_first}
-use Rattle.std.specs.Path.{slash, root_dir, cur_dir, is_name, is_trailing, trimmed_len, trim_trailing, rsplit_once, parent_before_slash, parent_and_last, split_last_component, path_parent, normal_name, path_file_name}
+use Rattle.std.specs.Path.{slash, root_dir, cur_dir, is_name, is_trailing, trimmed_len, trim_trailing, rsplit_once, parent_before_slash, parent_and_last}
+use Rattle.std.specs.Path.{split_last_component, path_parent, normal_name, path_file_name}
 use Rattle.std.specs.Option.{option_flatten}
 use Rattle.std.specs.Str.{bytes_eq}
-use Rattle.std.proofs.lemmas.Bool.{ne_eqb, eq-eqb, eqb-true, lt-ltb, cases_Bool, cond-true, cond-false, cond_both, and_from, and_left, and_right, or_from, or_left, or_right, or_cases, or_parts, not-true, not-false, not_from_false}
-use Rattle.std.proofs.lemmas.List.{append_assoc, append-nil, length-append, length-drop, reverse-append, take_all, drop_at, take-append-le, drop-append-le, nil_from_length, get_or_at, get_or-append-add, get_or_append_left}
+use Rattle.std.proofs.lemmas.Bool.{ne_eqb, eq-eqb, eqb-true, lt-ltb, cases_Bool, cond-true, cond-false, cond_both, and_from, and_left, and_right, or_from}
+use Rattle.std.proofs.lemmas.Bool.{or_left, or_right, or_cases, or_parts, not-true, not-false, not_from_false}
+use Rattle.std.proofs.lemmas.List.{append_assoc, append-nil, length-append, length-drop, reverse-append, take_all, drop_at, take-append-le, drop-append-le}
+use Rattle.std.proofs.lemmas.List.{nil_from_length, get_or_at, get_or-append-add, get_or_append_left}
 use Rattle.std.proofs.lemmas.List.Elements.{All-from_get_or}
 use Rattle.std.proofs.lemmas.List.Splits.{slice_split_none, length-slice_split}
 use Rattle.std.proofs.lemmas.Slice.Eq.{bytes_eq-Decides}
-use Rattle.just_text.specs.Path.{segments, place_of, places_from, components, from_last, up_to, before_the_last, last_name, parent, file_name}
+use Rattle.just_text.specs.Prelude.{file_name, parent}
+use Rattle.just_text.specs.Path.{segments, place_of, places_from, components, from_last, up_to, before_the_last, last_name}
 use Rattle.just_text.proofs.LastByte.{Lacks, rsplit_once_parts}
 
 -- the length in bytes of segments, each followed by a slash
@@ -56,7 +62,8 @@ places_push at n [] last e =
     append-nil (place_of at last) ∙ ap (λ k. place_of k last) same
 places_push at n (s ∷ ss) last e =
     let same : (at + (length s + 1)) + total ss ≡ at + n = omega (arith, e) in
-    ap (λ qs. place_of at s ++ qs) (places_push (at + (length s + 1)) (total ss) ss last refl ∙ ap (λ k. places_from (at + (length s + 1)) ss ++ place_of k last) same)
+    ap (λ qs. place_of at s ++ qs) (places_push (at + (length s + 1)) (total ss) ss last refl
+    ∙ ap (λ k. places_from (at + (length s + 1)) ss ++ place_of k last) same)
     ∙ sym (append_assoc (place_of at s) (places_from (at + (length s + 1)) ss) (place_of (at + n) last))
 
 components_last : (dir last : List ℕ) → Lacks slash last → components (dir ++ 47 ∷ last) ≡ components dir ++ place_of (length dir + 1) last
@@ -65,17 +72,20 @@ components_last dir last lacks =
     ∙ ap (λ k. components dir ++ place_of k last) (zero-add (length dir + 1)))
 
 reverse_place : (at : ℕ) (segment : List ℕ) → reverse (place_of at segment) ≡ place_of at segment
-reverse_place at segment = cond_both (not (eqb (length segment) 0) && (eqb at 0 || not (bytes_eq segment (46 ∷ [])))) ((at, at + length segment) ∷ []) [] (λ qs. reverse qs ≡ qs) (λ e. refl) (λ e. refl)
+reverse_place at segment = cond_both (not (eqb (length segment) 0) && (eqb at 0 || not (bytes_eq segment (46 ∷ [])))) ((at, at + length segment) ∷ []) []
+    (λ qs. reverse qs ≡ qs) (λ e. refl) (λ e. refl)
 
 from_last_slash : (dir last : List ℕ) → Lacks slash last → from_last (dir ++ 47 ∷ last) ≡ place_of (length dir + 1) last ++ from_last dir
 from_last_slash dir last lacks =
-    ap reverse (components_last dir last lacks) ∙ (reverse-append (components dir) (place_of (length dir + 1) last) ∙ ap (λ qs. qs ++ from_last dir) (reverse_place (length dir + 1) last))
+    ap reverse (components_last dir last lacks)
+    ∙ (reverse-append (components dir) (place_of (length dir + 1) last) ∙ ap (λ qs. qs ++ from_last dir) (reverse_place (length dir + 1) last))
 
 -- a name is a component; an empty segment or `.` after a slash is not
 named_place : (n : ℕ) (last : List ℕ) → is_name last ≡ true → place_of (n + 1) last ≡ (n + 1, (n + 1) + length last) ∷ []
 named_place n last named =
     let neither = or_parts (eqb (length last) 0) (bytes_eq last (46 ∷ [])) (not-true (eqb (length last) 0 || bytes_eq last (46 ∷ [])) named) in
-    cond-true _ _ _ (and_from _ _ (not_from_false (eqb (length last) 0) neither.0) (or_right (eqb (n + 1) 0) _ (not_from_false (bytes_eq last (46 ∷ [])) neither.1)))
+    cond-true _ _ _
+    (and_from _ _ (not_from_false (eqb (length last) 0) neither.0) (or_right (eqb (n + 1) 0) _ (not_from_false (bytes_eq last (46 ∷ [])) neither.1)))
 
 dot_place : (n : ℕ) → place_of (n + 1) (46 ∷ []) ≡ []
 dot_place n = rw (ne_eqb (n + 1) 0 (λ e. absurd (omega arith))) refl
@@ -105,10 +115,12 @@ trim_whole : (path : List ℕ) → (0 < length path → is_trailing path (length
 unfolding trim_trailing
 trim_whole [] ends = refl
 trim_whole (b ∷ bs) ends =
-    ap (λ k. take k (b ∷ bs)) (trimmed_len_kept (b ∷ bs) (length (b ∷ bs)) (omega arith) (ends (omega arith))) ∙ take_all (length (b ∷ bs)) (b ∷ bs) (omega arith)
+    ap (λ k. take k (b ∷ bs)) (trimmed_len_kept (b ∷ bs) (length (b ∷ bs)) (omega arith) (ends (omega arith)))
+    ∙ take_all (length (b ∷ bs)) (b ∷ bs) (omega arith)
 
 trim_one : (path : List ℕ) → Lacks slash path → trim_trailing path ≡ path
-trim_one path lacks = trim_whole path (λ some. trailing_no path (length path - 1) (lacks (length path - 1) (omega arith)) (inr (lacks (length path - 1 - 1) (omega arith))))
+trim_one path lacks =
+    trim_whole path (λ some. trailing_no path (length path - 1) (lacks (length path - 1) (omega arith)) (inr (lacks (length path - 1 - 1) (omega arith))))
 
 after_slash : (dir last : List ℕ) (k : ℕ) → Lacks slash last → k < length last → get_or (dir ++ 47 ∷ last) (length dir + suc k) 0 ≢ 47
 after_slash dir last k lacks less e = lacks k less (sym (get_or-append-add dir (47 ∷ last) (suc k) 0) ∙ e)
@@ -118,7 +130,8 @@ named_ends dir [] lacks named = cc
 named_ends dir (a ∷ []) lacks named =
     let path = dir ++ 47 ∷ a ∷ [] in
     let n : length path - 1 ≡ length dir + suc 0 = omega (arith, length-append dir (47 ∷ a ∷ [])) in
-    let no_dot : get_or path (length dir + suc 0) 0 ≢ 46 = λ e. let same : a ≡ 46 = sym (get_or-append-add dir (47 ∷ a ∷ []) (suc 0) 0) ∙ e in let wrong : is_name (46 ∷ []) ≡ true = rw same at named in cc in
+    let no_dot : get_or path (length dir + suc 0) 0 ≢ 46 = λ e. let same : a ≡ 46 =
+    sym (get_or-append-add dir (47 ∷ a ∷ []) (suc 0) 0) ∙ e in let wrong : is_name (46 ∷ []) ≡ true = rw same at named in cc in
     ap (is_trailing path) n ∙ trailing_no path (length dir + suc 0) (after_slash dir (a ∷ []) 0 lacks (omega arith)) (inl no_dot)
 named_ends dir (a ∷ b ∷ rest) lacks named =
     let path = dir ++ 47 ∷ a ∷ b ∷ rest in
@@ -132,23 +145,28 @@ trimmed_front : (dir rest : List ℕ) (k : ℕ) → k ≤ length dir → trimmed
 trimmed_front dir rest zero fits = refl
 trimmed_front dir rest (suc k) fits =
     let same : is_trailing (dir ++ rest) k ≡ is_trailing dir k =
-    ap₂ (λ x y. ltb 0 k && (eqb x 47 || (eqb x 46 && eqb y 47))) (get_or_append_left dir rest 0 k (omega arith)) (get_or_append_left dir rest 0 (k - 1) (omega arith)) in
+    ap₂ (λ x y. ltb 0 k && (eqb x 47 || (eqb x 46 && eqb y 47))) (get_or_append_left dir rest 0 k (omega arith))
+    (get_or_append_left dir rest 0 (k - 1) (omega arith)) in
     ap₂ (λ t n. cond t n (suc k)) same (trimmed_front dir rest k (omega arith))
 
 trimmed_le : (path : List ℕ) (k : ℕ) → trimmed_len path k ≤ k
 trimmed_le path zero = omega arith
-trimmed_le path (suc k) = cond_both (is_trailing path k) (trimmed_len path k) (suc k) (λ n. n ≤ suc k) (λ e. omega (arith, trimmed_le path k)) (λ e. omega arith)
+trimmed_le path (suc k) =
+    cond_both (is_trailing path k) (trimmed_len path k) (suc k) (λ n. n ≤ suc k) (λ e. omega (arith, trimmed_le path k)) (λ e. omega arith)
 
-trim_back : (dir rest : List ℕ) → trimmed_len (dir ++ rest) (length (dir ++ rest)) ≡ trimmed_len (dir ++ rest) (length dir) → trim_trailing (dir ++ rest) ≡ trim_trailing dir
+trim_back : (dir rest : List ℕ) → trimmed_len (dir ++ rest) (length (dir ++ rest)) ≡ trimmed_len (dir ++ rest) (length dir)
+    → trim_trailing (dir ++ rest) ≡ trim_trailing dir
 unfolding trim_trailing
 trim_back dir rest e =
-    ap (λ k. take k (dir ++ rest)) (e ∙ trimmed_front dir rest (length dir) (omega arith)) ∙ take-append-le (trimmed_len dir (length dir)) dir rest (trimmed_le dir (length dir))
+    ap (λ k. take k (dir ++ rest)) (e ∙ trimmed_front dir rest (length dir) (omega arith))
+    ∙ take-append-le (trimmed_len dir (length dir)) dir rest (trimmed_le dir (length dir))
 
 slash_trails : (dir rest : List ℕ) → 0 < length dir → trimmed_len (dir ++ 47 ∷ rest) (length dir + 1) ≡ trimmed_len (dir ++ 47 ∷ rest) (length dir)
 slash_trails dir rest some =
     let path = dir ++ 47 ∷ rest in
     let back : (length dir + 1) - 1 ≡ length dir = omega arith in
-    let trails : is_trailing path (length dir) ≡ true = and_from _ _ (lt-ltb 0 (length dir) some) (or_left _ _ (eq-eqb (get_or path (length dir) 0) 47 (get_or_at dir 47 rest 0 (length dir) refl))) in
+    let trails : is_trailing path (length dir) ≡ true =
+    and_from _ _ (lt-ltb 0 (length dir) some) (or_left _ _ (eq-eqb (get_or path (length dir) 0) 47 (get_or_at dir 47 rest 0 (length dir) refl))) in
     trimmed_len_trailing path (length dir + 1) (omega arith) (ap (is_trailing path) back ∙ trails) ∙ ap (trimmed_len path) back
 
 trim_slash : (dir : List ℕ) → 0 < length dir → trim_trailing (dir ++ 47 ∷ []) ≡ trim_trailing dir
@@ -164,7 +182,8 @@ trim_dot dir some =
     let before : (length dir + 1) - 1 ≡ length dir = omega arith in
     let is_dot = eq-eqb (get_or path (length dir + 1) 0) 46 (get_or-append-add dir (47 ∷ 46 ∷ []) 1 0) in
     let is_slash = eq-eqb (get_or path ((length dir + 1) - 1) 0) 47 (ap (λ k. get_or path k 0) before ∙ get_or_at dir 47 (46 ∷ []) 0 (length dir) refl) in
-    let trails : is_trailing path (length dir + 1) ≡ true = and_from _ _ (lt-ltb 0 (length dir + 1) (omega arith)) (or_right _ _ (and_from _ _ is_dot is_slash)) in
+    let trails : is_trailing path (length dir + 1) ≡ true =
+    and_from _ _ (lt-ltb 0 (length dir + 1) (omega arith)) (or_right _ _ (and_from _ _ is_dot is_slash)) in
     let once = trimmed_len_trailing path ((length dir + 1) + 1) (omega arith) (ap (is_trailing path) back ∙ trails) ∙ ap (trimmed_len path) back in
     trim_back dir (47 ∷ 46 ∷ []) (ap (trimmed_len path) n ∙ (once ∙ slash_trails dir (46 ∷ []) some))
 
@@ -193,7 +212,8 @@ split_same : (path other : List ℕ) → trim_trailing path ≡ trim_trailing ot
 unfolding split_last_component
 split_same path other e = ap (λ t. cond (eqb (length t) 0 || bytes_eq t root_dir) None (Some (parent_and_last t (rsplit_once slash t)))) e
 
-split_whole : (path : List ℕ) → trim_trailing path ≡ path → 0 < length path → bytes_eq path root_dir ≡ false → split_last_component path ≡ Some (parent_and_last path (rsplit_once slash path))
+split_whole : (path : List ℕ) → trim_trailing path ≡ path → 0 < length path → bytes_eq path root_dir ≡ false
+    → split_last_component path ≡ Some (parent_and_last path (rsplit_once slash path))
 unfolding split_last_component
 split_whole path e some other =
     ap (λ t. cond (eqb (length t) 0 || bytes_eq t root_dir) None (Some (parent_and_last t (rsplit_once slash t)))) e
@@ -212,14 +232,17 @@ range_front dir rest i j order below =
 described_front : (d : ℕ) (ds rest : List ℕ) (qs : List (ℕ × ℕ)) → Within (length (d ∷ ds)) qs → described ((d ∷ ds) ++ rest) qs ≡ described (d ∷ ds) qs
 unfolding Within described
 described_front d ds rest [] w = refl
-described_front d ds rest (q ∷ qs) (order, below, more) = ap₂ (λ a b. Some (a, b)) (up_to_front d ds rest qs more) (range_front (d ∷ ds) rest q.0 q.1 order below)
+described_front d ds rest (q ∷ qs) (order, below, more) =
+    ap₂ (λ a b. Some (a, b)) (up_to_front d ds rest qs more) (range_front (d ∷ ds) rest q.0 q.1 order below)
 
 -- a suffix that adds no component changes nothing
-known_trailing : (d : ℕ) (ds rest : List ℕ) → from_last ((d ∷ ds) ++ rest) ≡ from_last (d ∷ ds) → trim_trailing ((d ∷ ds) ++ rest) ≡ trim_trailing (d ∷ ds) → Known (d ∷ ds) → Known ((d ∷ ds) ++ rest)
+known_trailing : (d : ℕ) (ds rest : List ℕ) → from_last ((d ∷ ds) ++ rest) ≡ from_last (d ∷ ds) → trim_trailing ((d ∷ ds) ++ rest) ≡ trim_trailing (d ∷ ds)
+    → Known (d ∷ ds) → Known ((d ∷ ds) ++ rest)
 known_trailing d ds rest same trims k =
     let path = (d ∷ ds) ++ rest in
     record {
-      within = subst (Within (length path)) (sym same) (within_more (length (d ∷ ds)) (length path) (from_last (d ∷ ds)) (omega (arith, length-append (d ∷ ds) rest)) k.within);
+      within = subst (Within (length path)) (sym same)
+          (within_more (length (d ∷ ds)) (length path) (from_last (d ∷ ds)) (omega (arith, length-append (d ∷ ds) rest)) k.within);
       trimmed = trims ∙ (k.trimmed ∙ (sym (up_to_front d ds rest (from_last (d ∷ ds)) k.within) ∙ ap (up_to path) (sym same)));
       parts = split_same path (d ∷ ds) trims ∙ (k.parts ∙ (sym (described_front d ds rest (from_last (d ∷ ds)) k.within) ∙ ap (described path) (sym same)));
     }
@@ -240,7 +263,8 @@ known_dot : (dir : List ℕ) → Known dir → Known (dir ++ 47 ∷ 46 ∷ [])
 unfolding Within described trim_trailing split_last_component
 known_dot [] k = record { within = tt; trimmed = refl; parts = refl }
 known_dot (d ∷ ds) k =
-    known_trailing d ds (47 ∷ 46 ∷ []) (from_last_slash (d ∷ ds) (46 ∷ []) no_slash ∙ ap (λ qs. qs ++ from_last (d ∷ ds)) (dot_place (length (d ∷ ds)))) (trim_dot (d ∷ ds) (omega arith)) k
+    known_trailing d ds (47 ∷ 46 ∷ []) (from_last_slash (d ∷ ds) (46 ∷ []) no_slash ∙ ap (λ qs. qs ++ from_last (d ∷ ds)) (dot_place (length (d ∷ ds))))
+    (trim_dot (d ∷ ds) (omega arith)) k
 
 -- a path of one component
 known_one : (path : List ℕ) → Lacks slash path → rsplit_once slash path ≡ None → Known path
@@ -269,7 +293,8 @@ before_slash (d ∷ ds) last k =
 after_range : (dir last : List ℕ) → slice_range (dir ++ 47 ∷ last) (length dir + 1) ((length dir + 1) + length last) ≡ last
 after_range dir last =
     let n : ((length dir + 1) + length last) - (length dir + 1) ≡ length last = omega arith in
-    let after : drop (length dir + 1) (dir ++ 47 ∷ last) ≡ last = rw (← append_assoc dir (47 ∷ []) last) (drop_at (dir ++ 47 ∷ []) last (length dir + 1) (length-append dir (47 ∷ []))) in
+    let after : drop (length dir + 1) (dir ++ 47 ∷ last) ≡ last =
+    rw (← append_assoc dir (47 ∷ []) last) (drop_at (dir ++ 47 ∷ []) last (length dir + 1) (length-append dir (47 ∷ []))) in
     ap₂ (λ k t. take k t) n after ∙ take_all (length last) last (omega arith)
 
 not_root : (dir last : List ℕ) → is_name last ≡ true → bytes_eq (dir ++ 47 ∷ last) root_dir ≡ false
@@ -278,16 +303,23 @@ not_root [] (a ∷ last) named = refl
 not_root (d ∷ []) last named = and_right (eqb d 47) false refl
 not_root (d ∷ e ∷ ds) last named = and_right (eqb d 47) false refl
 
-known_named : (dir last : List ℕ) → Lacks slash last → is_name last ≡ true → rsplit_once slash (dir ++ 47 ∷ last) ≡ Some (dir, last) → Known dir → Known (dir ++ 47 ∷ last)
+known_named : (dir last : List ℕ) → Lacks slash last → is_name last ≡ true → rsplit_once slash (dir ++ 47 ∷ last) ≡ Some (dir, last) → Known dir
+    → Known (dir ++ 47 ∷ last)
 unfolding Within described
 known_named dir last lacks named e k =
     let path = dir ++ 47 ∷ last in
     let n : length path ≡ (length dir + 1) + length last = omega (arith, length-append dir (47 ∷ last)) in
     let trims = trim_whole path (λ some. named_ends dir last lacks named) in
-    let place : from_last path ≡ (length dir + 1, (length dir + 1) + length last) ∷ from_last dir = from_last_slash dir last lacks ∙ ap (λ qs. qs ++ from_last dir) (named_place (length dir) last named) in
+    let place : from_last path ≡ (length dir + 1, (length dir + 1) + length last) ∷ from_last dir =
+    from_last_slash dir last lacks ∙ ap (λ qs. qs ++ from_last dir) (named_place (length dir) last named) in
     let whole_path : take ((length dir + 1) + length last) path ≡ path = take_all ((length dir + 1) + length last) path (omega (arith, n)) in
     record {
-      within = subst (Within (length path)) (sym place) (omega arith, omega (arith, n), within_more (length dir) (length path) (from_last dir) (omega (arith, n)) k.within);
+      within = subst (Within (length path)) (sym place) (
+        omega arith,
+        omega (arith, n),
+        within_more (length dir) (length path) (from_last dir)
+            (omega (arith, n)) k.within,
+      );
       trimmed = trims ∙ (sym whole_path ∙ ap (up_to path) (sym place));
       parts = split_whole path trims (omega (arith, n)) (not_root dir last named) ∙ (ap (λ r. Some (parent_and_last path r)) e
           ∙ (ap₂ (λ a t. Some (a, t)) (before_slash dir last k) (sym (after_range dir last)) ∙ ap (described path) (sym place)));
@@ -303,11 +335,13 @@ known_split dir last lacks e k =
       ]
     ]
 
-known_by : (path : List ℕ) (r : Option (List ℕ × List ℕ)) → rsplit_once slash path ≡ r → MatchOption r (Lacks slash path) (λ parts. (path ≡ parts.0 ++ slash ∷ parts.1) × Lacks slash parts.1)
+known_by : (path : List ℕ) (r : Option (List ℕ × List ℕ)) → rsplit_once slash path ≡ r
+    → MatchOption r (Lacks slash path) (λ parts. (path ≡ parts.0 ++ slash ∷ parts.1) × Lacks slash parts.1)
     → ((dir : List ℕ) → length dir < length path → Known dir) → Known path
 known_by path None e lacks below = known_one path lacks e
 known_by path (Some parts) e (split, lacks) below =
-    subst Known (sym split) (known_split parts.0 parts.1 lacks (subst (λ t. rsplit_once slash t ≡ Some parts) split e) (below parts.0 (omega (arith, ap length split, length-append parts.0 (slash ∷ parts.1)))))
+    subst Known (sym split) (known_split parts.0 parts.1 lacks (subst (λ t. rsplit_once slash t ≡ Some parts) split e)
+    (below parts.0 (omega (arith, ap length split, length-append parts.0 (slash ∷ parts.1)))))
 
 known_below : (n : ℕ) (path : List ℕ) → length path ≤ n → Known path
 known_below zero path fits = known_by path (rsplit_once slash path) refl (rsplit_once_parts slash path) (λ dir less. absurd (omega arith))

@@ -1,13 +1,15 @@
 -- Texts that begin or end with a pattern, and the rest without it.
-use Rattle.std.proofs.Common.{◌≡◌, ℕ, zero, suc, ◌+◌, ◌-◌, ◌<◌, ◌≤◌, List, [], ◌∷◌, ◌++◌, length, take, drop, Option, Some, None, MatchOption, Bor, true, false, eqb, sym, refl, ap, ◌∙◌, inl, inr, arith}
+use Rattle.std.proofs.Common.{◌≡◌, ℕ, zero, suc, ◌+◌, ◌-◌, ◌<◌, ◌≤◌, List, [], ◌∷◌, ◌++◌, length, take, drop, Option, Some, None, MatchOption, Bor, true, false}
+use Rattle.std.proofs.Common.{eqb, sym, refl, ap, ◌∙◌, inl, inr, arith, unwrap_or}
 use Rattle.std.specs.List.{starts_with, ends_with}
-use Rattle.std.specs.Option.{unwrap_or}
-use Rattle.std.specs.Str.Pattern.{FindsTextPrefix, FindsTextSuffix, StripsPrefix, StripsSuffix, LacksTextAt, CutsPrefixes, CutsSuffixes, IsFullyTrimmed, IsTrimStartMatches, IsTrimEndMatches}
+use Rattle.std.specs.Str.Pattern.{FindsTextPrefix, FindsTextSuffix, StripsPrefix, StripsSuffix, LacksTextAt, CutsPrefixes, CutsSuffixes, IsFullyTrimmed}
+use Rattle.std.specs.Str.Pattern.{IsTrimStartMatches, IsTrimEndMatches}
 use Rattle.std.proofs.lemmas.Bool.{cases_Bool, cond-false, both_ways}
 use Rattle.std.proofs.lemmas.List.{take_at, take_all, drop_all, length-append, length-drop, length-take}
 use Rattle.std.proofs.lemmas.Slice.Eq.{bytes_eq-Decides}
 use Rattle.std.proofs.lemmas.Str.Pattern.{starts_text, ends_text}
-use Rattle.just_text.specs.Pattern.{without_start, without_end, without_starts, without_ends, times, LeavesNoneAtStart, LeavesNoneAtEnd}
+use Rattle.just_text.specs.Prelude.{LeavesNoneAtEnd, LeavesNoneAtStart, without_ends, without_starts}
+use Rattle.just_text.specs.Pattern.{without_start, without_end, times}
 
 -- a text that begins with another, and one that does not
 pub starts : (p s rest : List ℕ) → s ≡ p ++ rest → starts_with eqb s p ≡ true
@@ -67,18 +69,23 @@ times_more (suc k) zero f s r fits e same = absurd (omega arith)
 times_more (suc k) (suc n) f s r fits e same = times_more k n f (f s) r (omega arith) e same
 
 -- a pattern removed one more time
-taken_once_more : (f : List ℕ → List ℕ) (p s m r ns : List ℕ) → 0 < length p → (times (length ns) f s ≡ m) × (length ns + length m ≤ length s) → (f m ≡ r) × (length r + length p ≡ length m)
+taken_once_more : (f : List ℕ → List ℕ) (p s m r ns : List ℕ) → 0 < length p → (times (length ns) f s ≡ m) × (length ns + length m ≤ length s)
+    → (f m ≡ r) × (length r + length p ≡ length m)
     → (times (suc (length ns)) f s ≡ r) × (suc (length ns) + length r ≤ length s)
 taken_once_more f p s m r ns some known taken = (sym (times_last (length ns) f s) ∙ (ap f known.0 ∙ taken.0), omega (arith, known.1, taken.1))
 
 -- patterns removed repeatedly
-start_cuts : (p s ns r : List ℕ) → 0 < length p → CutsPrefixes (FindsTextPrefix p) s ns r → (times (length ns) (without_start p) s ≡ r) × (length ns + length r ≤ length s)
+start_cuts : (p s ns r : List ℕ) → 0 < length p → CutsPrefixes (FindsTextPrefix p) s ns r → (times (length ns) (without_start p) s ≡ r)
+    × (length ns + length r ≤ length s)
 start_cuts p s [] r some e = (sym e, omega (arith, ap length e))
-start_cuts p s (n ∷ ns) r some (m, before, found, cut) = taken_once_more (without_start p) p s m r ns some (start_cuts p s ns m some before) (start_taken p m r n found cut)
+start_cuts p s (n ∷ ns) r some (m, before, found, cut) =
+    taken_once_more (without_start p) p s m r ns some (start_cuts p s ns m some before) (start_taken p m r n found cut)
 
-end_cuts : (p s ns r : List ℕ) → 0 < length p → CutsSuffixes (FindsTextSuffix p) s ns r → (times (length ns) (without_end p) s ≡ r) × (length ns + length r ≤ length s)
+end_cuts : (p s ns r : List ℕ) → 0 < length p → CutsSuffixes (FindsTextSuffix p) s ns r → (times (length ns) (without_end p) s ≡ r)
+    × (length ns + length r ≤ length s)
 end_cuts p s [] r some e = (sym e, omega (arith, ap length e))
-end_cuts p s (n ∷ ns) r some (m, before, found, cut) = taken_once_more (without_end p) p s m r ns some (end_cuts p s ns m some before) (end_taken p m r n found cut)
+end_cuts p s (n ∷ ns) r some (m, before, found, cut) =
+    taken_once_more (without_end p) p s m r ns some (end_cuts p s ns m some before) (end_taken p m r n found cut)
 
 -- empty patterns removed
 start_cuts_nothing : (s ns r : List ℕ) → CutsPrefixes (FindsTextPrefix []) s ns r → r ≡ s
@@ -130,7 +137,10 @@ starts_gone (c ∷ cs) some zero (b ∷ bs) fits = absurd (omega arith)
 starts_gone (c ∷ cs) some (suc n) s fits =
     elim (cases_Bool (starts_with eqb s (c ∷ cs))) [
       | inl e ↦ starts_gone (c ∷ cs) some n (without_start (c ∷ cs) s) (omega (arith, start_shorter (c ∷ cs) s some e))
-      | inr e ↦ rw (cond-false (starts_with eqb s (c ∷ cs)) (drop (length (c ∷ cs)) s) s e, times_same n (without_start (c ∷ cs)) s (cond-false (starts_with eqb s (c ∷ cs)) (drop (length (c ∷ cs)) s) s e)) e
+      | inr e ↦ rw (
+        cond-false (starts_with eqb s (c ∷ cs)) (drop (length (c ∷ cs)) s) s e,
+        times_same n (without_start (c ∷ cs)) s (cond-false (starts_with eqb s (c ∷ cs)) (drop (length (c ∷ cs)) s) s e),
+      ) e
     ]
 
 pub starts_left : LeavesNoneAtStart
@@ -152,7 +162,10 @@ ends_gone (c ∷ cs) some zero (b ∷ bs) fits = absurd (omega arith)
 ends_gone (c ∷ cs) some (suc n) s fits =
     elim (cases_Bool (ends_with eqb s (c ∷ cs))) [
       | inl e ↦ ends_gone (c ∷ cs) some n (without_end (c ∷ cs) s) (omega (arith, end_shorter (c ∷ cs) s some e))
-      | inr e ↦ rw (cond-false (ends_with eqb s (c ∷ cs)) (take (length s - length (c ∷ cs)) s) s e, times_same n (without_end (c ∷ cs)) s (cond-false (ends_with eqb s (c ∷ cs)) (take (length s - length (c ∷ cs)) s) s e)) e
+      | inr e ↦ rw (
+        cond-false (ends_with eqb s (c ∷ cs)) (take (length s - length (c ∷ cs)) s) s e,
+        times_same n (without_end (c ∷ cs)) s (cond-false (ends_with eqb s (c ∷ cs)) (take (length s - length (c ∷ cs)) s) s e),
+      ) e
     ]
 
 pub ends_left : LeavesNoneAtEnd

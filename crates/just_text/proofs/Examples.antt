@@ -2,14 +2,10 @@
 use Rattle.std.proofs.Common.{◌≡◌, [], ◌∷◌, None, Some, codes, refl}
 use lib.Utf8.{encode}
 use Rattle.std.specs.Str.{chars}
-use Rattle.percent_encoding.specs.Percent.{percent_encode_byte}
+use Rattle.just_text.specs.Prelude.{encoded, extension, file_name, file_stem, joined_paths, parent, percent_encode_byte, pieces, replaced, single_quoted}
+use Rattle.just_text.specs.Prelude.{without_ends, without_starts, words}
 use Rattle.just_text.specs.Case.{capitalize}
-use Rattle.just_text.specs.Path.{joined_paths, parent, file_name, file_stem, extension}
-use Rattle.just_text.specs.Pattern.{without_starts, without_ends}
-use Rattle.just_text.specs.Quote.{single_quoted}
-use Rattle.just_text.specs.Replace.{replaced}
-use Rattle.just_text.specs.Split.{pieces, split, words}
-use Rattle.just_text.specs.Uri.{encoded}
+use Rattle.just_text.specs.Split.{split}
 
 one : parent (codes "a") ≡ Some []
 unfolding parent

@@ -1,6 +1,6 @@
 -- Joined texts.
-use Rattle.std.proofs.Common.{◌≡◌, ℕ, ◌<◌, List, [], ◌∷◌, ◌++◌, length, refl, ap, arith}
-use Rattle.std.specs.List.{flat_map, join_by, onto_first}
+use Rattle.std.proofs.Common.{◌≡◌, ℕ, ◌<◌, List, [], ◌∷◌, ◌++◌, length, refl, ap, arith, flat_map}
+use Rattle.std.specs.List.{join_by, onto_first}
 use Rattle.std.proofs.lemmas.List.{append_assoc}
 
 -- the texts with the separator between them

@@ -1,5 +1,6 @@
 -- A text split at the last occurrence of a byte.
-use Rattle.std.proofs.Common.{◌≡◌, ◌≢◌, ℕ, zero, suc, ◌+◌, ◌-◌, ◌<◌, List, [], ◌∷◌, ◌++◌, length, take, drop, get_or, Option, Some, None, MatchOption, option_map, Bool, not, eqb, sym, refl, ap, ◌∙◌, inl, inr, arith, take-append-drop, eqb-true}
+use Rattle.std.proofs.Common.{◌≡◌, ◌≢◌, ℕ, zero, suc, ◌+◌, ◌-◌, ◌<◌, List, [], ◌∷◌, ◌++◌, length, take, drop, get_or, Option, Some, None, MatchOption}
+use Rattle.std.proofs.Common.{option_map, Bool, not, eqb, sym, refl, ap, ◌∙◌, inl, inr, arith, take-append-drop, eqb-true}
 use Rattle.std.specs.List.{before_last, after_last, suffix_len}
 use Rattle.std.specs.Path.{rfind_below, rsplit_once}
 use Rattle.std.proofs.lemmas.Bool.{eqb-false, ne_eqb, eq-eqb, cases_eq, cond_both, not_from_false, not_from_true}
@@ -12,12 +13,20 @@ Lacks c text = (i : ℕ) → i < length text → get_or text i 0 ≢ c
 
 -- r is the index of the last c below n, if there is one
 abbrev IsLast : ℕ → List ℕ → ℕ → Option ℕ → Type 0
-IsLast c text n r = MatchOption r ((i : ℕ) → i < n → get_or text i 0 ≢ c) (λ k. (k < n) × (get_or text k 0 ≡ c) × ((i : ℕ) → k < i → i < n → get_or text i 0 ≢ c))
+IsLast c text n r =
+    MatchOption r ((i : ℕ) → i < n → get_or text i 0 ≢ c) (λ k. (k < n) × (get_or text k 0 ≡ c) × ((i : ℕ) → k < i → i < n → get_or text i 0 ≢ c))
 
 wider : (c : ℕ) (text : List ℕ) (n : ℕ) (r : Option ℕ) → get_or text n 0 ≢ c → IsLast c text n r → IsLast c text (suc n) r
-wider c text n None other none = λ i fits e. elim (cases_eq i n) [ inl here ↦ other (ap (λ j. get_or text j 0) (sym here) ∙ e) | inr below ↦ none i (omega arith) e ]
-wider c text n (Some k) other (fits, at, after) =
-    (omega arith, at, λ i above less e. elim (cases_eq i n) [ inl here ↦ other (ap (λ j. get_or text j 0) (sym here) ∙ e) | inr below ↦ after i above (omega arith) e ])
+wider c text n None other none =
+    λ i fits e. elim (cases_eq i n) [ inl here ↦ other (ap (λ j. get_or text j 0) (sym here) ∙ e) | inr below ↦ none i (omega arith) e ]
+wider c text n (Some k) other (fits, at, after) = (
+  omega arith,
+  at,
+  λ i above less e. elim (cases_eq i n) [
+    | inl here ↦ other (ap (λ j. get_or text j 0) (sym here) ∙ e)
+    | inr below ↦ after i above (omega arith) e
+  ],
+)
 
 last_below : (c : ℕ) (text : List ℕ) (n : ℕ) → IsLast c text n (rfind_below c text n)
 last_below c text zero = λ i fits. absurd (omega arith)
@@ -27,7 +36,8 @@ last_below c text (suc n) =
     (λ e. wider c text n (rfind_below c text n) (eqb-false (get_or text n 0) c e) (last_below c text n))
 
 parts_at : (c : ℕ) (text : List ℕ) (r : Option ℕ) → IsLast c text (length text) r
-    → MatchOption {T = List ℕ × List ℕ} (option_map (λ i. (take i text, drop (i + 1) text)) r) (Lacks c text) (λ parts. (text ≡ parts.0 ++ c ∷ parts.1) × Lacks c parts.1)
+    → MatchOption {T = List ℕ × List ℕ} (option_map (λ i. (take i text, drop (i + 1) text)) r) (Lacks c text)
+    (λ parts. (text ≡ parts.0 ++ c ∷ parts.1) × Lacks c parts.1)
 parts_at c text None none = none
 parts_at c text (Some k) (fits, at, after) = (
   sym (take-append-drop k text) ∙ ap (λ t. take k text ++ t) (drop_more text k 0 fits ∙ ap (λ b. b ∷ drop (k + 1) text) at),
@@ -45,7 +55,9 @@ not_at c b = not (eqb b c)
 
 pub before_last_none : (c : ℕ) (text : List ℕ) → Lacks c text → before_last (λ b. eqb b c) text ≡ []
 before_last_none c text lacks =
-    let n : suffix_len (not_at c) text ≡ length text - 0 = suffix_len_is (not_at c) text 0 0 (omega arith) (λ k above fits. not_from_false (eqb (get_or text k 0) c) (ne_eqb (get_or text k 0) c (lacks k fits))) (λ some. absurd (omega arith)) in
+    let n : suffix_len (not_at c) text ≡ length text - 0 =
+    suffix_len_is (not_at c) text 0 0 (omega arith) (λ k above fits. not_from_false (eqb (get_or text k 0) c) (ne_eqb (get_or text k 0) c (lacks k fits)))
+    (λ some. absurd (omega arith)) in
     let none : length text - suffix_len (not_at c) text - 1 ≡ 0 = omega (arith, n) in
     ap (λ k. take k text) none
 
@@ -61,7 +73,8 @@ suffix_at c front back lacks =
     not_from_false (eqb (get_or text k 0) c) (ne_eqb (get_or text k 0) c (λ e. lacks i (omega (arith, n)) (sym same ∙ e))))
     (λ some.
     let place : (length front + 1) - 1 ≡ length front = omega arith in
-    not_from_true (eqb (get_or text ((length front + 1) - 1) 0) c) (eq-eqb (get_or text ((length front + 1) - 1) 0) c (ap (λ j. get_or text j 0) place ∙ get_or_at front c back 0 (length front) refl)))
+    not_from_true (eqb (get_or text ((length front + 1) - 1) 0) c)
+    (eq-eqb (get_or text ((length front + 1) - 1) 0) c (ap (λ j. get_or text j 0) place ∙ get_or_at front c back 0 (length front) refl)))
 
 pub before_last_at : (c : ℕ) (front back : List ℕ) → Lacks c back → before_last (λ b. eqb b c) (front ++ c ∷ back) ≡ front
 before_last_at c front back lacks =

@@ -1,7 +1,8 @@
 -- The pieces of a text that `split` gives, and joined texts.
-use Rattle.std.proofs.Common.{◌≡◌, ℕ, zero, suc, ◌+◌, ◌-◌, ◌<◌, ◌≤◌, List, [], ◌∷◌, ◌++◌, length, take, drop, Some, None, Bor, Bool, true, false, cond, eqb, sym, refl, ap, subst, ◌∙◌, inl, inr, arith, encode_utf8, IsUtf8}
+use Rattle.std.proofs.Common.{◌≡◌, ℕ, zero, suc, ◌+◌, ◌-◌, ◌<◌, ◌≤◌, List, [], ◌∷◌, ◌++◌, length, take, drop, Some, None, Bor, Bool, true, false, cond, eqb}
+use Rattle.std.proofs.Common.{sym, refl, ap, subst, ◌∙◌, inl, inr, arith, encode_utf8, IsUtf8, All, flat_map}
 use Rattle.std.specs.declared.str.Split.{Split}
-use Rattle.std.specs.List.{All, starts_with, flat_map, onto_first}
+use Rattle.std.specs.List.{starts_with, onto_first}
 use Rattle.std.specs.Str.Iter.{split_steps, split_text, split_has_more, split_pattern, HasSubslice}
 use Rattle.std.specs.Str.Pattern.{FindsText, LacksTextAt, IsSplitAtFirstMatch}
 use Rattle.std.specs.Str.Replace.{ReplacesMatches}
@@ -14,8 +15,9 @@ use Rattle.std.proofs.lemmas.List.Elements.{All-nil, All-cons, All-head, All-tai
 use Rattle.std.proofs.lemmas.Slice.Eq.{bytes_eq-Decides}
 use Rattle.std.proofs.lemmas.Str.{chars-nil, chars_past_char, IsUtf8-past_char}
 use Rattle.just_text.specs.Quote.{in_quotes}
-use Rattle.just_text.specs.Replace.{interleaved, replaced}
-use Rattle.just_text.specs.Split.{pieces, pieces_after, PiecesGiveTextBack, NoPieceHoldsSeparator}
+use Rattle.just_text.specs.Prelude.{NoPieceHoldsSeparator, PiecesGiveTextBack, pieces, replaced}
+use Rattle.just_text.specs.Replace.{interleaved}
+use Rattle.just_text.specs.Split.{pieces_after}
 use Rattle.just_text.proofs.Ends.{starts, starts_not}
 use Rattle.just_text.proofs.Joined.{joined, joined_more, joined_onto}
 
@@ -36,7 +38,8 @@ first_here p (b ∷ bs) (suc j) some split ends =
     rw (starts p (b ∷ bs) (drop j bs) split, left) (ap (λ ps. [] ∷ ps) (passed p j bs))
 
 -- the pieces of a text, by the first occurrence of a separator
-at_first : (p s : List ℕ) (i j : ℕ) → 0 < length p → ((k : ℕ) → k < i → LacksTextAt p s k) × (drop i s ≡ p ++ drop j s) × (j ≡ i + length p) → pieces_after p 0 s ≡ take i s ∷ pieces_after p 0 (drop j s)
+at_first : (p s : List ℕ) (i j : ℕ) → 0 < length p → ((k : ℕ) → k < i → LacksTextAt p s k) × (drop i s ≡ p ++ drop j s) × (j ≡ i + length p)
+    → pieces_after p 0 s ≡ take i s ∷ pieces_after p 0 (drop j s)
 at_first p s zero j some (before, split, ends) = first_here p s j some split (omega arith)
 at_first p [] (suc i) zero some (before, split, ends) = absurd (omega arith)
 at_first p [] (suc i) (suc j) some (before, split, ends) = absurd (nothing_in_nil p [] some split)
@@ -64,7 +67,8 @@ onto_some b (p ∷ ps) = omega arith
 pieces_after_some : (p : List ℕ) (k : ℕ) (s : List ℕ) → 0 < length (pieces_after p k s)
 pieces_after_some p k [] = omega arith
 pieces_after_some p (suc k) (b ∷ bs) = pieces_after_some p k bs
-pieces_after_some p zero (b ∷ bs) = cond_both (starts_with eqb (b ∷ bs) p) ([] ∷ pieces_after p (length p - 1) bs) (onto_first b (pieces_after p 0 bs)) (λ ps. 0 < length ps) (λ e. omega arith) (λ e. onto_some b (pieces_after p 0 bs))
+pieces_after_some p zero (b ∷ bs) = cond_both (starts_with eqb (b ∷ bs) p) ([] ∷ pieces_after p (length p - 1) bs) (onto_first b (pieces_after p 0 bs))
+    (λ ps. 0 < length ps) (λ e. omega arith) (λ e. onto_some b (pieces_after p 0 bs))
 
 pieces_some : (p s : List ℕ) → 0 < length (pieces p s)
 unfolding pieces
@@ -81,10 +85,12 @@ cut_off separator w x rest live some (bound, (Some (i, j), found, parts)) =
     let cut = parts (omega (arith, found.1.ends)) in
     rw (cut.1, cut.0, cut.2) (pieces_cut separator w i j some found)
 
-pub YieldsList-from_pieces : {s : Split (Bor (List ℕ))} (separator text : List ℕ) → 0 < length separator → split_text s ≡ text → split_has_more s ≡ true → (split_pattern s).now ≡ separator
+pub YieldsList-from_pieces : {s : Split (Bor (List ℕ))} (separator text : List ℕ) → 0 < length separator → split_text s ≡ text → split_has_more s ≡ true
+    → (split_pattern s).now ≡ separator
     → YieldsList (split_steps (λ (n : Bor (List ℕ)). FindsText n.now) (λ n m. m.now ≡ n.now)) (λ x. x.now) s (pieces separator text)
 YieldsList-from_pieces {s} separator text some e more same =
-    let all = YieldsList-from_shown_while (split_steps (λ (n : Bor (List ℕ)). FindsText n.now) (λ n m. m.now ≡ n.now)) (λ x. x.now) (λ t. left t separator) (λ t. (split_pattern t).now ≡ separator)
+    let all = YieldsList-from_shown_while (split_steps (λ (n : Bor (List ℕ)). FindsText n.now) (λ n m. m.now ≡ n.now)) (λ x. x.now) (λ t. left t separator)
+    (λ t. (split_pattern t).now ≡ separator)
     (λ t u good h. rw (← h.0) refl)
     (λ t x u good h.
     let first = subst (λ p. IsSplitAtFirstMatch (FindsText p) (split_text t) x.now (split_has_more u) (split_text u)) good h.1.1 in
@@ -139,8 +145,10 @@ unfolding pieces
 quotes_replaced [] = refl
 quotes_replaced (b ∷ bs) =
     elim (eqb_tells b 39) [
-      | inl w ↦ rw (w.1) (joined_more (39 ∷ 92 ∷ 39 ∷ 39 ∷ []) [] (pieces_after (39 ∷ []) 0 bs) (pieces_after_some (39 ∷ []) 0 bs) ∙ ap (λ t. (39 ∷ 92 ∷ 39 ∷ 39 ∷ []) ++ t) (quotes_replaced bs))
-      | inr w ↦ rw (w.0, ne_eqb 39 b (λ e. w.1 (sym e))) (joined_onto (39 ∷ 92 ∷ 39 ∷ 39 ∷ []) b (pieces_after (39 ∷ []) 0 bs) (pieces_after_some (39 ∷ []) 0 bs) ∙ ap (λ t. b ∷ t) (quotes_replaced bs))
+      | inl w ↦ rw (w.1) (joined_more (39 ∷ 92 ∷ 39 ∷ 39 ∷ []) [] (pieces_after (39 ∷ []) 0 bs) (pieces_after_some (39 ∷ []) 0 bs)
+          ∙ ap (λ t. (39 ∷ 92 ∷ 39 ∷ 39 ∷ []) ++ t) (quotes_replaced bs))
+      | inr w ↦ rw (w.0, ne_eqb 39 b (λ e. w.1 (sym e)))
+          (joined_onto (39 ∷ 92 ∷ 39 ∷ 39 ∷ []) b (pieces_after (39 ∷ []) 0 bs) (pieces_after_some (39 ∷ []) 0 bs) ∙ ap (λ t. b ∷ t) (quotes_replaced bs))
     ]
 
 -- the text after a separator that it begins with
@@ -161,7 +169,8 @@ given_back p some (suc n) (b ∷ bs) fits =
     let rest = drop (length p - 1) bs in
     elim (cases_Bool (starts_with eqb (b ∷ bs) p)) [
       | inl e ↦ rw e (joined_more p [] (pieces_after p (length p - 1) bs) (pieces_after_some p (length p - 1) bs)
-          ∙ (ap (λ ps. p ++ joined p ps) (passed p (length p - 1) bs) ∙ (ap (λ t. p ++ t) (given_back p some n rest (omega (arith, length-drop (length p - 1) bs)))
+          ∙ (ap (λ ps. p ++ joined p ps) (passed p (length p - 1) bs)
+          ∙ (ap (λ t. p ++ t) (given_back p some n rest (omega (arith, length-drop (length p - 1) bs)))
           ∙ (ap (λ t. p ++ t) (sym (shorter_after p b bs some)) ∙ sym (after_separator p (b ∷ bs) e)))))
       | inr e ↦ rw e (joined_onto p b (pieces_after p 0 bs) (pieces_after_some p 0 bs) ∙ ap (λ t. b ∷ t) (given_back p some n bs (omega arith)))
     ]
@@ -192,14 +201,18 @@ begins p s rest e not = both_ways (starts_with eqb s p) not (starts p s rest e)
 
 longer_free : (p : List ℕ) (b : ℕ) (x bs rest : List ℕ) → bs ≡ x ++ rest → starts_with eqb (b ∷ bs) p ≡ false → FreeOf p x → FreeOf p (b ∷ x)
 unfolding FreeOf
-longer_free p b x bs rest split not free ([], back, e) = begins p (b ∷ bs) (back ++ rest) (ap (λ t. b ∷ t) split ∙ (ap (λ t. t ++ rest) e ∙ append_assoc p back rest)) not
+longer_free p b x bs rest split not free ([], back, e) =
+    begins p (b ∷ bs) (back ++ rest) (ap (λ t. b ∷ t) split ∙ (ap (λ t. t ++ rest) e ∙ append_assoc p back rest)) not
 longer_free p b x bs rest split not free (c ∷ front, back, e) = free (front, back, cc)
 
 free_onto : (p : List ℕ) (b : ℕ) (bs : List ℕ) (ps : List (List ℕ)) → starts_with eqb (b ∷ bs) p ≡ false → IsFree p bs ps → IsFree p (b ∷ bs) (onto_first b ps)
 unfolding IsFree
 free_onto p b bs [] not are_free = absurd are_free
-free_onto p b bs (x ∷ xs) not ((rest, split), free) =
-    ((rest, ap (λ t. b ∷ t) split), All-cons (FreeOf p) (b ∷ x) xs (longer_free p b x bs rest split not (All-head (FreeOf p) x xs free)) (All-tail (FreeOf p) x xs free))
+free_onto p b bs (x ∷ xs) not ((rest, split), free) = (
+  (rest, ap (λ t. b ∷ t) split),
+  All-cons (FreeOf p) (b ∷ x) xs (longer_free p b x bs rest split not (All-head (FreeOf p) x xs free))
+      (All-tail (FreeOf p) x xs free),
+)
 
 are_free : (p : List ℕ) → 0 < length p → (n : ℕ) (s : List ℕ) → length s ≤ n → IsFree p s (pieces_after p 0 s)
 unfolding IsFree
@@ -211,7 +224,8 @@ are_free p some (suc n) (b ∷ bs) fits =
       | inl e ↦ rw e (
         (b ∷ bs, refl),
         All-cons (FreeOf p) [] (pieces_after p (length p - 1) bs) (nothing_free p some)
-            (rw (passed p (length p - 1) bs) (free_rest p rest (pieces_after p 0 rest) (are_free p some n rest (omega (arith, length-drop (length p - 1) bs))))),
+            (rw (passed p (length p - 1) bs)
+            (free_rest p rest (pieces_after p 0 rest) (are_free p some n rest (omega (arith, length-drop (length p - 1) bs))))),
       )
       | inr e ↦ rw e (free_onto p b bs (pieces_after p 0 bs) e (are_free p some n bs (omega arith)))
     ]

@@ -5,3 +5,4 @@ pub mod Replace
 pub mod Case
 pub mod Quote
 pub mod Uri
+pub mod Prelude

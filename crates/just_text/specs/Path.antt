@@ -1,5 +1,7 @@
 -- Paths are texts, split at their slashes.
-use Rattle.std.specs.Prelude.{ℕ, ◌+◌, ◌-◌, Bool, false, not, ◌&&◌, ◌||◌, ◌==◌, if◌then◌else◌, [], ◌∷◌, ◌++◌, List, reverse, length, take, slice_index, slice_range, Option, Some, None, option_and_then, option_map, bytes_eq, codes}
+use Rattle.std.specs.Prelude.{ℕ, ◌+◌, ◌-◌, Bool, false, not, ◌&&◌, ◌||◌, ◌==◌, if◌then◌else◌, [], ◌∷◌, ◌++◌, List}
+use Rattle.std.specs.Prelude.{reverse, length, take, slice_index, slice_range, Option, Some, None, option_and_then}
+use Rattle.std.specs.Prelude.{option_map, bytes_eq, codes}
 use Rattle.std.specs.List.{slice_split, before_last, after_last}
 use Rattle.std.specs.Path.{slash, dot}
 use Rattle.just_syntax.specs.Plain.{Text}

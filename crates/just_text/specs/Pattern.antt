@@ -25,7 +25,9 @@ without_ends pattern text = times (length text) (without_end pattern) text
 
 -- the result does not begin with the pattern, or end with it
 abbrev pub LeavesNoneAtStart : Type 0
-LeavesNoneAtStart = (pattern text : Text) → 0 < length pattern → starts_with nat_eq (without_starts pattern text) pattern ≡ false
+LeavesNoneAtStart =
+    (pattern text : Text) → 0 < length pattern → starts_with nat_eq (without_starts pattern text) pattern ≡ false
 
 abbrev pub LeavesNoneAtEnd : Type 0
-LeavesNoneAtEnd = (pattern text : Text) → 0 < length pattern → ends_with nat_eq (without_ends pattern text) pattern ≡ false
+LeavesNoneAtEnd =
+    (pattern text : Text) → 0 < length pattern → ends_with nat_eq (without_ends pattern text) pattern ≡ false

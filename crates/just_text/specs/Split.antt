@@ -1,5 +1,6 @@
 -- Texts split into pieces.
-use Rattle.std.specs.Prelude.{◌≡◌, ℕ, zero, suc, ◌-◌, ◌<◌, ◌==◌, Bool, not, if◌then◌else◌, List, [], ◌∷◌, length, map, filter, nat_eq, chars, encode_utf8, encode_utf8_all}
+use Rattle.std.specs.Prelude.{◌≡◌, ℕ, zero, suc, ◌-◌, ◌<◌, ◌==◌, Bool, not, if◌then◌else◌, List, [], ◌∷◌, length, map}
+use Rattle.std.specs.Prelude.{filter, nat_eq, chars, encode_utf8, encode_utf8_all}
 use Rattle.std.specs.Char.{is_whitespace}
 use Rattle.std.specs.List.{All, starts_with, join_by, onto_first, slice_split}
 use Rattle.std.specs.Str.Iter.{HasSubslice}
@@ -40,8 +41,10 @@ split text separator = if length separator == 0 then characters text else pieces
 
 -- the pieces joined by the separator are the original text
 abbrev pub PiecesGiveTextBack : Type 0
-PiecesGiveTextBack = (separator text : Text) → 0 < length separator → join_by (λ piece. piece) separator (pieces separator text) ≡ text
+PiecesGiveTextBack =
+    (separator text : Text) → 0 < length separator → join_by (λ piece. piece) separator (pieces separator text) ≡ text
 
 -- no piece contains the separator
 abbrev pub NoPieceHoldsSeparator : Type 0
-NoPieceHoldsSeparator = (separator text : Text) → 0 < length separator → All (λ piece. ¬ (HasSubslice piece separator)) (pieces separator text)
+NoPieceHoldsSeparator = (separator text : Text) → 0 < length separator
+    → All (λ piece. ¬ (HasSubslice piece separator)) (pieces separator text)

@@ -1,6 +1,6 @@
 // Texts with a suffix or a prefix added to each.
 
-ghost use Rattle.std.specs.Prelude.{◌≡◌, ◌++◌, IfOk, map, string_bytes};
+ghost use Rattle.std.specs.Prelude.{IfOk, map, string_bytes, ◌++◌, ◌≡◌};
 
 use just_syntax::out_of_memory::OutOfMemory;
 use std::alloc::Global;
@@ -11,7 +11,8 @@ use std::alloc::Global;
 ///
 /// `OutOfMemory`, if an allocation fails: nothing is created.
 pub fn append(alloc: Global, suffix: &str, texts: &[String]) -> Result<Vec<String>, OutOfMemory>
-    ensures { IfOk result (λ v. map string_bytes v.items ≡ map (λ text. text ++ suffix.now) (map string_bytes texts.now)) }
+    ensures { IfOk result (λ v. map string_bytes v.items ≡ map (λ text. text ++ suffix.now)
+        (map string_bytes texts.now)) }
 {
     let mut all = Vec::with_capacity(alloc, texts.len())?;
     for text in texts {
@@ -26,7 +27,8 @@ pub fn append(alloc: Global, suffix: &str, texts: &[String]) -> Result<Vec<Strin
 ///
 /// `OutOfMemory`, if an allocation fails: nothing is created.
 pub fn prepend(alloc: Global, prefix: &str, texts: &[String]) -> Result<Vec<String>, OutOfMemory>
-    ensures { IfOk result (λ v. map string_bytes v.items ≡ map (λ text. prefix.now ++ text) (map string_bytes texts.now)) }
+    ensures { IfOk result (λ v. map string_bytes v.items ≡ map (λ text. prefix.now ++ text)
+        (map string_bytes texts.now)) }
 {
     let mut all = Vec::with_capacity(alloc, texts.len())?;
     for text in texts {

@@ -1,6 +1,6 @@
 // ASCII letters in another case.
 
-ghost use Rattle.std.specs.Prelude.{◌≡◌, IfOk, option_map, string_bytes};
+ghost use Rattle.std.specs.Prelude.{IfOk, option_map, string_bytes, ◌≡◌};
 ghost use Rattle.just_text.specs.Case as spec;
 
 use just_syntax::out_of_memory::OutOfMemory;

@@ -1,6 +1,6 @@
 // Joined texts.
 
-ghost use Rattle.std.specs.Prelude.{◌≡◌, IfOk, map, string_bytes};
+ghost use Rattle.std.specs.Prelude.{IfOk, map, string_bytes, ◌≡◌};
 ghost use Rattle.std.specs.List.{join_by};
 
 use just_syntax::out_of_memory::OutOfMemory;

@@ -1,7 +1,7 @@
 // Laws of split and trimmed texts. Each function does nothing: its contract is the law.
 
-ghost use Rattle.just_text.specs.Pattern.{LeavesNoneAtEnd, LeavesNoneAtStart};
-ghost use Rattle.just_text.specs.Split.{NoPieceHoldsSeparator, PiecesGiveTextBack};
+ghost use Rattle.just_text.specs.Prelude.{LeavesNoneAtEnd, LeavesNoneAtStart, NoPieceHoldsSeparator};
+ghost use Rattle.just_text.specs.Prelude.{PiecesGiveTextBack};
 
 /// The pieces of a text, joined by the separator, are the original text.
 pub fn pieces_give_text_back()

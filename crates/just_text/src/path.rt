@@ -1,6 +1,6 @@
 // Paths are texts.
 
-ghost use Rattle.std.specs.Prelude.{◌≡◌, IfOk, option_copied, string_bytes};
+ghost use Rattle.std.specs.Prelude.{IfOk, option_copied, string_bytes, ◌≡◌};
 ghost use Rattle.just_text.specs.Path as spec;
 
 use just_syntax::out_of_memory::OutOfMemory;

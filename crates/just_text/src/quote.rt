@@ -1,7 +1,7 @@
 // Texts quoted for a shell.
 
-ghost use Rattle.std.specs.Prelude.{◌≡◌, IfOk, string_bytes};
-ghost use Rattle.just_text.specs.Quote.{single_quoted};
+ghost use Rattle.std.specs.Prelude.{IfOk, string_bytes, ◌≡◌};
+ghost use Rattle.just_text.specs.Prelude.{single_quoted};
 
 use crate::replace::replace;
 use just_syntax::out_of_memory::OutOfMemory;

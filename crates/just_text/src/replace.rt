@@ -1,7 +1,7 @@
 // Texts with the occurrences of a text replaced.
 
-ghost use Rattle.std.specs.Prelude.{◌≡◌, IfOk, string_bytes};
-ghost use Rattle.just_text.specs.Replace.{replaced};
+ghost use Rattle.std.specs.Prelude.{IfOk, string_bytes, ◌≡◌};
+ghost use Rattle.just_text.specs.Prelude.{replaced};
 
 use just_syntax::out_of_memory::OutOfMemory;
 use std::alloc::Global;

@@ -1,6 +1,6 @@
 // Texts split into pieces.
 
-ghost use Rattle.std.specs.Prelude.{◌≡◌, ◌<◌, IfOk, length, map, string_bytes};
+ghost use Rattle.std.specs.Prelude.{IfOk, length, map, string_bytes, ◌<◌, ◌≡◌};
 ghost use Rattle.just_text.specs.Split as spec;
 
 use just_syntax::out_of_memory::OutOfMemory;

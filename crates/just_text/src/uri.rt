@@ -1,7 +1,7 @@
 // Texts escaped for URIs.
 
-ghost use Rattle.std.specs.Prelude.{◌≡◌, IfOk, string_bytes};
-ghost use Rattle.just_text.specs.Uri.{EscapesReserved, encoded};
+ghost use Rattle.std.specs.Prelude.{IfOk, string_bytes, ◌≡◌};
+ghost use Rattle.just_text.specs.Prelude.{EscapesReserved, encoded};
 
 use just_syntax::out_of_memory::OutOfMemory;
 use percent_encoding::{AsciiSet, NON_ALPHANUMERIC, utf8_percent_encode};

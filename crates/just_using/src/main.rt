@@ -1,4 +1,5 @@
-// Two runs of mode := 'debug', greeting := 'Hello, ' + `whoami`, letter := if mode == 'debug' { greeting } else { `mail` }.
+// Two runs of mode := 'debug', greeting := 'Hello, ' + `whoami`,
+// letter := if mode == 'debug' { greeting } else { `mail` }.
 #![tactic(auto)]
 
 use anyhow::Result;

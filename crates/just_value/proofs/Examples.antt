@@ -5,10 +5,7 @@ use Rattle.std.specs.Str.{chars}
 use Rattle.just_syntax.specs.ListOperator.{separator}
 use Rattle.just_syntax.specs.declared.list_operator.ListOperator.TheVariants.{Concatenate, Join}
 use Rattle.just_value.specs.Applied.{applied}
-use Rattle.just_value.specs.Listed.{listed}
-use Rattle.just_value.specs.Positional.{positional, cut_words}
-use Rattle.just_value.specs.Shown.{shown}
-use Rattle.just_value.specs.Value.{joined}
+use Rattle.just_value.specs.Prelude.{cut_words, joined, listed, positional, shown}
 
 two_empty : joined ([] ∷ [] ∷ []) ≡ codes " "
 two_empty = refl
@@ -38,7 +35,8 @@ shown_tab : shown (codes "a\tb\"c" ∷ []) ≡ codes "\"a\\tb\\\"c\""
 unfolding chars encode
 shown_tab = refl
 
-words : positional (codes "./x=1" ∷ codes "a/b" ∷ codes "c=d" ∷ []) ≡ record { arguments = codes "b" ∷ codes "c=d" ∷ []; overrides = (codes "./x", codes "1") ∷ []; search_directory = Some (codes "a/") }
+words : positional (codes "./x=1" ∷ codes "a/b" ∷ codes "c=d" ∷ [])
+    ≡ record { arguments = codes "b" ∷ codes "c=d" ∷ []; overrides = (codes "./x", codes "1") ∷ []; search_directory = Some (codes "a/") }
 words = refl
 
 dots : positional (codes ".." ∷ codes "a=b" ∷ []) ≡ record { arguments = codes "a=b" ∷ []; overrides = []; search_directory = Some (codes "..") }

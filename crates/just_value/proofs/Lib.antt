@@ -1,12 +1,13 @@
 pub mod Bound
 mod Cuts
+mod Escapes
 mod Examples
 mod Framed
 mod Inserted
 mod Named
 mod Numbering
 mod Pairs
-mod Places
+pub mod Places
 mod PositionalLaws
 mod Texts
 mod Stepped

@@ -1,5 +1,6 @@
 -- Names with their numbers: sorted by their bytes, without duplicates.
-use Rattle.std.proofs.Common.{◌≡◌, ℕ, ◌&&◌, Bool, true, false, cond, not, List, [], ◌∷◌, ◌++◌, get_or, map, reverse, Option, Some, None, Ok, Err, Bor, refl, ap, sym, subst, ◌∙◌, nat_cmp, is_eq, is_lt}
+use Rattle.std.proofs.Common.{◌≡◌, ℕ, ◌&&◌, Bool, true, false, cond, not, List, [], ◌∷◌, ◌++◌, get_or, map, reverse, Option, Some, None, Ok, Err, Bor, refl, ap}
+use Rattle.std.proofs.Common.{sym, subst, ◌∙◌, nat_cmp, is_eq, is_lt}
 use Rattle.std.specs.Cmp.Lexicographic.{slice_cmp}
 use Rattle.std.specs.List.{dedup, dedup_from}
 use Rattle.std.specs.List.Sorted.{IsSortedByKey, IsStableByKey, IsStrictlySortedBy}
@@ -12,10 +13,8 @@ use Rattle.std.proofs.lemmas.List.Kept.{IsStrictlySortedBy-dedup}
 use Rattle.std.proofs.lemmas.Map.Entries.{lookup-filter-keys}
 use Rattle.std.proofs.lemmas.Map.Text.{is_eq-slice_cmp}
 use Rattle.std.proofs.lemmas.Slice.Eq.{bytes_eq-Decides}
-use Rattle.just_syntax.specs.Plain.{Text, Token}
-use Rattle.just_value.specs.Numbering.{last_of}
-use Rattle.just_value.specs.Places.{IsPlace}
-use Rattle.just_value.specs.Rising.{AreRisingNames}
+use Rattle.just_value.specs.Prelude.{AreRisingNames, IsPlace, Text, Token, last_of}
+use Rattle.just_value.proofs.Bound.{or_choice}
 use Rattle.just_value.proofs.Places.{lookup_at, lookup_between}
 
 abbrev pub Names : Type 0
@@ -34,14 +33,17 @@ same_ties q b = nat_list_eq_equiv.symm q b.0.now ∙ sym (is_eq-slice_cmp b.0.no
 
 module _ (names : Names) (rising : AreRisingNames names) (q : Text) (i : ℕ) where
   pub name_found : (d : Bor Text × ℕ) → IsPlace (λ b. slice_cmp nat_cmp b.0.now q) names (Ok i) → lookup (is_named q) names ≡ Some (get_or names i d).1
-  name_found d place = ap (lookup (is_named q)) (sym (map-id names)) ∙ lookup_at (λ b. b.0.now) nat_list_cmp_total names rising q (λ b. b) (is_named q) (same_ties q) i d place
+  name_found d place =
+      ap (lookup (is_named q)) (sym (map-id names)) ∙ lookup_at (λ b. b.0.now) nat_list_cmp_total names rising q (λ b. b) (is_named q) (same_ties q) i d place
 
   pub name_missing : IsPlace (λ b. slice_cmp nat_cmp b.0.now q) names (Err i) → lookup (is_named q) names ≡ None
-  name_missing place = ap (lookup (is_named q)) (sym (map-id names)) ∙ lookup_between (λ b. b.0.now) nat_list_cmp_total names rising q (λ b. b) (is_named q) (same_ties q) i place
+  name_missing place = ap (lookup (is_named q)) (sym (map-id names))
+      ∙ lookup_between (λ b. b.0.now) nat_list_cmp_total names rising q (λ b. b) (is_named q) (same_ties q) i place
 
 -- a look-up in the stably sorted list finds what it finds in the original one
 tied : (q k : Text) → q ≡ k → (not (is_lt (slice_cmp nat_cmp q k)) && not (is_lt (slice_cmp nat_cmp k q))) ≡ true
-tied q k e = subst (λ k. (not (is_lt (slice_cmp nat_cmp q k)) && not (is_lt (slice_cmp nat_cmp k q))) ≡ true) e (ap (λ o. not (is_lt o) && not (is_lt o)) (tied_itself nat_list_cmp_total q))
+tied q k e = subst (λ k. (not (is_lt (slice_cmp nat_cmp q k)) && not (is_lt (slice_cmp nat_cmp k q))) ≡ true) e
+    (ap (λ o. not (is_lt o) && not (is_lt o)) (tied_itself nat_list_cmp_total q))
 
 module _ (xs ys : Names) where
   pub found_sorted : IsStableByKey (λ b. b.0) (λ x y. slice_cmp nat_cmp x.now y.now) xs ys → (q : Text) → lookup (is_named q) ys ≡ lookup (is_named q) xs
@@ -61,14 +63,12 @@ passed_over true t a b c e = refl
 passed_over false false a b c e = refl
 passed_over false true a b c e = cc
 
-or_choice : (b : Bool) (n : ℕ) (x y : Option ℕ) → cond b (Some n) (option_or x y) ≡ option_or (cond b (Some n) x) y
-or_choice true n x y = refl
-or_choice false n x y = refl
-
 module _ (q : Text) where
-  one_of : (b : Bool) (k x : Bor Text × ℕ) (xs : Names) → b ≡ is_same x k → lookup (is_named q) (dedup_from is_same k xs) ≡ lookup (is_named q) (k ∷ xs) → lookup (is_named q) (dedup_from is_same x xs) ≡ lookup (is_named q) (x ∷ xs)
+  one_of : (b : Bool) (k x : Bor Text × ℕ) (xs : Names) → b ≡ is_same x k → lookup (is_named q) (dedup_from is_same k xs) ≡ lookup (is_named q) (k ∷ xs)
+      → lookup (is_named q) (dedup_from is_same x xs) ≡ lookup (is_named q) (x ∷ xs)
       → lookup (is_named q) (cond b (dedup_from is_same k xs) (k ∷ dedup_from is_same x xs)) ≡ lookup (is_named q) (k ∷ x ∷ xs)
-  one_of true k x xs same here there = here ∙ passed_over (is_named q k.0) (is_named q x.0) _ _ _ (ap (bytes_eq q) ((bytes_eq-Decides x.0.now k.0.now).0 (sym same)))
+  one_of true k x xs same here there =
+      here ∙ passed_over (is_named q k.0) (is_named q x.0) _ _ _ (ap (bytes_eq q) ((bytes_eq-Decides x.0.now k.0.now).0 (sym same)))
   one_of false k x xs same here there = ap (cond (is_named q k.0) (Some k.1)) there
 
   found_from : (k : Bor Text × ℕ) (xs : Names) → lookup (is_named q) (dedup_from is_same k xs) ≡ lookup (is_named q) (k ∷ xs)
@@ -81,11 +81,13 @@ module _ (q : Text) where
 
   found_in_both : (xs ys : Names) → lookup (is_named q) (xs ++ ys) ≡ option_or (lookup (is_named q) xs) (lookup (is_named q) ys)
   found_in_both [] ys = refl
-  found_in_both (x ∷ xs) ys = ap (cond (is_named q x.0) (Some x.1)) (found_in_both xs ys) ∙ or_choice (is_named q x.0) x.1 (lookup (is_named q) xs) (lookup (is_named q) ys)
+  found_in_both (x ∷ xs) ys = ap (cond (is_named q x.0) (Some x.1)) (found_in_both xs ys)
+      ∙ sym (or_choice (is_named q x.0) (is_named q x.0) x.1 (lookup (is_named q) xs) (lookup (is_named q) ys) refl)
 
 -- sorted names without duplicates are strictly increasing
 pub rising_once : (xs : Names) → IsSortedByKey (λ b. b.0) (λ x y. slice_cmp nat_cmp x.now y.now) xs → AreRisingNames (dedup is_same xs)
-rising_once xs sorted = IsStrictlySortedBy-dedup (on_total (λ (b : Bor Text × ℕ). b.0.now) nat_list_cmp_total) (λ a b. sym (is_eq-slice_cmp a.0.now b.0.now)) xs sorted
+rising_once xs sorted =
+    IsStrictlySortedBy-dedup (on_total (λ (b : Bor Text × ℕ). b.0.now) nat_list_cmp_total) (λ a b. sym (is_eq-slice_cmp a.0.now b.0.now)) xs sorted
 
 module _ {X : Type 0} (pair : X → Token × ℕ) (name : X → Bor Text × ℕ) (is : (x : X) → ((pair x).0.lexeme ≡ (name x).0.now) × ((pair x).1 ≡ (name x).1)) where
   -- the last pair of a name is the first in the reversed list
@@ -96,5 +98,6 @@ module _ {X : Type 0} (pair : X → Token × ℕ) (name : X → Bor Text × ℕ)
       ∙ ap (lookup (is_named q)) (map-append name (reverse xs) (x ∷ []))
       ∙ found_in_both q (map name (reverse xs)) (name x ∷ [])
       ∙ ap (λ o. option_or o (cond (is_named q (name x).0) (Some (name x).1) None)) (last_first xs q)
-      ∙ ap (λ b. option_or (last_of (map pair xs) q) (cond b (Some (name x).1) None)) (nat_list_eq_equiv.symm q (name x).0.now ∙ ap (λ t. bytes_eq t q) (sym (is x).0))
+      ∙ ap (λ b. option_or (last_of (map pair xs) q) (cond b (Some (name x).1) None)) (nat_list_eq_equiv.symm q (name x).0.now
+      ∙ ap (λ t. bytes_eq t q) (sym (is x).0))
       ∙ ap (λ n. option_or (last_of (map pair xs) q) (cond (bytes_eq (pair x).0.lexeme q) (Some n) None)) (sym (is x).1)

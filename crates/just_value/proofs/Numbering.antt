@@ -1,6 +1,6 @@
 -- Parameters as pairs of a name and a number.
 use Rattle.std.proofs.Common.{◌≡◌, ℕ, List, [], ◌∷◌, map, refl, ap}
-use Rattle.just_syntax.specs.Plain.{Token}
+use Rattle.just_value.specs.Prelude.{Token}
 use Rattle.just_syntax.specs.View.{name_view, recipe_parameter_view}
 use Rattle.just_syntax.specs.declared.parameter.Parameter.{Parameter}
 use Rattle.just_value.specs.Numbering.{numbered}

@@ -1,15 +1,16 @@
 -- Searches among elements with strictly increasing keys.
-use Rattle.std.proofs.Common.{◌≡◌, ℕ, zero, suc, ◌+◌, ◌-◌, ◌<◌, Bool, false, List, [], ◌∷◌, length, get_or, map, Some, None, Result, Ok, Err, inl, inr, refl, ap, sym, ◌∙◌, arith, Ordering, Less, Equal, Greater, is_eq, is_lt}
+use Rattle.std.proofs.Common.{◌≡◌, ℕ, zero, suc, ◌+◌, ◌-◌, ◌<◌, Bool, false, List, [], ◌∷◌, length, get_or, map, Some, None, Result, Ok, Err, inl, inr, refl}
+use Rattle.std.proofs.Common.{ap, sym, ◌∙◌, arith, Ordering, Less, Equal, Greater, is_eq, is_lt, HoldsAt}
 use Rattle.std.specs.Cmp.{IsTotalOrder}
 use Rattle.std.specs.Ordering.{ordering_index, ordering_reverse}
-use Rattle.std.specs.List.{AllByRecursion, AllWithin, HoldsAt}
+use Rattle.std.specs.List.{AllByRecursion, AllWithin}
 use Rattle.std.specs.List.Sorted.{IsBinarySearchResult, IsNonDecreasingBy, IsSearchInRange, IsStrictlySortedBy}
 use Rattle.std.specs.Map.{lookup}
 use Rattle.std.proofs.lemmas.Bool.{cases_lt, cond-false, cond-true}
 use Rattle.std.proofs.lemmas.Cmp.{alike_right}
 use Rattle.std.proofs.lemmas.List.Sorted.{searchable_from_sorted}
 use Rattle.std.proofs.lemmas.Map.Keys.{Less-from_sorted}
-use Rattle.just_value.specs.Places.{IsPlace}
+use Rattle.just_value.specs.Prelude.{IsPlace}
 
 -- equality does not depend on the order of the two sides
 pub ties_back : (o : Ordering) → is_eq (ordering_reverse o) ≡ is_eq o
@@ -22,7 +23,8 @@ all_mapped key P [] h = tt
 all_mapped key P (x ∷ xs) h = (h.0, all_mapped key P xs h.1)
 
 -- strictly increasing keys give strictly increasing elements, compared by their keys
-pub rising_by_key : {X K : Type 0} (key : X → K) (R : K → K → Ordering) (xs : List X) → IsStrictlySortedBy R (map key xs) → IsStrictlySortedBy (λ a b. R (key a) (key b)) xs
+pub rising_by_key : {X K : Type 0} (key : X → K) (R : K → K → Ordering) (xs : List X) → IsStrictlySortedBy R (map key xs)
+    → IsStrictlySortedBy (λ a b. R (key a) (key b)) xs
 unfolding IsStrictlySortedBy
 rising_by_key key R [] h = tt
 rising_by_key key R (x ∷ xs) h = (all_mapped key (λ k. R (key x) k ≡ Less) xs h.0, rising_by_key key R xs h.1)
@@ -33,16 +35,20 @@ module _ {X J Y : Type 0} (entry : X → J × Y) (test : J → Bool) (ord : X �
   missing [] h = refl
   missing (x ∷ xs) h = cond-false _ _ _ (tests x ∙ h 0 x (omega arith)) ∙ missing xs (λ k d lt. h (suc k) d (omega arith))
 
-  found : (xs : List X) (i : ℕ) (d : X) → i < length xs → AllWithin (λ x. ord x ≡ Less) xs 0 i → HoldsAt (λ x. ord x ≡ Equal) xs i → lookup test (map entry xs) ≡ Some (entry (get_or xs i d)).1
+  found : (xs : List X) (i : ℕ) (d : X) → i < length xs → AllWithin (λ x. ord x ≡ Less) xs 0 i → HoldsAt (λ x. ord x ≡ Equal) xs i
+      → lookup test (map entry xs) ≡ Some (entry (get_or xs i d)).1
   found [] i d within below here = absurd (omega arith)
   found (x ∷ xs) zero d within below here = cond-true _ _ _ (tests x ∙ ap is_eq (here x))
   found (x ∷ xs) (suc i) d within below here =
       cond-false _ _ _ (tests x ∙ ap is_eq (below 0 x (omega arith) (omega arith)))
       ∙ found xs i d (omega arith) (λ k e lo hi. below (suc k) e (omega arith) (omega arith)) here
 
-module _ {X K : Type 0} (key : X → K) {R : K → K → Ordering} (total : IsTotalOrder R) (xs : List X) (rising : IsStrictlySortedBy (λ a b. R (key a) (key b)) xs) (k : K) where
+module _ {X K : Type 0} (key : X → K) {R : K → K → Ordering} (total : IsTotalOrder R) (xs : List X) (rising : IsStrictlySortedBy (λ a b. R (key a) (key b)) xs)
+    (k : K) where
   searchable : IsNonDecreasingBy (λ x. ordering_index (R (key x) k)) xs
-  searchable = searchable_from_sorted total key xs k (λ i d lo hi. ap is_lt (total.antisymm _ _ ∙ ap ordering_reverse (Less-from_sorted _ xs i (i + 1) d rising (omega arith) hi)))
+  searchable =
+      searchable_from_sorted total key xs k
+      (λ i d lo hi. ap is_lt (total.antisymm _ _ ∙ ap ordering_reverse (Less-from_sorted _ xs i (i + 1) d rising (omega arith) hi)))
 
   -- the result of a binary search is a place
   pub searched : (r : Result ℕ ℕ) → IsSearchInRange r (length xs) → IsBinarySearchResult (λ x. R (key x) k) xs r → IsPlace (λ x. R (key x) k) xs r

@@ -7,7 +7,9 @@ use Rattle.just_syntax.specs.StringContext as context
 use Rattle.just_syntax.specs.StringContext.{StringContext, context_text}
 use Rattle.just_value.specs.ConstRefusal as constant
 use Rattle.just_value.specs.ConstRefusal.{ConstRefusal, const_token}
-use Rattle.just_value.specs.Refusal.{Refusal, Assert, Backtick, Check, Const, EmptyInterpreter, EmptyListArgument, FunctionCall, Internal, LeftOut, LeftOutRegex, ListInStringContext, ListOperation, RecursionLimit}
+use Rattle.just_value.specs.Refusal.{Refusal, Assert, Backtick, Check, Const, EmptyInterpreter, EmptyListArgument}
+use Rattle.just_value.specs.Refusal.{FunctionCall, Internal, LeftOut, LeftOutRegex, ListInStringContext, ListOperation}
+use Rattle.just_value.specs.Refusal.{RecursionLimit}
 use Rattle.just_value.specs.Shown.{shown}
 use Rattle.just_value.specs.Value.{Value}
 
@@ -30,23 +32,30 @@ IsConstEval (RecursionLimit name) = ⊥
 abbrev pub const_error_text : ConstRefusal → Text
 const_error_text (constant.Backtick t) = codes "cannot call backticks in const context"
 const_error_text (constant.FunctionCall name) = codes "cannot call functions in const context"
-const_error_text (constant.Variable name) = codes "cannot access non-const variable `" ++ (name.lexeme ++ codes "` in const context")
+const_error_text (constant.Variable name) =
+    codes "cannot access non-const variable `" ++ (name.lexeme ++ codes "` in const context")
 
 -- a value that is not one text, and the place that requires one
 abbrev pub list_where : StringContext → Value → Text
 list_where wanted v = codes "list value " ++ (shown v ++ (codes " " ++ context_text wanted))
 
--- the same, with a note on lists as arguments of functions
+-- what is added about a list where a function takes a text
+abbrev pub undecided_text : Text
+undecided_text =
+    codes "\nthe behavior of lists with many built-in functions is undecided\nsee https://github.com/casey/just#lists"
+
+-- a value that is not one text, with a note on lists as arguments of functions
 abbrev pub list_text : StringContext → Value → Text
 list_text (context.EnvKey name) v = list_where (context.EnvKey name) v
-list_text (context.Function name) v = list_where (context.Function name) v ++ codes "\nthe behavior of lists with many built-in functions is undecided\nsee https://github.com/casey/just#lists"
+list_text (context.Function name) v = list_where (context.Function name) v ++ undecided_text
 list_text (context.Setting name) v = list_where (context.Setting name) v
 
 -- why an operator cannot be applied: empty lists, if one is empty, otherwise lists of different lengths
 abbrev pub lists_text : Value → Text → Value → Text
 lists_text l o r =
     if length l == 0 || length r == 0 then codes " cannot be applied to empty lists"
-    else codes " cannot be applied to lists of different lengths: " ++ (shown l ++ (codes " " ++ (o ++ (codes " " ++ shown r))))
+    else codes " cannot be applied to lists of different lengths: "
+    ++ (shown l ++ (codes " " ++ (o ++ (codes " " ++ shown r))))
 
 -- an operator, and why it cannot be applied
 abbrev pub operation_text : Value → ListOperator → Value → Text
@@ -56,7 +65,8 @@ operation_text l o r = (codes "operator `" ++ (operator_text o ++ codes "`")) ++
 abbrev pub const_eval_text : Refusal → Text
 const_eval_text (Assert message name) = codes "assert failed: " ++ message
 const_eval_text (Const refusal) = const_error_text refusal
-const_eval_text (EmptyInterpreter setting) = codes "`" ++ (setting.lexeme ++ codes "` setting requires at least one element but evaluated to empty list")
+const_eval_text (EmptyInterpreter setting) =
+    codes "`" ++ (setting.lexeme ++ codes "` setting requires at least one element but evaluated to empty list")
 const_eval_text (Internal message t) = codes "internal error: " ++ message
 const_eval_text (LeftOutRegex t) = codes "regular expression operators are left out"
 const_eval_text (ListInStringContext wanted v) = list_text wanted v

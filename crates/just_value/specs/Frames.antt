@@ -1,6 +1,7 @@
 -- Bindings; frames, which are bindings in ascending order of number; and lists of frames, innermost first.
-use Rattle.std.specs.Prelude.{◌≡◌, ◌==◌, if◌then◌else◌, ℕ, suc, Bool, true, false, List, [], ◌∷◌, Option, Some, None, map, codes}
-use Rattle.std.specs.Option.{option_or}
+use Rattle.std.specs.Prelude.{◌≡◌, ◌==◌, if◌then◌else◌, ℕ, suc, Bool, true, false, List, [], ◌∷◌, Option, Some, None}
+use Rattle.std.specs.Prelude.{map, codes}
+use Rattle.std.specs.Option.{option_map, option_or}
 use Rattle.std.specs.Ordering.{nat_cmp}
 use Rattle.std.specs.List.Sorted.{IsStrictlySortedBy}
 use Rattle.std.specs.Map.{lookup}
@@ -38,16 +39,11 @@ innermost n [] = None
 innermost n (frame ∷ outer) = option_or (bound_at n frame) (innermost n outer)
 
 abbrev pub value_of : Option Bound → Option Value
-value_of None = None
-value_of (Some b) = Some b.value
-
-abbrev pub or_else : Option Value → Option Value → Option Value
-or_else None other = other
-or_else (Some v) other = Some v
+value_of bound = option_map (λ b. b.value) bound
 
 -- a frame's values; they shadow those of `names`
 abbrev pub over : Frame → Names → Names
-over frame names n = or_else (value_of (bound_at n frame)) (names n)
+over frame names n = option_or (value_of (bound_at n frame)) (names n)
 
 -- the values of frames; an inner frame shadows an outer one
 abbrev pub value_in : Frames → Names
@@ -75,11 +71,33 @@ IsRising bounds = IsStrictlySortedBy nat_cmp (map (λ b. b.number) bounds)
 
 -- a binding whose flags are all false, with no attribute
 abbrev pub plainly_bound : Token → ℕ → Value → Bound
-plainly_bound name n v = record { attributes = []; eager = false; export = false; file_depth = 0; name = name; number = n; prelude = false; private = false; value = v }
+plainly_bound name n v = record {
+  attributes = [];
+  eager = false;
+  export = false;
+  file_depth = 0;
+  name = name;
+  number =
+      n;
+  prelude = false;
+  private = false;
+  value = v;
+}
 
 -- a constant of the prelude, by its key and text
 abbrev pub constant_bound : ℕ → Text → Value → Bound
-constant_bound n key v = record { attributes = []; eager = false; export = false; file_depth = 0; name = record { column = 0; line = 0; offset = 0; lexeme = key; path = codes "PRELUDE" }; number = n; prelude = true; private = false; value = v }
+constant_bound n key v = record {
+  attributes = [];
+  eager = false;
+  export = false;
+  file_depth = 0;
+  name =
+      record { column = 0; line = 0; offset = 0; lexeme = key; path = codes "PRELUDE" };
+  number = n;
+  prelude = true;
+  private = false;
+  value = v;
+}
 
 -- a frame with constants added, which are keys and texts, numbered consecutively from n
 abbrev pub with_constants : Frame → ℕ → List (Text × Text) → Frame
@@ -88,7 +106,8 @@ with_constants frame n (c ∷ cs) = with_constants (with_bound frame (constant_b
 
 -- after a binding is added to the first frame, its number has that binding, and each other number keeps its own
 abbrev pub BindsOneNumber : Type 0
-BindsOneNumber = (frame : Frame) (outer : Frames) (b : Bound) (n : ℕ) → innermost n (bound_innermost (frame ∷ outer) b) ≡ (if n == b.number then Some b else innermost n (frame ∷ outer))
+BindsOneNumber = (frame : Frame) (outer : Frames) (b : Bound) (n : ℕ) → innermost n (bound_innermost (frame ∷ outer) b)
+    ≡ (if n == b.number then Some b else innermost n (frame ∷ outer))
 
 -- an empty frame as the new innermost one changes no look-up
 abbrev pub ChildAnswersAsParent : Type 0

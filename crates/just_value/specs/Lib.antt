@@ -14,3 +14,4 @@ pub mod Numbering
 pub mod Positional
 pub mod Frames
 pub mod View
+pub mod Prelude

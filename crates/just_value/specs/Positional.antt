@@ -1,5 +1,6 @@
 -- Positional words: overrides, a search directory, arguments.
-use Rattle.std.specs.Prelude.{◌≡◌, ◌↔◌, ℕ, ◌==◌, ◌||◌, Bool, ◌++◌, List, [], ◌∷◌, map, Option, Some, None, option_map, option_to_list, codes, if◌then◌else◌}
+use Rattle.std.specs.Prelude.{◌≡◌, ◌↔◌, ℕ, ◌==◌, ◌||◌, Bool, ◌++◌, List, [], ◌∷◌, map, Option, Some, None, option_map}
+use Rattle.std.specs.Prelude.{option_to_list, codes, if◌then◌else◌}
 use Rattle.std.specs.Str.{bytes_eq}
 use Rattle.just_syntax.specs.Plain.{Text}
 
@@ -41,16 +42,28 @@ tail_before tail words = tail ∷ words
 
 -- The words after the overrides if the first is not `.` or `..`. One with a slash is a directory and a tail.
 abbrev pub with_directory : Text → List Text → Option (Text × Text) → Positional
-with_directory word words (Some p) = record { arguments = tail_before p.1 words; overrides = []; search_directory = Some p.0 }
+with_directory word words (Some p) =
+    record { arguments = tail_before p.1 words; overrides = []; search_directory = Some p.0 }
 with_directory word words None = record { arguments = word ∷ words; overrides = []; search_directory = None }
 
 -- the meaning of the words after the overrides
 abbrev pub after_overrides : Text → List Text → Positional
-after_overrides word words = if is_dots word then record { arguments = words; overrides = []; search_directory = Some word } else with_directory word words (directory_and_tail word)
+after_overrides word words = if is_dots word then record {
+  arguments = words;
+  overrides = [];
+  search_directory =
+      Some word;
+} else with_directory word words (directory_and_tail word)
 
 -- the meaning of a word followed by others: it is an override, or the first word after the overrides
 abbrev pub with_first : Text → List Text → Positional → Option (Text × Text) → Positional
-with_first word words meant (Some override) = record { arguments = meant.arguments; overrides = override ∷ meant.overrides; search_directory = meant.search_directory }
+with_first word words meant (Some override) =
+    record {
+      arguments = meant.arguments;
+      overrides = override ∷ meant.overrides;
+      search_directory =
+          meant.search_directory;
+    }
 with_first word words meant None = after_overrides word words
 
 -- The meaning of words: the longest prefix of words with `=` are overrides, then a directory, then arguments.
@@ -64,7 +77,8 @@ cut_directory word words (Some p) = p.0 ∷ tail_before p.1 words
 cut_directory word words None = word ∷ words
 
 abbrev pub cut_after_overrides : Text → List Text → List Text
-cut_after_overrides word words = if is_dots word then word ∷ words else cut_directory word words (directory_and_tail word)
+cut_after_overrides word words =
+    if is_dots word then word ∷ words else cut_directory word words (directory_and_tail word)
 
 abbrev pub cut_first : Text → List Text → List Text → Option (Text × Text) → List Text
 cut_first word words cut (Some override) = word ∷ cut
@@ -88,7 +102,8 @@ MeansTheCut = (words : List Text) → positional (cut_words words) ≡ positiona
 
 -- words have the same meaning exactly if they are equal after the split
 abbrev pub SameExactlyIfCutAlike : Type 0
-SameExactlyIfCutAlike = (words others : List Text) → (positional words ≡ positional others) ↔ (cut_words words ≡ cut_words others)
+SameExactlyIfCutAlike =
+    (words others : List Text) → (positional words ≡ positional others) ↔ (cut_words words ≡ cut_words others)
 
 -- the meaning p with one more word, which is an override or the first word after the overrides
 abbrev pub with_override : Positional → Text → Option (Text × Text) → Positional

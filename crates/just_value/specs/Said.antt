@@ -4,7 +4,8 @@ use Rattle.std.specs.Fmt.{signed_decimal}
 use Rattle.just_syntax.specs.OutOfMemory.{no_memory_text}
 use Rattle.just_syntax.specs.Plain.{Text, Token}
 use Rattle.just_value.specs.ConstEval.{const_eval_text, const_eval_token}
-use Rattle.just_value.specs.Refusal.{Fault, Code, Message, NoMemory, Refusal, Backtick, Check, EmptyListArgument, FunctionCall, LeftOut, RecursionLimit}
+use Rattle.just_value.specs.Refusal.{Fault, Code, Message, NoMemory, Refusal, Backtick, Check, EmptyListArgument}
+use Rattle.just_value.specs.Refusal.{FunctionCall, LeftOut, RecursionLimit}
 
 -- why a command produced no text
 abbrev pub command_fault_text : Fault → Text
@@ -15,11 +16,15 @@ command_fault_text NoMemory = no_memory_text
 -- The message of a refusal. A refusal that constant evaluation has too has the same message there.
 abbrev pub refusal_text : Refusal → Text
 refusal_text (Backtick t fault) = codes "backtick failed: " ++ command_fault_text fault
-refusal_text (Check parameter message) = codes "argument of parameter `" ++ (parameter ++ (codes "` was refused: " ++ message))
-refusal_text (EmptyListArgument parameter recipe) = codes "parameter `" ++ (parameter ++ (codes "` of recipe `" ++ (recipe ++ codes "` requires at least one element")))
-refusal_text (FunctionCall name message) = codes "call to function `" ++ (name.lexeme ++ (codes "` failed: " ++ message))
+refusal_text (Check parameter message) =
+    codes "argument of parameter `" ++ (parameter ++ (codes "` was refused: " ++ message))
+refusal_text (EmptyListArgument parameter recipe) =
+    codes "parameter `" ++ (parameter ++ (codes "` of recipe `" ++ (recipe ++ codes "` requires at least one element")))
+refusal_text (FunctionCall name message) =
+    codes "call to function `" ++ (name.lexeme ++ (codes "` failed: " ++ message))
 refusal_text (LeftOut name) = codes "function `" ++ (name.lexeme ++ codes "` is left out")
-refusal_text (RecursionLimit name) = codes "call to function `" ++ (name.lexeme ++ codes "` reached the recursion limit")
+refusal_text (RecursionLimit name) =
+    codes "call to function `" ++ (name.lexeme ++ codes "` reached the recursion limit")
 refusal_text r = const_eval_text r
 
 -- the token of a refusal; the refusal of an argument has none, since arguments come from the caller

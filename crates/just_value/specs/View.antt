@@ -31,11 +31,25 @@ use Rattle.just_value.specs.Frames.{Bound, Frames}
 use Rattle.just_value.specs.ConstEval.{const_eval_token}
 use Rattle.just_value.specs.ConstRefusal as constant
 use Rattle.just_value.specs.Positional.{Positional}
-use Rattle.just_value.specs.Refusal.{Fault, Code, Message, NoMemory, Refusal, Assert, Backtick, Check, Const, EmptyInterpreter, EmptyListArgument, FunctionCall, Internal, LeftOut, LeftOutRegex, ListInStringContext, ListOperation, RecursionLimit}
+use Rattle.just_value.specs.Refusal.{Fault, Code, Message, NoMemory, Refusal, Assert, Backtick, Check, Const}
+use Rattle.just_value.specs.Refusal.{EmptyInterpreter, EmptyListArgument, FunctionCall, Internal, LeftOut, LeftOutRegex}
+use Rattle.just_value.specs.Refusal.{ListInStringContext, ListOperation, RecursionLimit}
 use Rattle.just_value.specs.Outcome.{Outcome, Gave, without_value}
 
 abbrev pub bound_view : Binding → Bound
-bound_view b = record { attributes = attributes_view b.attributes; eager = b.eager; export = b.export; file_depth = b.file_depth; name = name_view b.name; number = b.number; prelude = b.prelude; private = b.private; value = b.value }
+bound_view b = record {
+  attributes = attributes_view b.attributes;
+  eager = b.eager;
+  export = b.export;
+  file_depth =
+      b.file_depth;
+  name = name_view b.name;
+  number = b.number;
+  prelude = b.prelude;
+  private =
+      b.private;
+  value = b.value;
+}
 
 -- the bindings of a frame, in ascending order of number
 abbrev pub frame_view : Frame → plain.Frame
@@ -79,7 +93,8 @@ const_eval_refusal (const_evals.Const e) = Const (const_refusal e)
 const_eval_refusal (const_evals.EmptyInterpreter setting) = EmptyInterpreter (name_view setting)
 const_eval_refusal (const_evals.Internal message t) = Internal (string_bytes message) (token_view t)
 const_eval_refusal (const_evals.LeftOutRegex t) = LeftOutRegex (token_view t)
-const_eval_refusal (const_evals.ListInStringContext context value) = ListInStringContext (string_context_view context) value
+const_eval_refusal (const_evals.ListInStringContext context value) =
+    ListInStringContext (string_context_view context) value
 const_eval_refusal (const_evals.ListOperation l o r t) = ListOperation l o r (token_view t)
 
 -- the refusal of an error before any run; `None` for `OutOfMemory`
@@ -134,4 +149,10 @@ abbrev pub looked_up : ExpressionContext → Text → Option ℕ
 looked_up context name = lookup (λ key. bytes_eq name key.now) context.bindings.items
 
 abbrev pub positional_view : declared_positional.Positional → Positional
-positional_view p = record { arguments = map string_bytes p.arguments.items; overrides = map (λ o. (string_bytes o.0, string_bytes o.1)) p.overrides.items; search_directory = option_map string_bytes p.search_directory }
+positional_view p = record {
+  arguments = map string_bytes p.arguments.items;
+  overrides =
+      map (λ o. (string_bytes o.0, string_bytes o.1)) p.overrides.items;
+  search_directory =
+      option_map string_bytes p.search_directory;
+}

@@ -1,9 +1,7 @@
 // Errors of a module before any run.
 
-ghost use Rattle.std.specs.Prelude.{◌≡◌};
-ghost use Rattle.std.specs.Option.{option_map};
-ghost use Rattle.just_syntax.specs.View.{token_view};
-ghost use Rattle.just_value.specs.View.{compile_token};
+ghost use Rattle.std.specs.Prelude.{option_map, ◌≡◌};
+ghost use Rattle.just_value.specs.Prelude.{compile_token, token_view};
 ghost use Rattle.just_value.specs.declared.compile_error.CompileError.TheVariants.{OutOfMemory as Wanted};
 
 use crate::const_eval_error::ConstEvalError;

@@ -1,9 +1,7 @@
 // What constant evaluation does not allow.
 
 ghost use Rattle.std.specs.Prelude.{◌≡◌};
-ghost use Rattle.just_syntax.specs.View.{token_view};
-ghost use Rattle.just_value.specs.ConstRefusal.{const_token};
-ghost use Rattle.just_value.specs.View.{const_refusal};
+ghost use Rattle.just_value.specs.Prelude.{const_refusal, const_token, token_view};
 
 use just_syntax::name::Name;
 use just_syntax::token::Token;

@@ -1,9 +1,8 @@
 // Refusals of constant evaluation.
 
-ghost use Rattle.std.specs.Prelude.{◌≡◌, Some};
-ghost use Rattle.just_syntax.specs.View.{token_view};
-ghost use Rattle.just_value.specs.ConstEval.{const_eval_token};
-ghost use Rattle.just_value.specs.View.{compile_refusal, compile_token, const_eval_refusal};
+ghost use Rattle.std.specs.Prelude.{Some, ◌≡◌};
+ghost use Rattle.just_value.specs.Prelude.{compile_refusal, compile_token, const_eval_refusal, const_eval_token};
+ghost use Rattle.just_value.specs.Prelude.{token_view};
 
 use crate::compile_error::CompileError;
 use crate::const_error::ConstError;

@@ -1,10 +1,10 @@
 // How a text is displayed.
 
+ghost use Rattle.std.specs.Prelude.{MatchOption, [], ◌<◌, ◌∷◌, ◌≡◌};
 ghost use Rattle.std.specs.Fmt.{WritesStyledOnOk};
-ghost use Rattle.just_value.specs.Shown.{escaped, quoted};
+ghost use Rattle.just_value.specs.Prelude.{escaped, quoted};
 
 use std::fmt;
-use std::fmt::Write;
 
 /// A text that is displayed in quotes: tab, return, newline, quote and backslash are written `\t`, `\r`, `\n`, `\"` and
 /// `\\`, all else verbatim.
@@ -24,27 +24,34 @@ impl fmt::Display for Element<'_> {
     }
 }
 
-// A text in quotes.
+// A text in quotes. Each run of bytes between two escapes is written in one piece.
 fn write_quoted<W: fmt::Write>(f: &mut fmt::Formatter<W>, text: &str) -> fmt::Result
     ensures { WritesStyledOnOk W.write_str_gives f.old result (quoted text.now) f.new }
 {
     f.write_str("\"")?;
-    for character in text.chars() {
-        write_escaped(f, character)?;
+    let bytes = text.as_bytes();
+    let mut start = 0;
+    for at in 0..bytes.len() {
+        if let Some(escape) = escape_of(bytes[at]) {
+            f.write_str(&text[start..at])?;
+            f.write_str(escape)?;
+            start = at + 1;
+        }
     }
+    f.write_str(&text[start..])?;
     f.write_str("\"")
 }
 
-// A character as a quoted text shows it.
-fn write_escaped<W: fmt::Write>(f: &mut fmt::Formatter<W>, character: char) -> fmt::Result
-    ensures { WritesStyledOnOk W.write_str_gives f.old result (escaped character) f.new }
+// The escape of an ASCII character, if it has one. No other byte has one.
+fn escape_of(byte: u8) -> Option<&'static str>
+    ensures { MatchOption result (byte < 128 → escaped byte ≡ byte ∷ []) (λ t. (byte < 128) × (t.now ≡ escaped byte)) }
 {
-    match character {
-        '\t' => f.write_str("\\t"),
-        '\r' => f.write_str("\\r"),
-        '\n' => f.write_str("\\n"),
-        '"' => f.write_str("\\\""),
-        '\\' => f.write_str("\\\\"),
-        _ => f.write_char(character),
+    match byte {
+        b'\t' => Some("\\t"),
+        b'\r' => Some("\\r"),
+        b'\n' => Some("\\n"),
+        b'"' => Some("\\\""),
+        b'\\' => Some("\\\\"),
+        _ => None,
     }
 }

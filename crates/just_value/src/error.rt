@@ -1,11 +1,9 @@
 // Errors of evaluation.
 
-ghost use Rattle.std.specs.Prelude.{◌≡◌};
-ghost use Rattle.std.specs.Option.{ForSome, option_map};
-ghost use Rattle.just_syntax.specs.View.{token_view};
-ghost use Rattle.just_value.specs.ConstEval.{IsConstEval, const_eval_token};
-ghost use Rattle.just_value.specs.Said.{error_token};
-ghost use Rattle.just_value.specs.View.{compile_refusal, compile_token, refusal};
+ghost use Rattle.std.specs.Prelude.{option_map, ◌≡◌};
+ghost use Rattle.std.specs.Option.{ForSome};
+ghost use Rattle.just_value.specs.Prelude.{IsConstEval, compile_refusal, compile_token, const_eval_token, error_token};
+ghost use Rattle.just_value.specs.Prelude.{refusal, token_view};
 ghost use Rattle.just_value.specs.declared.error.Error.TheVariants.{OutOfMemory as Wanted};
 
 mod command_fault;

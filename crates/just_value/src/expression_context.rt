@@ -46,7 +46,8 @@ impl<'src> ExpressionContext<'src> {
         alloc: Global,
         pairs: &[(Name<'src>, Number)],
     ) -> Result<ExpressionContext<'src>, OutOfMemory>
-        ensures { IfOk result (λ context. (name : List ℕ) → looked_up context name ≡ last_of (map parameter_view pairs.now) name) }
+        ensures { IfOk result (λ context. (name : List ℕ)
+            → looked_up context name ≡ last_of (map parameter_view pairs.now) name) }
     {
         ExpressionContext::from_first(ExpressionContext::pairs_backwards(alloc, pairs)?)
     }
@@ -61,7 +62,8 @@ impl<'src> ExpressionContext<'src> {
         alloc: Global,
         parameters: &[Parameter<'src>],
     ) -> Result<ExpressionContext<'src>, OutOfMemory>
-        ensures { IfOk result (λ context. (name : List ℕ) → looked_up context name ≡ last_of (numbered (map recipe_parameter_view parameters.now)) name) }
+        ensures { IfOk result (λ context. (name : List ℕ)
+            → looked_up context name ≡ last_of (numbered (map recipe_parameter_view parameters.now)) name) }
     {
         ExpressionContext::from_first(ExpressionContext::parameters_backwards(alloc, parameters)?)
     }
@@ -103,7 +105,8 @@ impl<'src> ExpressionContext<'src> {
         alloc: Global,
         parameters: &[Parameter<'src>],
     ) -> Result<Vec<(&'src str, Number)>, AllocError>
-        ensures { IfOk result (λ bindings. bindings.items ≡ map (λ p. (p.name.token.lexeme, p.number)) (reverse parameters.now)) }
+        ensures { IfOk result (λ bindings. bindings.items ≡ map (λ p. (p.name.token.lexeme, p.number))
+            (reverse parameters.now)) }
     {
         parameters
             .iter()
@@ -116,7 +119,8 @@ impl<'src> ExpressionContext<'src> {
     fn from_first(
         mut bindings: Vec<(&'src str, Number)>,
     ) -> Result<ExpressionContext<'src>, OutOfMemory>
-        ensures { IfOk result (λ context. (name : List ℕ) → looked_up context name ≡ lookup (λ key. bytes_eq name key.now) bindings.entry.items) }
+        ensures { IfOk result (λ context. (name : List ℕ)
+            → looked_up context name ≡ lookup (λ key. bytes_eq name key.now) bindings.entry.items) }
     {
         bindings.sort_by_key(|binding| binding.0)?;
         bindings.dedup_by_key(|binding| binding.0);

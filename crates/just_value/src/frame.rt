@@ -1,12 +1,10 @@
 // Frames: bindings in ascending order of number.
 
-ghost use Rattle.std.specs.Prelude.{◌≡◌, [], OnOk, OnErr, map};
+ghost use Rattle.std.specs.Prelude.{OnErr, OnOk, [], map, option_map, ◌≡◌};
 ghost use Rattle.std.specs.Ordering.{nat_cmp};
 ghost use Rattle.std.specs.Map.{values_of};
-ghost use Rattle.std.specs.Option.{option_map};
-ghost use Rattle.just_value.specs.Frames.{bound_at, with_bound, IsRising};
-ghost use Rattle.just_value.specs.Places.{IsPlace};
-ghost use Rattle.just_value.specs.View.{bindings_left, bound_view, frame_view};
+ghost use Rattle.just_value.specs.Prelude.{IsPlace, IsRising, bindings_left, bound_at, bound_view, frame_view};
+ghost use Rattle.just_value.specs.Prelude.{with_bound};
 
 use crate::binding::Binding;
 use crate::bindings::Bindings;
@@ -69,7 +67,7 @@ impl<'src> Frame<'src> {
         Bindings::new(self.bindings.iter())
     }
 
-    // Binds a number, in place of what it was bound to. For want of memory the frame stays as it was.
+    // Binds a number, in place of what it was bound to. If memory runs out, the frame is unchanged.
     pub(crate) fn bind(&mut self, binding: Binding<'src>) -> Result<(), OutOfMemory>
         ensures ok { OnOk result (frame_view self.new ≡ with_bound (frame_view self.old) (bound_view binding.entry)) }
         ensures err { OnErr result (frame_view self.new ≡ frame_view self.old) }

@@ -1,8 +1,8 @@
 // Laws of values, scopes and positional words. Each function does nothing: its contract is the law.
 
-ghost use Rattle.just_value.specs.Frames.{BindsOneNumber, ChildAnswersAsParent, ValueIsOfBinding};
-ghost use Rattle.just_value.specs.Positional.{KeepsWords, MeansTheCut, SameExactlyIfCutAlike};
-ghost use Rattle.just_value.specs.Value.{EmptyTextIsTruthy, JoinsNoneAndOne, SameExactlyIfEqual};
+ghost use Rattle.just_value.specs.Prelude.{BindsOneNumber, ChildAnswersAsParent, EmptyTextIsTruthy, JoinsNoneAndOne};
+ghost use Rattle.just_value.specs.Prelude.{KeepsWords, MeansTheCut, SameExactlyIfCutAlike, SameExactlyIfEqual};
+ghost use Rattle.just_value.specs.Prelude.{ValueIsOfBinding};
 
 /// Two values are equal exactly if they are the same texts.
 pub fn values_equal_exactly_if_same()

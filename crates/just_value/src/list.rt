@@ -1,10 +1,7 @@
 // Lists of words in a sentence.
 
-ghost use Rattle.std.specs.Prelude.{◌≡◌, List, IfOk, map, codes, ◌<◌, ◌++◌};
-ghost use Rattle.just_syntax.specs.View.{enclosed};
-ghost use Rattle.just_value.specs.Items.{Ends, GivesItems};
-ghost use Rattle.just_value.specs.Listed.{before};
-ghost use Rattle.just_value.specs.View.{conjunction_of, items_of};
+ghost use Rattle.std.specs.Prelude.{IfOk, List, codes, map, ◌++◌, ◌<◌, ◌≡◌};
+ghost use Rattle.just_value.specs.Prelude.{Ends, GivesItems, before, conjunction_of, enclosed, items_of};
 
 use just_syntax::enclosure::Enclosure;
 use just_syntax::out_of_memory::OutOfMemory;
@@ -69,7 +66,8 @@ impl<T: Drop> List<T> {
     ) -> Result<List<Enclosure<T>>, OutOfMemory>
         requires { Ends I.into_iter_gives I.IntoIter.can_next I.IntoIter.remaining items }
         ensures conjunction { IfOk result (λ list. conjunction_of list ≡ codes "or") }
-        ensures items { IfOk result (λ list. GivesItems I.into_iter_gives I.IntoIter.next_gives items (map enclosed (items_of list))) }
+        ensures items { IfOk result (λ list. GivesItems I.into_iter_gives I.IntoIter.next_gives items
+            (map enclosed (items_of list))) }
     {
         Ok(List::of("or", ticked(alloc, items)?))
     }
@@ -86,7 +84,8 @@ impl<T: Drop> List<T> {
     ) -> Result<List<Enclosure<T>>, OutOfMemory>
         requires { Ends I.into_iter_gives I.IntoIter.can_next I.IntoIter.remaining items }
         ensures conjunction { IfOk result (λ list. conjunction_of list ≡ codes "and") }
-        ensures items { IfOk result (λ list. GivesItems I.into_iter_gives I.IntoIter.next_gives items (map enclosed (items_of list))) }
+        ensures items { IfOk result (λ list. GivesItems I.into_iter_gives I.IntoIter.next_gives items
+            (map enclosed (items_of list))) }
     {
         Ok(List::of("and", ticked(alloc, items)?))
     }
@@ -110,7 +109,8 @@ fn ticked<T: Drop, I: IntoIterator<Item = T>>(
     items: I,
 ) -> Result<Vec<Enclosure<T>>, OutOfMemory>
     requires { Ends I.into_iter_gives I.IntoIter.can_next I.IntoIter.remaining items }
-    ensures { IfOk result (λ ticked. GivesItems I.into_iter_gives I.IntoIter.next_gives items (map enclosed ticked.items)) }
+    ensures { IfOk result (λ ticked. GivesItems I.into_iter_gives I.IntoIter.next_gives items
+        (map enclosed ticked.items)) }
 {
     let mut ticked = Vec::new(alloc);
     for item in items {

@@ -1,9 +1,7 @@
 // Positional words of a command line.
 
-ghost use Rattle.std.specs.Prelude.{◌≡◌, ◌++◌, [], ◌∷◌, List, None, IfOk, OnOk, map, string_bytes, codes};
-ghost use Rattle.just_value.specs.Items.{Ends, GivesItems};
-ghost use Rattle.just_value.specs.Positional.{positional, override_of, with_override, with_word};
-ghost use Rattle.just_value.specs.View.{positional_view};
+ghost use Rattle.std.specs.Prelude.{IfOk, List, None, OnOk, [], codes, map, string_bytes, ◌++◌, ◌≡◌};
+ghost use Rattle.just_value.specs.Prelude.{Ends, GivesItems, positional, positional_view, with_override, with_word};
 
 use just_syntax::out_of_memory::OutOfMemory;
 use std::alloc::Global;
@@ -32,7 +30,8 @@ impl Positional {
         values: I,
     ) -> Result<Positional, OutOfMemory>
         requires { Ends I.into_iter_gives I.IntoIter.can_next I.IntoIter.remaining values }
-        ensures { IfOk result (λ p. (words : List _) × GivesItems I.into_iter_gives I.IntoIter.next_gives values words × (positional_view p ≡ positional (map (λ word. word.now) words))) }
+        ensures { IfOk result (λ p. (words : List _) × GivesItems I.into_iter_gives I.IntoIter.next_gives values words
+            × (positional_view p ≡ positional (map (λ word. word.now) words))) }
     {
         let mut positional = Positional {
             arguments: Vec::new(alloc),

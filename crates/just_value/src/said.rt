@@ -1,11 +1,9 @@
 // Messages of the refusals that runs and constant evaluation share.
 #![tactic(auto, using(just_syntax::proofs::Styled::styled_steps))]
 
-ghost use Rattle.std.specs.Prelude.{◌++◌, codes};
+ghost use Rattle.std.specs.Prelude.{codes, ◌++◌};
 ghost use Rattle.std.specs.Fmt.{WritesStyledOnOk};
-ghost use Rattle.just_syntax.specs.ListOperator.{operator_text};
-ghost use Rattle.just_syntax.specs.View.{string_context_view};
-ghost use Rattle.just_value.specs.ConstEval.{list_text, lists_text, operation_text};
+ghost use Rattle.just_value.specs.Prelude.{list_text, lists_text, operation_text, operator_text, string_context_view};
 
 use crate::value::Value;
 use just_syntax::list_operator::ListOperator;
@@ -32,7 +30,8 @@ pub(crate) fn write_internal<W: fmt::Write>(f: &mut fmt::Formatter<W>, message: 
 
 // The message for an evaluated `=~` or `!~`.
 pub(crate) fn write_left_out_regex<W: fmt::Write>(f: &mut fmt::Formatter<W>) -> fmt::Result
-    ensures { WritesStyledOnOk W.write_str_gives f.old result (codes "regular expression operators are left out") f.new }
+    ensures { WritesStyledOnOk W.write_str_gives f.old result (codes "regular expression operators are left out")
+        f.new }
 {
     f.write_str("regular expression operators are left out")
 }
@@ -43,7 +42,8 @@ pub(crate) fn write_list<W: fmt::Write>(
     context: &StringContext,
     value: &Value,
 ) -> fmt::Result
-    ensures { WritesStyledOnOk W.write_str_gives f.old result (list_text (string_context_view context.now) value.now) f.new }
+    ensures { WritesStyledOnOk W.write_str_gives f.old result (list_text (string_context_view context.now) value.now)
+        f.new }
 {
     write_unstyled(f, format_args!("list value {value} {context}"))?;
     match context {
@@ -76,7 +76,8 @@ fn write_lists<W: fmt::Write>(
     operator: &ListOperator,
     rhs: &Value,
 ) -> fmt::Result
-    ensures { WritesStyledOnOk W.write_str_gives f.old result (lists_text lhs.now (operator_text operator.now) rhs.now) f.new }
+    ensures { WritesStyledOnOk W.write_str_gives f.old result (lists_text lhs.now (operator_text operator.now) rhs.now)
+        f.new }
 {
     if lhs.is_empty() || rhs.is_empty() {
         f.write_str(" cannot be applied to empty lists")

@@ -1,10 +1,10 @@
 // Scopes: an own frame, and the enclosing frames.
 
-ghost use Rattle.std.specs.Prelude.{◌≡◌, [], ◌∷◌, IfOk, OnOk, OnErr, map};
+ghost use Rattle.std.specs.Prelude.{IfOk, OnErr, OnOk, [], map, option_map, ◌∷◌, ◌≡◌};
 ghost use Rattle.std.specs.Map.{values_of};
-ghost use Rattle.std.specs.Option.{option_map};
-ghost use Rattle.just_value.specs.Frames.{innermost, value_in, bound_innermost, constant_bound, with_constants, own_frame, outer_frames, IsRising};
-ghost use Rattle.just_value.specs.View.{bindings_left, bound_view, constant_view, frame_view, frames_view};
+ghost use Rattle.just_value.specs.Prelude.{IsRising, bindings_left, bound_innermost, bound_view, constant_bound};
+ghost use Rattle.just_value.specs.Prelude.{constant_view, frame_view, frames_view, innermost, outer_frames, own_frame};
+ghost use Rattle.just_value.specs.Prelude.{value_in, with_constants};
 
 use crate::binding::Binding;
 use crate::bindings::Bindings;
@@ -37,7 +37,8 @@ impl<'src, 'run> Scope<'src, 'run> {
         alloc: Global,
         constants: &[(&'src str, &'src str)],
     ) -> Result<Scope<'src, 'run>, OutOfMemory>
-        ensures { IfOk result (λ scope. frames_view scope ≡ with_constants [] 0 (map constant_view constants.now) ∷ []) }
+        ensures { IfOk result (λ scope. frames_view scope ≡ with_constants [] 0 (map constant_view constants.now)
+            ∷ []) }
     {
         let mut frame = Frame::new(alloc);
         for (i, (key, value)) in constants.iter().enumerate() {
@@ -73,7 +74,8 @@ impl<'src, 'run> Scope<'src, 'run> {
     ///
     /// `OutOfMemory`, if an allocation fails: the scope is unchanged, and the binding is dropped.
     pub fn bind(&mut self, binding: Binding<'src>) -> Result<(), OutOfMemory>
-        ensures ok { OnOk result (frames_view self.new ≡ bound_innermost (frames_view self.old) (bound_view binding.entry)) }
+        ensures ok { OnOk result (frames_view self.new ≡ bound_innermost (frames_view self.old)
+            (bound_view binding.entry)) }
         ensures err { OnErr result (frames_view self.new ≡ frames_view self.old) }
     {
         self.frame.bind(binding)
@@ -117,7 +119,8 @@ impl<'src, 'run> Scope<'src, 'run> {
     /// The enclosing frames, innermost first, if there are any. A scope from `root` has none, and one from `child` has
     /// some. Upstream's `Scope::parent`, which gives a scope.
     pub fn parent(&self) -> Option<&Vec<&'run Frame<'src>>>
-        ensures { option_map (λ outer. map (λ f. frame_view f.now) outer.now.items) result ≡ outer_frames (frames_view self.now) }
+        ensures { option_map (λ outer. map (λ f. frame_view f.now) outer.now.items) result
+            ≡ outer_frames (frames_view self.now) }
     {
         if self.outer.is_empty() {
             return None;

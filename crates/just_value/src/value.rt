@@ -1,17 +1,13 @@
 // Values: lists of texts.
 
-ghost use Rattle.std.specs.Prelude.{◌≡◌, List, ℕ, [], ◌∷◌, ◌++◌, ◌==◌, IfOk, OnOk, OnErr, map, string_bytes, length, codes, if◌then◌else◌, String};
+ghost use Rattle.std.specs.Prelude.{IfOk, List, OnErr, OnOk, String, [], codes, if◌then◌else◌, length, map};
+ghost use Rattle.std.specs.Prelude.{string_bytes, ℕ, ◌++◌, ◌==◌, ◌∷◌, ◌≡◌};
 ghost use Rattle.std.specs.declared.alloc.Global.{Global};
 ghost use Rattle.std.specs.Fmt.{WritesStyledOnOk};
 ghost use Rattle.std.specs.Iterator.Adapters.{IterYieldsInOrder};
 ghost use Rattle.std.specs.Slice.Iter.{iter_rest};
-ghost use Rattle.just_syntax.specs.View.{token_view};
-ghost use Rattle.just_value.specs.Applied.{combined, paired};
-ghost use Rattle.just_value.specs.Items.{Ends, GivesItems};
-ghost use Rattle.just_value.specs.Outcome.{UnlessStopped};
-ghost use Rattle.just_value.specs.Shown.{quoted};
-ghost use Rattle.just_value.specs.Value.{from_condition, is_truthy, joined};
-ghost use Rattle.just_value.specs.View.{ended};
+ghost use Rattle.just_value.specs.Prelude.{Ends, GivesItems, UnlessStopped, combined, ended, from_condition, is_truthy};
+ghost use Rattle.just_value.specs.Prelude.{joined, paired, quoted, token_view};
 
 use crate::element::Element;
 use crate::error::Error;
@@ -75,7 +71,8 @@ impl Value {
         elements: I,
     ) -> Result<Value, OutOfMemory>
         requires { Ends I.into_iter_gives I.IntoIter.can_next I.IntoIter.remaining elements }
-        ensures { IfOk result (λ v. (texts : List _) × GivesItems I.into_iter_gives I.IntoIter.next_gives elements texts × (v ≡ map string_bytes texts)) }
+        ensures { IfOk result (λ v. (texts : List _) × GivesItems I.into_iter_gives I.IntoIter.next_gives elements texts
+            × (v ≡ map string_bytes texts)) }
     {
         let elements = elements.into_iter().collect(alloc)?;
         Ok(Value::from_elements(elements))
@@ -188,7 +185,8 @@ impl Value {
         operator: ListOperator,
         token: Token<'src>,
     ) -> Result<Value, Error<'src>>
-        ensures { UnlessStopped (ended (λ v. v) result) (combined self.now operator other.now (token_view token.entry)) }
+        ensures { UnlessStopped (ended (λ v. v) result)
+            (combined self.now operator other.now (token_view token.entry)) }
     {
         let separator = operator.separator();
         let a = &self.elements;
@@ -240,7 +238,8 @@ impl fmt::Display for Value {
 // A quoted text, after a comma if it is not the first.
 #[tactic(auto, using(just_syntax::proofs::Styled::styled_steps))]
 fn write_element<W: fmt::Write>(f: &mut fmt::Formatter<W>, first: bool, text: &str) -> fmt::Result
-    ensures { WritesStyledOnOk W.write_str_gives f.old result ((if first then [] else codes ", ") ++ quoted text.now) f.new }
+    ensures { WritesStyledOnOk W.write_str_gives f.old result ((if first then [] else codes ", ") ++ quoted text.now)
+        f.new }
 {
     if !first {
         f.write_str(", ")?;
@@ -277,7 +276,8 @@ impl PartialOrd for Value {
 
     ghost partial_cmp = { λ x y. Some (value_cmp x y) };
 
-    ghost laws = { partial_order_from_agreeing_total value_cmp (lists_total nat_list_cmp_total) (λ x y. refl) (lists_ties (slice_cmp nat_cmp) texts_ties) };
+    ghost laws = { partial_order_from_agreeing_total value_cmp (lists_total nat_list_cmp_total) (λ x y. refl)
+        (lists_ties (slice_cmp nat_cmp) texts_ties) };
 
     fn partial_cmp(&self, other: &Value) -> Option<Ordering> {
         Some(self.cmp(other))
@@ -330,7 +330,8 @@ impl IntoIterator for Value {
 
     type IntoIter = vec::IntoIter<String>;
 
-    ghost into_iter_gives = { λ v r. (map string_bytes (into_iter_items r) ≡ v) × EveryRun (into_iter_steps {X = String Global} {Z = Global}) (λ p. ItemsAre p (into_iter_items p.from)) };
+    ghost into_iter_gives = { λ v r. (map string_bytes (into_iter_items r) ≡ v)
+        × EveryRun (into_iter_steps {X = String Global} {Z = Global}) (λ p. ItemsAre p (into_iter_items p.from)) };
 
     fn into_iter(self) -> vec::IntoIter<String> {
         self.into_elements().into_iter()
@@ -360,7 +361,8 @@ fn joined(alloc: Global, x: &str, separator: &str, y: &str) -> Result<String, Ou
 
 // x followed by each of the texts.
 fn after(alloc: Global, x: &str, separator: &str, ys: &[String]) -> Result<Vec<String>, OutOfMemory>
-    ensures { IfOk result (λ v. map string_bytes v.items ≡ map (λ y. (x.now ++ separator.now) ++ y) (map string_bytes ys.now)) }
+    ensures { IfOk result (λ v. map string_bytes v.items ≡ map (λ y. (x.now ++ separator.now) ++ y)
+        (map string_bytes ys.now)) }
 {
     let mut all = Vec::with_capacity(alloc, ys.len())?;
     for y in ys {
@@ -376,7 +378,8 @@ fn before(
     separator: &str,
     y: &str,
 ) -> Result<Vec<String>, OutOfMemory>
-    ensures { IfOk result (λ v. map string_bytes v.items ≡ map (λ x. (x ++ separator.now) ++ y.now) (map string_bytes xs.now)) }
+    ensures { IfOk result (λ v. map string_bytes v.items ≡ map (λ x. (x ++ separator.now) ++ y.now)
+        (map string_bytes xs.now)) }
 {
     let mut all = Vec::with_capacity(alloc, xs.len())?;
     for x in xs {
@@ -393,7 +396,8 @@ fn in_pairs(
     ys: &[String],
 ) -> Result<Vec<String>, OutOfMemory>
     requires { length xs.now ≡ length ys.now }
-    ensures { IfOk result (λ v. map string_bytes v.items ≡ paired separator.now (map string_bytes xs.now) (map string_bytes ys.now)) }
+    ensures { IfOk result (λ v. map string_bytes v.items ≡ paired separator.now (map string_bytes xs.now)
+        (map string_bytes ys.now)) }
 {
     let mut all = Vec::with_capacity(alloc, xs.len())?;
     for i in 0..xs.len() {

@@ -1,10 +1,9 @@
 // Forms around forms: at any depth, a case ends with an answer, a refusal or a status.
 
-use just_bench::program::run;
+use crate::texts::answers;
 use just_bench::stream::LIMIT;
 use just_syntax::out_of_memory::OutOfMemory;
 use std::alloc::Global;
-use std::process::Abort;
 use std::test::Fail;
 
 // What comes before and after the expression that a form is put around.
@@ -65,24 +64,13 @@ pub(crate) fn tower(
     Ok(text)
 }
 
-// A case has this answer and this status.
-fn answers(rt: &impl Abort, alloc: Global, case: &str, answer: &str, status: u8, name: &str) {
-    let mut out = Vec::new(alloc);
-    assert_eq!(rt;
-        run(alloc, &mut case.as_bytes(), &mut out),
-        status,
-        "{name}"
-    );
-    assert_eq!(rt; out.as_slice(), answer.as_bytes(), "{name}");
-}
-
 // As many levels as a case holds, up to 250,000, are more than an expression may have: there is no answer.
 #[test]
 fn as_deep_as_a_case_holds(rt: HostRuntime) -> Result<(), Fail> {
     let alloc = rt.alloc();
     for form in FORMS {
         let case = as_deep_as_held(alloc, *form)?;
-        answers(&rt, alloc, &case, "", 1, form.1);
+        answers(&rt, alloc, form.1, case.as_bytes(), "", 1);
     }
     Ok(())
 }
@@ -104,7 +92,7 @@ fn as_deep_as_an_expression_may_be(rt: HostRuntime) -> Result<(), Fail> {
         for (end, answer, status) in ENDS {
             let mut case = tower(alloc, *form, MOST_LEVELS, "str x\n")?;
             case.push_str(end)?;
-            answers(&rt, alloc, &case, answer, *status, form.1);
+            answers(&rt, alloc, form.1, case.as_bytes(), answer, *status);
         }
     }
     Ok(())
@@ -123,7 +111,7 @@ fn printed_deeper_than_evaluated(rt: HostRuntime) -> Result<(), Fail> {
     let alloc = rt.alloc();
     for form in FORMS {
         let case = printed_deeper(alloc, *form)?;
-        answers(&rt, alloc, &case, OUT_OF_MEMORY, 2, form.1);
+        answers(&rt, alloc, form.1, case.as_bytes(), OUT_OF_MEMORY, 2);
     }
     Ok(())
 }
@@ -147,6 +135,13 @@ fn before_any_run(rt: HostRuntime) -> Result<(), Fail> {
     let alloc = rt.alloc();
     let mut case = tower(alloc, ("", "group\n"), MOST_LEVELS, "str x\n")?;
     case.push_str("assign a\nconst\n")?;
-    answers(&rt, alloc, &case, "refused: OutOfMemory\n", 2, "group");
+    answers(
+        &rt,
+        alloc,
+        "group",
+        case.as_bytes(),
+        "refused: OutOfMemory\n",
+        2,
+    );
     Ok(())
 }

@@ -11,7 +11,7 @@ use just_builtins::function::{Function, get};
 use just_host::execution_context::ExecutionContext;
 use just_host::function::Context;
 use just_syntax::name::Name;
-use just_syntax::token::Token;
+use just_syntax::place::Place as FilePlace;
 use just_value::value::Value;
 use std::alloc::{AllocError, Global};
 use std::collections::BTreeMap;
@@ -51,15 +51,7 @@ pub fn around_at<'src>(rt: &impl Abort, alloc: Global, place: &'src Place) -> Ar
 }
 
 fn name<'src>(lexeme: &'src str, path: &'src str) -> Name<'src> {
-    Name {
-        token: Token {
-            column: 0,
-            line: 0,
-            offset: 0,
-            lexeme,
-            path,
-        },
-    }
+    Name::new(lexeme, Some(FilePlace::start_of(path)))
 }
 
 /// The result of a call that is written as in [`Row`]: its value, or its message after `! `.
@@ -182,7 +174,7 @@ fn call<'call>(
     function.call(alloc, host, context, arguments)
 }
 
-// The function that a name stands for, if it can be called with these arguments.
+// The function that a name denotes, if it can be called with these arguments.
 fn callable(name: &str, arguments: &[Value]) -> Option<Function>
     ensures count { IfSome result (λ function. IsExpected function (length arguments.now)) }
     ensures texts { IfSome result (λ function. HasTexts function arguments.now) }

@@ -1,4 +1,4 @@
-// What each name stands for.
+// What each name denotes.
 
 /// Each function, followed by its names; a shorter name follows the whole one.
 pub const NAMES: &[&str] = &[
@@ -73,7 +73,7 @@ pub const LEFT_OUT: &str =
     replace_regex semver_matches sha256 sha256_file shoutykebabcase shoutysnakecase snakecase style \
     titlecase uppercamelcase uuid";
 
-/// Some names that stand for nothing.
+/// Some names that denote nothing.
 pub const NO_NAMES: &str =
     " _dir _directory _dir_native A Append abs absolute_pat absolute_path_ append_ appendix cache_dire \
     env_va env_var_ foo_dir foo_dir_native home_dir_native home_directory_dir home_directory_native \

@@ -43,7 +43,7 @@ impl Host for EchoHost {
     }
 }
 
-// The text once more, as what a command wrote.
+// The text of a command, as its output.
 fn echo(alloc: Global, command: &str) -> Result<String, CommandFault>
     ensures { UnlessNoMemory (replied result) (Replied command.now) }
 {

@@ -33,7 +33,14 @@ impl Host for MapHost {
 
     // The host stays as it is, and its maps give the answer.
     ghost step = { λ old question answer new.
-        (new ≡ old) × UnlessNoMemory answer (answer_to (record { commands = text_for_key old.commands; variables = text_for_key old.variables; files = text_for_key old.files }) question.blind) };
+        (new ≡ old)
+        × UnlessNoMemory answer
+        (answer_to (record {
+          commands = text_for_key old.commands;
+          variables = text_for_key old.variables;
+          files =
+              text_for_key old.files;
+        }) question.blind) };
 
     fn command(
         &mut self,

@@ -1,12 +1,7 @@
 // Commands that a recipe runner itself runs.
 
-ghost use Rattle.std.specs.Prelude.{false, map, string_bytes, ◌≡◌};
-ghost use Rattle.std.specs.Option.{option_map};
-ghost use Rattle.just_value.specs.View.{frames_view};
-ghost use Rattle.just_host.specs.Interaction.{AsksOnce};
-ghost use Rattle.just_host.specs.Question.{command_question};
-ghost use Rattle.just_syntax.specs.View.{pairs_view};
-ghost use Rattle.just_host.specs.View.{fixed_view, replied};
+ghost use Rattle.std.specs.Prelude.{false, map, option_map, string_bytes, ◌≡◌};
+ghost use Rattle.just_eval.specs.Prelude.{AsksOnce, command_question, fixed_view, frames_view, pairs_view, replied};
 
 use super::Evaluator;
 use just_host::ask::ask_command;
@@ -36,7 +31,8 @@ impl<'src, 'run> Evaluator<'src, 'run> {
         arguments: Option<&[String]>,
     ) -> Result<String, CommandFault>
         requires commands_run { context.now.config.now.dry_run ≡ false }
-        ensures asked { let question = command_question (fixed_view context.now) (pairs_view env.now) (frames_view scope.now) command.now (option_map (λ words. map string_bytes words.now) arguments.entry) in
+        ensures asked { let question = command_question (fixed_view context.now) (pairs_view env.now)
+            (frames_view scope.now) command.now (option_map (λ words. map string_bytes words.now) arguments.entry) in
             AsksOnce H.step host.old question (replied result) host.new }
     {
         ask_command(alloc, host, context, env, scope, command, arguments)

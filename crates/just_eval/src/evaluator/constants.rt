@@ -1,22 +1,16 @@
 // Evaluation before any run: which assignments are settled, and what expressions evaluate to.
 
-ghost use Rattle.std.specs.Prelude.{[], IfErr, IfOk, List, string_bytes, ◌≡◌, ◌∷◌};
+ghost use Rattle.std.specs.Prelude.{IfErr, IfOk, List, [], string_bytes, ◌∷◌, ◌≡◌};
 ghost use Rattle.std.specs.Option.{ForSome};
-ghost use Rattle.just_syntax.specs.View.{name_view, string_context_view, view};
-ghost use Rattle.just_value.specs.ConstEval.{IsConstEval};
-ghost use Rattle.just_value.specs.Outcome.{UnlessStopped, and_then};
-ghost use Rattle.just_value.specs.View.{HasOwnToken, const_ended, ended, frames_view, refusal};
-ghost use Rattle.just_meaning.specs.Internal.{IsNotInternal};
-ghost use Rattle.just_meaning.specs.Resolved.{IsResolvedConst};
-ghost use Rattle.just_meaning.specs.ResolvedOn.{IsResolvedOn};
-ghost use Rattle.just_meaning.specs.Settings.{text_in};
-ghost use Rattle.just_meaning.specs.Stage.{Staged, at_start, const_value};
-ghost use Rattle.just_meaning.specs.View.{constants_of};
-ghost use Rattle.just_eval.specs.View.{IsConst, OpensOrEnds, stage_state_of};
+ghost use Rattle.just_eval.specs.Prelude.{HasOwnToken, IsConst, IsConstEval, IsNotInternal, IsResolvedConst};
+ghost use Rattle.just_eval.specs.Prelude.{IsResolvedOn, OpensOrEnds, Staged, UnlessStopped, and_then, at_start};
+ghost use Rattle.just_eval.specs.Prelude.{const_ended, const_value, constants_of, ended, frames_view, name_view};
+ghost use Rattle.just_eval.specs.Prelude.{refusal, stage_state_of, string_context_view, text_in, view};
 
 use super::Evaluator;
+use just_expression::internal::Reason;
 use just_expression::text::one_text;
-use just_expression::{internal, variable};
+use just_expression::variable;
 use just_host::host::Host;
 use just_host::no_host::NoHost;
 use just_syntax::assignment::Assignment;
@@ -56,11 +50,15 @@ impl<'src, 'run> Evaluator<'src, 'run> {
         lists: bool,
     ) -> Result<Evaluator<'src, 'run>, CompileError<'src>>
         // The settled and the open numbers, or the refusal, are those of the const rules.
-        ensures headline { let m = constants_of assignments.now evaluation_order.now overrides.now variable_references.now in
-            Staged m (at_start lists (frames_view scope.entry.now)) m.assignments.order (const_ended stage_state_of result) }
+        ensures headline { let m = constants_of assignments.now evaluation_order.now overrides.now
+            variable_references.now in
+            Staged m (at_start lists (frames_view scope.entry.now)) m.assignments.order
+            (const_ended stage_state_of result) }
         ensures before_runs { IfOk result IsConst }
-        ensures never_internal { let m = constants_of assignments.now evaluation_order.now overrides.now variable_references.now in
-            IsResolvedConst m.assignments (frames_view scope.entry.now) → IsNotInternal (const_ended stage_state_of result) }
+        ensures never_internal { let m = constants_of assignments.now evaluation_order.now overrides.now
+            variable_references.now in
+            IsResolvedConst m.assignments (frames_view scope.entry.now)
+            → IsNotInternal (const_ended stage_state_of result) }
 
         // A refusal carries its own token.
         ensures token { IfErr result HasOwnToken }
@@ -89,11 +87,13 @@ impl<'src, 'run> Evaluator<'src, 'run> {
     ) -> Result<(), CompileError<'src>>
         requires start { IsConst self.old }
         ensures same { IsConst self.new }
-        ensures staged { (order : List Name) → Staged (constants_of assignments.now order overrides.now references.now) (stage_state_of self.old) (name_view name.now ∷ []) (const_ended (λ _. stage_state_of self.new) result) }
+        ensures staged { (order : List Name) → Staged (constants_of assignments.now order overrides.now references.now)
+            (stage_state_of self.old) (name_view name.now ∷ []) (const_ended (λ _. stage_state_of self.new) result) }
         ensures token { IfErr result HasOwnToken }
     {
         let Some(assignment) = assignments.get(name.lexeme()) else {
-            return Err(internal::unknown_assignment(alloc, name).unwrap_const());
+            let error = Reason::UnknownAssignment.error_at(alloc, name);
+            return Err(error.unwrap_const());
         };
         if !references.contains(&assignment.number) {
             return Ok(());
@@ -115,7 +115,8 @@ impl<'src, 'run> Evaluator<'src, 'run> {
         requires start { IsConst self.old }
         requires few { ForSome (refusal error) IsConstEval }
         ensures same { IsConst self.new }
-        ensures ended { OpensOrEnds (refusal error.entry) (stage_state_of self.old) number (const_ended (λ _. stage_state_of self.new) result) }
+        ensures ended { OpensOrEnds (refusal error.entry) (stage_state_of self.old) number
+            (const_ended (λ _. stage_state_of self.new) result) }
         ensures token { IfErr result HasOwnToken }
     {
         match error {
@@ -142,8 +143,10 @@ impl<'src, 'run> Evaluator<'src, 'run> {
         expression: &Expression<'src>,
     ) -> Result<Value, CompileError<'src>>
         requires before_runs { IsConst self.now }
-        ensures headline { UnlessStopped (const_ended (λ v. v) result) (const_value (stage_state_of self.now) (view expression.now)) }
-        ensures never_internal { IsResolvedOn (stage_state_of self.now) (view expression.now) → IsNotInternal (const_ended (λ v. v) result) }
+        ensures headline { UnlessStopped (const_ended (λ v. v) result)
+            (const_value (stage_state_of self.now) (view expression.now)) }
+        ensures never_internal { IsResolvedOn (stage_state_of self.now) (view expression.now)
+            → IsNotInternal (const_ended (λ v. v) result) }
         ensures token { IfErr result HasOwnToken }
     {
         match self.evaluate_value(alloc, &mut NoHost, expression) {
@@ -167,8 +170,10 @@ impl<'src, 'run> Evaluator<'src, 'run> {
     ) -> Result<String, CompileError<'src>>
         requires before_runs { IsConst self.now }
         ensures headline { UnlessStopped (const_ended string_bytes result)
-            (and_then (const_value (stage_state_of self.now) (view expression.now)) (text_in (string_context_view context.entry))) }
-        ensures never_internal { IsResolvedOn (stage_state_of self.now) (view expression.now) → IsNotInternal (const_ended string_bytes result) }
+            (and_then (const_value (stage_state_of self.now) (view expression.now))
+            (text_in (string_context_view context.entry))) }
+        ensures never_internal { IsResolvedOn (stage_state_of self.now) (view expression.now)
+            → IsNotInternal (const_ended string_bytes result) }
         ensures token { IfErr result HasOwnToken }
     {
         let value = self.evaluate_value_const(alloc, expression)?;

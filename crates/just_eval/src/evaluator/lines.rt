@@ -1,16 +1,11 @@
 // Evaluation of texts and lines.
 
-ghost use Rattle.std.specs.Prelude.{OnOk, [], string_bytes, ◌++◌, ◌≡◌, ◌∷◌};
-ghost use Rattle.just_syntax.specs.View.{fragment_view, line_view, string_context_view, view};
-ghost use Rattle.just_value.specs.Outcome.{UnlessStopped};
-ghost use Rattle.just_value.specs.View.{ended};
-ghost use Rattle.just_host.specs.Interaction.{GoesByAnswers, Runs, freely};
-ghost use Rattle.just_meaning.specs.Constant.{constant};
-ghost use Rattle.just_meaning.specs.Internal.{IfRefused, IsFinal, IsNotInternal};
-ghost use Rattle.just_meaning.specs.Line.{fragment as fragment_tree, line as line_tree, line_expressions, string};
-ghost use Rattle.just_meaning.specs.ResolvedOn.{AllResolvedOn, IsResolvedOn};
-ghost use Rattle.just_meaning.specs.Stage.{const_meaning};
-ghost use Rattle.just_eval.specs.View.{MayCall, IsConst, IsInRun, Resolves, lexical_meaning, dynamic_meaning, rules_of, stage_state_of};
+ghost use Rattle.std.specs.Prelude.{[], string_bytes, ◌∷◌, ◌≡◌};
+ghost use Rattle.just_eval.specs.Prelude.{AllResolvedOn, GoesByAnswers, IfRefused, IsConst, IsFinal, IsInRun};
+ghost use Rattle.just_eval.specs.Prelude.{IsNotInternal, IsResolvedOn, MayCall, Resolves, Runs, UnlessStopped};
+ghost use Rattle.just_eval.specs.Prelude.{const_meaning, constant, dynamic_meaning, ended, fragment_tree};
+ghost use Rattle.just_eval.specs.Prelude.{fragment_view, freely, lexical_meaning, line_expressions, line_tree};
+ghost use Rattle.just_eval.specs.Prelude.{line_view, rules_of, stage_state_of, string, string_context_view, view};
 
 use super::Evaluator;
 use crate::line::fragment_text;
@@ -41,12 +36,16 @@ impl<'src, 'run> Evaluator<'src, 'run> {
 
         // In a run, if everything reached is resolved, the text or the refusal, and the questions asked, are those of
         // lexical scope.
-        ensures headline { Resolves self.now (view expression.now ∷ []) → Runs freely H.step host.old (string (lexical_meaning self.now) (string_context_view context.entry) (view expression.now)) (ended string_bytes result) host.new }
-        ensures never_internal { Resolves self.now (view expression.now ∷ []) → IsNotInternal (ended string_bytes result) }
+        ensures headline { Resolves self.now (view expression.now ∷ [])
+            → Runs freely H.step host.old (string (lexical_meaning self.now) (string_context_view context.entry)
+            (view expression.now)) (ended string_bytes result) host.new }
+        ensures never_internal { Resolves self.now (view expression.now ∷ [])
+            → IsNotInternal (ended string_bytes result) }
 
         // Resolved or not, they are those of dynamic scope.
         ensures dynamic { Runs (rules_of self.now) H.step host.old
-            (string (dynamic_meaning self.now) (string_context_view context.entry) (view expression.now)) (ended string_bytes result) host.new }
+            (string (dynamic_meaning self.now) (string_context_view context.entry) (view expression.now))
+            (ended string_bytes result) host.new }
 
         // Resolved or not, the refusal in a run is never `Const`, and only answered questions change the host's state.
         ensures never_const { IsInRun self.now → IfRefused IsFinal (ended string_bytes result) }
@@ -54,9 +53,14 @@ impl<'src, 'run> Evaluator<'src, 'run> {
 
         // Before any run the result is that of the const rules, and nothing is asked. If each variable is bound or
         // open, the refusal is not `Internal`.
-        ensures constants { IsConst self.now → UnlessStopped (ended string_bytes result) (constant (stage_state_of self.now).is_open (string (const_meaning (stage_state_of self.now)) (string_context_view context.entry) (view expression.now))) }
+        ensures constants { IsConst self.now
+            → UnlessStopped (ended string_bytes result)
+            (constant (stage_state_of self.now).is_open
+            (string (const_meaning (stage_state_of self.now)) (string_context_view context.entry)
+            (view expression.now))) }
         ensures still { IsConst self.now → host.new ≡ host.old }
-        ensures resolved_constants { IsConst self.now → IsResolvedOn (stage_state_of self.now) (view expression.now) → IsNotInternal (ended string_bytes result) }
+        ensures resolved_constants { IsConst self.now → IsResolvedOn (stage_state_of self.now) (view expression.now)
+            → IsNotInternal (ended string_bytes result) }
     {
         self.evaluate_string_by_dynamic_scoping(alloc, host, expression, context)
     }
@@ -70,7 +74,9 @@ impl<'src, 'run> Evaluator<'src, 'run> {
         context: StringContext<'src>,
     ) -> Result<String, Error<'src>>
         requires may_call { MayCall self.now }
-        ensures { Runs (rules_of self.now) H.step host.old (string (dynamic_meaning self.now) (string_context_view context.entry) (view expression.now)) (ended string_bytes result) host.new }
+        ensures { Runs (rules_of self.now) H.step host.old
+            (string (dynamic_meaning self.now) (string_context_view context.entry) (view expression.now))
+            (ended string_bytes result) host.new }
     {
         let value = self.evaluate_expression(alloc, host, expression)?;
         one_text(value, context)
@@ -95,8 +101,11 @@ impl<'src, 'run> Evaluator<'src, 'run> {
 
         // In a run, if everything reached is resolved, the text or the refusal, and the questions asked, are those of
         // lexical scope.
-        ensures headline { Resolves self.now (line_expressions (line_view line.now)) → Runs freely H.step host.old (line_tree (lexical_meaning self.now) continued (line_view line.now)) (ended string_bytes result) host.new }
-        ensures never_internal { Resolves self.now (line_expressions (line_view line.now)) → IsNotInternal (ended string_bytes result) }
+        ensures headline { Resolves self.now (line_expressions (line_view line.now))
+            → Runs freely H.step host.old (line_tree (lexical_meaning self.now) continued (line_view line.now))
+            (ended string_bytes result) host.new }
+        ensures never_internal { Resolves self.now (line_expressions (line_view line.now))
+            → IsNotInternal (ended string_bytes result) }
 
         // Resolved or not, they are those of dynamic scope.
         ensures dynamic { Runs (rules_of self.now) H.step host.old
@@ -108,9 +117,13 @@ impl<'src, 'run> Evaluator<'src, 'run> {
 
         // Before any run the result is that of the const rules, and nothing is asked. If each variable is bound or
         // open, the refusal is not `Internal`.
-        ensures constants { IsConst self.now → UnlessStopped (ended string_bytes result) (constant (stage_state_of self.now).is_open (line_tree (const_meaning (stage_state_of self.now)) continued (line_view line.now))) }
+        ensures constants { IsConst self.now
+            → UnlessStopped (ended string_bytes result)
+            (constant (stage_state_of self.now).is_open (line_tree (const_meaning (stage_state_of self.now)) continued
+            (line_view line.now))) }
         ensures still { IsConst self.now → host.new ≡ host.old }
-        ensures resolved_constants { IsConst self.now → AllResolvedOn (stage_state_of self.now) (line_expressions (line_view line.now))
+        ensures resolved_constants { IsConst self.now
+            → AllResolvedOn (stage_state_of self.now) (line_expressions (line_view line.now))
             → IsNotInternal (ended string_bytes result) }
     {
         self.evaluate_line_by_dynamic_scoping(alloc, host, line, continued)
@@ -125,7 +138,9 @@ impl<'src, 'run> Evaluator<'src, 'run> {
         continued: bool,
     ) -> Result<String, Error<'src>>
         requires may_call { MayCall self.now }
-        ensures { Runs (rules_of self.now) H.step host.old (line_tree (dynamic_meaning self.now) continued (line_view line.now)) (ended string_bytes result) host.new }
+        ensures { Runs (rules_of self.now) H.step host.old
+            (line_tree (dynamic_meaning self.now) continued (line_view line.now))
+            (ended string_bytes result) host.new }
     {
         let mut text = String::new(alloc);
         let mut continues = continued;
@@ -146,7 +161,9 @@ impl<'src, 'run> Evaluator<'src, 'run> {
         continues: bool,
     ) -> Result<String, Error<'src>>
         requires may_call { MayCall self.now }
-        ensures { Runs (rules_of self.now) H.step host.old (fragment_tree (dynamic_meaning self.now) continues (fragment_view fragment.now)) (ended string_bytes result) host.new }
+        ensures { Runs (rules_of self.now) H.step host.old
+            (fragment_tree (dynamic_meaning self.now) continues (fragment_view fragment.now))
+            (ended string_bytes result) host.new }
     {
         match fragment {
             Fragment::Text { token } => Ok(fragment_text(alloc, token.lexeme(), continues)?),

@@ -1,23 +1,19 @@
 // Evaluation of a recipe's attributes and parameters.
 
-ghost use Rattle.std.specs.Prelude.{IfOk, List, OnOk, Some, [], false, is_some, length, map, string_bytes, true, ℕ, ◌++◌, ◌<◌, ◌≡◌, ◌∷◌, ◌↔◌};
-ghost use Rattle.std.specs.Option.{option_map};
-ghost use Rattle.just_syntax.specs.Plain.{Expr};
-ghost use Rattle.just_syntax.specs.View.{name_view, pairs_view, recipe_parameter_view, recipe_view};
-ghost use Rattle.just_value.specs.Frames.{bound_innermost, own_frame};
-ghost use Rattle.just_value.specs.View.{ended, frames_view};
-ghost use Rattle.just_host.specs.Interaction.{GoesByAnswers, Runs, RunsChecked, freely};
-ghost use Rattle.just_meaning.specs.Here.{meanings};
-ghost use Rattle.just_meaning.specs.Internal.{IfRefused, IsFinal, IsNotInternal};
+ghost use Rattle.std.specs.Prelude.{IfOk, List, OnOk, Some, [], false, is_some, length, map, option_map, string_bytes};
+ghost use Rattle.std.specs.Prelude.{true, ℕ, ◌++◌, ◌<◌, ◌↔◌, ◌∷◌, ◌≡◌};
+ghost use Rattle.just_eval.specs.Prelude.{Expr, GivesVerdict, GoesByAnswers, HaveOneElement, IfRefused, IsFinal};
+ghost use Rattle.just_eval.specs.Prelude.{IsInRun, IsNotInternal, IsResolvedWith, IsSameButScopeAndEnvironment};
+ghost use Rattle.just_eval.specs.Prelude.{MayCall, Resolves, Runs, RunsChecked, arguments_view, bound_innermost};
+ghost use Rattle.just_eval.specs.Prelude.{dynamic_meaning, dynamic_meanings, ended, frames_view, freely, here};
+ghost use Rattle.just_eval.specs.Prelude.{meanings, name_view, own_frame, pairs_view, parameter_bound, recipe_in};
+ghost use Rattle.just_eval.specs.Prelude.{recipe_parameter_view, recipe_start, recipe_view, rules_of, situation_of};
+ghost use Rattle.just_eval.specs.Prelude.{stage_state_of, with_variable, words_of};
 ghost use Rattle.just_meaning.specs.Parameters as meant;
-ghost use Rattle.just_meaning.specs.Parameters.{HaveOneElement, parameter_bound, with_variable, words_of};
-ghost use Rattle.just_meaning.specs.View.{IsResolvedWith, recipe_in};
-ghost use Rattle.just_eval.specs.Check.{GivesVerdict};
-ghost use Rattle.just_eval.specs.View.{MayCall, IsInRun, IsSameButScopeAndEnvironment, Resolves, arguments_view, dynamic_meanings, here, dynamic_meaning, rules_of, situation_of, stage_state_of};
 
 use super::Evaluator;
 use crate::argument;
-use just_expression::internal;
+use just_expression::internal::Reason;
 use just_expression::text::one_text;
 use just_host::execution_context::ExecutionContext;
 use just_host::host::Host;
@@ -51,8 +47,10 @@ impl<'src, 'run> Evaluator<'src, 'run> {
         scope: &'run Scope<'src, 'run>,
     ) -> Result<Evaluator<'src, 'run>, OutOfMemory>
         requires may_call { 0 < context.now.recursion_limit }
-        ensures here { IfOk result (λ e. here e ≡ recipe_in context.now (pairs_view env) is_dependency (option_map (λ n. (name_view n).lexeme) recipe.entry) ([] ∷ frames_view scope.entry.now)) }
-        ensures resolved { IfOk result (λ e. (es : List Expr) → Resolves e es ↔ IsResolvedWith context.now ([] ∷ frames_view scope.entry.now) [] [] es) }
+        ensures here { IfOk result (λ e. here e ≡ recipe_in context.now (pairs_view env) is_dependency
+            (option_map (λ n. (name_view n).lexeme) recipe.entry) ([] ∷ frames_view scope.entry.now)) }
+        ensures resolved { IfOk result (λ e. (es : List Expr) → Resolves e es
+            ↔ IsResolvedWith context.now ([] ∷ frames_view scope.entry.now) [] [] es) }
         ensures in_run { IfOk result IsInRun }
         ensures may_call { IfOk result MayCall }
         ensures none_open { IfOk result (λ e. (n : ℕ) → (stage_state_of e).is_open n ≡ false) }
@@ -72,7 +70,10 @@ impl<'src, 'run> Evaluator<'src, 'run> {
         ensures context { IfOk result (λ e. e.context ≡ Some context.now) }
         ensures base { IfOk result (λ e. is_some e.base ≡ true) }
         ensures none_open { IfOk result (λ e. (n : ℕ) → (stage_state_of e).is_open n ≡ false) }
-        ensures situation { IfOk result (λ e. situation_of e ≡ (recipe_in context.now (pairs_view env) is_dependency (option_map (λ n. (name_view n).lexeme) recipe.entry) ([] ∷ frames_view scope.entry.now)).situation) }
+        ensures situation { IfOk result
+            (λ e. situation_of e
+            ≡ (recipe_in context.now (pairs_view env) is_dependency
+            (option_map (λ n. (name_view n).lexeme) recipe.entry) ([] ∷ frames_view scope.entry.now)).situation) }
     {
         Ok(Evaluator {
             base: Some(context.scope),
@@ -122,22 +123,31 @@ impl<'src, 'run> Evaluator<'src, 'run> {
 
         // If everything reached is resolved, the scope, the words and the environment, or the refusal, are those of
         // lexical scope, as are the questions asked; the verdicts are those of the check.
-        ensures headline { let h = recipe_in context.entry.now [] is_dependency (Some (recipe_view recipe.entry.now).name.lexeme) ([] ∷ frames_view scope.entry.now) in
-            IsResolvedWith context.entry.now h.situation.shown (recipe_view recipe.entry.now).attributes (map recipe_parameter_view parameters.entry.now) []
-            → RunsChecked freely H.step (GivesVerdict C.Fn check.entry.now recipe.entry.now) host.old (meant.parameters (meanings h) h.situation (recipe_view recipe.entry.now) (map recipe_parameter_view parameters.entry.now) arguments.entry.now) (ended arguments_view result) host.new }
-        ensures never_internal { IsResolvedWith context.entry.now ([] ∷ frames_view scope.entry.now) (recipe_view recipe.entry.now).attributes (map recipe_parameter_view parameters.entry.now) []
+        ensures headline { let h = recipe_start context.entry.now is_dependency recipe.entry.now scope.entry.now in
+            IsResolvedWith context.entry.now h.situation.shown (recipe_view recipe.entry.now).attributes
+            (map recipe_parameter_view parameters.entry.now) []
+            → RunsChecked freely H.step (GivesVerdict C.Fn check.entry.now recipe.entry.now) host.old
+            (meant.parameters (meanings h) h.situation (recipe_view recipe.entry.now)
+            (map recipe_parameter_view parameters.entry.now) arguments.entry.now)
+            (ended arguments_view result) host.new }
+        ensures never_internal { IsResolvedWith context.entry.now ([] ∷ frames_view scope.entry.now)
+            (recipe_view recipe.entry.now).attributes (map recipe_parameter_view parameters.entry.now) []
             → length arguments.entry.now ≡ length parameters.entry.now → IsNotInternal (ended arguments_view result) }
 
         // Resolved or not, they are those of dynamic scope.
-        ensures dynamic { let h = recipe_in context.entry.now [] is_dependency (Some (recipe_view recipe.entry.now).name.lexeme) ([] ∷ frames_view scope.entry.now) in
-            RunsChecked freely H.step (GivesVerdict C.Fn check.entry.now recipe.entry.now) host.old (meant.parameters (dynamic_meanings (Some context.entry.now)) h.situation (recipe_view recipe.entry.now) (map recipe_parameter_view parameters.entry.now) arguments.entry.now) (ended arguments_view result) host.new }
+        ensures dynamic { let h = recipe_start context.entry.now is_dependency recipe.entry.now scope.entry.now in
+            RunsChecked freely H.step (GivesVerdict C.Fn check.entry.now recipe.entry.now) host.old
+            (meant.parameters (dynamic_meanings (Some context.entry.now)) h.situation (recipe_view recipe.entry.now)
+            (map recipe_parameter_view parameters.entry.now) arguments.entry.now)
+            (ended arguments_view result) host.new }
 
         // Resolved or not, the refusal is never `Const`, and only answered questions change the host's state.
         ensures never_const { IfRefused IsFinal (ended arguments_view result) }
         ensures answered { GoesByAnswers H.step host.old host.new }
 
         // Without lists each bound parameter has one element.
-        ensures one_element { context.entry.now.module.now.settings.lists ≡ false → IfOk result (λ given. HaveOneElement (own_frame (frames_view given.0))) }
+        ensures one_element { context.entry.now.module.now.settings.lists ≡ false
+            → IfOk result (λ given. HaveOneElement (own_frame (frames_view given.0))) }
     {
         Evaluator::evaluate_parameters_by_dynamic_scoping(
             alloc,
@@ -168,8 +178,11 @@ impl<'src, 'run> Evaluator<'src, 'run> {
         C: Fn(&Recipe<'src>, &Parameter<'src>, &Value) -> Result<(), CheckFault>,
         requires may_call { 0 < context.now.recursion_limit }
         requires callable { C.IsAlwaysCallable check.now }
-        ensures { let h = recipe_in context.entry.now [] is_dependency (Some (recipe_view recipe.entry.now).name.lexeme) ([] ∷ frames_view scope.entry.now) in
-            RunsChecked freely H.step (GivesVerdict C.Fn check.entry.now recipe.entry.now) host.old (meant.parameters (dynamic_meanings (Some context.entry.now)) h.situation (recipe_view recipe.entry.now) (map recipe_parameter_view parameters.entry.now) arguments.entry.now) (ended arguments_view result) host.new }
+        ensures { let h = recipe_start context.entry.now is_dependency recipe.entry.now scope.entry.now in
+            RunsChecked freely H.step (GivesVerdict C.Fn check.entry.now recipe.entry.now) host.old
+            (meant.parameters (dynamic_meanings (Some context.entry.now)) h.situation (recipe_view recipe.entry.now)
+            (map recipe_parameter_view parameters.entry.now) arguments.entry.now)
+            (ended arguments_view result) host.new }
     {
         let env = BTreeMap::new(alloc);
         let name = Some(recipe.name);
@@ -183,7 +196,7 @@ impl<'src, 'run> Evaluator<'src, 'run> {
         )?;
         evaluator.evaluate_attributes(alloc, host, recipe)?;
         if arguments.len() != parameters.len() {
-            return Err(internal::mismatched(alloc, &recipe.name));
+            return Err(Reason::Mismatched.error_at(alloc, &recipe.name));
         }
         let words = evaluator.bind_parameters(alloc, host, check, recipe, parameters, arguments)?;
         let Evaluator { env, scope, .. } = evaluator;
@@ -199,7 +212,9 @@ impl<'src, 'run> Evaluator<'src, 'run> {
     ) -> Result<(), Error<'src>>
         requires may_call { MayCall self.old }
         ensures same { IsSameButScopeAndEnvironment self.old self.new × (self.new.scope ≡ self.old.scope) }
-        ensures environment { Runs (rules_of self.old) H.step host.old (meant.environment (dynamic_meanings self.old.context) (situation_of self.old) (recipe_view recipe.now).attributes) (ended (λ _. pairs_view self.new.env) result) host.new }
+        ensures environment { Runs (rules_of self.old) H.step host.old
+            (meant.environment (dynamic_meanings self.old.context) (situation_of self.old)
+            (recipe_view recipe.now).attributes) (ended (λ _. pairs_view self.new.env) result) host.new }
     {
         for (attribute, name) in recipe.attributes.iter() {
             if let Attribute::Env(key, value) = attribute {
@@ -215,7 +230,8 @@ impl<'src, 'run> Evaluator<'src, 'run> {
     // Sets a variable to a joined value, if the value has an element.
     fn set_variable(&mut self, alloc: Global, key: String, value: Value) -> Result<(), OutOfMemory>
         ensures same { IsSameButScopeAndEnvironment self.old self.new × (self.new.scope ≡ self.old.scope) }
-        ensures set { OnOk result (pairs_view self.new.env ≡ with_variable (pairs_view self.old.env) (string_bytes key) value) }
+        ensures set { OnOk result (pairs_view self.new.env ≡ with_variable (pairs_view self.old.env)
+            (string_bytes key) value) }
     {
         if !value.is_empty() {
             self.env.insert(key, value.join(alloc)?)?;
@@ -238,8 +254,14 @@ impl<'src, 'run> Evaluator<'src, 'run> {
         requires may_call { MayCall self.old }
         requires based { is_some self.old.base ≡ true }
         requires callable { C.IsAlwaysCallable check.now }
-        ensures { RunsChecked (rules_of self.old) H.step (GivesVerdict C.Fn check.entry.now recipe.entry.now) host.old (meant.bindings (dynamic_meanings self.old.context) (recipe_view recipe.entry.now).name.lexeme (situation_of self.old) [] (map recipe_parameter_view parameters.entry.now) arguments.entry.now)
-            (ended (λ words. record { frames = frames_view self.new.scope; words = map string_bytes words.items; environment = pairs_view self.new.env }) result) host.new }
+        ensures { RunsChecked (rules_of self.old) H.step (GivesVerdict C.Fn check.entry.now recipe.entry.now) host.old
+            (meant.bindings (dynamic_meanings self.old.context) (recipe_view recipe.entry.now).name.lexeme
+            (situation_of self.old) [] (map recipe_parameter_view parameters.entry.now) arguments.entry.now)
+            (ended (λ words. record {
+              frames = frames_view self.new.scope;
+              words = map string_bytes words.items;
+              environment = pairs_view self.new.env;
+            }) result) host.new }
     {
         let mut words = Vec::new(alloc);
         for (parameter, argument) in parameters.iter().zip(arguments) {
@@ -260,7 +282,9 @@ impl<'src, 'run> Evaluator<'src, 'run> {
         argument: &Value,
     ) -> Result<Value, Error<'src>>
         requires may_call { MayCall self.now }
-        ensures { Runs (rules_of self.now) H.step host.old (meant.valued (dynamic_meaning self.now) self.now.is_dependency (recipe_view recipe.now).name.lexeme (recipe_parameter_view parameter.now) argument.now) (ended (λ v. v) result) host.new }
+        ensures { Runs (rules_of self.now) H.step host.old
+            (meant.valued (dynamic_meaning self.now) self.now.is_dependency (recipe_view recipe.now).name.lexeme
+            (recipe_parameter_view parameter.now) argument.now) (ended (λ v. v) result) host.new }
     {
         if argument.is_empty() {
             return match &parameter.default {
@@ -286,11 +310,12 @@ impl<'src, 'run> Evaluator<'src, 'run> {
         value: Value,
     ) -> Result<(), OutOfMemory>
         ensures same { IsSameButScopeAndEnvironment self.old self.new × (self.new.env ≡ self.old.env) }
-        ensures words { OnOk result (map string_bytes words.new.items ≡ map string_bytes words.old.items ++ words_of (recipe_parameter_view parameter.now) value) }
-        ensures bound { OnOk result (frames_view self.new.scope ≡ bound_innermost (frames_view self.old.scope) (parameter_bound self.old.lists (recipe_parameter_view parameter.now) value)) }
+        ensures words { OnOk result (map string_bytes words.new.items ≡ map string_bytes words.old.items
+            ++ words_of (recipe_parameter_view parameter.now) value) }
+        ensures bound { OnOk result (frames_view self.new.scope ≡ bound_innermost (frames_view self.old.scope)
+            (parameter_bound self.old.lists (recipe_parameter_view parameter.now) value)) }
     {
-        argument::add_words(alloc, words, parameter, &value)?;
-        let binding = argument::binding(alloc, self.lists, parameter, value)?;
+        let binding = argument::binding(alloc, self.lists, parameter, words, value)?;
         self.scope.bind(binding)?;
         Ok(())
     }

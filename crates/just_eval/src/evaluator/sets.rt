@@ -1,16 +1,11 @@
 // Evaluation of settings.
 
 ghost use Rattle.std.specs.Prelude.{IfErr, map, ◌≡◌};
-ghost use Rattle.just_syntax.specs.View.{expression_interpreter_view, interpreter_view, name_view, set_view, setting_view};
-ghost use Rattle.just_value.specs.Outcome.{UnlessStopped};
-ghost use Rattle.just_value.specs.View.{HasOwnToken, const_ended};
-ghost use Rattle.just_host.specs.View.{settings_view};
-ghost use Rattle.just_meaning.specs.Internal.{IsNotInternal};
-ghost use Rattle.just_meaning.specs.ResolvedOn.{AllResolvedOn, interpreter_expressions, set_expressions};
+ghost use Rattle.just_eval.specs.Prelude.{AllResolvedOn, HasOwnToken, IsConst, IsNotInternal, UnlessStopped};
+ghost use Rattle.just_eval.specs.Prelude.{const_ended, const_value, expression_interpreter_view};
+ghost use Rattle.just_eval.specs.Prelude.{interpreter_expressions, interpreter_view, kept, name_view, set_expressions};
+ghost use Rattle.just_eval.specs.Prelude.{set_view, setting_view, settings_view, stage_state_of, with_setting};
 ghost use Rattle.just_meaning.specs.Settings as meant;
-ghost use Rattle.just_meaning.specs.Settings.{kept, with_setting};
-ghost use Rattle.just_meaning.specs.Stage.{const_value};
-ghost use Rattle.just_eval.specs.View.{IsConst, stage_state_of};
 
 use super::Evaluator;
 use just_expression::form;
@@ -43,8 +38,10 @@ impl<'src, 'run> Evaluator<'src, 'run> {
         sets: Table<Set<'src>>,
     ) -> Result<Settings, CompileError<'src>>
         requires before_runs { IsConst self.now }
-        ensures headline { UnlessStopped (const_ended settings_view result) (meant.settings (const_value (stage_state_of self.now)) (map set_view sets.entry)) }
-        ensures never_internal { AllResolvedOn (stage_state_of self.now) (set_expressions (map set_view sets.entry)) → IsNotInternal (const_ended settings_view result) }
+        ensures headline { UnlessStopped (const_ended settings_view result)
+            (meant.settings (const_value (stage_state_of self.now)) (map set_view sets.entry)) }
+        ensures never_internal { AllResolvedOn (stage_state_of self.now) (set_expressions (map set_view sets.entry))
+            → IsNotInternal (const_ended settings_view result) }
         ensures token { IfErr result HasOwnToken }
     {
         let mut settings = Settings::new(alloc);
@@ -63,7 +60,8 @@ impl<'src, 'run> Evaluator<'src, 'run> {
     ) -> Result<(), CompileError<'src>>
         requires before_runs { IsConst self.now }
         ensures set { UnlessStopped (const_ended (λ _. settings_view settings.new) result)
-            (with_setting (const_value (stage_state_of self.now)) (settings_view settings.old) (set_view set.now).name (set_view set.now).value) }
+            (with_setting (const_value (stage_state_of self.now)) (settings_view settings.old) (set_view set.now).name
+            (set_view set.now).value) }
         ensures token { IfErr result HasOwnToken }
     {
         let context = StringContext::Setting(set.name);
@@ -115,8 +113,10 @@ impl<'src, 'run> Evaluator<'src, 'run> {
     ) -> Result<Interpreter<String>, CompileError<'src>>
         requires before_runs { IsConst self.now }
         ensures headline { UnlessStopped (const_ended interpreter_view result)
-            (meant.interpreter (const_value (stage_state_of self.now)) (name_view setting.entry) (expression_interpreter_view interpreter.now)) }
-        ensures never_internal { AllResolvedOn (stage_state_of self.now) (interpreter_expressions (expression_interpreter_view interpreter.now))
+            (meant.interpreter (const_value (stage_state_of self.now)) (name_view setting.entry)
+            (expression_interpreter_view interpreter.now)) }
+        ensures never_internal { AllResolvedOn (stage_state_of self.now)
+            (interpreter_expressions (expression_interpreter_view interpreter.now))
             → IsNotInternal (const_ended interpreter_view result) }
         ensures token { IfErr result HasOwnToken }
     {

@@ -15,8 +15,6 @@ use just_host::search::Search;
 use just_host::settings::Settings;
 use just_syntax::assignment::Assignment;
 use just_syntax::expression::Expression;
-use just_syntax::function_definition::FunctionDefinition;
-use just_syntax::name::Name;
 use just_syntax::number::Number;
 use just_syntax::table::Table;
 use just_value::error::Error;
@@ -94,15 +92,14 @@ impl<'src> Around<'src> {
     pub(crate) fn context(&self) -> ExecutionContext<'src, '_>
         ensures { result.recursion_limit ≡ 100 }
     {
-        ExecutionContext {
-            config: &self.config,
-            dotenv: &self.dotenv,
-            module: &self.module,
-            overrides: &self.overrides,
-            recursion_limit: 100,
-            scope: &self.scope,
-            search: &self.search,
-        }
+        ExecutionContext::new(
+            &self.config,
+            &self.dotenv,
+            &self.module,
+            &self.overrides,
+            &self.scope,
+            &self.search,
+        )
     }
 
     /// Evaluates the module's assignments.
@@ -138,34 +135,14 @@ fn case_of<'src>(rt: &impl Abort, alloc: Global, lines: &'src [Line<'src>]) -> C
     build(alloc, lines).expect(rt, "no case")
 }
 
-// The module that a case describes.
+// The module that a case describes. Each assignment has the flags that its name gives.
 fn module_of<'src>(rt: &impl Abort, alloc: Global, case: Case<'src>) -> Justfile<'src> {
-    let Case {
-        assignments,
-        evaluation_order,
-        functions,
-        lists,
-        ..
-    } = case;
-    module_with(rt, alloc, assignments, evaluation_order, functions, lists)
-}
-
-// A module with these assignments, in this order, and these functions. Each assignment has the flags that its name
-// gives.
-fn module_with<'src>(
-    rt: &impl Abort,
-    alloc: Global,
-    assignments: Table<Assignment<'src>>,
-    evaluation_order: Vec<Name<'src>>,
-    functions: Table<FunctionDefinition<'src>>,
-    lists: bool,
-) -> Justfile<'src> {
     let mut settings = Settings::new(alloc);
-    settings.lists = lists;
+    settings.lists = case.lists;
     Justfile {
-        assignments: with_flags(rt, alloc, assignments),
-        evaluation_order,
-        functions,
+        assignments: with_flags(rt, alloc, case.assignments),
+        evaluation_order: case.evaluation_order,
+        functions: case.functions,
         module_path: String::new(alloc),
         settings,
         source: owned(rt, alloc, JUSTFILE),

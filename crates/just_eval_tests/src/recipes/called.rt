@@ -102,16 +102,9 @@ pub(crate) fn parameter<'src>(
     number: u64,
     default: Option<Expression<'src>>,
 ) -> Parameter<'src> {
-    Parameter {
-        default,
-        export: false,
-        flag: false,
-        kind: ParameterKind::Singular,
-        multiple: false,
-        name: name(lexeme),
-        number: Number::new(number),
-        value: None,
-    }
+    let mut parameter = Parameter::new(name(lexeme), Number::new(number), ParameterKind::Singular);
+    parameter.default = default;
+    parameter
 }
 
 /// A check of values.

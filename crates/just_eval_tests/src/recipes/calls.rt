@@ -64,27 +64,13 @@ fn wanted(rt: &impl Abort, alloc: Global, command: &str, (passed, how): Failing)
 fn call<'src>(rt: &impl Abort, alloc: Global, text: &'src str, host: &mut ReportingHost) {
     let command = command(rt, alloc, text);
     let around = Around::of_submodule(rt, alloc, text);
-    call_around(&around, rt, alloc, host, &command);
+    call_in(&around.context(), rt, alloc, host, &command);
     drop(around);
     drop(command);
 }
 
 fn command<'src>(rt: &impl Abort, alloc: Global, text: &'src str) -> Expression<'src> {
-    Expression::Backtick {
-        contents: owned(rt, alloc, text),
-        token: token(text),
-    }
-}
-
-fn call_around<'src>(
-    around: &Around<'src>,
-    rt: &impl Abort,
-    alloc: Global,
-    host: &mut ReportingHost,
-    command: &Expression<'src>,
-) {
-    let context = around.context();
-    call_in(&context, rt, alloc, host, command);
+    Expression::backtick(alloc, text, token(text)).expect(rt, "no memory")
 }
 
 fn call_in<'src>(

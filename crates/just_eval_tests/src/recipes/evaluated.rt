@@ -1,6 +1,6 @@
 // What an evaluator evaluates: a line, or a command.
 
-ghost use Rattle.just_eval.specs.View.{MayCall};
+ghost use Rattle.just_eval_tests.specs.Prelude.{MayCall};
 ghost use Rattle.std.specs.Prelude.{◌<◌};
 
 use crate::recipes::RECIPE;
@@ -69,7 +69,7 @@ fn report_by<'src>(
         Evaluated::Line(line, continued) => evaluate_line(
             evaluator, rt, alloc, host, line, continued,
         ),
-        Evaluated::Command(command) => evaluate_both(evaluator, rt, alloc, host, command),
+        Evaluated::Command(command) => evaluate_command(evaluator, rt, alloc, host, command),
     }
 }
 
@@ -89,7 +89,7 @@ fn evaluate_line<'src>(
 }
 
 // Evaluates the command as a value, and then as a text.
-fn evaluate_both<'src>(
+fn evaluate_command<'src>(
     evaluator: &Evaluator<'src, '_>,
     rt: &impl Abort,
     alloc: Global,
@@ -98,22 +98,14 @@ fn evaluate_both<'src>(
 )
     requires may_call { MayCall evaluator.now }
 {
-    evaluate_value(evaluator, rt, alloc, host, command);
-    evaluate_text(evaluator, rt, alloc, host, command);
-}
-
-fn evaluate_value<'src>(
-    evaluator: &Evaluator<'src, '_>,
-    rt: &impl Abort,
-    alloc: Global,
-    host: &mut ReportingHost,
-    command: &Expression<'src>,
-)
-    requires may_call { MayCall evaluator.now }
-{
-    let outcome = evaluator.evaluate_value(alloc, host, command);
-    report_value(&outcome, rt, &mut host.reported);
-    drop(outcome);
+    let value = evaluator.evaluate_value(alloc, host, command);
+    report_value(&value, rt, &mut host.reported);
+    drop(value);
+    let place = StringContext::Setting(name("set"));
+    let text = evaluator.evaluate_string(alloc, host, command, place);
+    host.report_outcome(rt, &text);
+    drop(text);
+    host.report(rt, ";");
 }
 
 // Reports a value that was evaluated, or its refusal.
@@ -122,20 +114,4 @@ fn report_value(outcome: &Result<Value, Error>, rt: &impl Abort, reported: &mut 
         Ok(value) => write!(reported, "{value};").expect(rt, "no memory"),
         Err(error) => write!(reported, "{};", refusal(error)).expect(rt, "no memory"),
     }
-}
-
-fn evaluate_text<'src>(
-    evaluator: &Evaluator<'src, '_>,
-    rt: &impl Abort,
-    alloc: Global,
-    host: &mut ReportingHost,
-    command: &Expression<'src>,
-)
-    requires may_call { MayCall evaluator.now }
-{
-    let place = StringContext::Setting(name("set"));
-    let outcome = evaluator.evaluate_string(alloc, host, command, place);
-    host.report_outcome(rt, &outcome);
-    drop(outcome);
-    host.report(rt, ";");
 }

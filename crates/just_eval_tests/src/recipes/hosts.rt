@@ -6,10 +6,10 @@ use crate::recipes::failing::Failing;
 use crate::recipes::texts::add;
 use just_host::command_question::CommandQuestion;
 use just_host::host::Host;
-use just_host::no_host::NoHost;
 use just_host::number_question::NumberQuestion;
 use just_host::text_answer::TextAnswer;
 use just_host::text_question::TextQuestion;
+use just_script::commands::{CommandHost, Commands};
 use just_script::fail_at::FailAt;
 use just_syntax::out_of_memory::OutOfMemory;
 use just_value::element::Element;
@@ -20,34 +20,18 @@ use std::alloc::Global;
 use std::collections::BTreeMap;
 use std::process::Abort;
 
-/// Answers each command with its own text in angle brackets, and nothing else.
+/// Answers each command with its own text in angle brackets.
 #[derive(Drop)]
-pub(crate) struct BracketHost {}
+struct Brackets {}
 
-impl Host for BracketHost {
-    ghost use Rattle.std.specs.Prelude.{⊤};
-
-    ghost step = { λ _ _ _ _. ⊤ };
-
-    fn command(
+impl Commands for Brackets {
+    fn answer(
         &mut self,
         alloc: Global,
         question: &CommandQuestion,
     ) -> Result<String, CommandFault> {
         let command = question.command;
         Ok(format!(in alloc; "<{command}>")?)
-    }
-
-    fn text(&mut self, alloc: Global, question: TextQuestion) -> TextAnswer {
-        NoHost.text(alloc, question)
-    }
-
-    fn exists(&mut self, alloc: Global, path: &str) -> Result<bool, OutOfMemory> {
-        NoHost.exists(alloc, path)
-    }
-
-    fn number(&mut self, alloc: Global, question: NumberQuestion) -> Result<u64, OutOfMemory> {
-        NoHost.number(alloc, question)
     }
 }
 
@@ -56,15 +40,18 @@ impl Host for BracketHost {
 #[derive(Drop)]
 pub(crate) struct ReportingHost {
     pub(crate) reported: String,
-    host: FailAt<BracketHost>,
+    host: FailAt<CommandHost<Brackets>>,
 }
 
 impl ReportingHost {
     /// A host that passes this many questions on, and then fails.
     pub(crate) fn new(alloc: Global, (passed, how): Failing) -> ReportingHost {
+        let host = CommandHost {
+            commands: Brackets {},
+        };
         ReportingHost {
             reported: String::new(alloc),
-            host: FailAt::new(BracketHost {}, passed, how),
+            host: FailAt::new(host, passed, how),
         }
     }
 

@@ -175,7 +175,15 @@ fn report_pieces<'src>(
     called.is_dependency = is_dependency;
     add_attributes(&mut called, rt, alloc, lines);
     let line = line_of(rt, alloc, expressions_of(rt, alloc, lines), pieces);
-    report_around(&around, rt, alloc, host, &called, &line, continued);
+    report_in(
+        &around.context(),
+        rt,
+        alloc,
+        host,
+        &called,
+        &line,
+        continued,
+    );
     drop(line);
     drop(called);
     drop(around);
@@ -191,7 +199,7 @@ pub(crate) fn report<'src>(
 ) {
     let around = Around::of_nothing(rt, alloc, source);
     let called = called(rt, alloc);
-    report_around(&around, rt, alloc, host, &called, line, false);
+    report_in(&around.context(), rt, alloc, host, &called, line, false);
     drop(called);
     drop(around);
 }
@@ -202,19 +210,6 @@ fn called<'src>(rt: &impl Abort, alloc: Global) -> Called<'src> {
     let argument = Value::from_text(alloc, "z").expect(rt, "no memory");
     called.push(rt, parameter("p", 1000, None), argument);
     called
-}
-
-fn report_around<'src>(
-    around: &Around<'src>,
-    rt: &impl Abort,
-    alloc: Global,
-    host: &mut ReportingHost,
-    called: &Called<'src>,
-    line: &Line<'src>,
-    continued: bool,
-) {
-    let context = around.context();
-    report_in(&context, rt, alloc, host, called, line, continued);
 }
 
 // Evaluates the recipe's attributes and parameters, and reports a line there.

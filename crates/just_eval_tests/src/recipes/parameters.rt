@@ -135,7 +135,7 @@ fn report_lines<'src>(
         around.export_all();
     }
     let called = called_of(rt, alloc, lines, row, check);
-    report_around(&around, rt, alloc, host, &called);
+    report_in(&around.context(), rt, alloc, host, &called);
     let checked = called.checked(rt, alloc);
     drop(called);
     drop(around);
@@ -151,7 +151,7 @@ pub(crate) fn report<'src>(
     host: &mut ReportingHost,
 ) {
     let around = Around::of_nothing(rt, alloc, source);
-    report_around(&around, rt, alloc, host, called);
+    report_in(&around.context(), rt, alloc, host, called);
     drop(around);
 }
 
@@ -265,17 +265,6 @@ fn push_pair<'src>(
     pushed.expect(rt, "no memory");
 }
 
-fn report_around<'src>(
-    around: &Around<'src>,
-    rt: &impl Abort,
-    alloc: Global,
-    host: &mut ReportingHost,
-    called: &Called<'src>,
-) {
-    let context = around.context();
-    report_in(&context, rt, alloc, host, called);
-}
-
 // The recipe must be resolved.
 fn is_resolved<'src>(
     alloc: Global,
@@ -293,7 +282,7 @@ fn is_resolved<'src>(
     )
 }
 
-// The same in a context. The recipe must be resolved.
+// Reports what a recipe's parameters evaluate to in a context. The recipe must be resolved.
 fn report_in<'src>(
     context: &ExecutionContext<'src, '_>,
     rt: &impl Abort,

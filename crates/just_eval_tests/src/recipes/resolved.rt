@@ -254,22 +254,10 @@ fn is_as_reported<'src>(rt: &impl Abort, alloc: Global, lines: &'src [CaseLine<'
     add_parameters(&mut called, rt, alloc, parameters, lines);
     add_attributes(&mut called, rt, alloc, lines);
     let line = line_of(rt, alloc, expressions_of(rt, alloc, lines), pieces);
-    is_so_around(&around, rt, alloc, &called, &line, row);
+    is_so_in(&around.context(), rt, alloc, &called, &line, row);
     drop(line);
     drop(called);
     drop(around);
-}
-
-fn is_so_around<'src>(
-    around: &Around<'src>,
-    rt: &impl Abort,
-    alloc: Global,
-    called: &Called<'src>,
-    line: &Line<'src>,
-    row: &Row,
-) {
-    let context = around.context();
-    is_so_in(&context, rt, alloc, called, line, row);
 }
 
 // Whether a recipe and a line are resolved, as expected, in a frame of their own that binds the row's numbers.

@@ -13,17 +13,13 @@ use just_syntax::expression::Expression;
 use just_syntax::fragment::Fragment;
 use just_syntax::line::Line;
 use just_syntax::number::Number;
-use just_syntax::string_literal::StringLiteral;
 use just_value::value::Value;
 use std::alloc::Global;
 use std::process::Abort;
 
 // The variable with a name and a number.
 fn variable<'src>(lexeme: &'src str, number: u64) -> Expression<'src> {
-    Expression::Variable {
-        name: name(lexeme),
-        number: Some(Number::new(number)),
-    }
+    Expression::variable(name(lexeme), Number::new(number))
 }
 
 // This many parameters of one name, and as many attributes, each of which sets a variable of its own. Only the first
@@ -45,20 +41,14 @@ fn in_a_row<'src>(rt: &impl Abort, alloc: Global, lexeme: &'src str, count: u64)
 
 // Adds an attribute that sets a variable to the text `v`.
 fn push_attribute(called: &mut Called, rt: &impl Abort, alloc: Global, number: u64) {
-    let key = literal(format!(in alloc; "K{number:04}").expect(rt, "no memory"));
-    let attribute = Attribute::Env(key, literal(owned(rt, alloc, "v")));
+    let key = format!(in alloc; "K{number:04}").expect(rt, "no memory");
+    let attribute = Attribute::Env(literal(rt, alloc, &key), literal(rt, alloc, "v"));
     let pushed = called.recipe.attributes.push(attribute, name("env"));
     pushed.expect(rt, "no memory");
 }
 
-fn literal<'src>(cooked: String) -> Expression<'src> {
-    Expression::StringLiteral {
-        string_literal: StringLiteral {
-            cooked,
-            lexeme: "'..'",
-            indented: false,
-        },
-    }
+fn literal<'src>(rt: &impl Abort, alloc: Global, text: &str) -> Expression<'src> {
+    Expression::literal(alloc, text, "'..'").expect(rt, "no memory")
 }
 
 // Adds a piece this many times.

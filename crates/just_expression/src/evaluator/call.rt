@@ -1,15 +1,9 @@
 // Evaluates calls.
 
 ghost use Rattle.std.specs.Prelude.{Some, length, option_copied, ◌≡◌};
-ghost use Rattle.just_syntax.specs.View.{function_view, name_view};
-ghost use Rattle.just_value.specs.Frames.{value_in};
-ghost use Rattle.just_host.specs.Interaction.{Entered, note};
-ghost use Rattle.just_builtins.specs.Argument.{HasTexts, IsExpected};
-ghost use Rattle.just_builtins.specs.Table.{function_named};
-ghost use Rattle.just_meaning.specs.Callee.{callee};
-ghost use Rattle.just_meaning.specs.Closings.{dynamic, inside};
-ghost use Rattle.just_meaning.specs.Meaning.{built_in_call, called, eval};
-ghost use Rattle.just_expression.specs.View.{RunsTo, context_of, deeper, program, row, situation};
+ghost use Rattle.just_expression.specs.Prelude.{Entered, HasTexts, IsExpected, RunsTo, built_in_call, called, callee};
+ghost use Rattle.just_expression.specs.Prelude.{context_of, deeper, dynamic, eval, function_named, function_view};
+ghost use Rattle.just_expression.specs.Prelude.{inside, name_view, note, program, row, situation, value_in};
 
 use super::ExpressionEvaluator;
 use crate::builtin;
@@ -42,7 +36,9 @@ impl<'src, 'run, 'here> ExpressionEvaluator<'src, 'run, 'here> {
         budget: usize,
     ) -> Result<Value, Error<'src>>
         ensures { let t = name_view name.now in let p = program self.now in
-            RunsTo self.now H.step host.old (note (Entered t) (called p t (callee p.functions t.lexeme) (deeper self.now) (situation self.now) (length arguments.now) (row self.now arguments.now))) result host.new }
+            RunsTo self.now H.step host.old
+            (note (Entered t) (called p t (callee p.functions t.lexeme) (deeper self.now) (situation self.now)
+            (length arguments.now) (row self.now arguments.now))) result host.new }
     {
         let Some(context) = self.context else {
             return Err(Error::Const(ConstError::FunctionCall(*name)));
@@ -81,7 +77,8 @@ impl<'src, 'run, 'here> ExpressionEvaluator<'src, 'run, 'here> {
     ) -> Result<Value, Error<'src>>
         requires count { length function.now.parameters.items ≡ length values.items }
         ensures { let p = program self.now in let f = function_view function.now in let s = situation self.now in
-            RunsTo self.now H.step host.old (eval p (dynamic p calls_left) (inside (value_in s.below) s f values.items) f.body) result host.new }
+            RunsTo self.now H.step host.old (eval p (dynamic p calls_left) (inside (value_in s.below) s f values.items)
+            f.body) result host.new }
     {
         if budget < stack::BODY {
             return Err(Error::OutOfMemory);
@@ -128,7 +125,8 @@ impl<'src, 'run, 'here> ExpressionEvaluator<'src, 'run, 'here> {
         requires named { function_named (name_view name.now).lexeme ≡ Some function }
         requires count { IsExpected function (length values.items) }
         requires texts { HasTexts function values.items }
-        ensures { RunsTo self.now H.step host.old (built_in_call (program self.now) (situation self.now) (name_view name.now) function values.items) result host.new }
+        ensures { RunsTo self.now H.step host.old (built_in_call (program self.now) (situation self.now)
+            (name_view name.now) function values.items) result host.new }
     {
         let context = self.function_context(context, name);
         builtin::call(alloc, host, &context, function, &values)
@@ -140,7 +138,15 @@ impl<'src, 'run, 'here> ExpressionEvaluator<'src, 'run, 'here> {
         context: &'call ExecutionContext<'src, 'run>,
         name: &Name<'src>,
     ) -> Context<'src, 'call>
-        ensures { result ≡ record { env = self.now.env; execution_context = context.entry; is_dependency = self.now.is_dependency; name = name.now; recipe = option_copied self.now.recipe; scope = self.now.scope } }
+        ensures { result ≡ record {
+          env = self.now.env;
+          execution_context = context.entry;
+          is_dependency =
+              self.now.is_dependency;
+          name = name.now;
+          recipe = option_copied self.now.recipe;
+          scope = self.now.scope;
+        } }
     {
         Context {
             env: self.env,

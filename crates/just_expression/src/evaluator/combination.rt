@@ -1,8 +1,6 @@
 // Evaluates `lhs + rhs` and `lhs / rhs`.
 
-ghost use Rattle.just_syntax.specs.View.{token_view, view};
-ghost use Rattle.just_meaning.specs.Meaning.{combination};
-ghost use Rattle.just_expression.specs.View.{RunsTo, meaning};
+ghost use Rattle.just_expression.specs.Prelude.{RunsTo, combination, meaning, token_view, view};
 
 use super::ExpressionEvaluator;
 use just_host::host::Host;
@@ -27,7 +25,8 @@ impl<'src, 'run, 'here> ExpressionEvaluator<'src, 'run, 'here> {
         rhs: &Expression<'src>,
         budget: usize,
     ) -> Result<Value, Error<'src>>
-        ensures { RunsTo self.now H.step host.old (combination operator (meaning self.now (view lhs.now)) (token_view token.now) (meaning self.now (view rhs.now))) result host.new }
+        ensures { RunsTo self.now H.step host.old (combination operator (meaning self.now (view lhs.now))
+            (token_view token.now) (meaning self.now (view rhs.now))) result host.new }
     {
         let left = self.evaluate_value(alloc, host, lhs, budget)?;
         let right = self.evaluate_value(alloc, host, rhs, budget)?;

@@ -1,12 +1,12 @@
 // Evaluates variables and commands, which have no parts.
 
 ghost use Rattle.std.specs.Prelude.{◌≡◌};
-ghost use Rattle.just_syntax.specs.View.{name_view, token_view};
-ghost use Rattle.just_meaning.specs.Meaning.{command, variable};
-ghost use Rattle.just_expression.specs.View.{RunsTo, context_of, is_non_const, open_in, program, situation};
+ghost use Rattle.just_expression.specs.Prelude.{RunsTo, command, context_of, is_non_const, name_view, open_in, program};
+ghost use Rattle.just_expression.specs.Prelude.{situation, token_view, variable};
 
 use super::ExpressionEvaluator;
-use crate::{command, internal, variable};
+use crate::internal::Reason;
+use crate::{command, variable};
 use just_host::host::Host;
 use just_syntax::name::Name;
 use just_syntax::number::Number;
@@ -26,10 +26,11 @@ impl<'src, 'run, 'here> ExpressionEvaluator<'src, 'run, 'here> {
         name: &Name<'src>,
         number: Option<Number>,
     ) -> Result<Value, Error<'src>>
-        ensures { RunsTo self.now H.step host.now (variable (name_view name.now) number (situation self.now).names) result host.now }
+        ensures { RunsTo self.now H.step host.now (variable (name_view name.now) number (situation self.now).names)
+            result host.now }
     {
         let Some(number) = number else {
-            return Err(internal::unresolved(alloc, name));
+            return Err(Reason::Unresolved.error_at(alloc, name));
         };
         if self.is_open(number) {
             return Err(Error::Const(ConstError::Variable(*name)));
@@ -56,7 +57,8 @@ impl<'src, 'run, 'here> ExpressionEvaluator<'src, 'run, 'here> {
         contents: &str,
         token: &Token<'src>,
     ) -> Result<Value, Error<'src>>
-        ensures { RunsTo self.now H.step host.old (command (program self.now).fixed (situation self.now) contents.now (token_view token.now)) result host.new }
+        ensures { RunsTo self.now H.step host.old (command (program self.now).fixed (situation self.now) contents.now
+            (token_view token.now)) result host.new }
     {
         match self.context {
             Some(context) => {

@@ -1,10 +1,8 @@
 // Evaluates lists and format strings.
 
 ghost use Rattle.std.specs.Prelude.{[], ◌∷◌};
-ghost use Rattle.just_syntax.specs.View.{literal_view, piece_views};
-ghost use Rattle.just_host.specs.Interaction.{bind, gives};
-ghost use Rattle.just_meaning.specs.Meaning.{as_it_is, eval_pieces, flatten, formatted};
-ghost use Rattle.just_expression.specs.View.{RunsTo, deeper, program, row, situation};
+ghost use Rattle.just_expression.specs.Prelude.{RunsTo, as_it_is, bind, deeper, eval_pieces, flatten, formatted, gives};
+ghost use Rattle.just_expression.specs.Prelude.{literal_view, piece_views, program, row, situation};
 
 use super::ExpressionEvaluator;
 use crate::form;
@@ -26,7 +24,8 @@ impl<'src, 'run, 'here> ExpressionEvaluator<'src, 'run, 'here> {
         elements: &[Expression<'src>],
         budget: usize,
     ) -> Result<Value, Error<'src>>
-        ensures { RunsTo self.now H.step host.old (bind (row self.now elements.now as_it_is) (λ vs. gives (flatten vs))) result host.new }
+        ensures { RunsTo self.now H.step host.old (bind (row self.now elements.now as_it_is) (λ vs. gives (flatten vs)))
+            result host.new }
     {
         let mut all = Value::new(alloc);
         for element in elements {
@@ -47,7 +46,10 @@ impl<'src, 'run, 'here> ExpressionEvaluator<'src, 'run, 'here> {
         expressions: &[(Expression<'src>, StringLiteral<'src>)],
         budget: usize,
     ) -> Result<Value, Error<'src>>
-        ensures { RunsTo self.now H.step host.old (bind (eval_pieces (program self.now) (deeper self.now) (situation self.now) (piece_views expressions.now)) (λ text. gives (formatted (literal_view start.now) text ∷ []))) result host.new }
+        ensures { RunsTo self.now H.step host.old
+            (bind (eval_pieces (program self.now) (deeper self.now) (situation self.now)
+            (piece_views expressions.now)) (λ text. gives (formatted (literal_view start.now) text ∷ []))) result
+            host.new }
     {
         let mut text = String::from_str(alloc, &start.cooked)?;
         for (expression, literal) in expressions {

@@ -1,9 +1,9 @@
 // Constructors of expressions.
 
-ghost use Rattle.std.specs.Prelude.{◌≡◌, Some, IfOk, false};
-ghost use Rattle.std.specs.Option.{option_map};
+ghost use Rattle.std.specs.Prelude.{IfOk, Some, false, option_map, ◌≡◌};
 ghost use Rattle.just_syntax.specs.Plain as plain;
-ghost use Rattle.just_syntax.specs.View.{assert_view, conditional, join, literal_view, name_view, piece_views, token_view, view, views};
+ghost use Rattle.just_syntax.specs.Prelude.{assert_view, conditional, join, literal_view, name_view, piece_views};
+ghost use Rattle.just_syntax.specs.Prelude.{token_view, view, views};
 
 use crate::conditional_operator::ConditionalOperator;
 use crate::expression::Expression;
@@ -44,7 +44,8 @@ impl<'src> Expression<'src> {
         condition: Expression<'src>,
         message: Option<Expression<'src>>,
     ) -> Result<Expression<'src>, OutOfMemory>
-        ensures { IfOk result (λ e. view e ≡ assert_view (view condition.entry) (option_map view message.entry) (name_view name.entry)) }
+        ensures { IfOk result (λ e. view e ≡ assert_view (view condition.entry) (option_map view message.entry)
+            (name_view name.entry)) }
     {
         let (condition, message) = boxed_with(alloc, condition, message)?;
         Ok(Expression::Assert {
@@ -91,7 +92,8 @@ impl<'src> Expression<'src> {
         rhs: Expression<'src>,
         token: Token<'src>,
     ) -> Result<Expression<'src>, OutOfMemory>
-        ensures { IfOk result (λ e. view e ≡ plain.Comparison (view lhs.entry) operator (view rhs.entry) (token_view token.entry)) }
+        ensures { IfOk result (λ e. view e ≡ plain.Comparison (view lhs.entry) operator (view rhs.entry)
+            (token_view token.entry)) }
     {
         let (lhs, rhs) = boxed_pair(alloc, lhs, rhs)?;
         Ok(Expression::Comparison {
@@ -113,7 +115,8 @@ impl<'src> Expression<'src> {
         operator: Token<'src>,
         rhs: Expression<'src>,
     ) -> Result<Expression<'src>, OutOfMemory>
-        ensures { IfOk result (λ e. view e ≡ plain.Concatenation (view lhs.entry) (token_view operator.entry) (view rhs.entry)) }
+        ensures { IfOk result (λ e. view e ≡ plain.Concatenation (view lhs.entry) (token_view operator.entry)
+            (view rhs.entry)) }
     {
         let (lhs, rhs) = boxed_pair(alloc, lhs, rhs)?;
         Ok(Expression::Concatenation { lhs, operator, rhs })
@@ -130,7 +133,8 @@ impl<'src> Expression<'src> {
         consequence: Expression<'src>,
         otherwise: Option<Expression<'src>>,
     ) -> Result<Expression<'src>, OutOfMemory>
-        ensures { IfOk result (λ e. view e ≡ conditional (view condition.entry) (view consequence.entry) (option_map view otherwise.entry)) }
+        ensures { IfOk result (λ e. view e ≡ conditional (view condition.entry) (view consequence.entry)
+            (option_map view otherwise.entry)) }
     {
         let (condition, branches) = boxed_branches(alloc, condition, consequence, otherwise)?;
         let (consequence, otherwise) = branches;
@@ -175,7 +179,8 @@ impl<'src> Expression<'src> {
         operator: Token<'src>,
         rhs: Expression<'src>,
     ) -> Result<Expression<'src>, OutOfMemory>
-        ensures { IfOk result (λ e. view e ≡ join (option_map view lhs.entry) (token_view operator.entry) (view rhs.entry)) }
+        ensures { IfOk result (λ e. view e ≡ join (option_map view lhs.entry) (token_view operator.entry)
+            (view rhs.entry)) }
     {
         let (rhs, lhs) = boxed_with(alloc, rhs, lhs)?;
         Ok(Expression::Join { lhs, operator, rhs })
@@ -199,7 +204,8 @@ impl<'src> Expression<'src> {
         operator: Token<'src>,
         rhs: Expression<'src>,
     ) -> Result<Expression<'src>, OutOfMemory>
-        ensures { IfOk result (λ e. view e ≡ plain.ListConcatenation (view lhs.entry) (token_view operator.entry) (view rhs.entry)) }
+        ensures { IfOk result (λ e. view e ≡ plain.ListConcatenation (view lhs.entry) (token_view operator.entry)
+            (view rhs.entry)) }
     {
         let (lhs, rhs) = boxed_pair(alloc, lhs, rhs)?;
         Ok(Expression::ListConcatenation { lhs, operator, rhs })
@@ -215,7 +221,9 @@ impl<'src> Expression<'src> {
         text: &str,
         lexeme: &'src str,
     ) -> Result<Expression<'src>, OutOfMemory>
-        ensures { IfOk result (λ e. view e ≡ plain.StringLiteral (record { cooked = text.now; lexeme = lexeme.now; indented = false })) }
+        ensures { IfOk result
+            (λ e. view e
+            ≡ plain.StringLiteral (record { cooked = text.now; lexeme = lexeme.now; indented = false })) }
     {
         let string_literal = StringLiteral::new(alloc, text, lexeme)?;
         Ok(Expression::StringLiteral { string_literal })

@@ -1,12 +1,11 @@
 use Rattle.std.proofs.Common.{◌++◌, ap, map, string_bytes, ◌∙◌}
-use Rattle.just_syntax.specs.View.{name_view}
-use Rattle.just_bench.specs.Blocks.{agreement_line}
-use Rattle.just_bench.specs.View.{found_view, run_view}
+use Rattle.just_bench.specs.Prelude.{agreement_line, found_view, name_view, run_view}
 use Rattle.just_bench.proofs.Both.{compared, first_refused, second_refused}
 use Rattle.just_bench.proofs.blocks.print_both.Goals as goal
 
 pub returns-in_default-clause-answer : goal.returns-in_default-clause-answer
-returns-in_default-clause-answer g c = first_refused (string_bytes c.args.text.now) (string_bytes c.print_run.new.text) (rw c.in_default.is at c.in_ok-one.ensures.prints)
+returns-in_default-clause-answer g c =
+    first_refused (string_bytes c.args.text.now) (string_bytes c.print_run.new.text) (rw c.in_default.is at c.in_ok-one.ensures.prints)
 
 pub returns-in-Some-2-clause-answer : goal.returns-in-Some-2-clause-answer
 returns-in-Some-2-clause-answer g c =
@@ -18,4 +17,5 @@ returns-in-Some-2-clause-answer g c =
 pub returns-clause-answer : goal.returns-clause-answer
 returns-clause-answer g c =
     second_refused (run_view c.args.run.now) (run_view c.print_run.new.run) (map name_view c.args.second.now) c.in_ok-one.ensures.run (found_view c.in-Some.one)
-    (string_bytes c.args.text.now) (string_bytes c.print_run.new.text) (string_bytes c.print_run-2.new.text) (rw c.in-Some.is at c.in_ok-one.ensures.prints) (rw c.in-None.is at c.in_ok-other.ensures.prints)
+    (string_bytes c.args.text.now) (string_bytes c.print_run.new.text) (string_bytes c.print_run-2.new.text) (rw c.in-Some.is at c.in_ok-one.ensures.prints)
+    (rw c.in-None.is at c.in_ok-other.ensures.prints)

@@ -1,12 +1,6 @@
 use Rattle.std.proofs.Common.{◌≡◌, ◌∙◌, ◌++◌, ap, map, string_bytes, sym}
 use Rattle.std.proofs.lemmas.Result.{IfOk-weaker}
-use Rattle.just_syntax.specs.View.{name_view, text_numbered}
-use Rattle.just_value.specs.View.{frames_view}
-use Rattle.just_host.specs.View.{inner_host, records_view}
-use Rattle.just_bench.specs.Printed.{order_line}
-use Rattle.just_bench.specs.Blocks.{in_order}
-use Rattle.just_bench.specs.Taken.{taken_in, taken_view}
-use Rattle.just_bench.specs.View.{run_view}
+use Rattle.just_bench.specs.Prelude.{frames_view, in_order, inner_host, name_view, order_line, records_view, run_view, taken_in, taken_view, text_numbered}
 use Rattle.just_bench.proofs.References.{same_references}
 use Rattle.just_bench.proofs.Walks.{none_asked, order_prints, same_names}
 use Rattle.just_bench.proofs.blocks.print_run.Goals as goal
@@ -17,6 +11,9 @@ returns-clause-prints g c =
     let determined = rw (same_references c.as_ref-references.result c.args.run.now.references c.as_ref-references.ensures.value) at c.in_ok-taken.ensures in
     let coming : map taken_view c.deref-2.result.now ≡ taken_in m.assignments m.assignments.order = ap (map taken_view) c.deref-2.ensures.value ∙ determined in
     IfOk-weaker c.print_turns.result _ _ (λ found w.
-    order_prints (string_bytes c.args.text.now) (string_bytes c.print_order.new.text) (string_bytes c.print_turns.new.text) (inner_host c.args.host.now) (records_view c.args.host.now) (frames_view c.args.parent.now) (frames_view c.in_ok-child.field-0)
-    (map taken_view c.deref-2.result.now) (text_numbered c.new.result) c.requires.fresh c.in_ok-child.ensures coming (none_asked c.new.result c.new.ensures.empty)
-    (c.in_ok-print_order.ensures ∙ ap (λ names. string_bytes c.args.text.now ++ order_line names) (same_names c.deref.result.now c.deref-2.result.now (c.deref.ensures.value ∙ sym c.deref-2.ensures.value))) w) c.print_turns.ensures.walks
+    order_prints (string_bytes c.args.text.now) (string_bytes c.print_order.new.text) (string_bytes c.print_turns.new.text) (inner_host c.args.host.now)
+    (records_view c.args.host.now) (frames_view c.args.parent.now) (frames_view c.in_ok-child.field-0)
+    (map taken_view c.deref-2.result.now) (text_numbered c.new.result) c.requires.fresh c.in_ok-child.ensures coming
+    (none_asked c.new.result c.new.ensures.empty)
+    (c.in_ok-print_order.ensures ∙ ap (λ names. string_bytes c.args.text.now ++ order_line names)
+    (same_names c.deref.result.now c.deref-2.result.now (c.deref.ensures.value ∙ sym c.deref-2.ensures.value))) w) c.print_turns.ensures.walks

@@ -1,11 +1,5 @@
 use Rattle.std.proofs.Common.{◌≡◌, [], ◌++◌, Option, drop, map, string_bytes}
-use Rattle.just_syntax.specs.Plain.{Text}
-use Rattle.just_syntax.specs.View.{name_view, text_numbered}
-use Rattle.just_value.specs.View.{frames_view}
-use Rattle.just_bench.specs.Written.{Added}
-use Rattle.just_bench.specs.Blocks.{RunResult, Walks, in_order}
-use Rattle.just_bench.specs.Taken.{taken_view}
-use Rattle.just_bench.specs.View.{run_view, seen}
+use Rattle.just_bench.specs.Prelude.{Added, RunResult, Text, Walks, frames_view, in_order, name_view, run_view, seen, taken_view, text_numbered}
 use Rattle.just_bench.proofs.blocks.print_turns.Given as goal
 
 -- the output so far, followed by that of a walk from here, is that of the whole walk
@@ -15,6 +9,8 @@ invariant-loop-name g l =
     record {
       run : in_order (run_view l.run) [] ≡ in_order (run_view l.fn.run) [];
       walks : Added (string_bytes l.fn.text) (string_bytes l.text) (λ printed. (more : Text) (found : Option RunResult)
-          → Walks g.H.Host.step m (seen l.host) (frames_view l.blocks.scope) (map name_view (drop l.name-index l.order)) (drop l.at (map taken_view l.taken)) (text_numbered l.blocks.questions) more found
-          → Walks g.H.Host.step m (seen l.fn.host) (frames_view l.fn.blocks.scope) (map name_view l.order) (map taken_view l.taken) (text_numbered l.fn.blocks.questions) (printed ++ more) found);
+          → Walks g.H.Host.step m (seen l.host) (frames_view l.blocks.scope) (map name_view (drop l.name-index l.order)) (drop l.at (map taken_view l.taken))
+          (text_numbered l.blocks.questions) more found
+          → Walks g.H.Host.step m (seen l.fn.host) (frames_view l.fn.blocks.scope) (map name_view l.order) (map taken_view l.taken)
+          (text_numbered l.fn.blocks.questions) (printed ++ more) found);
     }

@@ -1,6 +1,5 @@
 use Rattle.std.proofs.Common.{◌≡◌, ◌++◌, map, take, string_bytes}
-use Rattle.just_host.specs.View.{recorded_view}
-use Rattle.just_bench.specs.Printed.{question_lines}
+use Rattle.just_bench.specs.Prelude.{question_lines, recorded_view}
 use Rattle.just_bench.proofs.print.print_questions.Given as goal
 
 -- the lines of the questions so far

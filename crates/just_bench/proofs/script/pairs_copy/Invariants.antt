@@ -1,5 +1,5 @@
 use Rattle.std.proofs.Common.{◌≡◌, take, map}
-use Rattle.just_syntax.specs.View.{pair_view}
+use Rattle.just_bench.specs.Prelude.{pair_view}
 use Rattle.just_bench.proofs.script.pairs_copy.Given as goal
 
 abbrev pub invariant-loop-command : goal.invariant-loop-command

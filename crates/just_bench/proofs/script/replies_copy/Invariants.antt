@@ -1,5 +1,5 @@
 use Rattle.std.proofs.Common.{◌≡◌, take, map}
-use Rattle.just_case_reader.specs.View.{reply_view}
+use Rattle.just_bench.specs.Prelude.{reply_view}
 use Rattle.just_bench.proofs.script.replies_copy.Given as goal
 
 abbrev pub invariant-loop-reply : goal.invariant-loop-reply

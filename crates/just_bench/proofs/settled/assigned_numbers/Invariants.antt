@@ -1,9 +1,8 @@
 use Rattle.std.proofs.Common.{◌≡◌, ◌||◌, ℕ, map}
-use Rattle.just_syntax.specs.View.{assignment_view}
-use Rattle.just_case_reader.specs.View.{number_set_view}
-use Rattle.just_bench.specs.Settled.{assigned_in}
+use Rattle.just_bench.specs.Prelude.{assigned_in, assignment_view, number_set_view}
 use Rattle.just_bench.proofs.settled.assigned_numbers.Given as goal
 
 -- the numbers so far, and those of the remaining assignments
 abbrev pub invariant-loop-assignment : goal.invariant-loop-assignment
-invariant-loop-assignment l = (n : ℕ) → (number_set_view l.numbers n || assigned_in (map assignment_view l.assignment-iterator) n) ≡ assigned_in (map assignment_view l.assignments) n
+invariant-loop-assignment l =
+    (n : ℕ) → (number_set_view l.numbers n || assigned_in (map assignment_view l.assignment-iterator) n) ≡ assigned_in (map assignment_view l.assignments) n

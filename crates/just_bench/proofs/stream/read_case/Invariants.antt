@@ -1,6 +1,6 @@
 use Rattle.std.proofs.Common.{◌+◌, ◌-◌, vec_len}
 use Rattle.std.specs.Io.KnownBytes.{Consumes}
-use Rattle.just_bench.specs.declared.stream.TheConstants.{LIMIT}
+use Rattle.just_bench.specs.Prelude.{LIMIT}
 use Rattle.just_bench.proofs.stream.read_case.Given as goal
 
 -- the bytes so far are those already taken from the reader

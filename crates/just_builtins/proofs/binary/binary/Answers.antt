@@ -1,5 +1,5 @@
 use Rattle.std.proofs.Common.{refl}
-use Rattle.just_builtins.specs.declared.function.Function.TheVariants.{Binary}
+use Rattle.just_builtins.specs.Prelude.{Binary}
 use Rattle.just_builtins.proofs.Arguments.{two}
 use Rattle.just_builtins.proofs.Calls.{same_call}
 use Rattle.just_builtins.proofs.binary.binary.Goals as goal

@@ -1,6 +1,5 @@
 use Rattle.std.proofs.Common.{refl, arith}
-use Rattle.just_host.specs.View.{function_context_view}
-use Rattle.just_builtins.specs.declared.function.Function.TheVariants.{BinaryStrValue}
+use Rattle.just_builtins.specs.Prelude.{BinaryStrValue, function_context_view}
 use Rattle.just_builtins.proofs.Arguments.{read_at, two}
 use Rattle.just_builtins.proofs.Calls.{same_call}
 use Rattle.just_builtins.proofs.binary.binary_str_value.Goals as goal

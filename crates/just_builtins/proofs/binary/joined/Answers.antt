@@ -5,4 +5,5 @@ use Rattle.just_builtins.proofs.binary.joined.Goals as goal
 
 pub loop-i-preserved : goal.loop-i-preserved
 loop-i-preserved c =
-    rw add-one (one_more (path_buf_bytes c.loop-i.path) _ _ c.args.arguments.now c.loop-i.i c.loop-i-test.true c.text_at.ensures c.in_ok-push.ensures.ok ∙ c.loop-i.invariant)
+    rw add-one (one_more (path_buf_bytes c.loop-i.path) _ _ c.args.arguments.now c.loop-i.i c.loop-i-test.true c.text_at.ensures c.in_ok-push.ensures.ok
+    ∙ c.loop-i.invariant)

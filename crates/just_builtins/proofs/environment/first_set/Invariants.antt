@@ -1,11 +1,5 @@
 use Rattle.std.proofs.Common.{drop, map, string_bytes}
-use Rattle.just_value.specs.Frames.{Frames}
-use Rattle.just_value.specs.Outcome.{Outcome}
-use Rattle.just_host.specs.Interaction.{Runs, freely}
-use Rattle.just_syntax.specs.View.{pairs_view}
-use Rattle.just_builtins.specs.Asking.{first_set}
-use Rattle.just_builtins.specs.Called.{Called, tree}
-use Rattle.just_builtins.specs.Reply.{Reply}
+use Rattle.just_builtins.specs.Prelude.{Called, Frames, Outcome, Reply, Runs, first_set, freely, pairs_view, tree}
 use Rattle.just_builtins.proofs.environment.first_set.Given as goal
 
 -- a run of the remaining keys from here is a run of all keys from the start

@@ -1,10 +1,7 @@
 use Rattle.std.proofs.lemmas.Result.{err_from_is_err_and}
 use Rattle.std.proofs.Common.{ap, ◌∙◌, Err}
 use Rattle.just_host.specs.Question.{Canonicalize}
-use Rattle.just_host.specs.View.{function_context_view}
-use Rattle.just_builtins.specs.Asking.{in_working_directory}
-use Rattle.just_builtins.specs.Message.{canonical_not_unicode, not_canonicalized, not_found}
-use Rattle.just_builtins.specs.Reply.{Fails}
+use Rattle.just_builtins.specs.Prelude.{Fails, canonical_not_unicode, function_context_view, in_working_directory, not_canonicalized, not_found}
 use Rattle.just_builtins.proofs.Calls.{asked_text, at_once}
 use Rattle.just_builtins.proofs.file.canonicalize.Goals as goal
 
@@ -13,5 +10,6 @@ returns-in_err-place g c = λ shown. let p = err_from_is_err_and c.from_residual
 
 pub returns : goal.returns
 returns g c = λ shown.
-    asked_text shown _ (Canonicalize (in_working_directory (function_context_view c.args.context.now) c.args.path.now)) (Fails (not_canonicalized c.args.path.now not_found)) canonical_not_unicode (not_canonicalized c.args.path.now) _ _
+    asked_text shown _ (Canonicalize (in_working_directory (function_context_view c.args.context.now) c.args.path.now))
+    (Fails (not_canonicalized c.args.path.now not_found)) canonical_not_unicode (not_canonicalized c.args.path.now) _ _
     (ap Canonicalize (c.deref.ensures ∙ c.in_ok-place.ensures)) c.text-answer.ensures c.canonical_answered.ensures

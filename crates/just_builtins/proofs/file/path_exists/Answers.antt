@@ -1,10 +1,7 @@
 use Rattle.std.proofs.lemmas.Result.{err_from_is_err_and}
 use Rattle.std.proofs.Common.{sym, subst, ◌∙◌, ap, Err}
-use Rattle.just_host.specs.Question.{ExistsAt, frameless}
-use Rattle.just_host.specs.View.{existence_answer, function_context_view}
-use Rattle.just_builtins.specs.Asking.{existence_answered, in_working_directory}
-use Rattle.just_builtins.specs.Called.{Asked}
-use Rattle.just_builtins.specs.Meaning.{has_lists, truth}
+use Rattle.just_builtins.specs.Prelude.{Asked, ExistsAt, existence_answer, existence_answered, frameless, function_context_view, has_lists}
+use Rattle.just_builtins.specs.Prelude.{in_working_directory, truth}
 use Rattle.just_builtins.proofs.Calls.{asked, at_once}
 use Rattle.just_builtins.proofs.Commands.{existence_is, existence_unasked}
 use Rattle.just_builtins.proofs.file.path_exists.Goals as goal
@@ -22,6 +19,8 @@ returns g c = λ shown.
     let context = function_context_view c.args.context.now in
     let unasked = truth (has_lists context) in
     let place = in_working_directory context c.args.path.now in
-    let taken = subst (λ p. g.H.Host.step c.args.host.now (frameless (ExistsAt p)) (existence_answer c.exists-answer.result) c.exists-answer.new.self) (c.deref.ensures ∙ c.in_ok-place.ensures) c.exists-answer.ensures in
-    subst (λ r. Asked g.H.Host.step c.args.host.now shown r c.existence_answered.result c.exists-answer.new.self) (sym (existence_is context unasked c.args.path.now c.is_empty.result c.is_empty.ensures c.if-is_empty.false))
+    let taken = subst (λ p. g.H.Host.step c.args.host.now (frameless (ExistsAt p)) (existence_answer c.exists-answer.result) c.exists-answer.new.self)
+    (c.deref.ensures ∙ c.in_ok-place.ensures) c.exists-answer.ensures in
+    subst (λ r. Asked g.H.Host.step c.args.host.now shown r c.existence_answered.result c.exists-answer.new.self)
+    (sym (existence_is context unasked c.args.path.now c.is_empty.result c.is_empty.ensures c.if-is_empty.false))
     (asked shown (ExistsAt place) (existence_answered unasked) _ _ taken c.existence_answered.ensures)

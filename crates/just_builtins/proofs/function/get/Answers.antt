@@ -1,6 +1,6 @@
 use Rattle.std.proofs.Common.{refl, ◌∙◌, map}
 use Rattle.just_builtins.specs.declared.table.TheConstants.{TABLE}
-use Rattle.just_builtins.specs.Table.{table, function_named}
+use Rattle.just_builtins.specs.Prelude.{function_named, table}
 use Rattle.just_builtins.proofs.Spelled.{same_found}
 use Rattle.just_builtins.proofs.function.get.Goals as goal
 

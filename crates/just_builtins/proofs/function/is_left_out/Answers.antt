@@ -1,6 +1,7 @@
 use Rattle.std.proofs.Common.{refl, ◌∙◌, map}
 use Rattle.just_builtins.specs.declared.table.TheConstants.{LEFT_OUT}
-use Rattle.just_builtins.specs.Table.{left_out, is_left_out}
+use Rattle.just_builtins.specs.Prelude.{is_left_out}
+use Rattle.just_builtins.specs.Table.{left_out}
 use Rattle.just_builtins.proofs.Spelled.{same_among}
 use Rattle.just_builtins.proofs.function.is_left_out.Goals as goal
 

@@ -3,7 +3,8 @@ use Rattle.just_builtins.proofs.Messages.{alone, drained, several}
 use Rattle.just_builtins.proofs.message.no_variable.Goals as goal
 
 pub returns-in_ok-format-in-len1 : goal.returns-in_ok-format-in-len1
-returns-in_ok-format-in-len1 c = c.in_ok-format-in-len1.ensures.ok ∙ alone c.args.keys.now c.key-item.result c.in-len1.len_at_least c.in-len1.len_below c.key-item.is
+returns-in_ok-format-in-len1 c =
+    c.in_ok-format-in-len1.ensures.ok ∙ alone c.args.keys.now c.key-item.result c.in-len1.len_at_least c.in-len1.len_below c.key-item.is
 
 pub returns-in_ok-format-in_default : goal.returns-in_ok-format-in_default
 returns-in_ok-format-in_default c =

@@ -1,5 +1,5 @@
 use Rattle.std.proofs.Common.{◌≡◌, ◌++◌, drop, map, string_bytes}
-use Rattle.just_builtins.specs.Argument.{first}
+use Rattle.just_builtins.specs.Prelude.{first}
 use Rattle.just_builtins.proofs.shell.further_texts.Given as goal
 
 abbrev pub invariant-loop-i : goal.invariant-loop-i

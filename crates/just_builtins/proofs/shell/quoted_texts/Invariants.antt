@@ -1,6 +1,5 @@
 use Rattle.std.proofs.Common.{◌≡◌, ◌++◌, drop, map, string_bytes}
-use Rattle.just_value.specs.Shown.{quoted}
-use Rattle.just_builtins.specs.Argument.{first}
+use Rattle.just_builtins.specs.Prelude.{first, quoted}
 use Rattle.just_builtins.proofs.shell.quoted_texts.Given as goal
 
 abbrev pub invariant-loop-i : goal.invariant-loop-i

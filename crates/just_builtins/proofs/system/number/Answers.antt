@@ -1,5 +1,5 @@
 use Rattle.just_host.specs.Question.{NumberOf}
-use Rattle.just_builtins.specs.Asking.{number_answered}
+use Rattle.just_builtins.specs.Prelude.{number_answered}
 use Rattle.just_builtins.proofs.Calls.{asked}
 use Rattle.just_builtins.proofs.system.number.Goals as goal
 

@@ -1,7 +1,5 @@
 use Rattle.std.proofs.Common.{refl}
-use Rattle.just_host.specs.View.{text_question_view}
-use Rattle.just_builtins.specs.Message.{no_answer}
-use Rattle.just_builtins.specs.Reply.{Fails}
+use Rattle.just_builtins.specs.Prelude.{Fails, no_answer, text_question_view}
 use Rattle.just_builtins.proofs.Calls.{asked_text}
 use Rattle.just_builtins.proofs.system.system.Goals as goal
 

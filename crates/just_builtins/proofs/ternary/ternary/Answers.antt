@@ -1,5 +1,5 @@
 use Rattle.std.proofs.Common.{refl}
-use Rattle.just_builtins.specs.declared.function.Function.TheVariants.{Ternary}
+use Rattle.just_builtins.specs.Prelude.{Ternary}
 use Rattle.just_builtins.proofs.Arguments.{three}
 use Rattle.just_builtins.proofs.Calls.{same_call}
 use Rattle.just_builtins.proofs.ternary.ternary.Goals as goal

@@ -1,5 +1,5 @@
 use Rattle.std.proofs.Common.{◌≡◌, map, string_bytes, take}
-use Rattle.just_text.specs.Quote.{single_quoted}
+use Rattle.just_builtins.specs.Prelude.{single_quoted}
 use Rattle.just_builtins.proofs.unary.quoted.Given as goal
 
 abbrev pub invariant-loop-text : goal.invariant-loop-text

@@ -1,6 +1,5 @@
 use Rattle.std.proofs.Common.{◌≡◌, ◌++◌, length, map}
-use Rattle.just_case_reader.specs.Line.{line_of, lines_of}
-use Rattle.just_case_reader.specs.View.{case_line_view}
+use Rattle.just_case_reader.specs.Prelude.{case_line_view, line_of, lines_of}
 use Rattle.just_case_reader.proofs.line.parse_lines.Given as goal
 
 -- the lines so far, and the remaining ones

@@ -1,6 +1,5 @@
-use Rattle.std.proofs.Common.{◌≡◌, ◌++◌, length, map}
-use Rattle.std.specs.Option.{option_map}
-use Rattle.just_case_reader.specs.Rest.{if_names, pieces}
+use Rattle.std.proofs.Common.{◌≡◌, ◌++◌, length, map, option_map}
+use Rattle.just_case_reader.specs.Prelude.{if_names, pieces}
 use Rattle.just_case_reader.proofs.rest.parse_pieces.Given as goal
 use denote.Shadow.{shadow}
 use denote.Text.{Utf8}

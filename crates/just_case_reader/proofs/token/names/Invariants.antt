@@ -1,6 +1,5 @@
 use Rattle.std.proofs.Common.{◌≡◌, take, map}
-use Rattle.just_syntax.specs.View.{name_view}
-use Rattle.just_case_reader.specs.Token.{token_of}
+use Rattle.just_case_reader.specs.Prelude.{name_view, token_of}
 use Rattle.just_case_reader.proofs.token.names.Given as goal
 
 abbrev pub invariant-loop-lexeme : goal.invariant-loop-lexeme

@@ -1,8 +1,4 @@
-use Rattle.std.proofs.Common.{◌≡◌}
-use Rattle.just_value.specs.View.{frames_view}
-use Rattle.just_meaning.specs.Module.{Module}
-use Rattle.just_changes.specs.Changed.{IsOver}
-use Rattle.just_changes.specs.View.{is_touched, version_view}
+use Rattle.just_changes.specs.Prelude.{IsOver, Module, frames_view, is_touched, version_view}
 use Rattle.just_changes.proofs.Exact.{alike, exact, over}
 use Rattle.just_changes.proofs.changed.changed.Goals as goal
 
@@ -13,10 +9,13 @@ pub returns : goal.returns
 returns c =
     let outer = frames_view c.args.parent.now in
     let touched = c.in_ok-touched.ensures in
-    let compared = λ (m w : Module) (first : IsOver c.args.before.now c.args.before_overrides.now m) (second : IsOver c.args.after.now c.args.after_overrides.now w).
+    let compared =
+    λ (m w : Module) (first : IsOver c.args.before.now c.args.before_overrides.now m) (second : IsOver c.args.after.now c.args.after_overrides.now w).
     exact m w outer (version_view c.in_ok-before.before) (version_view c.in_ok-after.after) touched.readers touched.starts (is_touched c.in_ok-touched.touched)
-    (over c.in_ok-before.before c.args.before.now c.args.before_overrides.now m c.in_ok-before.ensures.whole c.in_ok-before.ensures.assignments c.in_ok-before.ensures.functions c.in_ok-before.ensures.overrides first)
-    (over c.in_ok-after.after c.args.after.now c.args.after_overrides.now w c.in_ok-after.ensures.whole c.in_ok-after.ensures.assignments c.in_ok-after.ensures.functions c.in_ok-after.ensures.overrides second)
+    (over c.in_ok-before.before c.args.before.now c.args.before_overrides.now m c.in_ok-before.ensures.whole c.in_ok-before.ensures.assignments
+    c.in_ok-before.ensures.functions c.in_ok-before.ensures.overrides first)
+    (over c.in_ok-after.after c.args.after.now c.args.after_overrides.now w c.in_ok-after.ensures.whole c.in_ok-after.ensures.assignments
+    c.in_ok-after.ensures.functions c.in_ok-after.ensures.overrides second)
     touched.read touched.differ touched.all touched.reached in
     record {
       exact = compared;

@@ -1,5 +1,5 @@
 use Rattle.std.proofs.lemmas.Result.{IfOk-weaker}
-use Rattle.just_changes.specs.View.{nodes_view, readers_of}
+use Rattle.just_changes.specs.Prelude.{nodes_view, readers_of}
 use Rattle.just_changes.proofs.changed.touched_between.Goals as goal
 
 pub returns : goal.returns

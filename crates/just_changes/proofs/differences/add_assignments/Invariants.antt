@@ -1,7 +1,5 @@
 use Rattle.std.proofs.Common.{◌≡◌, ◌++◌, map}
-use Rattle.just_syntax.specs.View.{assignment_view}
-use Rattle.just_changes.specs.Nodes.{OfVariable}
-use Rattle.just_changes.specs.View.{nodes_view}
+use Rattle.just_changes.specs.Prelude.{OfVariable, assignment_view, nodes_view}
 use Rattle.just_changes.proofs.differences.add_assignments.Given as goal
 
 -- the nodes so far and the remaining ones are all

@@ -1,7 +1,5 @@
 use Rattle.std.proofs.Common.{◌≡◌, ◌++◌, map}
-use Rattle.just_syntax.specs.View.{function_view}
-use Rattle.just_changes.specs.Nodes.{OfFunction}
-use Rattle.just_changes.specs.View.{nodes_view}
+use Rattle.just_changes.specs.Prelude.{OfFunction, function_view, nodes_view}
 use Rattle.just_changes.proofs.differences.add_functions.Given as goal
 
 -- the nodes so far and the remaining ones are all

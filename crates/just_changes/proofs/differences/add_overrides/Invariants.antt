@@ -1,7 +1,6 @@
 use Rattle.std.proofs.Common.{◌≡◌, ◌++◌, map}
 use Rattle.std.specs.HashMap.{keys}
-use Rattle.just_changes.specs.Nodes.{OfVariable}
-use Rattle.just_changes.specs.View.{nodes_view}
+use Rattle.just_changes.specs.Prelude.{OfVariable, nodes_view}
 use Rattle.just_changes.proofs.differences.add_overrides.Given as goal
 
 -- the nodes so far and the remaining ones are all

@@ -1,6 +1,5 @@
 use Rattle.std.proofs.Common.{ℕ, IsTrue}
-use Rattle.just_syntax.specs.View.{view}
-use Rattle.just_resolution.specs.Seen.{is_number_in}
+use Rattle.just_changes.specs.Prelude.{is_number_in, view}
 use Rattle.just_resolution.proofs.Sets.{no_number}
 use Rattle.just_changes.proofs.Readings.{both_ways, mentions_alike, nothing_more, same_more}
 use Rattle.just_changes.proofs.reading.add_assignment.Goals as goal
@@ -17,6 +16,14 @@ returns c = λ x y.
     let own : ℕ → Type 0 = λ n. IsTrue (is_number_in c.new-own.result n) in
     let none : (n : ℕ) → own n → ⊥ = λ n h. both_ways (is_number_in c.new-own.result n) (no_number c.new-own.result c.new-own.ensures.empty n) h in
     same_more
-    (λ p. (p.0, record { first = c.is_first.ensures.0 c.if-not-is_first.false; free = c.is_free.ensures.0 c.if-not-is_free.false; mentions = mentions_alike own (λ k. ⊥) body (λ n k. absurd k) x p.1 }))
+    (λ p. (
+      p.0,
+      record {
+        first = c.is_first.ensures.0 c.if-not-is_first.false;
+        free = c.is_free.ensures.0 c.if-not-is_free.false;
+        mentions =
+            mentions_alike own (λ k. ⊥) body (λ n k. absurd k) x p.1;
+      },
+    ))
     (λ q. (q.0, mentions_alike (λ k. ⊥) own body (λ n k. none n k) x q.1.mentions))
     (c.in_ok-add_mentions.ensures x y)

@@ -1,9 +1,6 @@
 use Rattle.std.proofs.Common.{◌≡◌, ◌∙◌, ◌↔◌, ℕ, Bor, IsTrue, ap, map, sym}
-use Rattle.just_syntax.specs.Plain.{Text}
-use Rattle.just_syntax.specs.View.{parameter_view, view}
+use Rattle.just_changes.specs.Prelude.{OfFunction, Text, is_number_in, parameter_view, view}
 use Rattle.just_meaning.specs.Reaches.{IsAmong}
-use Rattle.just_resolution.specs.Seen.{is_number_in}
-use Rattle.just_changes.specs.Nodes.{OfFunction}
 use Rattle.just_changes.proofs.Readings.{mentions_alike, same_more}
 use Rattle.just_changes.proofs.reading.add_function.Goals as goal
 

@@ -1,6 +1,6 @@
 use Rattle.std.proofs.Common.{◌≡◌, ◌↔◌, ◌*◌, max, suc, ℕ, drop, Option, Some, None, Bor}
 use Rattle.std.specs.Slice.Iter.{iter_rest}
-use Rattle.just_syntax.specs.View.{piece_views, views}
+use Rattle.just_changes.specs.Prelude.{piece_views, views}
 use Rattle.just_syntax.specs.declared.expression.Expression.{Expression, size-Expression}
 use Rattle.just_changes.proofs.same.+is_same.Given as goal
 

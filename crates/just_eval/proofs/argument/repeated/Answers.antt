@@ -4,4 +4,5 @@ use Rattle.just_eval.proofs.argument.repeated.Goals as goal
 
 pub loop-preserved : goal.loop-preserved
 loop-preserved c =
-    c.in_ok-all.ensures ∙ ap (λ v. c.loop.all ++ v) c.in_ok-try_clone.ensures ∙ ap (λ v. v ++ c.args.value.now) c.loop.invariant ∙ once_more c.args.value.now c.loop.counter
+    c.in_ok-all.ensures ∙ ap (λ v. c.loop.all ++ v) c.in_ok-try_clone.ensures ∙ ap (λ v. v ++ c.args.value.now) c.loop.invariant
+    ∙ once_more c.args.value.now c.loop.counter

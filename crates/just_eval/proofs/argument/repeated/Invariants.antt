@@ -1,5 +1,5 @@
 use Rattle.std.proofs.Common.{◌≡◌}
-use Rattle.just_meaning.specs.Parameters.{repeated}
+use Rattle.just_eval.specs.Prelude.{repeated}
 use Rattle.just_eval.proofs.argument.repeated.Given as goal
 
 -- the value so far

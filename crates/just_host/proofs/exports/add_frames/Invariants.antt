@@ -1,9 +1,7 @@
 use Rattle.std.proofs.Common.{◌≡◌, ◌++◌, map}
 use Rattle.std.specs.Iterator.Adapters.{rev_source}
 use Rattle.std.specs.Slice.Iter.{iter_rest}
-use Rattle.just_value.specs.View.{frame_view}
-use Rattle.just_host.specs.Exports.{frames_exports}
-use Rattle.just_host.specs.View.{change_view}
+use Rattle.just_host.specs.Prelude.{change_view, frame_view, frames_exports}
 use Rattle.just_host.proofs.exports.add_frames.Given as goal
 
 -- the changes added so far, and the exports of the remaining frames, are the exports of all frames

@@ -4,7 +4,8 @@ use Rattle.std.specs.declared.string.String.{String}
 use Rattle.just_syntax.specs.View.{pair_view}
 use Rattle.just_host.proofs.recorded.env_copy.Goals as goal
 
-copied : {A B : Type 0} (es fs : List (String A × String B)) → AllZip (λ e f. (string_bytes f.0 ≡ string_bytes e.0) × (string_bytes f.1 ≡ string_bytes e.1)) es fs → map pair_view fs ≡ map pair_view es
+copied : {A B : Type 0} (es fs : List (String A × String B))
+    → AllZip (λ e f. (string_bytes f.0 ≡ string_bytes e.0) × (string_bytes f.1 ≡ string_bytes e.1)) es fs → map pair_view fs ≡ map pair_view es
 copied [] [] h = refl
 copied [] (f ∷ fs) h = absurd h
 copied (e ∷ es) [] h = absurd h

@@ -1,7 +1,5 @@
 use Rattle.std.proofs.Common.{◌∙◌, ◌++◌, List, ap, sym, take, append_assoc}
-use Rattle.just_syntax.specs.Plain.{Text}
-use Rattle.just_resolution.specs.Seen.{site_view, sites_view, texts}
-use Rattle.just_resolution.specs.Sites.{Site, called_names, name_called}
+use Rattle.just_resolution.specs.Prelude.{Site, Text, called_names, name_called, site_view, sites_view, texts}
 use Rattle.just_resolution.proofs.Sets.{taken_more}
 use Rattle.just_resolution.proofs.Occurrences.{called_more}
 use Rattle.just_resolution.proofs.admitted.add_names.Goals as goal

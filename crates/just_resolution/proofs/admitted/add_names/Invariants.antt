@@ -1,6 +1,5 @@
 use Rattle.std.proofs.Common.{◌≡◌, ◌++◌, take}
-use Rattle.just_resolution.specs.Seen.{sites_view, texts}
-use Rattle.just_resolution.specs.Sites.{called_names}
+use Rattle.just_resolution.specs.Prelude.{called_names, sites_view, texts}
 use Rattle.just_resolution.proofs.admitted.add_names.Given as goal
 
 -- the names so far were added

@@ -1,11 +1,7 @@
 use Rattle.std.proofs.Common.{◌≡◌, true, map}
 use Rattle.std.proofs.lemmas.Result.{IfOk-weaker}
-use Rattle.just_syntax.specs.View.{recipe_parameter_view}
-use Rattle.just_value.specs.Frames.{value_in}
-use Rattle.just_value.specs.View.{frames_view}
-use Rattle.just_meaning.specs.Here.{attribute_expressions}
-use Rattle.just_meaning.specs.View.{functions_view}
-use Rattle.just_resolution.specs.Seen.{attributes_of, expressions_view, is_readable}
+use Rattle.just_resolution.specs.Prelude.{attribute_expressions, attributes_of, expressions_view, frames_view, functions_view, is_readable}
+use Rattle.just_resolution.specs.Prelude.{recipe_parameter_view, value_in}
 use Rattle.just_resolution.proofs.Readers.{bound_alone}
 use Rattle.just_resolution.proofs.Turns.{all_here}
 use Rattle.just_resolution.proofs.here.are_readable_here.Goals as goal
@@ -13,7 +9,9 @@ use Rattle.just_resolution.proofs.here.are_readable_here.Goals as goal
 -- bodies may read what the context's scope binds, and expressions here what the scope binds
 pub returns : goal.returns
 returns c = IfOk-weaker c.may_occur_and_follow.result _ _
-    (λ answer all. all_here (functions_view c.args.context.now.«module».now) (value_in (frames_view c.args.context.now.scope.now)) (value_in (frames_view c.args.scope.now)) (is_readable c.new-2.result)
-    (bound_alone c.new-2.result c.args.context.now.scope c.new-2.ensures.taken c.new-2.ensures.outer) (is_readable c.new.result) (answer ≡ true) (attribute_expressions (attributes_of c.args.recipe)) (expressions_view c.args.expressions.items) (map recipe_parameter_view c.args.parameters.now)
+    (λ answer all. all_here (functions_view c.args.context.now.«module».now) (value_in (frames_view c.args.context.now.scope.now))
+    (value_in (frames_view c.args.scope.now)) (is_readable c.new-2.result)
+    (bound_alone c.new-2.result c.args.context.now.scope c.new-2.ensures.taken c.new-2.ensures.outer) (is_readable c.new.result) (answer ≡ true)
+    (attribute_expressions (attributes_of c.args.recipe)) (expressions_view c.args.expressions.items) (map recipe_parameter_view c.args.parameters.now)
     (bound_alone c.new.result c.args.scope c.new.ensures.taken c.new.ensures.outer) all)
     c.may_occur_and_follow.ensures

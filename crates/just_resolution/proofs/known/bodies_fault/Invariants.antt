@@ -1,6 +1,5 @@
 use Rattle.std.proofs.Common.{map}
-use Rattle.just_syntax.specs.View.{function_view}
-use Rattle.just_resolution.specs.Sites.{all_sites}
+use Rattle.just_resolution.specs.Prelude.{all_sites, function_view}
 use Rattle.just_resolution.proofs.Faults.{LeadsUnknown}
 use Rattle.just_resolution.proofs.known.bodies_fault.Given as goal
 

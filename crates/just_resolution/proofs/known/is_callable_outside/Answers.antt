@@ -1,6 +1,7 @@
 use Rattle.std.proofs.Common.{◌≡◌, ◌∙◌, ap, sym, nat_le, arith}
 use Rattle.std.proofs.lemmas.Bool.Decides.{nat_tests}
-use Rattle.just_meaning.specs.Callee.{BuiltIn, accepts}
+use Rattle.just_resolution.specs.Prelude.{accepts}
+use Rattle.just_meaning.specs.Callee.{BuiltIn}
 use Rattle.just_meaning.proofs.Callees.{built_in_is}
 use Rattle.just_resolution.proofs.known.is_callable_outside.Goals as goal
 

@@ -1,19 +1,17 @@
-use Rattle.std.proofs.Common.{◌∙◌, ap, sym, not, Option, Bor}
-use Rattle.std.specs.Option.{option_map}
-use Rattle.just_syntax.specs.Plain.{Function}
-use Rattle.just_syntax.specs.View.{function_view}
+use Rattle.std.proofs.Common.{◌∙◌, ap, sym, not, Option, Bor, option_map}
+use Rattle.just_resolution.specs.Prelude.{Function, defined_or, function_view, is_unknown, undefined}
 use Rattle.just_syntax.specs.declared.function_definition.FunctionDefinition.{FunctionDefinition}
-use Rattle.just_meaning.specs.Callee.{defined_or, undefined}
-use Rattle.just_resolution.specs.Fault.{is_unknown}
 use Rattle.just_resolution.proofs.Tables.{function_found}
 use Rattle.just_resolution.proofs.known.is_function.Goals as goal
 
 pub returns-in-Some : goal.returns-in-Some
 returns-in-Some c =
     let found = function_found c.args.name.now c.args.functions.now c.get.result c.get.ensures in
-    ap (λ (o : Option Function). not (is_unknown (defined_or o (undefined c.args.name.now)))) (sym (found ∙ ap (option_map (λ (v : Bor FunctionDefinition). function_view v.now)) c.in-Some.is))
+    ap (λ (o : Option Function). not (is_unknown (defined_or o (undefined c.args.name.now))))
+    (sym (found ∙ ap (option_map (λ (v : Bor FunctionDefinition). function_view v.now)) c.in-Some.is))
 
 pub returns-in-None : goal.returns-in-None
 returns-in-None c =
     let found = function_found c.args.name.now c.args.functions.now c.get.result c.get.ensures in
-    c.is_function_outside.ensures ∙ ap (λ (o : Option Function). not (is_unknown (defined_or o (undefined c.args.name.now)))) (sym (found ∙ ap (option_map (λ (v : Bor FunctionDefinition). function_view v.now)) c.in-None.is))
+    c.is_function_outside.ensures ∙ ap (λ (o : Option Function). not (is_unknown (defined_or o (undefined c.args.name.now))))
+    (sym (found ∙ ap (option_map (λ (v : Bor FunctionDefinition). function_view v.now)) c.in-None.is))

@@ -1,6 +1,5 @@
 use Rattle.std.proofs.Common.{map, drop}
-use Rattle.just_syntax.specs.View.{function_view}
-use Rattle.just_resolution.specs.Seen.{sites_view}
+use Rattle.just_resolution.specs.Prelude.{function_view, sites_view}
 use Rattle.just_resolution.proofs.Faults.{LeadsUnknown}
 use Rattle.just_resolution.proofs.known.sites_fault.Given as goal
 

@@ -1,6 +1,6 @@
 use Rattle.std.proofs.Common.{◌+◌, ap, map, drop}
 use Rattle.std.proofs.lemmas.List.{drop_all}
-use Rattle.just_syntax.specs.View.{parameter_view}
+use Rattle.just_resolution.specs.Prelude.{parameter_view}
 use Rattle.just_resolution.proofs.Numbering.{counts_end, counts_from, counts_off, counts_on}
 use Rattle.just_resolution.proofs.Sets.{front, no_number, number_added}
 use Rattle.just_resolution.proofs.numbers.number_fault.Goals as goal
@@ -13,7 +13,8 @@ loop-name-preserved c =
     let numbers = c.args.numbers.now in
     let i = c.loop-name.name-index in
     let item = c.loop-name-item.result in
-    counts_on c.loop-name.seen (parameter_view item) (map parameter_view (drop (i + 1) numbers)) (map parameter_view (drop i numbers)) (map parameter_view numbers) c.in_ok-insert.field-0
+    counts_on c.loop-name.seen (parameter_view item) (map parameter_view (drop (i + 1) numbers)) (map parameter_view (drop i numbers))
+    (map parameter_view numbers) c.in_ok-insert.field-0
     (ap (map parameter_view) (front numbers i item c.loop-name-test.true c.loop-name-item.is)) c.in_ok-insert.ensures.added c.loop-name.invariant
     c.insert.new.self c.if-not-branch.false (number_added c.loop-name.seen c.insert.new.self item.1 c.in_ok-insert.ensures.updates.0)
 
@@ -22,11 +23,14 @@ returns-then-not-branch c =
     let numbers = c.args.numbers.now in
     let i = c.loop-name.name-index in
     let item = c.loop-name-item.result in
-    counts_off c.loop-name.seen (parameter_view item) (map parameter_view (drop (i + 1) numbers)) (map parameter_view (drop i numbers)) (map parameter_view numbers) c.in_ok-insert.field-0
-    (ap (map parameter_view) (front numbers i item c.loop-name-test.true c.loop-name-item.is)) c.in_ok-insert.ensures.added c.loop-name.invariant c.if-not-branch.true
+    counts_off c.loop-name.seen (parameter_view item) (map parameter_view (drop (i + 1) numbers)) (map parameter_view (drop i numbers))
+    (map parameter_view numbers) c.in_ok-insert.field-0
+    (ap (map parameter_view) (front numbers i item c.loop-name-test.true c.loop-name-item.is)) c.in_ok-insert.ensures.added c.loop-name.invariant
+    c.if-not-branch.true
 
 pub returns : goal.returns
 returns c =
     let numbers = c.args.numbers.now in
     let i = c.loop-name.name-index in
-    counts_end c.loop-name.seen (map parameter_view (drop i numbers)) (map parameter_view numbers) (ap (map parameter_view) (drop_all i numbers c.loop-name-test.false)) c.loop-name.invariant
+    counts_end c.loop-name.seen (map parameter_view (drop i numbers)) (map parameter_view numbers)
+    (ap (map parameter_view) (drop_all i numbers c.loop-name-test.false)) c.loop-name.invariant

@@ -1,5 +1,5 @@
 use Rattle.std.proofs.Common.{map, drop}
-use Rattle.just_syntax.specs.View.{parameter_view}
+use Rattle.just_resolution.specs.Prelude.{parameter_view}
 use Rattle.just_resolution.proofs.Numbering.{IsCountedTo}
 use Rattle.just_resolution.proofs.numbers.number_fault.Given as goal
 

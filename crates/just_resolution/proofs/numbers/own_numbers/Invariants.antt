@@ -1,7 +1,5 @@
 use Rattle.std.proofs.Common.{◌↔◌, ℕ, IsTrue, map, take}
-use Rattle.just_syntax.specs.View.{parameter_view}
-use Rattle.just_meaning.specs.Reaches.{IsAmong}
-use Rattle.just_resolution.specs.Seen.{is_number_in}
+use Rattle.just_resolution.specs.Prelude.{IsAmong, is_number_in, parameter_view}
 use Rattle.just_resolution.proofs.numbers.own_numbers.Given as goal
 
 -- the numbers of the parameters so far

@@ -1,12 +1,6 @@
 use Rattle.std.proofs.Common.{◌≡◌, ◌∙◌, ◌+◌, ℕ, false, true, ap, drop, is_some, map, refl, sym, Bor}
 use Rattle.std.proofs.lemmas.List.{drop_all}
-use Rattle.just_syntax.specs.Plain.{Token}
-use Rattle.just_syntax.specs.View.{parameter_view}
-use Rattle.just_value.specs.Frames.{Frames, value_in}
-use Rattle.just_value.specs.Value.{Value}
-use Rattle.just_value.specs.View.{frames_view}
-use Rattle.just_meaning.specs.Resolved.{HasValue}
-use Rattle.just_resolution.specs.Fault.{ModuleFault, BoundParameter}
+use Rattle.just_resolution.specs.Prelude.{BoundParameter, Frames, HasValue, ModuleFault, Token, Value, frames_view, parameter_view, value_in}
 use Rattle.just_resolution.proofs.Finding.{leads_end, leads_off, leads_on, some_seen}
 use Rattle.just_resolution.proofs.Ordering.{bound_if}
 use Rattle.just_resolution.proofs.Sets.{front}
@@ -30,7 +24,8 @@ returns-then-is_some c =
     let i = c.loop-name.name-index in
     let item = c.loop-name-item.result in
     let p = parameter_view item in
-    leads_off (Sound outer) (Faulty outer) (map parameter_view (drop i parameters)) (map parameter_view (drop (i + 1) parameters)) (map parameter_view parameters) c.loop-name.invariant
+    leads_off (Sound outer) (Faulty outer) (map parameter_view (drop i parameters)) (map parameter_view (drop (i + 1) parameters))
+    (map parameter_view parameters) c.loop-name.invariant
     p (BoundParameter p.0) (ap (map parameter_view) (front parameters i item c.loop-name-test.true c.loop-name-item.is))
     (refl, (bound_if (value_in outer p.1)).0 (bound (goal.at.returns-then-is_some c).After-is_some ∙ sym c.if-is_some.ensures))
 
@@ -41,7 +36,8 @@ loop-name-preserved c =
     let i = c.loop-name.name-index in
     let item = c.loop-name-item.result in
     let p = parameter_view item in
-    leads_on (Sound outer) (Faulty outer) (map parameter_view (drop i parameters)) (map parameter_view (drop (i + 1) parameters)) (map parameter_view parameters) c.loop-name.invariant
+    leads_on (Sound outer) (Faulty outer) (map parameter_view (drop i parameters)) (map parameter_view (drop (i + 1) parameters))
+    (map parameter_view parameters) c.loop-name.invariant
     p (ap (map parameter_view) (front parameters i item c.loop-name-test.true c.loop-name-item.is))
     (λ there.
     let on : is_some (value_in outer p.1) ≡ true = (bound_if (value_in outer p.1)).1 there in
@@ -54,4 +50,5 @@ returns c =
     let outer = frames_view c.args.scope.now in
     let parameters = c.args.parameters.now in
     let i = c.loop-name.name-index in
-    leads_end (Sound outer) (Faulty outer) (map parameter_view (drop i parameters)) (map parameter_view parameters) (ap (map parameter_view) (drop_all i parameters c.loop-name-test.false)) c.loop-name.invariant
+    leads_end (Sound outer) (Faulty outer) (map parameter_view (drop i parameters)) (map parameter_view parameters)
+    (ap (map parameter_view) (drop_all i parameters c.loop-name-test.false)) c.loop-name.invariant

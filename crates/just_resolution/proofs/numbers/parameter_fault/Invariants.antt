@@ -1,6 +1,5 @@
 use Rattle.std.proofs.Common.{map, drop}
-use Rattle.just_syntax.specs.View.{parameter_view}
-use Rattle.just_value.specs.View.{frames_view}
+use Rattle.just_resolution.specs.Prelude.{frames_view, parameter_view}
 use Rattle.just_resolution.proofs.Faults.{LeadsBound}
 use Rattle.just_resolution.proofs.numbers.parameter_fault.Given as goal
 

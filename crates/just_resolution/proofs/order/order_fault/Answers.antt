@@ -1,12 +1,8 @@
 use Rattle.std.proofs.Common.{◌≡◌, ◌∙◌, ◌+◌, ◌∷◌, [], ap, map, drop, get_or, option_map, subst, sym, Bor}
-use Rattle.just_syntax.specs.Plain.{Text}
+use Rattle.just_resolution.specs.Prelude.{Text, frames_view, function_view, is_name_in, is_readable, is_taken, module_fault_view, name_view, ordered_view}
 use Rattle.just_syntax.specs.declared.name.Name.{Name}
 use Rattle.std.proofs.lemmas.List.{drop_all}
-use Rattle.just_syntax.specs.View.{function_view, name_view}
-use Rattle.just_value.specs.View.{frames_view}
 use Rattle.just_value.specs.declared.scope.Scope.{Scope}
-use Rattle.just_resolution.specs.Seen.{module_fault_view, is_name_in, is_readable, is_taken}
-use Rattle.just_meaning.specs.View.{ordered_view}
 use Rattle.just_resolution.proofs.Ordering.{IsWalkedTo, reads_if, readable_if, spoils, walked_all, walks_from, walks_on}
 use Rattle.just_resolution.proofs.Finding.{some_seen}
 use Rattle.just_resolution.proofs.Sets.{front_at, no_name}
@@ -18,19 +14,24 @@ blank = record { ref_ptr = (0, 0); now = [] }
 
 -- the name that comes next
 abbrev next_name : After-take_next → Name
-next_name c = get_or c.args.evaluation_order.now c.loop-name.name-index (record { token = record { column = 0; line = 0; offset = 0; lexeme = blank; path = blank } })
+next_name c =
+    get_or c.args.evaluation_order.now c.loop-name.name-index (record { token = record { column = 0; line = 0; offset = 0; lexeme = blank; path = blank } })
 
 -- the rest of the order begins with it
-left : (c : After-take_next) → map name_view (drop c.loop-name.name-index c.args.evaluation_order.now) ≡ name_view (next_name c) ∷ map name_view (drop (c.loop-name.name-index + 1) c.args.evaluation_order.now)
+left : (c : After-take_next) → map name_view (drop c.loop-name.name-index c.args.evaluation_order.now)
+    ≡ name_view (next_name c) ∷ map name_view (drop (c.loop-name.name-index + 1) c.args.evaluation_order.now)
 left c = ap (map name_view) (front_at c.args.evaluation_order.now c.loop-name.name-index _ c.loop-name-test.true)
 
 pub loop-name-init : goal.loop-name-init
 loop-name-init c =
-    let same : frames_view c.new-readable.result.outer.now ≡ frames_view c.args.outer.now = ap (λ (s : Bor Scope). frames_view s.now) c.new-readable.ensures.outer in
+    let same : frames_view c.new-readable.result.outer.now ≡ frames_view c.args.outer.now =
+    ap (λ (s : Bor Scope). frames_view s.now) c.new-readable.ensures.outer in
     record {
       outer = same;
-      walked = walks_from (map function_view c.args.functions.now) (ordered_view c.args.assignments.now [] c.args.variable_references) (frames_view c.args.outer.now) (is_taken c.new-readable.result) (is_readable c.new-readable.result) (is_name_in c.new-admitted.result)
-          (map name_view c.args.evaluation_order.now) c.new-readable.ensures.taken (no_name c.new-admitted.result c.new-admitted.ensures.empty) (readable_if c.new-readable.result (frames_view c.args.outer.now) same);
+      walked = walks_from (map function_view c.args.functions.now) (ordered_view c.args.assignments.now [] c.args.variable_references)
+          (frames_view c.args.outer.now) (is_taken c.new-readable.result) (is_readable c.new-readable.result) (is_name_in c.new-admitted.result)
+          (map name_view c.args.evaluation_order.now) c.new-readable.ensures.taken (no_name c.new-admitted.result c.new-admitted.ensures.empty)
+          (readable_if c.new-readable.result (frames_view c.args.outer.now) same);
     }
 
 pub take_next-requires-clause-taken : goal.take_next-requires-clause-taken
@@ -40,29 +41,40 @@ pub loop-name-preserved : goal.loop-name-preserved
 loop-name-preserved c =
     let names = c.args.evaluation_order.now in
     let item = next_name (goal.at.loop-name-preserved c).After-take_next in
-    let same : frames_view c.take_next.new.readable.outer.now ≡ frames_view c.args.outer.now = ap (λ (s : Bor Scope). frames_view s.now) c.take_next.ensures.outer ∙ c.loop-name.invariant.outer in
+    let same : frames_view c.take_next.new.readable.outer.now ≡ frames_view c.args.outer.now =
+    ap (λ (s : Bor Scope). frames_view s.now) c.take_next.ensures.outer ∙ c.loop-name.invariant.outer in
     let functions = map function_view c.args.functions.now in
     let assignments = ordered_view c.args.assignments.now [] c.args.variable_references in
     record {
       outer = same;
-      walked = walks_on functions assignments (frames_view c.args.outer.now) (is_taken c.loop-name.readable) (is_readable c.loop-name.readable) (is_name_in c.loop-name.admitted) (name_view item)
+      walked = walks_on functions assignments (frames_view c.args.outer.now) (is_taken c.loop-name.readable) (is_readable c.loop-name.readable)
+          (is_name_in c.loop-name.admitted) (name_view item)
           (map name_view (drop (c.loop-name.name-index + 1) names)) (map name_view names)
-          (subst (λ l. IsWalkedTo functions assignments (frames_view c.args.outer.now) (is_taken c.loop-name.readable) (is_readable c.loop-name.readable) (is_name_in c.loop-name.admitted) l (map name_view names)) (left (goal.at.loop-name-preserved c).After-take_next) c.loop-name.invariant.walked)
-          (is_taken c.take_next.new.readable) (is_readable c.take_next.new.readable) (is_name_in c.take_next.new.admitted) (c.in_ok-fault.ensures.taken (sym c.if-is_some.ensures))
+          (subst (λ l. IsWalkedTo functions assignments (frames_view c.args.outer.now) (is_taken c.loop-name.readable) (is_readable c.loop-name.readable)
+          (is_name_in c.loop-name.admitted) l (map name_view names)) (left (goal.at.loop-name-preserved c).After-take_next)
+          c.loop-name.invariant.walked)
+          (is_taken c.take_next.new.readable) (is_readable c.take_next.new.readable) (is_name_in c.take_next.new.admitted)
+          (c.in_ok-fault.ensures.taken (sym c.if-is_some.ensures))
           (readable_if c.take_next.new.readable (frames_view c.args.outer.now) same) (c.in_ok-fault.ensures.number (sym c.if-is_some.ensures))
-          (reads_if _ (option_map module_fault_view c.in_ok-fault.fault) c.in_ok-fault.ensures.exact (some_seen module_fault_view c.in_ok-fault.fault ∙ sym c.if-is_some.ensures));
+          (reads_if _ (option_map module_fault_view c.in_ok-fault.fault) c.in_ok-fault.ensures.exact (some_seen module_fault_view c.in_ok-fault.fault
+          ∙ sym c.if-is_some.ensures));
     }
 
 pub returns-then-is_some : goal.returns-then-is_some
 returns-then-is_some c =
     let names = c.args.evaluation_order.now in
     let item = next_name (goal.at.returns-then-is_some c).After-take_next in
-    spoils (map function_view c.args.functions.now) (ordered_view c.args.assignments.now [] c.args.variable_references) (frames_view c.args.outer.now) (is_taken c.loop-name.readable) (is_readable c.loop-name.readable) (is_name_in c.loop-name.admitted)
-    (name_view item) (map name_view (drop (c.loop-name.name-index + 1) names)) (map name_view (drop c.loop-name.name-index names)) (map name_view names) (option_map module_fault_view c.in_ok-fault.fault)
-    (left (goal.at.returns-then-is_some c).After-take_next) c.loop-name.invariant.walked (some_seen module_fault_view c.in_ok-fault.fault ∙ sym c.if-is_some.ensures) c.in_ok-fault.ensures.exact
+    spoils (map function_view c.args.functions.now) (ordered_view c.args.assignments.now [] c.args.variable_references) (frames_view c.args.outer.now)
+    (is_taken c.loop-name.readable) (is_readable c.loop-name.readable) (is_name_in c.loop-name.admitted)
+    (name_view item) (map name_view (drop (c.loop-name.name-index + 1) names)) (map name_view (drop c.loop-name.name-index names)) (map name_view names)
+    (option_map module_fault_view c.in_ok-fault.fault)
+    (left (goal.at.returns-then-is_some c).After-take_next) c.loop-name.invariant.walked (some_seen module_fault_view c.in_ok-fault.fault
+    ∙ sym c.if-is_some.ensures) c.in_ok-fault.ensures.exact
 
 pub returns : goal.returns
 returns c =
     let names = c.args.evaluation_order.now in
-    walked_all (map function_view c.args.functions.now) (ordered_view c.args.assignments.now [] c.args.variable_references) (frames_view c.args.outer.now) (is_taken c.loop-name.readable) (is_readable c.loop-name.readable) (is_name_in c.loop-name.admitted)
-    (map name_view (drop c.loop-name.name-index names)) (map name_view names) (ap (map name_view) (drop_all c.loop-name.name-index names c.loop-name-test.false)) c.loop-name.invariant.walked
+    walked_all (map function_view c.args.functions.now) (ordered_view c.args.assignments.now [] c.args.variable_references) (frames_view c.args.outer.now)
+    (is_taken c.loop-name.readable) (is_readable c.loop-name.readable) (is_name_in c.loop-name.admitted)
+    (map name_view (drop c.loop-name.name-index names)) (map name_view names)
+    (ap (map name_view) (drop_all c.loop-name.name-index names c.loop-name-test.false)) c.loop-name.invariant.walked

@@ -1,9 +1,6 @@
 use Rattle.std.proofs.Common.{◌≡◌, ◌∙◌, ◌↔◌, ap, false, [], is_some, map, subst, sym}
 use Rattle.std.proofs.lemmas.Result.{IfOk-weaker}
-use Rattle.just_syntax.specs.View.{assignment_view, parameter_view}
-use Rattle.just_meaning.specs.Assignments.{Assignments}
-use Rattle.just_meaning.specs.Resolved.{AreDistinct}
-use Rattle.just_resolution.specs.Seen.{module_fault_view}
+use Rattle.just_resolution.specs.Prelude.{AreDistinct, Assignments, assignment_view, module_fault_view, parameter_view}
 use Rattle.just_resolution.proofs.Deciding.{distinct_decided, refused}
 use Rattle.just_resolution.proofs.Faults.{numbers_alone}
 use Rattle.just_resolution.proofs.resolved_const.are_numbered.Goals.{After-is_some}
@@ -14,13 +11,15 @@ distinct : (c : After-is_some) → (is_some c.in_ok-number_fault.field-0 ≡ fal
 distinct c =
     let assignments = map assignment_view c.args.assignments.now in
     let all : Assignments = record { all = assignments; order = []; referenced = λ n. false } in
-    let decided = distinct_decided module_fault_view c.in_ok-number_fault.field-0 [] all [] (map parameter_view c.deref.result.now) (c.in_ok-number_fault.ensures [] all []) in
+    let decided = distinct_decided module_fault_view c.in_ok-number_fault.field-0 [] all [] (map parameter_view c.deref.result.now)
+    (c.in_ok-number_fault.ensures [] all []) in
     let same : map (λ p. p.1) (map parameter_view c.deref.result.now) ≡ map (λ a. a.number) assignments =
     ap (λ ns. map (λ p. p.1) (map parameter_view ns)) c.deref.ensures.value ∙ ap (map (λ p. p.1)) c.in_ok-numbers.ensures ∙ numbers_alone assignments in
     subst (λ ns. (is_some c.in_ok-number_fault.field-0 ≡ false) ↔ AreDistinct ns) same decided
 
 pub returns-then-is_some : goal.returns-then-is_some
-returns-then-is_some c = refused (is_some c.in_ok-number_fault.field-0) c.if-is_some.ensures (distinct (goal.at.returns-then-is_some c).After-is_some) (λ r. r.0)
+returns-then-is_some c =
+    refused (is_some c.in_ok-number_fault.field-0) c.if-is_some.ensures (distinct (goal.at.returns-then-is_some c).After-is_some) (λ r. r.0)
 
 pub returns : goal.returns
 returns c =

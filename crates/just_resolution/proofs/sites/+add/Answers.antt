@@ -1,8 +1,5 @@
 use Rattle.std.proofs.Common.{◌≡◌, ◌∙◌, ap, sym, subst, OnOk}
-use Rattle.just_syntax.specs.Plain.{count}
-use Rattle.just_resolution.specs.Seen.{sites_view}
-use Rattle.just_resolution.specs.Sites.{sites_of_row, with_call_site}
-use Rattle.just_syntax.specs.View.{name_view, views}
+use Rattle.just_resolution.specs.Prelude.{count, name_view, sites_of_row, sites_view, views, with_call_site}
 use Rattle.just_syntax.proofs.Rows.{count_views}
 use Rattle.just_resolution.proofs.Rows.{sites_call, sites_format_string, sites_list}
 use Rattle.just_resolution.proofs.sites.+add.Goals as goal
@@ -18,6 +15,7 @@ add-returns-in-List t c = rw (c.in-List.is, sites_list, ← c.deref-in-List.ensu
 
 pub add_call-returns : goal.add_call-returns
 add_call-returns t c =
-    let call : sites_view c.add_one_call.new.all.items ≡ with_call_site (sites_view c.args.all.now.items) (name_view c.args.name.now) (count (views c.args.arguments.now)) =
+    let call : sites_view c.add_one_call.new.all.items
+    ≡ with_call_site (sites_view c.args.all.now.items) (name_view c.args.name.now) (count (views c.args.arguments.now)) =
     c.in_ok-add_one_call.ensures ∙ ap (with_call_site (sites_view c.args.all.now.items) (name_view c.args.name.now)) (sym (count_views c.args.arguments.now)) in
     subst (λ ss. OnOk c.add_row.result (sites_view c.add_row.new.all.items ≡ sites_of_row ss (views c.args.arguments.now))) call c.add_row.ensures

@@ -1,8 +1,6 @@
 use Rattle.std.proofs.Common.{◌≡◌, ◌*◌, max, suc, ℕ, drop, Option, Some, None, Bor}
-use Rattle.just_syntax.specs.View.{piece_views, views}
+use Rattle.just_resolution.specs.Prelude.{piece_views, sites_of_pieces, sites_of_row, sites_view, views}
 use Rattle.just_syntax.specs.declared.expression.Expression.{Expression, size-Expression}
-use Rattle.just_resolution.specs.Sites.{sites_of_pieces, sites_of_row}
-use Rattle.just_resolution.specs.Seen.{sites_view}
 use Rattle.just_resolution.proofs.sites.+add.Given as goal
 
 abbrev size_of : Option (Bor Expression) → ℕ
@@ -45,4 +43,5 @@ invariant-add_row-loop-expression l =
 -- the same for interpolations
 abbrev pub invariant-add_pieces-loop-expression : goal.invariant-add_pieces-loop-expression
 invariant-add_pieces-loop-expression l =
-    sites_of_pieces (sites_view l.all.items) (piece_views (drop l.expression-index l.expressions)) ≡ sites_of_pieces (sites_view l.fn.all.items) (piece_views l.expressions)
+    sites_of_pieces (sites_view l.all.items) (piece_views (drop l.expression-index l.expressions))
+    ≡ sites_of_pieces (sites_view l.fn.all.items) (piece_views l.expressions)

@@ -10,7 +10,8 @@ returns-in_err-status-clause-none c = λ gone case status answer small before sa
     let file : List ℕ = c.args.file.now in
     let at : ℕ = c.loop-at.at in
     let here : SeparatedAt file at = search rules in
-    c.status_line.ensures.none (c.in_err-status.was) status answer small (c.in-Some.ensures.cases.1 ∙ ap (drop 4) (take_rest file at) ∙ after_first file case status answer at here c.loop-at.invariant before same)
+    c.status_line.ensures.none (c.in_err-status.was) status answer small (c.in-Some.ensures.cases.1 ∙ ap (drop 4) (take_rest file at)
+    ∙ after_first file case status answer at here c.loop-at.invariant before same)
 
 -- the file has no separator
 pub returns-clause-none : goal.returns-clause-none

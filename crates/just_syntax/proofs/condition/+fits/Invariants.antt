@@ -1,6 +1,5 @@
 use Rattle.std.proofs.Common.{◌*◌, drop, suc}
-use Rattle.just_syntax.specs.View.{piece_views, views}
-use Rattle.just_syntax.specs.Levels.{levels_of_pieces, levels_of_row}
+use Rattle.just_syntax.specs.Prelude.{levels_of_pieces, levels_of_row, piece_views, views}
 use Rattle.just_syntax.proofs.Levels.{FitAlike}
 use Rattle.just_syntax.proofs.condition.+fits.Given as goal
 

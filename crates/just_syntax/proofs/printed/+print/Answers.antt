@@ -45,7 +45,8 @@ print_format_string-loop-expression-preserved g t c = λ flush.
     let value = c.in_ok-print.ensures so_far.2.flush (refl {a = true}) in
     let literal = c.in_ok-write_str-2.ensures.styled value.flush (refl {a = true}) in (
       _,
-      pieces_on so_far.0 _ c.args.expressions.now c.loop-expression.expression-index c.loop-expression-item.result c.loop-expression-test.true c.loop-expression-item.is so_far.1,
+      pieces_on so_far.0 _ c.args.expressions.now c.loop-expression.expression-index c.loop-expression-item.result c.loop-expression-test.true
+          c.loop-expression-item.is so_far.1,
       has_written_styled_append g.W.Write.write_str_gives _ _ _ _ _ so_far.2 (has_written_styled_append g.W.Write.write_str_gives _ _ _ _ _ value literal),
     )
 
@@ -54,7 +55,8 @@ print_format_string-returns g t c = λ flush ok.
     let start = c.in_ok-write_str.ensures.styled flush (refl {a = true}) in
     let pieces = c.loop-expression.invariant start.flush in
     has_written_styled_append g.W.Write.write_str_gives _ _ _ _ _ start
-    (has_written_styled_of_eq g.W.Write.write_str_gives _ _ _ _ (pieces_end pieces.0 _ c.args.expressions.now c.loop-expression.expression-index c.loop-expression-test.false pieces.1) pieces.2)
+    (has_written_styled_of_eq g.W.Write.write_str_gives _ _ _ _ (pieces_end pieces.0 _ c.args.expressions.now c.loop-expression.expression-index
+    c.loop-expression-test.false pieces.1) pieces.2)
 
 pub print_row-loop-expression-preserved : goal.print_row-loop-expression-preserved
 unfolding lib.Utf8.encode
@@ -65,7 +67,8 @@ print_row-loop-expression-preserved g t c = record {
       let separator = c.in_ok-write_str.ensures.styled so_far.2.flush (refl {a = true}) in
       let value = c.in_ok-print.ensures separator.flush (refl {a = true}) in (
         _,
-        row_on so_far.0 _ _ c.args.expressions.now c.loop-expression.expression-index c.expression-item.result c.loop-expression-test.true c.expression-item.is so_far.1,
+        row_on so_far.0 _ _ c.args.expressions.now c.loop-expression.expression-index c.expression-item.result c.loop-expression-test.true
+            c.expression-item.is so_far.1,
         has_written_styled_append g.W.Write.write_str_gives _ _ _ _ _ so_far.2 (has_written_styled_append g.W.Write.write_str_gives _ _ _ _ _ separator value),
       );
 }
@@ -73,4 +76,5 @@ print_row-loop-expression-preserved g t c = record {
 pub print_row-returns : goal.print_row-returns
 print_row-returns g t c = λ flush ok.
     let row = c.loop-expression.invariant.written flush in
-    has_written_styled_of_eq g.W.Write.write_str_gives _ _ _ _ (row_end row.0 _ _ c.args.expressions.now c.loop-expression.expression-index c.loop-expression-test.false row.1) row.2
+    has_written_styled_of_eq g.W.Write.write_str_gives _ _ _ _ (row_end row.0 _ _ c.args.expressions.now c.loop-expression.expression-index
+    c.loop-expression-test.false row.1) row.2

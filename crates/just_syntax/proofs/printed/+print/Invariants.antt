@@ -2,8 +2,7 @@ use Rattle.std.proofs.Common.{◌≡◌, ◌*◌, ◌++◌, max, suc, ℕ, List,
 use Rattle.std.specs.Fmt.{HasWrittenStyled, IsFlush}
 use denote.Text.{Utf8}
 use denote.Shadow.{shadow}
-use Rattle.just_syntax.specs.Printed.{printed_pieces, printed_row}
-use Rattle.just_syntax.specs.View.{piece_views, views}
+use Rattle.just_syntax.specs.Prelude.{piece_views, printed_pieces, printed_row, views}
 use Rattle.just_syntax.specs.declared.expression.Expression.{Expression, size-Expression}
 use Rattle.just_syntax.proofs.printed.+print.Given as goal
 
@@ -49,10 +48,14 @@ decreases-print_format_string g l = suc (3 * goal.size-print_format_string g l)
 abbrev pub invariant-print_row-loop-expression : goal.invariant-print_row-loop-expression
 invariant-print_row-loop-expression g l = record {
   separator : shadow (Utf8 l.separator);
-  written : IsFlush l.initial.f → (text : List ℕ) × (text ++ printed_row l.separator (views (drop l.expression-index l.expressions)) ≡ printed_row [] (views l.expressions)) × HasWrittenStyled g.W.Write.write_str_gives l.initial.f text l.f;
+  written : IsFlush l.initial.f
+      → (text : List ℕ) × (text ++ printed_row l.separator (views (drop l.expression-index l.expressions)) ≡ printed_row [] (views l.expressions))
+      × HasWrittenStyled g.W.Write.write_str_gives l.initial.f text l.f;
 }
 
 -- what was written since the loop began, followed by the rest, is all of the interpolations
 abbrev pub invariant-print_format_string-loop-expression : goal.invariant-print_format_string-loop-expression
 invariant-print_format_string-loop-expression g l =
-    IsFlush l.initial.f → (text : List ℕ) × (text ++ printed_pieces (piece_views (drop l.expression-index l.expressions)) ≡ printed_pieces (piece_views l.expressions)) × HasWrittenStyled g.W.Write.write_str_gives l.initial.f text l.f
+    IsFlush l.initial.f
+    → (text : List ℕ) × (text ++ printed_pieces (piece_views (drop l.expression-index l.expressions)) ≡ printed_pieces (piece_views l.expressions))
+    × HasWrittenStyled g.W.Write.write_str_gives l.initial.f text l.f

@@ -1,7 +1,7 @@
 use Rattle.std.proofs.Common.{◌≡◌, length, None, option_copied}
 use denote.Text.{Utf8}
 use denote.Shadow.{shadow}
-use Rattle.just_syntax.specs.Unindented.{common_indentation, lines}
+use Rattle.just_syntax.specs.Prelude.{common_indentation, lines}
 use Rattle.just_syntax.proofs.unindented.common_width.Given as goal
 
 -- the common indentation so far, combined with the remaining lines, is that of all lines

@@ -1,6 +1,6 @@
 use Rattle.std.proofs.Common.{◌≡◌, ◌+◌, drop}
 use Rattle.std.specs.List.{prefix_len}
-use Rattle.just_syntax.specs.Unindented.{is_gap}
+use Rattle.just_syntax.specs.Prelude.{is_gap}
 use Rattle.just_syntax.proofs.unindented.indentation.Given as goal
 
 -- the bytes so far are spaces and tabs

@@ -1,5 +1,5 @@
 use Rattle.std.proofs.Common.{None, rules, string_bytes}
-use Rattle.just_syntax.specs.Unindented.{lines}
+use Rattle.just_syntax.specs.Prelude.{lines}
 use Rattle.just_syntax.proofs.Unindenting.{each_loses, line_on}
 use Rattle.just_syntax.proofs.unindented.unindent.Goals as goal
 
@@ -17,5 +17,6 @@ loop-line-preserved c =
       utf8 = search rules;
       loses = loses.1;
       value = rw (c.in_ok-push_str.ensures.bytes, c.unindented_line.ensures)
-          (line_on (string_bytes c.loop-line.all) c.in-Some.line.now c.in-Some.after.now c.common_width-width.result c.loop-line.is_first c.is_empty.result c.loop-line.rest.now _ c.in-Some.ensures.cut c.is_empty.ensures c.loop-line.invariant.value);
+          (line_on (string_bytes c.loop-line.all) c.in-Some.line.now c.in-Some.after.now c.common_width-width.result c.loop-line.is_first c.is_empty.result
+          c.loop-line.rest.now _ c.in-Some.ensures.cut c.is_empty.ensures c.loop-line.invariant.value);
     }

@@ -1,7 +1,7 @@
 use Rattle.std.proofs.Common.{◌≡◌, ◌++◌, length, true, string_bytes}
 use denote.Text.{Utf8}
 use denote.Shadow.{shadow}
-use Rattle.just_syntax.specs.Unindented.{lines, unindented_lines}
+use Rattle.just_syntax.specs.Prelude.{lines, unindented_lines}
 use Rattle.just_syntax.proofs.Unindenting.{EachLoses}
 use Rattle.just_syntax.proofs.unindented.unindent.Given as goal
 

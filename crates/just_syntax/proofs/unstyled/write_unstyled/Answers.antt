@@ -6,4 +6,6 @@ pub returns-clause-styled : goal.returns-clause-styled
 returns-clause-styled g c = displays_unstyled g.W.Write.write_str_gives _ c.write-result.new.self _ _ _ (λ same. search rules) c.write-result.ensures.writes
 
 pub returns-clause-writes : goal.returns-clause-writes
-returns-clause-writes g c = displays_plain g.W.Write.write_str_gives _ _ _ _ (displays_unstyled g.W.Write.write_str_gives _ c.write-result.new.self _ _ _ (λ same. search rules) c.write-result.ensures.writes)
+returns-clause-writes g c =
+    displays_plain g.W.Write.write_str_gives _ _ _ _ (displays_unstyled g.W.Write.write_str_gives _ c.write-result.new.self _ _ _ (λ same. search rules)
+    c.write-result.ensures.writes)

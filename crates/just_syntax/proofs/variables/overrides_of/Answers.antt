@@ -1,8 +1,6 @@
 use Rattle.std.proofs.Common.{◌≡◌, List, Some, cond, map, string_bytes, nat_eq, ap, sym, ◌∙◌, option_map, rules}
 use Rattle.std.specs.Map.{lookup}
-use Rattle.just_syntax.specs.Plain.{Assignment}
-use Rattle.just_syntax.specs.Variables.{number_named}
-use Rattle.just_syntax.specs.View.{assignment_view, pair_view}
+use Rattle.just_syntax.specs.Prelude.{Assignment, assignment_view, number_named, pair_view}
 use Rattle.just_syntax.proofs.Names.{given_more, known_on}
 use Rattle.just_syntax.proofs.Tables.{map_cond}
 use Rattle.just_syntax.proofs.variables.overrides_of.Goals as goal

@@ -16,4 +16,5 @@ loop-number-preserved c = λ n.
     let swapped = either (nat_eq c.number-item.result n) (list_any (λ number. nat_eq number n) (take c.loop-number.number-index c.args.numbers.now)) in
     let more = list_any_more (λ number. nat_eq number n) c.args.numbers.now c.loop-number.number-index c.number-item.result (search rules) in
     let item = c.number-item.is in
-    added ∙ swapped ∙ ap (λ number. list_any (λ number. nat_eq number n) (take c.loop-number.number-index c.args.numbers.now) || nat_eq number n) item ∙ sym more
+    added ∙ swapped ∙ ap (λ number. list_any (λ number. nat_eq number n) (take c.loop-number.number-index c.args.numbers.now) || nat_eq number n) item
+    ∙ sym more

@@ -5,5 +5,6 @@ use Rattle.just_text.proofs.split.split_whitespace.Goals as goal
 
 pub returns : goal.returns
 returns c =
-    let all = YieldsList-end (YieldsList-from_words c.args.text.now c.utf8.text cc) c.loop-word.yielded _ c.loop-word.yielded_by _ _ c.in-None.is c.next.ensures.steps in
+    let all = YieldsList-end (YieldsList-from_words c.args.text.now c.utf8.text cc) c.loop-word.yielded _ c.loop-word.yielded_by _ _ c.in-None.is
+    c.next.ensures.steps in
     c.loop-word.invariant ∙ all.0

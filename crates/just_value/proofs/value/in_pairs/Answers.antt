@@ -8,5 +8,12 @@ pub loop-i-preserved : goal.loop-i-preserved
 loop-i-preserved c =
     let x : c.loop-i.i < length c.args.xs.now = omega arith in
     let y : c.loop-i.i < length c.args.ys.now = omega arith in
-    rw (c.in_ok-push.ensures.items, map_push, add-one, c.loop-i.invariant, paired_more string_bytes string_bytes c.args.separator.now c.args.xs.now c.args.ys.now c.loop-i.i c.index-xs-i.result c.index-ys-i.result x y)
+    rw (
+      c.in_ok-push.ensures.items,
+      map_push,
+      add-one,
+      c.loop-i.invariant,
+      paired_more string_bytes string_bytes c.args.separator.now c.args.xs.now
+          c.args.ys.now c.loop-i.i c.index-xs-i.result c.index-ys-i.result x y,
+    )
     (grind (arith, common_steps))

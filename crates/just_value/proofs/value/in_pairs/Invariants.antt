@@ -1,5 +1,5 @@
 use Rattle.std.proofs.Common.{◌≡◌, take, string_bytes, map}
-use Rattle.just_value.specs.Applied.{paired}
+use Rattle.just_value.specs.Prelude.{paired}
 use Rattle.just_value.proofs.value.in_pairs.Given as goal
 
 abbrev pub invariant-loop-i : goal.invariant-loop-i

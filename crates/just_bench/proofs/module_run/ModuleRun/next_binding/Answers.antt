@@ -1,17 +1,17 @@
 use Rattle.std.proofs.Common.{ap, ◌∙◌}
 use Rattle.std.specs.Map.{values_of}
-use Rattle.just_value.specs.Frames.{own_frame}
-use Rattle.just_value.specs.Outcome.{Gave, without_value}
-use Rattle.just_value.specs.View.{frames_view, refusal}
-use Rattle.just_bench.specs.FirstBinding.{first_bound}
+use Rattle.just_bench.specs.Prelude.{Gave, first_bound, frames_view, own_frame, refusal, without_value}
 use Rattle.just_bench.proofs.Outcomes.{refused_then}
 use Rattle.just_bench.proofs.Attributes.{first_given}
 use Rattle.just_bench.proofs.module_run.ModuleRun.next_binding.Goals as goal
 
 pub returns-in_ok-first_binding-in-Ok : goal.returns-in_ok-first_binding-in-Ok
 returns-in_ok-first_binding-in-Ok g c =
-    let own = frames_view c.in-Ok.bound in
-    (Gave own, c.in-Ok.ensures.dynamic, ap Gave (c.in_ok-first_binding-in-Ok.ensures ∙ first_given (frames_view c.args.scope.now) own c.in-Ok.ensures.dynamic.run))
+    let own = frames_view c.in-Ok.bound in (
+      Gave own,
+      c.in-Ok.ensures.dynamic,
+      ap Gave (c.in_ok-first_binding-in-Ok.ensures ∙ first_given (frames_view c.args.scope.now) own c.in-Ok.ensures.dynamic.run),
+    )
 
 pub returns-in-Err : goal.returns-in-Err
 returns-in-Err g c =

@@ -1,6 +1,5 @@
 use Rattle.just_case_reader.specs.Line as lines
-use Rattle.just_case_reader.specs.Reading.{with_stack}
-use Rattle.just_case_reader.specs.View.{reading_view}
+use Rattle.just_case_reader.specs.Prelude.{reading_view, with_stack}
 use Rattle.just_case_reader.proofs.Stacks.{done_with}
 use Rattle.just_case_reader.proofs.builder.Builder.command.Goals as goal
 

@@ -1,11 +1,8 @@
 use Rattle.std.proofs.Common.{◌≡◌, map, refl, ap, ◌∙◌}
-use Rattle.just_syntax.specs.Keyed.{with_value}
-use Rattle.just_syntax.specs.View.{function_view, view}
+use Rattle.just_case_reader.specs.Prelude.{numbering_view, parameters_with_numbers, token_of, view, with_value}
+use Rattle.just_syntax.specs.View.{function_view}
 use Rattle.just_syntax.specs.declared.function_definition.FunctionDefinition.{FunctionDefinition}
-use Rattle.just_case_reader.specs.Token.{token_of}
-use Rattle.just_case_reader.specs.Numbering.{parameters_with_numbers}
 use Rattle.just_case_reader.specs.Reading.{defined_name}
-use Rattle.just_case_reader.specs.View.{numbering_view}
 use Rattle.just_case_reader.proofs.Counts.{seen_in}
 use Rattle.just_case_reader.proofs.Stacks.{done_new}
 use Rattle.just_syntax.proofs.Maps.{seen_with}
@@ -15,7 +12,13 @@ pub returns : goal.returns
 returns c = λ text are.
     let old = c.args.self.now.case.functions in
     let f : FunctionDefinition = record { body = c.in_ok-body.body; name = c.name.result; parameters = c.in_ok-parameters.parameters } in
-    let seen : function_view f ≡ record { body = view c.in_ok-body.body; name = token_of c.args.lexeme.now; parameters = parameters_with_numbers (numbering_view c.args.self.now.numbering) (map (λ name. name.now) c.args.parameters.now) } = rw (c.name.ensures, c.in_ok-parameters.ensures.parameters) refl in
+    let seen : function_view f ≡ record {
+      body = view c.in_ok-body.body;
+      name = token_of c.args.lexeme.now;
+      parameters =
+          parameters_with_numbers (numbering_view c.args.self.now.numbering) (map (λ name. name.now) c.args.parameters.now);
+    } =
+    rw (c.name.ensures, c.in_ok-parameters.ensures.parameters) refl in
     let named = ap defined_name seen in
     let was = seen_in function_view defined_name (defined_name (function_view f)) old in
     done_new c.insert_new.result _ _ c.insert_new.ensures.inserted c.insert_new.ensures.new c.insert_new.ensures.bad

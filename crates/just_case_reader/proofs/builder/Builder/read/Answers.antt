@@ -1,14 +1,14 @@
 use Rattle.std.proofs.Common.{string_bytes}
 use Rattle.just_case_reader.specs.Line as lines
-use Rattle.just_case_reader.specs.Reading.{with_stack}
-use Rattle.just_case_reader.specs.View.{reading_view}
+use Rattle.just_case_reader.specs.Prelude.{reading_view, with_stack}
 use Rattle.just_case_reader.proofs.Stacks.{done_with}
 use Rattle.just_case_reader.proofs.builder.Builder.read.Goals as goal
 
 pub returns-in-Literal : goal.returns-in-Literal
 returns-in-Literal c =
     let old = reading_view c.args.self.now in
-    rw (c.in-Literal.is) (done_with (with_stack (lines.Literal c.in-Literal.text.now (string_bytes c.in-Literal.lexeme)) old) c.literal.result _ _ (rw (c.deref.ensures) at (c.literal.ensures old.names)))
+    rw (c.in-Literal.is) (done_with (with_stack (lines.Literal c.in-Literal.text.now (string_bytes c.in-Literal.lexeme)) old) c.literal.result _ _
+    (rw (c.deref.ensures) at (c.literal.ensures old.names)))
 
 pub returns-in-Unary : goal.returns-in-Unary
 returns-in-Unary c =
@@ -33,7 +33,8 @@ returns-in-List c =
 pub returns-in-Call : goal.returns-in-Call
 returns-in-Call c =
     let old = reading_view c.args.self.now in
-    rw (c.in-Call.is) (done_with (with_stack (lines.Call c.in-Call.name.now c.in-Call.count) old) c.call.result _ _ (rw (c.from-in-Call.ensures) at (c.call.ensures old.names)))
+    rw (c.in-Call.is) (done_with (with_stack (lines.Call c.in-Call.name.now c.in-Call.count) old) c.call.result _ _
+    (rw (c.from-in-Call.ensures) at (c.call.ensures old.names)))
 
 pub returns-in-Assign : goal.returns-in-Assign
 returns-in-Assign c = rw (c.in-Assign.is) c.assign.ensures

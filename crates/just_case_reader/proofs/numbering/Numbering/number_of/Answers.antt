@@ -1,5 +1,5 @@
 use Rattle.std.proofs.Common.{◌≡◌, None, Some, ap, ◌∙◌, arith, rules}
-use Rattle.just_case_reader.specs.View.{numbering_view}
+use Rattle.just_case_reader.specs.Prelude.{numbering_view}
 use Rattle.just_case_reader.proofs.Numbers.{grown}
 use Rattle.just_case_reader.proofs.Texts.{is_eq-other}
 use Rattle.just_case_reader.proofs.numbering.Numbering.number_of.Goals as goal

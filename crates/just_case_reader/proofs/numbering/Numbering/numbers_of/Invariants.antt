@@ -1,6 +1,6 @@
 use Rattle.std.proofs.Common.{◌≡◌, map, take}
-use Rattle.just_case_reader.specs.Numbering.{numbers_of, with_names}
-use Rattle.just_case_reader.specs.View.{numbering_view}
+use Rattle.just_case_reader.specs.Prelude.{numbering_view, with_names}
+use Rattle.just_case_reader.specs.Numbering.{numbers_of}
 use Rattle.just_case_reader.proofs.numbering.Numbering.numbers_of.Given as goal
 
 -- the numbers of the names so far, and the numbering after these names

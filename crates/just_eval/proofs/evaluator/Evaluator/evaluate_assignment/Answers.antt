@@ -1,8 +1,5 @@
 use Rattle.std.proofs.Common.{◌∙◌, ap}
-use Rattle.std.proofs.lemmas.Result.{err_from_is_err_and}
-use Rattle.just_value.specs.Frames.{bound_innermost, innermost}
-use Rattle.just_value.specs.View.{frames_view}
-use Rattle.just_eval.specs.View.{WasBound, IsBound}
+use Rattle.just_eval.specs.Prelude.{IsBound, WasBound, bound_innermost, frames_view, innermost}
 use Rattle.just_eval.proofs.Assigned.{assigned_cut, assigned_exit, assigned_none}
 use Rattle.just_eval.proofs.There.{none_there, some_there}
 use Rattle.just_eval.proofs.evaluator.Evaluator.evaluate_assignment.Goals as goal
@@ -14,13 +11,13 @@ returns-then-is_bound-clause-assigned g c =
 
 pub returns-in_err-value-clause-assigned : goal.returns-in_err-value-clause-assigned
 returns-in_err-value-clause-assigned g c =
-    let p = err_from_is_err_and c.from_residual.result c.from_residual.ensures.1 in
-    assigned_exit _ _ _ _ p.1 p.2 (assigned_none _ (none_there (innermost c.args.assignment.now.number (frames_view c.args.self.now.scope)) cc) c.in_err-value.ensures)
+    assigned_exit _ _ _ c.from_residual.ensures.1 (assigned_none _ (none_there (innermost c.args.assignment.now.number (frames_view c.args.self.now.scope)) cc)
+    c.in_err-value.ensures)
 
 pub returns-in_err-bind-clause-assigned : goal.returns-in_err-bind-clause-assigned
 returns-in_err-bind-clause-assigned g c =
-    let p = err_from_is_err_and c.from_residual-in_err-bind.result c.from_residual-in_err-bind.ensures.1 in
-    assigned_exit _ _ _ _ p.1 p.2 (assigned_cut _ (none_there (innermost c.args.assignment.now.number (frames_view c.args.self.now.scope)) cc) c.in_ok-value.ensures)
+    assigned_exit _ _ _ c.from_residual-in_err-bind.ensures.1
+    (assigned_cut _ (none_there (innermost c.args.assignment.now.number (frames_view c.args.self.now.scope)) cc) c.in_ok-value.ensures)
 
 pub returns-clause-assigned : goal.returns-clause-assigned
 returns-clause-assigned g c =

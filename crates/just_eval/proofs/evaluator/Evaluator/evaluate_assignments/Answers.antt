@@ -1,4 +1,4 @@
-use Rattle.just_value.specs.View.{frames_view}
+use Rattle.just_eval.specs.Prelude.{frames_view}
 use Rattle.just_soundness.proofs.Final.{run_is_final}
 use Rattle.just_soundness.proofs.Internal.{resolved_is_never_internal}
 use Rattle.just_eval.proofs.Module.{ran_lexical}

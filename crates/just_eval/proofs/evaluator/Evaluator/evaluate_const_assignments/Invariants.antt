@@ -1,10 +1,5 @@
 use Rattle.std.proofs.Common.{drop, map}
-use Rattle.just_syntax.specs.View.{name_view}
-use Rattle.just_value.specs.Outcome.{Outcome}
-use Rattle.just_value.specs.View.{frames_view}
-use Rattle.just_meaning.specs.Stage.{StageState, Staged, at_start}
-use Rattle.just_meaning.specs.View.{constants_of}
-use Rattle.just_eval.specs.View.{IsConst, stage_state_of}
+use Rattle.just_eval.specs.Prelude.{IsConst, Outcome, StageState, Staged, at_start, constants_of, frames_view, name_view, stage_state_of}
 use Rattle.just_eval.proofs.evaluator.Evaluator.evaluate_const_assignments.Given as goal
 
 -- the result of the names that are left, from here, is the result of all from the start
@@ -13,5 +8,6 @@ invariant-loop-name l =
     let m = constants_of l.assignments l.evaluation_order l.overrides l.variable_references in
     record {
       before : IsConst l.evaluator;
-      rest : (o : Outcome StageState) → Staged m (stage_state_of l.evaluator) (map name_view (drop l.name-index l.evaluation_order)) o → Staged m (at_start l.lists (frames_view l.scope)) (map name_view l.evaluation_order) o;
+      rest : (o : Outcome StageState) → Staged m (stage_state_of l.evaluator) (map name_view (drop l.name-index l.evaluation_order)) o
+          → Staged m (at_start l.lists (frames_view l.scope)) (map name_view l.evaluation_order) o;
     }

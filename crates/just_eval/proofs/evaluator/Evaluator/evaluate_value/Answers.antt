@@ -1,4 +1,4 @@
-use Rattle.just_syntax.specs.View.{view}
+use Rattle.just_eval.specs.Prelude.{view}
 use Rattle.just_eval.proofs.Constants.{few_ended}
 use Rattle.just_eval.proofs.Here.{answered, constants, few, headline, never_const, never_internal, resolved_constants, still, value_made}
 use Rattle.just_eval.proofs.evaluator.Evaluator.evaluate_value.Goals as goal

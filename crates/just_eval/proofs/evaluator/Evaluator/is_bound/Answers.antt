@@ -1,5 +1,5 @@
 use Rattle.std.proofs.Common.{◌∙◌}
-use Rattle.just_value.specs.View.{bound_view}
+use Rattle.just_eval.specs.Prelude.{bound_view}
 use Rattle.just_eval.proofs.There.{is_there}
 use Rattle.just_eval.proofs.evaluator.Evaluator.is_bound.Goals as goal
 

@@ -1,11 +1,5 @@
 use Rattle.std.proofs.Common.{◌≡◌, drop, map, [], ◌∷◌, Some}
-use Rattle.just_syntax.specs.View.{name_view}
-use Rattle.just_value.specs.Frames.{Frames}
-use Rattle.just_value.specs.Outcome.{Outcome}
-use Rattle.just_value.specs.View.{frames_view}
-use Rattle.just_meaning.specs.Module.{Ran, dynamically}
-use Rattle.just_meaning.specs.View.{module_view}
-use Rattle.just_eval.specs.View.{IsAtStart}
+use Rattle.just_eval.specs.Prelude.{Frames, IsAtStart, Outcome, Ran, dynamically, frames_view, module_view, name_view}
 use Rattle.just_eval.proofs.evaluator.Evaluator.run.Given as goal
 
 -- the result of the names that are left, from here, is the result of all from the start
@@ -16,6 +10,7 @@ invariant-loop-name g l =
       here : l.evaluator.context ≡ Some l.context;
       lists : l.evaluator.lists ≡ l.context.module.now.settings.lists;
       start : IsAtStart l.evaluator;
-      rest : (o : Outcome Frames) (new : g.row.H.Denot) → Ran g.H.Host.step l.host dynamically m (frames_view l.evaluator.scope) (map name_view (drop l.name-index l.names)) o new
+      rest : (o : Outcome Frames) (new : g.row.H.Denot)
+          → Ran g.H.Host.step l.host dynamically m (frames_view l.evaluator.scope) (map name_view (drop l.name-index l.names)) o new
           → Ran g.H.Host.step l.fn.host dynamically m ([] ∷ frames_view l.context.scope.now) (map name_view l.names) o new;
     }

@@ -1,33 +1,28 @@
 use Rattle.std.proofs.Common.{◌≡◌, ◌∙◌, ◌++◌, ◌∷◌, [], true, false, not, ap, arith, length, map, None, Some, sym, refl, subst, string_bytes}
 use Rattle.std.proofs.lemmas.Grind.{common_steps}
 use Rattle.std.proofs.lemmas.List.{append_assoc, append-nil}
-use Rattle.std.proofs.lemmas.Result.{err_from_is_err_and}
 use Rattle.just_syntax.specs.Printed.{printed}
 use Rattle.just_syntax.specs.StringContext as contexts
-use Rattle.just_syntax.specs.View.{function_view, name_view, parameter_view, view}
-use Rattle.just_value.specs.Value.{from_condition, is_truthy, joined}
-use Rattle.just_value.specs.Outcome.{Gave}
-use Rattle.just_value.specs.Refusal.{ListInStringContext}
-use Rattle.just_value.specs.View.{frames_view}
-use Rattle.just_host.proofs.Paths.{runs_done, runs_else, runs_ends, runs_exit, runs_gives, runs_on, runs_shut, runs_stopped, runs_then}
-use Rattle.just_meaning.specs.Closings.{with_parameters}
-use Rattle.just_meaning.specs.Meaning.{as_it_is, is_regex, unindented_if}
-use Rattle.just_expression.specs.Call.{BuiltIn, Defined, look, reached_view, requires_text}
-use Rattle.just_expression.specs.View.{meaning, program, row, situation}
+use Rattle.just_expression.specs.Prelude.{BuiltIn, Defined, Gave, ListInStringContext, frames_view, from_condition, function_view, is_regex, joined, look}
+use Rattle.just_expression.specs.Prelude.{meaning, name_view, parameter_view, program, reached_view, requires_text, situation, unindented_if, view}
+use Rattle.just_expression.specs.Prelude.{with_parameters}
+use Rattle.just_value.specs.Value.{is_truthy}
+use Rattle.just_host.proofs.Paths.{runs_done, runs_else, runs_ends, runs_gives, runs_on, runs_shut, runs_stopped, runs_then}
+use Rattle.just_expression.proofs.Exits.{runs_exit}
 use Rattle.just_expression.proofs.Calls.{body_runs, call_ends, call_refused, call_runs, inside_is, looked_at}
 use Rattle.just_expression.proofs.Leaves.{not_both}
-use Rattle.just_host.proofs.Left.{left_all}
-use Rattle.just_expression.proofs.Rows.{call_is, flatten_more, format_string_is, list_is, pieces_all, pieces_cut, pieces_end, pieces_next, row_all, row_cut, row_ends, row_next}
+use Rattle.just_expression.proofs.Rows.{call_is, flatten_more, format_string_is, list_is, pieces_all, pieces_cut, pieces_end, pieces_next, pieces_start}
+use Rattle.just_expression.proofs.Rows.{row_all, row_cut, row_ends, row_next, row_start}
 use Rattle.just_expression.proofs.Texts.{more_texts}
-use Rattle.just_expression.proofs.evaluator.ExpressionEvaluator.+evaluate.Goals.{evaluate_assert-in-Some+in_ok-value-in-Some+in_ok-message-in-Some, evaluate_assert-in-None+in_ok-message-in-None, evaluate_conditional-then-is_truthy, evaluate_conditional-else-is_truthy}
+use Rattle.just_expression.proofs.evaluator.ExpressionEvaluator.+evaluate.Goals.{evaluate_assert-in-Some+in_ok-value-in-Some+in_ok-message-in-Some}
+use Rattle.just_expression.proofs.evaluator.ExpressionEvaluator.+evaluate.Goals.{evaluate_assert-in-None+in_ok-message-in-None}
+use Rattle.just_expression.proofs.evaluator.ExpressionEvaluator.+evaluate.Goals.{evaluate_conditional-then-is_truthy, evaluate_conditional-else-is_truthy}
 use Rattle.just_expression.proofs.evaluator.ExpressionEvaluator.+evaluate.Goals as goal
 
 -- ---- `lhs && rhs`, `lhs || rhs`
 
 pub evaluate_and-returns-in_err-value : goal.evaluate_and-returns-in_err-value
-evaluate_and-returns-in_err-value g t c =
-    let p = err_from_is_err_and c.from_residual.result c.from_residual.ensures.1 in
-    runs_exit _ _ _ _ _ _ p.1 p.2 c.in_err-value.ensures
+evaluate_and-returns-in_err-value g t c = runs_exit _ _ _ c.from_residual.ensures.1 (runs_ends _ _ _ c.in_err-value.ensures)
 
 pub evaluate_and-returns-then-is_truthy : goal.evaluate_and-returns-then-is_truthy
 evaluate_and-returns-then-is_truthy g t c =
@@ -40,9 +35,7 @@ evaluate_and-returns g t c =
     rw c.new.ensures (runs_on _ _ c.in_ok-value.ensures (runs_else _ _ _ none (runs_gives _)))
 
 pub evaluate_or-returns-in_err-value : goal.evaluate_or-returns-in_err-value
-evaluate_or-returns-in_err-value g t c =
-    let p = err_from_is_err_and c.from_residual.result c.from_residual.ensures.1 in
-    runs_exit _ _ _ _ _ _ p.1 p.2 c.in_err-value.ensures
+evaluate_or-returns-in_err-value g t c = runs_exit _ _ _ c.from_residual.ensures.1 (runs_ends _ _ _ c.in_err-value.ensures)
 
 pub evaluate_or-returns-then-is_truthy : goal.evaluate_or-returns-then-is_truthy
 evaluate_or-returns-then-is_truthy g t c =
@@ -57,14 +50,10 @@ evaluate_or-returns g t c =
 -- ---- `!operand`
 
 pub evaluate_not-returns-in_err-value : goal.evaluate_not-returns-in_err-value
-evaluate_not-returns-in_err-value g t c =
-    let p = err_from_is_err_and c.from_residual.result c.from_residual.ensures.1 in
-    runs_exit _ _ _ _ _ _ p.1 p.2 c.in_err-value.ensures
+evaluate_not-returns-in_err-value g t c = runs_exit _ _ _ c.from_residual.ensures.1 (runs_ends _ _ _ c.in_err-value.ensures)
 
 pub evaluate_not-returns-in_err-from_bool : goal.evaluate_not-returns-in_err-from_bool
-evaluate_not-returns-in_err-from_bool g t c =
-    let p = err_from_is_err_and c.from_residual-in_err-from_bool.result c.from_residual-in_err-from_bool.ensures.1 in
-    rw (p.1, p.2) (runs_on _ _ c.in_ok-value.ensures (runs_stopped _))
+evaluate_not-returns-in_err-from_bool g t c = runs_exit _ _ _ c.from_residual-in_err-from_bool.ensures.1 (runs_on _ _ c.in_ok-value.ensures (runs_stopped _))
 
 pub evaluate_not-returns : goal.evaluate_not-returns
 evaluate_not-returns g t c =
@@ -74,26 +63,25 @@ evaluate_not-returns g t c =
 
 pub evaluate_comparison-returns-in_err-left : goal.evaluate_comparison-returns-in_err-left
 evaluate_comparison-returns-in_err-left g t c =
-    let p = err_from_is_err_and c.from_residual.result c.from_residual.ensures.1 in
     let plain : is_regex c.args.operator ≡ false = cc in
-    runs_else _ _ _ plain (runs_exit _ _ _ _ _ _ p.1 p.2 c.in_err-left.ensures)
+    runs_else _ _ _ plain (runs_exit _ _ _ c.from_residual.ensures.1 (runs_ends _ _ _ c.in_err-left.ensures))
 
 pub evaluate_comparison-returns-in_err-right : goal.evaluate_comparison-returns-in_err-right
 evaluate_comparison-returns-in_err-right g t c =
-    let p = err_from_is_err_and c.from_residual-in_err-right.result c.from_residual-in_err-right.ensures.1 in
     let plain : is_regex c.args.operator ≡ false = cc in
-    runs_else _ _ _ plain (runs_on _ _ c.in_ok-left.ensures (runs_exit _ _ _ _ _ _ p.1 p.2 c.in_err-right.ensures))
+    runs_else _ _ _ plain (runs_on _ _ c.in_ok-left.ensures (runs_exit _ _ _ c.from_residual-in_err-right.ensures.1 (runs_ends _ _ _ c.in_err-right.ensures)))
 
 pub evaluate_comparison-returns-in_err-from_bool : goal.evaluate_comparison-returns-in_err-from_bool
 evaluate_comparison-returns-in_err-from_bool g t c =
-    let p = err_from_is_err_and c.from_residual-in_err-from_bool.result c.from_residual-in_err-from_bool.ensures.1 in
     let plain : is_regex c.args.operator ≡ false = cc in
-    rw (p.1, p.2) (runs_else _ _ _ plain (runs_on _ _ c.in_ok-left.ensures (runs_on _ _ c.in_ok-right.ensures (runs_stopped _))))
+    runs_exit _ _ _ c.from_residual-in_err-from_bool.ensures.1
+    (runs_else _ _ _ plain (runs_on _ _ c.in_ok-left.ensures (runs_on _ _ c.in_ok-right.ensures (runs_stopped _))))
 
 pub evaluate_comparison-returns : goal.evaluate_comparison-returns
 evaluate_comparison-returns g t c =
     let plain : is_regex c.args.operator ≡ false = cc in
-    runs_else _ _ _ plain (runs_on _ _ c.in_ok-left.ensures (runs_on _ _ c.in_ok-right.ensures (runs_done _ _ (ap Gave (c.in_ok-from_bool.ensures ∙ c.compares.ensures)))))
+    runs_else _ _ _ plain
+    (runs_on _ _ c.in_ok-left.ensures (runs_on _ _ c.in_ok-right.ensures (runs_done _ _ (ap Gave (c.in_ok-from_bool.ensures ∙ c.compares.ensures)))))
 
 pub evaluate_comparison-returns-then-is_regex : goal.evaluate_comparison-returns-then-is_regex
 evaluate_comparison-returns-then-is_regex g t c =
@@ -103,9 +91,7 @@ evaluate_comparison-returns-then-is_regex g t c =
 -- ---- conditionals
 
 pub evaluate_conditional-returns-in_err-value : goal.evaluate_conditional-returns-in_err-value
-evaluate_conditional-returns-in_err-value g t c =
-    let p = err_from_is_err_and c.from_residual.result c.from_residual.ensures.1 in
-    runs_exit _ _ _ _ _ _ p.1 p.2 c.in_err-value.ensures
+evaluate_conditional-returns-in_err-value g t c = runs_exit _ _ _ c.from_residual.ensures.1 (runs_ends _ _ _ c.in_err-value.ensures)
 
 pub evaluate_conditional-returns-in-Some : goal.evaluate_conditional-returns-in-Some
 evaluate_conditional-returns-in-Some g t c = elim c.if-is_truthy.branch [
@@ -131,33 +117,26 @@ evaluate_conditional-returns g t c = elim c.if-is_truthy.branch [
 -- ---- two values combined
 
 pub evaluate_combination-returns-in_err-left : goal.evaluate_combination-returns-in_err-left
-evaluate_combination-returns-in_err-left g t c =
-    let p = err_from_is_err_and c.from_residual.result c.from_residual.ensures.1 in
-    runs_exit _ _ _ _ _ _ p.1 p.2 c.in_err-left.ensures
+evaluate_combination-returns-in_err-left g t c = runs_exit _ _ _ c.from_residual.ensures.1 (runs_ends _ _ _ c.in_err-left.ensures)
 
 pub evaluate_combination-returns-in_err-right : goal.evaluate_combination-returns-in_err-right
 evaluate_combination-returns-in_err-right g t c =
-    let p = err_from_is_err_and c.from_residual-in_err-right.result c.from_residual-in_err-right.ensures.1 in
-    runs_on _ _ c.in_ok-left.ensures (runs_exit _ _ _ _ _ _ p.1 p.2 c.in_err-right.ensures)
+    runs_on _ _ c.in_ok-left.ensures (runs_exit _ _ _ c.from_residual-in_err-right.ensures.1 (runs_ends _ _ _ c.in_err-right.ensures))
 
 pub evaluate_combination-returns : goal.evaluate_combination-returns
 evaluate_combination-returns g t c =
     runs_on _ _ c.in_ok-left.ensures (runs_on _ _ c.in_ok-right.ensures (runs_done _ _ c.apply.ensures))
 
 pub evaluate_list_concatenation-returns-in_err-left : goal.evaluate_list_concatenation-returns-in_err-left
-evaluate_list_concatenation-returns-in_err-left g t c =
-    let p = err_from_is_err_and c.from_residual.result c.from_residual.ensures.1 in
-    runs_exit _ _ _ _ _ _ p.1 p.2 c.in_err-left.ensures
+evaluate_list_concatenation-returns-in_err-left g t c = runs_exit _ _ _ c.from_residual.ensures.1 (runs_ends _ _ _ c.in_err-left.ensures)
 
 pub evaluate_list_concatenation-returns-in_err-right : goal.evaluate_list_concatenation-returns-in_err-right
 evaluate_list_concatenation-returns-in_err-right g t c =
-    let p = err_from_is_err_and c.from_residual-in_err-right.result c.from_residual-in_err-right.ensures.1 in
-    runs_on _ _ c.in_ok-left.ensures (runs_exit _ _ _ _ _ _ p.1 p.2 c.in_err-right.ensures)
+    runs_on _ _ c.in_ok-left.ensures (runs_exit _ _ _ c.from_residual-in_err-right.ensures.1 (runs_ends _ _ _ c.in_err-right.ensures))
 
 pub evaluate_list_concatenation-returns-in_err-extended : goal.evaluate_list_concatenation-returns-in_err-extended
 evaluate_list_concatenation-returns-in_err-extended g t c =
-    let p = err_from_is_err_and c.from_residual-in_err-extended.result c.from_residual-in_err-extended.ensures.1 in
-    rw (p.1, p.2) (runs_on _ _ c.in_ok-left.ensures (runs_on _ _ c.in_ok-right.ensures (runs_stopped _)))
+    runs_exit _ _ _ c.from_residual-in_err-extended.ensures.1 (runs_on _ _ c.in_ok-left.ensures (runs_on _ _ c.in_ok-right.ensures (runs_stopped _)))
 
 pub evaluate_list_concatenation-returns : goal.evaluate_list_concatenation-returns
 evaluate_list_concatenation-returns g t c =
@@ -166,14 +145,10 @@ evaluate_list_concatenation-returns g t c =
 -- ---- assertions
 
 pub evaluate_assert-returns-in_err-value : goal.evaluate_assert-returns-in_err-value
-evaluate_assert-returns-in_err-value g t c =
-    let p = err_from_is_err_and c.from_residual.result c.from_residual.ensures.1 in
-    runs_exit _ _ _ _ _ _ p.1 p.2 c.in_err-value.ensures
+evaluate_assert-returns-in_err-value g t c = runs_exit _ _ _ c.from_residual.ensures.1 (runs_ends _ _ _ c.in_err-value.ensures)
 
 pub evaluate_assert-returns-in_err-asserted : goal.evaluate_assert-returns-in_err-asserted
-evaluate_assert-returns-in_err-asserted g t c =
-    let p = err_from_is_err_and c.from_residual-in_err-asserted.result c.from_residual-in_err-asserted.ensures.1 in
-    rw (p.1, p.2) (runs_on _ _ c.in_ok-value.ensures (runs_stopped _))
+evaluate_assert-returns-in_err-asserted g t c = runs_exit _ _ _ c.from_residual-in_err-asserted.ensures.1 (runs_on _ _ c.in_ok-value.ensures (runs_stopped _))
 
 pub evaluate_assert-returns-then-is_truthy : goal.evaluate_assert-returns-then-is_truthy
 evaluate_assert-returns-then-is_truthy g t c =
@@ -182,31 +157,37 @@ evaluate_assert-returns-then-is_truthy g t c =
 
 pub evaluate_assert-returns-in_err-value-in-Some : goal.evaluate_assert-returns-in_err-value-in-Some
 evaluate_assert-returns-in_err-value-in-Some g t c =
-    let p = err_from_is_err_and c.from_residual-in_err-value-in-Some.result c.from_residual-in_err-value-in-Some.ensures.1 in
     let none : is_truthy c.in_ok-value.value ≡ false = cc in
-    rw c.in-Some.is (runs_on _ _ c.in_ok-value.ensures (runs_else _ _ _ none (runs_exit _ _ _ _ _ _ p.1 p.2 (runs_ends _ _ _ c.in_err-value-in-Some.ensures))))
+    rw c.in-Some.is
+    (runs_on _ _ c.in_ok-value.ensures
+    (runs_else _ _ _ none
+    (runs_exit _ _ _ c.from_residual-in_err-value-in-Some.ensures.1 (runs_ends _ _ _ (runs_ends _ _ _ c.in_err-value-in-Some.ensures)))))
 
 pub evaluate_assert-returns-in_err-message-in-Some : goal.evaluate_assert-returns-in_err-message-in-Some
 evaluate_assert-returns-in_err-message-in-Some g t c =
-    let p = err_from_is_err_and c.from_residual-in_err-message-in-Some.result c.from_residual-in_err-message-in-Some.ensures.1 in
     let none : is_truthy c.in_ok-value.value ≡ false = cc in
-    rw (p.1, p.2, c.in-Some.is) (runs_on _ _ c.in_ok-value.ensures (runs_else _ _ _ none (runs_ends _ _ None (runs_on _ _ c.in_ok-value-in-Some.ensures (runs_stopped _)))))
+    runs_exit _ _ _ c.from_residual-in_err-message-in-Some.ensures.1
+    (rw c.in-Some.is
+    (runs_on _ _ c.in_ok-value.ensures (runs_else _ _ _ none (runs_ends _ _ None (runs_on _ _ c.in_ok-value-in-Some.ensures (runs_stopped _))))))
 
 pub evaluate_assert-returns-in_err-message-in-None : goal.evaluate_assert-returns-in_err-message-in-None
 evaluate_assert-returns-in_err-message-in-None g t c =
-    let p = err_from_is_err_and c.from_residual-in_err-message-in-None.result c.from_residual-in_err-message-in-None.ensures.1 in
     let none : is_truthy c.in_ok-value.value ≡ false = cc in
-    rw (p.1, p.2, c.in-None.is) (runs_on _ _ c.in_ok-value.ensures (runs_else _ _ _ none (runs_stopped _)))
+    runs_exit _ _ _ c.from_residual-in_err-message-in-None.ensures.1
+    (rw c.in-None.is (runs_on _ _ c.in_ok-value.ensures (runs_else _ _ _ none (runs_stopped _))))
 
 pub evaluate_assert-returns : goal.evaluate_assert-returns
 evaluate_assert-returns g t c = elim c.match-message.branch [
   | evaluate_assert-in-Some+in_ok-value-in-Some+in_ok-message-in-Some w ↦
       let none : is_truthy c.in_ok-value.value ≡ false = cc in
       let text : string_bytes c.match-message.message ≡ joined w.in_ok-value-in-Some.value = rw w.message-is w.in_ok-message-in-Some.ensures in
-      rw (w.in-Some.is, text, w.host-is) (runs_on _ _ c.in_ok-value.ensures (runs_else _ _ _ none (runs_on _ _ (runs_on _ _ w.in_ok-value-in-Some.ensures (runs_gives _)) (runs_done _ _ refl))))
+      rw (w.in-Some.is, text, w.host-is)
+      (runs_on _ _ c.in_ok-value.ensures
+      (runs_else _ _ _ none (runs_on _ _ (runs_on _ _ w.in_ok-value-in-Some.ensures (runs_gives _)) (runs_done _ _ refl))))
   | evaluate_assert-in-None+in_ok-message-in-None w ↦
       let none : is_truthy c.in_ok-value.value ≡ false = cc in
-      let text : string_bytes c.match-message.message ≡ (96 ∷ printed (view c.args.condition.now)) ++ 96 ∷ [] = rw w.message-is w.in_ok-message-in-None.ensures.text in
+      let text : string_bytes c.match-message.message ≡ (96 ∷ printed (view c.args.condition.now)) ++ 96 ∷ [] =
+      rw w.message-is w.in_ok-message-in-None.ensures.text in
       rw (w.in-None.is, text, w.host-is) (runs_on _ _ c.in_ok-value.ensures (runs_else _ _ _ none (runs_done _ _ refl)))
 ]
 
@@ -217,17 +198,18 @@ evaluate_value-returns-in-List g t c =
     rw (c.in-List.is, list_is, ← c.deref-in-List.ensures.value) c.evaluate_list.ensures
 
 pub evaluate_list-loop-element-init : goal.evaluate_list-loop-element-init
-evaluate_list-loop-element-init g t c = ([], c.new-all.ensures, left_all (row c.args.self.now c.args.elements.now as_it_is))
+evaluate_list-loop-element-init g t c = ([], c.new-all.ensures, row_start)
 
 pub evaluate_list-returns-in_err-value : goal.evaluate_list-returns-in_err-value
 evaluate_list-returns-in_err-value g t c =
-    let p = err_from_is_err_and c.from_residual.result c.from_residual.ensures.1 in
-    runs_exit _ _ _ _ _ _ p.1 p.2 (row_ends _ c.args.self.now c.args.host.now as_it_is c.args.elements.now c.loop-element.element-index c.element-item.result c.loop-element-test.true c.element-item.is c.loop-element.invariant.0 c.loop-element.invariant.2 _ (runs_ends _ _ _ c.in_err-value.ensures))
+    runs_exit _ _ _ c.from_residual.ensures.1
+    (runs_ends _ _ _ (row_ends c.loop-element.invariant.2 c.loop-element-test.true c.element-item.is _ (runs_ends _ _ _ c.in_err-value.ensures)))
 
 pub evaluate_list-returns-in_err-all : goal.evaluate_list-returns-in_err-all
 evaluate_list-returns-in_err-all g t c =
-    let p = err_from_is_err_and c.from_residual-in_err-all.result c.from_residual-in_err-all.ensures.1 in
-    rw (p.1, p.2) (runs_ends _ _ None (row_cut _ c.args.self.now c.args.host.now as_it_is c.args.elements.now c.loop-element.element-index c.element-item.result c.loop-element-test.true c.element-item.is c.loop-element.invariant.0 c.loop-element.invariant.2 _ (runs_on _ _ c.in_ok-value.ensures (runs_gives _))))
+    runs_exit _ _ _ c.from_residual-in_err-all.ensures.1
+    (runs_ends _ _ None (row_cut c.loop-element.invariant.2 c.loop-element-test.true c.element-item.is _
+    (runs_on _ _ c.in_ok-value.ensures (runs_gives _))))
 
 pub evaluate_list-loop-element-preserved : goal.evaluate_list-loop-element-preserved
 evaluate_list-loop-element-preserved g t c =
@@ -235,12 +217,12 @@ evaluate_list-loop-element-preserved g t c =
     let value = c.in_ok-value.value in (
       made ++ value ∷ [],
       c.in_ok-all.ensures ∙ ap (λ all. all ++ value) c.loop-element.invariant.1 ∙ sym (flatten_more made value),
-      row_next _ c.args.self.now c.args.host.now as_it_is c.args.elements.now c.loop-element.element-index c.element-item.result c.loop-element-test.true c.element-item.is c.loop-element.invariant.0 c.loop-element.invariant.2 value (runs_on _ _ c.in_ok-value.ensures (runs_gives _)),
+      row_next c.loop-element.invariant.2 c.loop-element-test.true c.element-item.is value (runs_on _ _ c.in_ok-value.ensures (runs_gives _)),
     )
 
 pub evaluate_list-returns : goal.evaluate_list-returns
 evaluate_list-returns g t c =
-    runs_on _ _ (row_all _ c.args.self.now c.args.host.now as_it_is c.args.elements.now c.loop-element.element-index c.loop-element.invariant.0 c.loop-element-test.false c.loop-element.invariant.2)
+    runs_on _ _ (row_all c.loop-element.invariant.2 c.loop-element-test.false)
     (runs_done _ _ (ap Gave c.loop-element.invariant.1))
 
 -- ---- format strings
@@ -250,68 +232,73 @@ evaluate_value-returns-in-FormatString g t c =
     rw (c.in-FormatString.is, format_string_is, ← c.deref-in-FormatString.ensures.value) c.evaluate_format_string.ensures
 
 pub evaluate_format_string-returns-in_err-text : goal.evaluate_format_string-returns-in_err-text
-evaluate_format_string-returns-in_err-text g t c =
-    let p = err_from_is_err_and c.from_residual.result c.from_residual.ensures.1 in
-    rw (p.1, p.2) (runs_stopped _)
+evaluate_format_string-returns-in_err-text g t c = runs_exit _ _ _ c.from_residual.ensures.1 (runs_stopped _)
 
 pub evaluate_format_string-loop-expression-init : goal.evaluate_format_string-loop-expression-init
-evaluate_format_string-loop-expression-init g t c = ([], c.in_ok-text.ensures.ok ∙ c.deref.ensures ∙ sym (append-nil _), left_all _)
+evaluate_format_string-loop-expression-init g t c = ([], c.in_ok-text.ensures.ok ∙ c.deref.ensures ∙ sym (append-nil _), pieces_start)
 
 pub evaluate_format_string-returns-in_err-value : goal.evaluate_format_string-returns-in_err-value
 evaluate_format_string-returns-in_err-value g t c =
-    let p = err_from_is_err_and c.from_residual-in_err-value.result c.from_residual-in_err-value.ensures.1 in
-    runs_exit _ _ _ _ _ _ p.1 p.2 (pieces_end _ c.args.self.now c.args.host.now c.args.expressions.now c.loop-expression.expression-index c.loop-expression-item.result c.loop-expression-test.true c.loop-expression-item.is c.loop-expression.invariant.0 c.loop-expression.invariant.2 _ c.in_err-value.ensures)
+    runs_exit _ _ _ c.from_residual-in_err-value.ensures.1
+    (runs_ends _ _ _ (pieces_end c.loop-expression.invariant.2 c.loop-expression-test.true c.loop-expression-item.is _ c.in_err-value.ensures))
 
 pub evaluate_format_string-returns-in_err-join : goal.evaluate_format_string-returns-in_err-join
 evaluate_format_string-returns-in_err-join g t c =
-    let p = err_from_is_err_and c.from_residual-in_err-join.result c.from_residual-in_err-join.ensures.1 in
-    rw (p.1, p.2) (runs_ends _ _ None (pieces_cut _ c.args.self.now c.args.host.now c.args.expressions.now c.loop-expression.expression-index c.loop-expression-item.result c.loop-expression-test.true c.loop-expression-item.is c.loop-expression.invariant.0 c.loop-expression.invariant.2 _ c.in_ok-value.ensures))
+    runs_exit _ _ _ c.from_residual-in_err-join.ensures.1
+    (runs_ends _ _ None (pieces_cut c.loop-expression.invariant.2 c.loop-expression-test.true c.loop-expression-item.is _ c.in_ok-value.ensures))
 
 pub evaluate_format_string-returns-in_err-push_str : goal.evaluate_format_string-returns-in_err-push_str
 evaluate_format_string-returns-in_err-push_str g t c =
-    let p = err_from_is_err_and c.from_residual-in_err-push_str.result c.from_residual-in_err-push_str.ensures.1 in
-    rw (p.1, p.2) (runs_ends _ _ None (pieces_cut _ c.args.self.now c.args.host.now c.args.expressions.now c.loop-expression.expression-index c.loop-expression-item.result c.loop-expression-test.true c.loop-expression-item.is c.loop-expression.invariant.0 c.loop-expression.invariant.2 _ c.in_ok-value.ensures))
+    runs_exit _ _ _ c.from_residual-in_err-push_str.ensures.1
+    (runs_ends _ _ None (pieces_cut c.loop-expression.invariant.2 c.loop-expression-test.true c.loop-expression-item.is _ c.in_ok-value.ensures))
 
 pub evaluate_format_string-returns-in_err-push_str-2 : goal.evaluate_format_string-returns-in_err-push_str-2
 evaluate_format_string-returns-in_err-push_str-2 g t c =
-    let p = err_from_is_err_and c.from_residual-in_err-push_str-2.result c.from_residual-in_err-push_str-2.ensures.1 in
-    rw (p.1, p.2) (runs_ends _ _ None (pieces_cut _ c.args.self.now c.args.host.now c.args.expressions.now c.loop-expression.expression-index c.loop-expression-item.result c.loop-expression-test.true c.loop-expression-item.is c.loop-expression.invariant.0 c.loop-expression.invariant.2 _ c.in_ok-value.ensures))
+    runs_exit _ _ _ c.from_residual-in_err-push_str-2.ensures.1
+    (runs_ends _ _ None (pieces_cut c.loop-expression.invariant.2 c.loop-expression-test.true c.loop-expression-item.is _ c.in_ok-value.ensures))
 
 pub evaluate_format_string-loop-expression-preserved : goal.evaluate_format_string-loop-expression-preserved
 evaluate_format_string-loop-expression-preserved g t c =
     let made = c.loop-expression.invariant.0 in
     let text = joined c.in_ok-value.value ++ string_bytes c.loop-expression-item.result.1.cooked in (
       made ++ text,
-      rw (c.in_ok-push_str-2.ensures.bytes, c.in_ok-push_str.ensures.bytes, c.loop-expression.invariant.1, c.deref-in-loop-expression.ensures, c.deref-in-loop-expression-2.ensures, c.in_ok-join.ensures) (simp append_assoc),
-      pieces_next _ c.args.self.now c.args.host.now c.args.expressions.now c.loop-expression.expression-index c.loop-expression-item.result c.loop-expression-test.true c.loop-expression-item.is c.loop-expression.invariant.0 c.loop-expression.invariant.2 c.in_ok-value.value c.in_ok-value.ensures,
+      rw (
+        c.in_ok-push_str-2.ensures.bytes,
+        c.in_ok-push_str.ensures.bytes,
+        c.loop-expression.invariant.1,
+        c.deref-in-loop-expression.ensures,
+        c.deref-in-loop-expression-2.ensures,
+        c.in_ok-join.ensures,
+      ) (simp append_assoc),
+      pieces_next c.loop-expression.invariant.2 c.loop-expression-test.true c.loop-expression-item.is c.in_ok-value.value c.in_ok-value.ensures,
     )
 
 pub evaluate_format_string-returns-in_err-text-2 : goal.evaluate_format_string-returns-in_err-text-2
 evaluate_format_string-returns-in_err-text-2 g t c =
-    let p = err_from_is_err_and c.from_residual-in_err-text-2.result c.from_residual-in_err-text-2.ensures.1 in
-    rw (p.1, p.2) (runs_on _ _ (pieces_all _ c.args.self.now c.args.host.now c.args.expressions.now c.loop-expression.expression-index c.loop-expression.invariant.0 c.loop-expression-test.false c.loop-expression.invariant.2) (runs_stopped _))
+    runs_exit _ _ _ c.from_residual-in_err-text-2.ensures.1
+    (runs_on _ _ (pieces_all c.loop-expression.invariant.2 c.loop-expression-test.false) (runs_stopped _))
 
 pub evaluate_format_string-returns-in_err-from_string : goal.evaluate_format_string-returns-in_err-from_string
 evaluate_format_string-returns-in_err-from_string g t c =
-    let p = err_from_is_err_and c.from_residual-in_err-from_string.result c.from_residual-in_err-from_string.ensures.1 in
-    rw (p.1, p.2) (runs_on _ _ (pieces_all _ c.args.self.now c.args.host.now c.args.expressions.now c.loop-expression.expression-index c.loop-expression.invariant.0 c.loop-expression-test.false c.loop-expression.invariant.2) (runs_stopped _))
+    runs_exit _ _ _ c.from_residual-in_err-from_string.ensures.1
+    (runs_on _ _ (pieces_all c.loop-expression.invariant.2 c.loop-expression-test.false) (runs_stopped _))
 
 pub evaluate_format_string-returns : goal.evaluate_format_string-returns
 evaluate_format_string-returns g t c =
-    runs_on _ _ (pieces_all _ c.args.self.now c.args.host.now c.args.expressions.now c.loop-expression.expression-index c.loop-expression.invariant.0 c.loop-expression-test.false c.loop-expression.invariant.2)
-    (runs_done _ _ (ap Gave (c.in_ok-from_string.ensures ∙ ap (λ text. text ∷ []) (c.in_ok-text-2.ensures ∙ ap (unindented_if c.args.start.now.indented) c.loop-expression.invariant.1))))
+    runs_on _ _ (pieces_all c.loop-expression.invariant.2 c.loop-expression-test.false)
+    (runs_done _ _
+    (ap Gave (c.in_ok-from_string.ensures
+    ∙ ap (λ text. text ∷ []) (c.in_ok-text-2.ensures ∙ ap (unindented_if c.args.start.now.indented) c.loop-expression.invariant.1))))
 
 -- ---- `/ rhs`
 
 pub evaluate_root-returns-in_err-right : goal.evaluate_root-returns-in_err-right
 evaluate_root-returns-in_err-right g t c =
-    let p = err_from_is_err_and c.from_residual.result c.from_residual.ensures.1 in
-    runs_exit _ (meaning c.args.self.now (view c.args.rhs.now)) _ _ _ _ p.1 p.2 c.in_err-right.ensures
+    runs_exit _ _ _ c.from_residual.ensures.1 (runs_ends (meaning c.args.self.now (view c.args.rhs.now)) _ _ c.in_err-right.ensures)
 
 pub evaluate_root-returns-in_err-left : goal.evaluate_root-returns-in_err-left
 evaluate_root-returns-in_err-left g t c =
-    let p = err_from_is_err_and c.from_residual-in_err-left.result c.from_residual-in_err-left.ensures.1 in
-    rw (p.1, p.2) (runs_on (meaning c.args.self.now (view c.args.rhs.now)) _ c.in_ok-right.ensures (runs_stopped _))
+    runs_exit _ _ _ c.from_residual-in_err-left.ensures.1 (runs_on (meaning c.args.self.now (view c.args.rhs.now)) _ c.in_ok-right.ensures (runs_stopped _))
 
 pub evaluate_root-returns : goal.evaluate_root-returns
 evaluate_root-returns g t c =
@@ -333,22 +320,25 @@ evaluate_call-returns-in_default g t c = rw c.in_default.is (runs_shut refl)
 
 pub evaluate_call-returns-in_err-callee : goal.evaluate_call-returns-in_err-callee
 evaluate_call-returns-in_err-callee g t c =
-    let p = err_from_is_err_and c.from_residual.result c.from_residual.ensures.1 in
-    rw (p.1, p.2) (call_refused _ c.args.self.now c.in-Some.context c.in-Some.is (name_view c.args.name.now) c.args.arguments.now _ c.in_err-callee.ensures.refused)
+    runs_exit _ _ _ c.from_residual.ensures.1 (call_refused _ c.args.self.now c.in-Some.context c.in-Some.is (name_view c.args.name.now) c.args.arguments.now _
+    c.in_err-callee.ensures.refused)
 
 pub evaluate_call-returns-in_err-values : goal.evaluate_call-returns-in_err-values
-evaluate_call-returns-in_err-values g t c =
-    let p = err_from_is_err_and c.from_residual-in_err-values.result c.from_residual-in_err-values.ensures.1 in
-    rw (p.1, p.2) (runs_stopped _)
+evaluate_call-returns-in_err-values g t c = runs_exit _ _ _ c.from_residual-in_err-values.ensures.1 (runs_stopped _)
+
+pub evaluate_call-loop-argument-init : goal.evaluate_call-loop-argument-init
+evaluate_call-loop-argument-init g t c =
+    let none = c.in_ok-values.ensures.items in
+    record { count = rw none refl; texts = rw none (λ i within text. absurd (omega arith)); rest = rw none row_start }
 
 pub evaluate_call-returns-in_err-value : goal.evaluate_call-returns-in_err-value
 evaluate_call-returns-in_err-value g t c =
     let self = c.args.self.now in
     let name = name_view c.args.name.now in
     let r = reached_view c.in_ok-callee.callee in
-    let p = err_from_is_err_and c.from_residual-in_err-value.result c.from_residual-in_err-value.ensures.1 in
-    rw (p.1, p.2) (call_ends _ self c.in-Some.context c.in-Some.is name c.args.arguments.now r c.in_ok-callee.ensures.enters _
-    (row_ends _ self c.args.host.now (look r name) c.args.arguments.now c.loop-argument.argument-index c.argument-item.result c.loop-argument-test.true c.argument-item.is c.loop-argument.values.items c.loop-argument.invariant.rest _ (runs_ends _ _ _ c.in_err-value.ensures)))
+    runs_exit _ _ _ c.from_residual-in_err-value.ensures.1 (call_ends _ self c.in-Some.context c.in-Some.is name c.args.arguments.now r
+    c.in_ok-callee.ensures.enters _
+    (row_ends c.loop-argument.invariant.rest c.loop-argument-test.true c.argument-item.is _ (runs_ends _ _ _ c.in_err-value.ensures)))
 
 pub evaluate_call-returns-then-not-takes : goal.evaluate_call-returns-then-not-takes
 evaluate_call-returns-then-not-takes g t c =
@@ -358,7 +348,7 @@ evaluate_call-returns-then-not-takes g t c =
     let here = c.len.ensures ∙ (c.loop-argument.values.ok.0 ∙ c.loop-argument.invariant.count) in
     let refused = Some (ListInStringContext (contexts.Function name) c.in_ok-value.value) in
     rw c.refuse_list.ensures (call_ends _ self c.in-Some.context c.in-Some.is name c.args.arguments.now r c.in_ok-callee.ensures.enters refused
-    (row_ends _ self c.args.host.now (look r name) c.args.arguments.now c.loop-argument.argument-index c.argument-item.result c.loop-argument-test.true c.argument-item.is c.loop-argument.values.items c.loop-argument.invariant.rest refused
+    (row_ends c.loop-argument.invariant.rest c.loop-argument-test.true c.argument-item.is refused
     (looked_at _ (look r name) _ _ c.in_ok-value.value _ here c.in_ok-value.ensures (c.takes.ensures.refused c.if-not-takes.true name))))
 
 pub evaluate_call-returns-in_err-push : goal.evaluate_call-returns-in_err-push
@@ -367,14 +357,13 @@ evaluate_call-returns-in_err-push g t c =
     let name = name_view c.args.name.now in
     let r = reached_view c.in_ok-callee.callee in
     let here = c.len.ensures ∙ (c.loop-argument.values.ok.0 ∙ c.loop-argument.invariant.count) in
-    let p = err_from_is_err_and c.from_residual-in_err-push.result c.from_residual-in_err-push.ensures.1 in
-    rw (p.1, p.2) (call_ends _ self c.in-Some.context c.in-Some.is name c.args.arguments.now r c.in_ok-callee.ensures.enters None
-    (row_cut _ self c.args.host.now (look r name) c.args.arguments.now c.loop-argument.argument-index c.argument-item.result c.loop-argument-test.true c.argument-item.is c.loop-argument.values.items c.loop-argument.invariant.rest c.in_ok-value.value
+    runs_exit _ _ _ c.from_residual-in_err-push.ensures.1 (call_ends _ self c.in-Some.context c.in-Some.is name c.args.arguments.now r
+    c.in_ok-callee.ensures.enters None
+    (row_cut c.loop-argument.invariant.rest c.loop-argument-test.true c.argument-item.is c.in_ok-value.value
     (looked_at _ (look r name) _ _ c.in_ok-value.value _ here c.in_ok-value.ensures (c.takes.ensures.given c.if-not-takes.false name))))
 
 pub evaluate_call-loop-argument-preserved : goal.evaluate_call-loop-argument-preserved
 evaluate_call-loop-argument-preserved g t c =
-    let self = c.args.self.now in
     let name = name_view c.args.name.now in
     let r = reached_view c.in_ok-callee.callee in
     let made = c.loop-argument.values.items in
@@ -382,9 +371,11 @@ evaluate_call-loop-argument-preserved g t c =
     let len : c.len.result ≡ length made = c.len.ensures ∙ c.loop-argument.values.ok.0 in
     record {
       count = rw c.in_ok-push.ensures.items (grind (arith, common_steps));
-      texts = rw c.in_ok-push.ensures.items (more_texts (requires_text r) value made c.loop-argument.invariant.texts (subst (λ i. requires_text r i ≡ true → length value ≡ 1) len (c.takes.ensures.text c.if-not-takes.false)));
-      rest = rw c.in_ok-push.ensures.items (row_next _ self c.args.host.now (look r name) c.args.arguments.now c.loop-argument.argument-index c.argument-item.result c.loop-argument-test.true c.argument-item.is made c.loop-argument.invariant.rest value
-          (looked_at _ (look r name) _ _ value _ (len ∙ c.loop-argument.invariant.count) c.in_ok-value.ensures (c.takes.ensures.given c.if-not-takes.false name)));
+      texts = rw c.in_ok-push.ensures.items (more_texts (requires_text r) value made c.loop-argument.invariant.texts
+          (subst (λ i. requires_text r i ≡ true → length value ≡ 1) len (c.takes.ensures.text c.if-not-takes.false)));
+      rest = rw c.in_ok-push.ensures.items (row_next c.loop-argument.invariant.rest c.loop-argument-test.true c.argument-item.is value
+          (looked_at _ (look r name) _ _ value _ (len ∙ c.loop-argument.invariant.count) c.in_ok-value.ensures
+          (c.takes.ensures.given c.if-not-takes.false name)));
     }
 
 pub evaluate_call-evaluate_defined_function-requires : goal.evaluate_call-evaluate_defined_function-requires
@@ -397,16 +388,18 @@ evaluate_call-returns-in-BuiltIn g t c =
     let self = c.args.self.now in
     let name = name_view c.args.name.now in
     let r = BuiltIn c.in-BuiltIn.function in
-    call_runs _ self c.in-Some.context c.in-Some.is name c.args.arguments.now r (rw c.in-BuiltIn.is at c.in_ok-callee.ensures.enters) c.loop-argument.values.items _
-    (row_all _ self c.args.host.now (look r name) c.args.arguments.now c.loop-argument.argument-index c.loop-argument.values.items c.loop-argument-test.false (rw c.in-BuiltIn.is at c.loop-argument.invariant.rest)) c.evaluate_builtin_function.ensures
+    call_runs _ self c.in-Some.context c.in-Some.is name c.args.arguments.now r (rw c.in-BuiltIn.is at c.in_ok-callee.ensures.enters)
+    c.loop-argument.values.items _
+    (row_all (rw c.in-BuiltIn.is at c.loop-argument.invariant.rest) c.loop-argument-test.false) c.evaluate_builtin_function.ensures
 
 pub evaluate_call-returns-in-Defined : goal.evaluate_call-returns-in-Defined
 evaluate_call-returns-in-Defined g t c =
     let self = c.args.self.now in
     let name = name_view c.args.name.now in
     let r = Defined (function_view c.in-Defined.function.now) c.in-Defined.calls_left in
-    call_runs _ self c.in-Some.context c.in-Some.is name c.args.arguments.now r (rw c.in-Defined.is at c.in_ok-callee.ensures.enters) c.loop-argument.values.items _
-    (row_all _ self c.args.host.now (look r name) c.args.arguments.now c.loop-argument.argument-index c.loop-argument.values.items c.loop-argument-test.false (rw c.in-Defined.is at c.loop-argument.invariant.rest)) c.evaluate_defined_function.ensures
+    call_runs _ self c.in-Some.context c.in-Some.is name c.args.arguments.now r (rw c.in-Defined.is at c.in_ok-callee.ensures.enters)
+    c.loop-argument.values.items _
+    (row_all (rw c.in-Defined.is at c.loop-argument.invariant.rest) c.loop-argument-test.false) c.evaluate_defined_function.ensures
 
 pub evaluate_value-returns-then-budget-lt-FORM : goal.evaluate_value-returns-then-budget-lt-FORM
 evaluate_value-returns-then-budget-lt-FORM g t c = runs_stopped _
@@ -415,14 +408,14 @@ pub evaluate_defined_function-returns-then-budget-lt-BODY : goal.evaluate_define
 evaluate_defined_function-returns-then-budget-lt-BODY g t c = runs_stopped _
 
 pub evaluate_defined_function-returns-in_err-scope : goal.evaluate_defined_function-returns-in_err-scope
-evaluate_defined_function-returns-in_err-scope g t c =
-    let p = err_from_is_err_and c.from_residual.result c.from_residual.ensures.1 in
-    rw (p.1, p.2) (runs_stopped _)
+evaluate_defined_function-returns-in_err-scope g t c = runs_exit _ _ _ c.from_residual.ensures.1 (runs_stopped _)
 
 pub evaluate_defined_function-returns : goal.evaluate_defined_function-returns
 evaluate_defined_function-returns g t c =
     let self = c.args.self.now in
     let function = c.args.function.now in
-    let bound : frames_view c.in_ok-scope.scope ≡ with_parameters [] (map parameter_view function.parameters.items) c.args.values.items ∷ frames_view self.below.now = rw (c.in_ok-scope.ensures, c.deref.ensures.value) refl in
+    let bound : frames_view c.in_ok-scope.scope ≡ with_parameters [] (map parameter_view function.parameters.items) c.args.values.items
+    ∷ frames_view self.below.now = rw (c.in_ok-scope.ensures, c.deref.ensures.value) refl in
     body_runs (program self) c.args.calls_left _ _ (view function.body) _
-    (inside_is (frames_view c.in_ok-scope.scope) (situation self) _ (function_view function) c.args.values.items bound refl) (rw c.in_body-evaluator.ensures at c.evaluate_value.ensures)
+    (inside_is (frames_view c.in_ok-scope.scope) (situation self) _ (function_view function) c.args.values.items bound refl)
+    (rw c.in_body-evaluator.ensures at c.evaluate_value.ensures)

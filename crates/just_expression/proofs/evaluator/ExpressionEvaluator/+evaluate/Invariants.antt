@@ -1,9 +1,5 @@
 use Rattle.std.proofs.Common.{◌≡◌, ◌*◌, ◌++◌, suc, List, length, string_bytes}
-use Rattle.just_syntax.specs.Plain.{Text}
-use Rattle.just_syntax.specs.View.{name_view}
-use Rattle.just_value.specs.Value.{Value}
-use Rattle.just_meaning.specs.Meaning.{as_it_is, flatten}
-use Rattle.just_expression.specs.Call.{look, reached_view, requires_text}
+use Rattle.just_expression.specs.Prelude.{Text, Value, as_it_is, flatten, look, name_view, reached_view, requires_text}
 use Rattle.just_expression.proofs.Rows.{PiecesLeft, RowLeft}
 use Rattle.just_expression.proofs.Texts.{AreTexts}
 use Rattle.just_expression.proofs.evaluator.ExpressionEvaluator.+evaluate.Given as goal
@@ -57,7 +53,8 @@ decreases-evaluate_or g l = suc (suc (3 * l.budget))
 
 -- the elements of the values so far
 abbrev pub invariant-evaluate_list-loop-element : goal.invariant-evaluate_list-loop-element
-invariant-evaluate_list-loop-element g l = (made : List Value) × (l.all ≡ flatten made) × RowLeft g.H.Host.step l.self l.fn.host as_it_is l.elements l.element-index l.host made
+invariant-evaluate_list-loop-element g l =
+    (made : List Value) × (l.all ≡ flatten made) × RowLeft g.H.Host.step l.self l.fn.host as_it_is l.elements l.element-index l.host made
 
 -- the values of the arguments so far, each a text where one is required
 abbrev pub invariant-evaluate_call-loop-argument : goal.invariant-evaluate_call-loop-argument
@@ -70,4 +67,5 @@ invariant-evaluate_call-loop-argument g l = record {
 -- the text after the start so far
 abbrev pub invariant-evaluate_format_string-loop-expression : goal.invariant-evaluate_format_string-loop-expression
 invariant-evaluate_format_string-loop-expression g l =
-    (made : Text) × (string_bytes l.text ≡ string_bytes l.start.cooked ++ made) × PiecesLeft g.H.Host.step l.self l.fn.host l.expressions l.expression-index l.host made
+    (made : Text) × (string_bytes l.text ≡ string_bytes l.start.cooked ++ made)
+    × PiecesLeft g.H.Host.step l.self l.fn.host l.expressions l.expression-index l.host made

@@ -1,7 +1,5 @@
 use Rattle.std.proofs.Common.{◌↔◌, map, length}
-use Rattle.just_syntax.specs.View.{function_view}
-use Rattle.just_resolution.specs.Admitted.{IsAdmitted, MayAllOccur}
-use Rattle.just_resolution.specs.Seen.{IsSameReader, expressions_view, is_name_in, is_readable}
+use Rattle.just_resolution.specs.Prelude.{IsAdmitted, IsSameReader, MayAllOccur, expressions_view, function_view, is_name_in, is_readable}
 use Rattle.just_resolution.proofs.here.Reader.may_all_occur.Given as goal
 
 -- all may occur exactly if the remaining ones may

@@ -1,7 +1,5 @@
 use Rattle.std.proofs.Common.{◌≡◌, ◌↔◌, IsTrue, map, drop}
-use Rattle.just_syntax.specs.View.{function_view, recipe_parameter_view}
-use Rattle.just_resolution.specs.Admitted.{IsAdmitted, MayFollowInTurn}
-use Rattle.just_resolution.specs.Seen.{is_name_in, is_readable}
+use Rattle.just_resolution.specs.Prelude.{IsAdmitted, MayFollowInTurn, function_view, is_name_in, is_readable, recipe_parameter_view}
 use Rattle.just_resolution.proofs.here.Reader.may_follow.Given as goal
 
 -- all may follow exactly if the remaining ones may, once the earlier ones are readable

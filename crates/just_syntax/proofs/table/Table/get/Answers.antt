@@ -1,5 +1,5 @@
 use Rattle.std.proofs.Common.{◌∙◌, ap}
-use Rattle.just_syntax.specs.Keyed.{value_at}
+use Rattle.just_syntax.specs.Prelude.{value_at}
 use Rattle.just_syntax.proofs.Kept.{value_at_kept}
 use Rattle.just_syntax.proofs.table.Table.get.Goals as goal
 

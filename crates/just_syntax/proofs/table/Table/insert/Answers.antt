@@ -1,6 +1,6 @@
 use Rattle.std.proofs.Common.{◌∙◌, ap, sym, subst}
 use Rattle.std.specs.Map.{values_of}
-use Rattle.just_syntax.specs.Keyed.{IsKeyed, with_value}
+use Rattle.just_syntax.specs.Prelude.{IsKeyed, with_value}
 use Rattle.just_syntax.proofs.Kept.{kept_insert, values_insert}
 use Rattle.just_syntax.proofs.table.Table.insert.Goals as goal
 

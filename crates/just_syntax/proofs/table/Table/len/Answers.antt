@@ -1,5 +1,5 @@
 use Rattle.std.proofs.Common.{subst}
-use Rattle.just_syntax.specs.Keyed.{IsInOrder}
+use Rattle.just_syntax.specs.Prelude.{IsInOrder}
 use Rattle.just_syntax.proofs.Kept.{in_order}
 use Rattle.just_syntax.proofs.table.Table.len.Goals as goal
 

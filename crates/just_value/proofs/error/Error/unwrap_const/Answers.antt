@@ -1,5 +1,5 @@
 use Rattle.std.proofs.Common.{inl, inr, ap}
-use Rattle.just_value.specs.View.{refusal}
+use Rattle.just_value.specs.Prelude.{refusal}
 use Rattle.just_value.proofs.error.Error.unwrap_const.Goals as goal
 
 -- the omitted arms are refusals that constant evaluation does not have

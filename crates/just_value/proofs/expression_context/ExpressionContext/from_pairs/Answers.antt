@@ -6,4 +6,5 @@ use Rattle.just_value.proofs.Named.{is_named, last_first}
 use Rattle.just_value.proofs.expression_context.ExpressionContext.from_pairs.Goals as goal
 
 pub returns : goal.returns
-returns c = IfOk-weaker c.from_first.result _ _ (λ context is name. is name ∙ ap (lookup (is_named name)) c.in_ok-pairs_backwards.ensures ∙ last_first parameter_view (λ p. (p.0.token.lexeme, p.1)) (λ p. (refl, refl)) c.args.pairs.now name) c.from_first.ensures
+returns c = IfOk-weaker c.from_first.result _ _ (λ context is name. is name ∙ ap (lookup (is_named name)) c.in_ok-pairs_backwards.ensures
+    ∙ last_first parameter_view (λ p. (p.0.token.lexeme, p.1)) (λ p. (refl, refl)) c.args.pairs.now name) c.from_first.ensures

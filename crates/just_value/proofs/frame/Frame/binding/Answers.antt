@@ -1,5 +1,5 @@
 use Rattle.std.proofs.Common.{sym, subst}
-use Rattle.just_value.specs.Rising.{AreRising}
+use Rattle.just_value.specs.Prelude.{AreRising}
 use Rattle.just_value.proofs.Framed.{bound_found, bound_missing}
 use Rattle.just_value.proofs.frame.Frame.binding.Goals as goal
 

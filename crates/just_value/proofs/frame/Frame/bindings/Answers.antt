@@ -1,6 +1,6 @@
 use Rattle.std.proofs.Common.{ap, map, ◌∙◌}
 use Rattle.std.specs.Map.{values_of}
-use Rattle.just_value.specs.View.{bound_view, frame_view}
+use Rattle.just_value.specs.Prelude.{bound_view, frame_view}
 use Rattle.just_value.proofs.Framed.{rising_seen, values_seen}
 use Rattle.just_value.proofs.frame.Frame.bindings.Goals as goal
 

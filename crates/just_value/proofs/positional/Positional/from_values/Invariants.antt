@@ -1,6 +1,5 @@
 use Rattle.std.proofs.Common.{◌≡◌, map}
-use Rattle.just_value.specs.Positional.{positional}
-use Rattle.just_value.specs.View.{positional_view}
+use Rattle.just_value.specs.Prelude.{positional, positional_view}
 use Rattle.just_value.proofs.positional.Positional.from_values.Given as goal
 
 abbrev pub invariant-loop-value : goal.invariant-loop-value

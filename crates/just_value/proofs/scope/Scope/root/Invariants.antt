@@ -1,6 +1,5 @@
 use Rattle.std.proofs.Common.{◌≡◌, [], drop, map}
-use Rattle.just_value.specs.Frames.{with_constants}
-use Rattle.just_value.specs.View.{constant_view, frame_view}
+use Rattle.just_value.specs.Prelude.{constant_view, frame_view, with_constants}
 use Rattle.just_value.proofs.scope.Scope.root.Given as goal
 
 -- adding the remaining constants to the frame so far gives the frame of all constants

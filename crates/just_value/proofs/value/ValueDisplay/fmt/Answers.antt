@@ -3,7 +3,7 @@ use Rattle.std.specs.Fmt.{HasWrittenStyled}
 use Rattle.std.specs.List.{join_by}
 use Rattle.std.proofs.Output.{has_written_styled_append, has_written_styled_of_eq}
 use Rattle.std.proofs.lemmas.List.{take_all, length-map}
-use Rattle.just_value.specs.Shown.{quoted}
+use Rattle.just_value.specs.Prelude.{quoted}
 use Rattle.just_value.proofs.Texts.{joined_more, shown_many}
 use Rattle.just_value.proofs.value.ValueDisplay.fmt.Goals as goal
 
@@ -22,6 +22,10 @@ returns-clause-styled g c = λ flush ok.
     let xs = c.elements-elements.result.now in
     let start : HasWrittenStyled took c.args.f.now (codes "[") c.write_str.new.self = c.in_ok-write_str.ensures.styled flush (refl {a = true}) in
     let all = c.loop-i.invariant start.flush in
-    let whole : take c.loop-i.i c.elements-elements.result.now ≡ c.elements-elements.result.now = take_all c.loop-i.i c.elements-elements.result.now (omega arith) in
+    let whole : take c.loop-i.i c.elements-elements.result.now ≡ c.elements-elements.result.now =
+    take_all c.loop-i.i c.elements-elements.result.now (omega arith) in
     let many : length (map string_bytes c.elements-elements.result.now) ≢ 1 = λ e. c.if-elements-eq1.false (sym (rw length-map refl) ∙ e) in
-    has_written_styled_of_eq took _ _ _ _ (sym (rw (← c.elements-elements.ensures) (shown_many (map string_bytes xs) many ∙ ap (λ (ys : List (String Global)). codes "[" ++ (join_by quoted (codes ", ") (map string_bytes ys) ++ codes "]")) (sym whole)))) (has_written_styled_append took _ _ _ _ _ start (has_written_styled_append took _ _ _ _ _ all (c.write_str-2.ensures.styled all.flush ok)))
+    has_written_styled_of_eq took _ _ _ _
+    (sym (rw (← c.elements-elements.ensures) (shown_many (map string_bytes xs) many
+    ∙ ap (λ (ys : List (String Global)). codes "[" ++ (join_by quoted (codes ", ") (map string_bytes ys) ++ codes "]")) (sym whole))))
+    (has_written_styled_append took _ _ _ _ _ start (has_written_styled_append took _ _ _ _ _ all (c.write_str-2.ensures.styled all.flush ok)))

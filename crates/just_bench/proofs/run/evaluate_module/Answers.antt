@@ -1,6 +1,6 @@
 use Rattle.just_bench.proofs.Printed.{run_printed}
 use Rattle.just_bench.proofs.Seen.{recorder_seen}
-use Rattle.just_bench.proofs.run.print_evaluation.Goals as goal
+use Rattle.just_bench.proofs.run.evaluate_module.Goals as goal
 
 pub returns-clause-answer : goal.returns-clause-answer
 returns-clause-answer g c =
@@ -8,4 +8,4 @@ returns-clause-answer g c =
     c.in_ok-resolved.ensures
     (λ resolved. recorder_seen _ _ _ c.requires.fresh (c.evaluate-outcome.ensures.headline resolved))
     (recorder_seen _ _ _ c.requires.fresh c.evaluate-outcome.ensures.dynamic)
-    c.in_ok-print_resolved.ensures c.in_ok-print_questions.ensures c.questions.ensures c.print_outcome.ensures.printed c.print_outcome.ensures.ends
+    c.in_ok-print_unless_resolved.ensures c.in_ok-print_questions.ensures c.questions.ensures c.print_outcome.ensures.printed c.print_outcome.ensures.ends

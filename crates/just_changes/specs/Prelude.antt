@@ -1,0 +1,18 @@
+-- The names that the contracts and proofs of this crate share, passed on from one place. Declares nothing.
+pub use Rattle.just_laws.specs.Cone.{HaveSameCone, assignment_numbered}
+pub use Rattle.just_meaning.specs.Module.{Module}
+pub use Rattle.just_meaning.specs.Reaches.{CallOf, function_at}
+pub use Rattle.just_resolution.specs.Seen.{is_number_in, site_view, sites_view}
+pub use Rattle.just_resolution.specs.Sites.{Site, sites_in}
+pub use Rattle.just_syntax.specs.Lists.{IsIn}
+pub use Rattle.just_syntax.specs.Plain.{Assignment, Call, Expr, Function, Text}
+pub use Rattle.just_syntax.specs.View.{assert_view, assignment_view, conditional, function_view, join, literal_view}
+pub use Rattle.just_syntax.specs.View.{name_view, parameter_view, piece_views, token_view, view, views}
+pub use Rattle.just_value.specs.Frames.{Frames}
+pub use Rattle.just_value.specs.View.{frames_view}
+pub use Rattle.just_changes.specs.Changed.{AreAlikeAt, IsOver}
+pub use Rattle.just_changes.specs.Nodes.{AmongSites, AssignmentReads, FunctionReads, IsFree, IsOneMention}
+pub use Rattle.just_changes.specs.Nodes.{IsOneVariable, IsReached, IsTouchedBetween, IsUnchanged, Mentions, OfFunction}
+pub use Rattle.just_changes.specs.Nodes.{OfVariable, PlainNode, ReadsItself, Starts, Version}
+pub use Rattle.just_changes.specs.View.{IsWhole, all_nodes, assignment_in, found_nodes, is_touched, node_view}
+pub use Rattle.just_changes.specs.View.{nodes_view, readers_of, size, total, version_view}
