@@ -157,7 +157,6 @@ order_prints {m = m} old mid new host kept outer frames coming asked kept_is fra
         lines = added.printed;
         walks = walks;
         lexical = λ resolved. turns_lexical outer resolved walks.walk;
-        text =
-            ap (λ coming. order_line (names_of coming) ++ added.printed) coming_is;
+        text = ap (λ coming. order_line (names_of coming) ++ added.printed) coming_is;
       };
     }

@@ -26,8 +26,7 @@ case_constants c = record {
   assignments = record {
     all = c.assignments;
     order = c.evaluation_order;
-    referenced =
-        const_references c.references c.assignments;
+    referenced = const_references c.references c.assignments;
   };
   overrides = c.overrides;
 }

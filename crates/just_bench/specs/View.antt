@@ -34,10 +34,8 @@ run_view run = record {
   };
   assignments = record {
     all = map assignment_view run.module.assignments;
-    order =
-        map name_view run.module.evaluation_order.items;
-    referenced =
-        referenced_in (option_map number_set_view run.references);
+    order = map name_view run.module.evaluation_order.items;
+    referenced = referenced_in (option_map number_set_view run.references);
   };
   limit = max run.recursion_limit 1;
   overrides = text_numbered run.overrides;
@@ -55,8 +53,7 @@ abbrev pub stage_view : Stage → Constants
 stage_view stage = record {
   assignments = record {
     all = map assignment_view stage.assignments;
-    order =
-        map name_view stage.evaluation_order.items;
+    order = map name_view stage.evaluation_order.items;
     referenced = number_set_view stage.references;
   };
   overrides = text_numbered stage.overrides;

@@ -128,7 +128,6 @@ module _ {S : Type 0} (step : Step S) where
       record {
         events = answered _ a ∷ r.events;
         path = asks (subst (λ t. Path freely (tree shown t) r.events o) (sym (is rest)) r.path);
-        chain =
-            (_, taken, r.chain);
+        chain = (_, taken, r.chain);
       }
   asked_or shown q next a (Err e) taken is = λ rest. asked shown q (next rest) a (Err e) taken (gives_err (λ other. next other a) e is rest)

@@ -81,8 +81,7 @@ assigns name export number (e ∷ es) assignments =
       eager = false;
       export = export;
       name = token_of name;
-      number =
-          number;
+      number = number;
       private = false;
       value = e;
     })

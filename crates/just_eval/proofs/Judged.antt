@@ -20,8 +20,7 @@ judged_by calls check r p v answer o says outcome_is = record {
     answer = answer;
     says = says;
     at_recipe = refl;
-    at_parameter =
-        refl;
+    at_parameter = refl;
     at_value = refl;
     is = refl;
   };

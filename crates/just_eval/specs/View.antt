@@ -89,8 +89,7 @@ abbrev pub stage_state_of : Evaluator → StageState
 stage_state_of e = record {
   lists = e.lists;
   frames = frames_view e.scope;
-  is_open =
-      λ n. list_any (nat_eq n) e.non_const_assignments.keys;
+  is_open = λ n. list_any (nat_eq n) e.non_const_assignments.keys;
 }
 
 abbrev pub rules_of : Evaluator → Rules

@@ -26,8 +26,7 @@ empty_root source directory = record {
   assignments = [];
   evaluation_order = [];
   functions = [];
-  module_path =
-      [];
+  module_path = [];
   settings = unset;
   source = source;
   submodule = false;

@@ -20,8 +20,7 @@ called_in directory = record {
   invocation_directory = directory;
   jobs = None;
   quiet = false;
-  shell =
-      None;
+  shell = None;
   shell_args = None;
   shell_command = false;
 }

@@ -43,8 +43,7 @@ config_view c = record {
   jobs = c.jobs;
   quiet = c.quiet;
   shell = option_map string_bytes c.shell;
-  shell_args =
-      option_map (λ words. map string_bytes words.items) c.shell_args;
+  shell_args = option_map (λ words. map string_bytes words.items) c.shell_args;
   shell_command = c.shell_command;
 }
 

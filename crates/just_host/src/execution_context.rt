@@ -46,8 +46,7 @@ impl<'src, 'run> ExecutionContext<'src, 'run> {
           config = config.entry;
           dotenv = dotenv.entry;
           «module» = «module».entry;
-          overrides =
-              overrides.entry;
+          overrides = overrides.entry;
           recursion_limit = RECURSION_LIMIT;
           scope = scope.entry;
           search = search.entry;

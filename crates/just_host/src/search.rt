@@ -26,8 +26,7 @@ impl Search {
     ) -> Result<Search, OutOfMemory>
         ensures { IfOk result (λ search. search_view search ≡ record {
           justfile = justfile.now;
-          working_directory =
-              working_directory.now;
+          working_directory = working_directory.now;
         }) }
     {
         Ok(Search {

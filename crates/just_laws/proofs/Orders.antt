@@ -219,8 +219,7 @@ everywhere m order referenced outer = record {
   limit = refl;
   overrides = λ n any. refl;
   assignments = λ n any. refl;
-  functions =
-      λ a any e name reached. refl;
+  functions = λ a any e name reached. refl;
   closed = λ a any e n read. tt;
 }
 

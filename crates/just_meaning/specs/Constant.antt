@@ -35,8 +35,7 @@ nowhere = record {
       jobs = None;
       quiet = false;
       shell = None;
-      shell_args =
-          None;
+      shell_args = None;
       shell_command = false;
     };
     dotenv = [];

@@ -27,8 +27,7 @@ in_recipe program calls base environment is_dependency recipe frames = record {
     names = value_in frames;
     environment = environment;
     recipe = recipe;
-    is_dependency =
-        is_dependency;
+    is_dependency = is_dependency;
     lists = program.fixed.settings.lists;
     shown = frames;
     below = base;

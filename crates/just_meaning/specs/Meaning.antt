@@ -99,8 +99,7 @@ built_in_context c s t = record {
   environment = s.environment;
   fixed = c.fixed;
   is_dependency = s.is_dependency;
-  name =
-      t;
+  name = t;
   recipe = s.recipe;
 }
 

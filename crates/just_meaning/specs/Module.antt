@@ -38,8 +38,7 @@ bound_of export a v = record {
   eager = a.eager;
   export = a.export || export;
   file_depth = 0;
-  name =
-      a.name;
+  name = a.name;
   number = a.number;
   prelude = false;
   private = a.private;

@@ -82,8 +82,7 @@ constants_of assignments order overrides references = record {
   assignments = record {
     all = map assignment_view assignments;
     order = map name_view order;
-    referenced =
-        λ n. list_any (nat_eq n) references.keys;
+    referenced = λ n. list_any (nat_eq n) references.keys;
   };
   overrides = text_numbered overrides;
 }

@@ -60,8 +60,7 @@ AnswersByScript old (TextOf q) answer new =
       always = old.always;
       replies = old.replies;
       texts = after_first old.texts;
-      exists =
-          old.exists;
+      exists = old.exists;
       numbers = old.numbers;
     })
 AnswersByScript old (ExistsAt path) answer new =
@@ -70,8 +69,7 @@ AnswersByScript old (ExistsAt path) answer new =
       always = old.always;
       replies = old.replies;
       texts = old.texts;
-      exists =
-          after_first old.exists;
+      exists = after_first old.exists;
       numbers = old.numbers;
     })
 AnswersByScript old (NumberOf q) answer new =
@@ -81,6 +79,5 @@ AnswersByScript old (NumberOf q) answer new =
       replies = old.replies;
       texts = old.texts;
       exists = old.exists;
-      numbers =
-          after_first old.numbers;
+      numbers = after_first old.numbers;
     })

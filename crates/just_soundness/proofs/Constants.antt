@@ -137,6 +137,5 @@ const_outcome {step = step} {old = old} {new = new} is_open t o h r =
     record {
       determined = determined;
       still = const_asks_nothing IsConstEval is_open step old new t h r.path r.chain;
-      few =
-          unless_such IsConstEval o _ determined (const_refused IsConstEval is_open t (shut_such IsConstEval (λ c. tt) is_open) h);
+      few = unless_such IsConstEval o _ determined (const_refused IsConstEval is_open t (shut_such IsConstEval (λ c. tt) is_open) h);
     }

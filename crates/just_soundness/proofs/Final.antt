@@ -22,8 +22,7 @@ permits_final : Permits IsFinal
 permits_final = record {
   forms = record { assertion = λ message t. tt; operation = λ l o r t. tt; regex = λ t. tt };
   command = λ t f. tt;
-  function =
-      λ t message. tt;
+  function = λ t message. tt;
   list = λ context v. tt;
 }
 

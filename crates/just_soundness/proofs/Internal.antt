@@ -40,8 +40,7 @@ IsNeverInternal t = AllEnd IsNotInternal t
 permits_others : Permits IsOther
 permits_others = record {
   forms = record { assertion = λ message t none. none; operation = λ l o r t none. none; regex = λ t none. none };
-  command =
-      λ t f none. none;
+  command = λ t f none. none;
   function = λ t message none. none;
   list = λ context v none. none;
 }

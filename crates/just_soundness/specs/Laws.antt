@@ -37,8 +37,7 @@ with_frames shown below s = record {
   names = s.names;
   environment = s.environment;
   recipe = s.recipe;
-  is_dependency =
-      s.is_dependency;
+  is_dependency = s.is_dependency;
   lists = s.lists;
   shown = shown;
   below = below;

@@ -112,8 +112,7 @@ assignment_view a = record {
   export = a.export;
   name = name_view a.name;
   number = a.number;
-  private =
-      a.private;
+  private = a.private;
   value = view a.value;
 }
 

@@ -26,8 +26,7 @@ impl<'src> Assignment<'src> {
           eager = false;
           export = false;
           name = name_view name.entry;
-          number =
-              number;
+          number = number;
           private = false;
           value = view value.entry;
         } }

@@ -26,8 +26,7 @@ impl<'src> FunctionDefinition<'src> {
         ensures { function_view result ≡ record {
           body = view body.entry;
           name = name_view name.entry;
-          parameters =
-              map parameter_view parameters.entry.items;
+          parameters = map parameter_view parameters.entry.items;
         } }
     {
         FunctionDefinition {

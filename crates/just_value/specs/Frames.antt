@@ -77,8 +77,7 @@ plainly_bound name n v = record {
   export = false;
   file_depth = 0;
   name = name;
-  number =
-      n;
+  number = n;
   prelude = false;
   private = false;
   value = v;
@@ -91,8 +90,7 @@ constant_bound n key v = record {
   eager = false;
   export = false;
   file_depth = 0;
-  name =
-      record { column = 0; line = 0; offset = 0; lexeme = key; path = codes "PRELUDE" };
+  name = record { column = 0; line = 0; offset = 0; lexeme = key; path = codes "PRELUDE" };
   number = n;
   prelude = true;
   private = false;

@@ -51,8 +51,7 @@ abbrev pub after_overrides : Text → List Text → Positional
 after_overrides word words = if is_dots word then record {
   arguments = words;
   overrides = [];
-  search_directory =
-      Some word;
+  search_directory = Some word;
 } else with_directory word words (directory_and_tail word)
 
 -- the meaning of a word followed by others: it is an override, or the first word after the overrides
@@ -61,8 +60,7 @@ with_first word words meant (Some override) =
     record {
       arguments = meant.arguments;
       overrides = override ∷ meant.overrides;
-      search_directory =
-          meant.search_directory;
+      search_directory = meant.search_directory;
     }
 with_first word words meant None = after_overrides word words
 

@@ -41,13 +41,11 @@ bound_view b = record {
   attributes = attributes_view b.attributes;
   eager = b.eager;
   export = b.export;
-  file_depth =
-      b.file_depth;
+  file_depth = b.file_depth;
   name = name_view b.name;
   number = b.number;
   prelude = b.prelude;
-  private =
-      b.private;
+  private = b.private;
   value = b.value;
 }
 
@@ -151,8 +149,6 @@ looked_up context name = lookup (λ key. bytes_eq name key.now) context.bindings
 abbrev pub positional_view : declared_positional.Positional → Positional
 positional_view p = record {
   arguments = map string_bytes p.arguments.items;
-  overrides =
-      map (λ o. (string_bytes o.0, string_bytes o.1)) p.overrides.items;
-  search_directory =
-      option_map string_bytes p.search_directory;
+  overrides = map (λ o. (string_bytes o.0, string_bytes o.1)) p.overrides.items;
+  search_directory = option_map string_bytes p.search_directory;
 }

@@ -38,8 +38,7 @@ impl Host for MapHost {
         (answer_to (record {
           commands = text_for_key old.commands;
           variables = text_for_key old.variables;
-          files =
-              text_for_key old.files;
+          files = text_for_key old.files;
         }) question.blind) };
 
     fn command(

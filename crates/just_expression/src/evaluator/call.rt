@@ -141,8 +141,7 @@ impl<'src, 'run, 'here> ExpressionEvaluator<'src, 'run, 'here> {
         ensures { result ≡ record {
           env = self.now.env;
           execution_context = context.entry;
-          is_dependency =
-              self.now.is_dependency;
+          is_dependency = self.now.is_dependency;
           name = name.now;
           recipe = option_copied self.now.recipe;
           scope = self.now.scope;

@@ -21,8 +21,7 @@ returns c = λ x y.
       record {
         first = c.is_first.ensures.0 c.if-not-is_first.false;
         free = c.is_free.ensures.0 c.if-not-is_free.false;
-        mentions =
-            mentions_alike own (λ k. ⊥) body (λ n k. absurd k) x p.1;
+        mentions = mentions_alike own (λ k. ⊥) body (λ n k. absurd k) x p.1;
       },
     ))
     (λ q. (q.0, mentions_alike (λ k. ⊥) own body (λ n k. none n k) x q.1.mentions))

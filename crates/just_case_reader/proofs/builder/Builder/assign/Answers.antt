@@ -18,15 +18,13 @@ returns c =
       name = c.name-name.result;
       number = c.in_ok-number.number;
       private = false;
-      value =
-          c.in_ok-value.value;
+      value = c.in_ok-value.value;
     } in
     let seen : assignment_view a ≡ record {
       eager = false;
       export = c.args.export;
       name = token_of c.args.lexeme.now;
-      number =
-          number_of (numbering_view c.args.self.now.numbering) c.args.lexeme.now;
+      number = number_of (numbering_view c.args.self.now.numbering) c.args.lexeme.now;
       private = false;
       value = view c.in_ok-value.value;
     } =

@@ -15,8 +15,7 @@ returns c = λ text are.
     let seen : function_view f ≡ record {
       body = view c.in_ok-body.body;
       name = token_of c.args.lexeme.now;
-      parameters =
-          parameters_with_numbers (numbering_view c.args.self.now.numbering) (map (λ name. name.now) c.args.parameters.now);
+      parameters = parameters_with_numbers (numbering_view c.args.self.now.numbering) (map (λ name. name.now) c.args.parameters.now);
     } =
     rw (c.name.ensures, c.in_ok-parameters.ensures.parameters) refl in
     let named = ap defined_name seen in

@@ -15,8 +15,7 @@ taking c = record {
   functions = c.args.self.now.functions;
   here = c.loop-parameter.self.here;
   bodies = c.args.self.now.bodies;
-  admitted =
-      c.loop-parameter.self.admitted;
+  admitted = c.loop-parameter.self.admitted;
 }
 
 same : (c : After-may_all_occur) → IsSameReader (taking c) c.loop-parameter.self
