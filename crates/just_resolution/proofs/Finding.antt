@@ -11,10 +11,6 @@ pub some_seen : {A F : Type 0} (seen : A → F) (o : Option A) → is_some (opti
 some_seen seen None = refl
 some_seen seen (Some x) = refl
 
-pub none_or_some : {A : Type 0} (o : Option A) → is_some o ≡ false → o ≡ None
-none_or_some None h = refl
-none_or_some (Some x) h = absurd (let e : true ≡ false = h in cc)
-
 module _ {X F : Type 0} (sound : X → Type 0) (faulty : X → F → Type 0) where
   first_left : (xs ys : List X) (f : F) → IsFirstFaulty sound (λ x. faulty x f) xs → IsFirstFaulty sound (λ x. faulty x f) (xs ++ ys)
   first_left [] ys f h = absurd h

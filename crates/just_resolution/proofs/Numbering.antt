@@ -1,37 +1,36 @@
 -- Checking numbers, one after another.
 use Rattle.std.proofs.Common.{◌≡◌, ◌↔◌, ◌⊎◌, inl, inr, ⊎_elim, ℕ, Bool, true, false, not, List, [], ◌∷◌, Some, None, refl, sym, ◌∙◌, subst, IsTrue}
-use Rattle.std.specs.BTreeSet.{BTreeSet}
 use Rattle.std.proofs.lemmas.Bool.{not-false, not-true}
-use Rattle.just_resolution.specs.Prelude.{Assignments, Finds, Frames, Function, IsFaulty, IsIn, IsSound, NumberOf, Token, is_number_in, number_places}
+use Rattle.just_resolution.specs.Prelude.{Assignments, Finds, Frames, Function, IsFaulty, IsIn, IsSound, NumberOf, Token, number_places}
 use Rattle.just_resolution.specs.Fault.{DuplicateNumber}
 use Rattle.just_resolution.proofs.Finding.{Leads, leads_off, leads_on}
 
 -- A list of the numbers seen so far, with the same members as the set; and what is found in the rest is found in all.
-pub record IsCountedTo (seen : BTreeSet ℕ) (left all : List (Token × ℕ)) : Type 0 where
+pub record IsCountedTo (seen : ℕ → Bool) (left all : List (Token × ℕ)) : Type 0 where
   pub earlier : List ℕ
-  pub same : (n : ℕ) → IsIn earlier n ↔ IsTrue (is_number_in seen n)
+  pub same : (n : ℕ) → IsIn earlier n ↔ IsTrue (seen n)
   pub leads : (functions : List Function) (assignments : Assignments) (outer : Frames)
       → Leads (IsSound functions assignments outer) (IsFaulty functions assignments outer) (number_places earlier left) (number_places [] all)
 
 -- no number was seen yet
-pub counts_from : (seen : BTreeSet ℕ) (all : List (Token × ℕ)) → ((n : ℕ) → is_number_in seen n ≡ false) → IsCountedTo seen all all
+pub counts_from : (seen : ℕ → Bool) (all : List (Token × ℕ)) → ((n : ℕ) → seen n ≡ false) → IsCountedTo seen all all
 counts_from seen all none = record {
   earlier = [];
   same = λ n. ((λ h. absurd h), (λ h. absurd (let e : false ≡ true = sym (none n) ∙ h in cc)));
   leads = λ functions assignments outer r h. h;
 }
 
-module _ (seen : BTreeSet ℕ) (p : Token × ℕ) (left start all : List (Token × ℕ)) (added : Bool) (is : start ≡ p ∷ left)
-    (new : added ≡ not (is_number_in seen p.1)) (counted : IsCountedTo seen start all) where
+module _ (seen : ℕ → Bool) (p : Token × ℕ) (left start all : List (Token × ℕ)) (added : Bool) (is : start ≡ p ∷ left)
+    (new : added ≡ not (seen p.1)) (counted : IsCountedTo seen start all) where
   next : IsCountedTo seen (p ∷ left) all
   next = subst (λ xs. IsCountedTo seen xs all) is counted
 
   -- one more number was seen
-  pub counts_on : (more : BTreeSet ℕ) → added ≡ true → ((n : ℕ) → IsTrue (is_number_in more n) ↔ ((p.1 ≡ n) ⊎ IsTrue (is_number_in seen n)))
+  pub counts_on : (more : ℕ → Bool) → added ≡ true → ((n : ℕ) → IsTrue (more n) ↔ ((p.1 ≡ n) ⊎ IsTrue (seen n)))
       → IsCountedTo more left all
   counts_on more on adds =
       let c = next in
-      let out : is_number_in seen p.1 ≡ false = not-true (is_number_in seen p.1) (sym new ∙ on) in
+      let out : seen p.1 ≡ false = not-true (seen p.1) (sym new ∙ on) in
       record {
         earlier = p.1 ∷ c.earlier;
         same = λ n. (
@@ -41,7 +40,7 @@ module _ (seen : BTreeSet ℕ) (p : Token × ℕ) (left start all : List (Token 
         leads = λ functions assignments outer.
             leads_on (IsSound functions assignments outer) (IsFaulty functions assignments outer) (number_places c.earlier (p ∷ left))
             (number_places (p.1 ∷ c.earlier) left) (number_places [] all) (c.leads functions assignments outer)
-            (NumberOf p.0 p.1 c.earlier) refl (λ one. let there : is_number_in seen p.1 ≡ true = (c.same p.1).0 one in let e : false ≡ true =
+            (NumberOf p.0 p.1 c.earlier) refl (λ one. let there : seen p.1 ≡ true = (c.same p.1).0 one in let e : false ≡ true =
             sym out ∙ there in cc);
       }
 
@@ -52,10 +51,10 @@ module _ (seen : BTreeSet ℕ) (p : Token × ℕ) (left start all : List (Token 
       let c = next in
       leads_off (IsSound functions assignments outer) (IsFaulty functions assignments outer) (number_places c.earlier (p ∷ left))
       (number_places (p.1 ∷ c.earlier) left) (number_places [] all) (c.leads functions assignments outer)
-      (NumberOf p.0 p.1 c.earlier) (DuplicateNumber p.0) refl (refl, (c.same p.1).1 (not-false (is_number_in seen p.1) (sym new ∙ off)))
+      (NumberOf p.0 p.1 c.earlier) (DuplicateNumber p.0) refl (refl, (c.same p.1).1 (not-false (seen p.1) (sym new ∙ off)))
 
 -- all were seen
-pub counts_end : (seen : BTreeSet ℕ) (left all : List (Token × ℕ)) → left ≡ [] → IsCountedTo seen left all
+pub counts_end : (seen : ℕ → Bool) (left all : List (Token × ℕ)) → left ≡ [] → IsCountedTo seen left all
     → (functions : List Function) (assignments : Assignments) (outer : Frames) →
     Finds (IsSound functions assignments outer) (IsFaulty functions assignments outer) (number_places [] all) None
 counts_end seen left all none counted functions assignments outer = let c =

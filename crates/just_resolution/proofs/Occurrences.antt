@@ -119,16 +119,6 @@ fault_unknown functions t (CallOf name n) f h known =
     let e : None ≡ Some f = rw on at h in
     cc
 
--- a mention without a fault is known
-pub no_fault_known : (functions : List Function) (t : Token) (x : Mention) → mention_fault functions t x ≡ None → IsKnown functions x
-no_fault_known functions t (VariableOf None) h = absurd (cc)
-no_fault_known functions t (VariableOf (Some n)) h = tt
-no_fault_known functions t (CallOf name n) h = by (accepts (callee functions name) n) refl
-  where
-    by : (b : Bool) → accepts (callee functions name) n ≡ b → IsKnown functions (CallOf name n)
-    by true on = (callable (callee functions name) n).0 on
-    by false off = absurd (let e = rw off at h in cc)
-
 -- ---- what has a number
 
 all_true : (test : Mention → Bool) (ss : List Site) → IsTrue (list_all (λ s. test s.mention) ss) ↔ AllByRecursion (λ s. IsTrue (test s.mention)) ss

@@ -1,8 +1,8 @@
 -- What the parts of a test decide.
-use Rattle.std.proofs.Common.{◌≡◌, ◌↔◌, ◌++◌, ◌⊎◌, ℕ, List, [], map, Bool, true, false, ⊎_elim, inl, inr}
+use Rattle.std.proofs.Common.{◌≡◌, ◌↔◌, ◌++◌, ◌⊎◌, ℕ, List, [], map, Bool, true, false}
 use Rattle.just_resolution.specs.Prelude.{AllKnown, AllNumbered, AllReadable, AreAssignments, AreDistinct, AreInOrder, AreReadableInTurn, Assignment}
-use Rattle.just_resolution.specs.Prelude.{Assignments, Expr, Frames, Function, HasValue, IsIn, IsResolved, IsResolvedConst, Parameter, ReadsReadable}
-use Rattle.just_resolution.specs.Prelude.{ReadsWithin, Token, attribute_expressions, parameter_expressions, parameter_numbers, value_in}
+use Rattle.just_resolution.specs.Prelude.{Assignments, Expr, Frames, Function, HasValue, IsIn, IsResolved, IsResolvedConst, Parameter}
+use Rattle.just_resolution.specs.Prelude.{Token, attribute_expressions, parameter_expressions, parameter_numbers, value_in}
 use Rattle.just_syntax.specs.Plain.{Attribute}
 use Rattle.just_meaning.specs.Here.{IsResolvedHere}
 
@@ -47,12 +47,4 @@ pub is_resolved_here : (functions : List Function) (assignments : List Assignmen
 is_resolved_here functions assignments base frames attributes parameters expressions A distinct unbound bodies all = (
   (λ a. let h = all.0 a in record { distinct = distinct; unbound = unbound; known = h.0; bodies = bodies; readable = h.1; in_turn = h.2 }),
   (λ r. all.1 (r.known, r.readable, r.in_turn)),
-)
-
--- if the same is readable here and in bodies
-pub within_reads : {A : Type 0} (functions : List Function) (readable : ℕ → Bool) (a : Assignment) → A ↔ ReadsWithin functions a.value readable readable
-    → A ↔ ReadsReadable functions readable a
-within_reads functions readable a h = (
-  (λ x n reads. ⊎_elim (λ s. (h.0 x).0 n s) (λ b. (h.0 x).1 n b) reads),
-  (λ reads. h.1 ((λ n s. reads n (inl s)), (λ n b. reads n (inr b)))),
 )

@@ -1,32 +1,24 @@
 -- The members of sets after an insertion, and the rest of lists.
-use Rattle.std.proofs.Common.{◌≡◌, ◌↔◌, ◌⊎◌, inl, inr, ⊎_elim, ℕ, suc, ◌+◌, ◌-◌, ◌<◌, arith, length-drop, Bool, true, false, cond, List, [], ◌∷◌, ◌++◌, length}
-use Rattle.std.proofs.Common.{map, take, drop, drop-cons, add-one, get_or, Bor, refl, ap, sym, ◌∙◌, subst, IsTrue}
+use Rattle.std.proofs.Common.{◌≡◌, ◌↔◌, ◌⊎◌, inl, inr, ⊎_elim, ℕ, suc, ◌+◌, ◌-◌, ◌<◌, arith, length-drop, true, false, cond, List, [], ◌∷◌, ◌++◌, length}
+use Rattle.std.proofs.Common.{map, take, drop, drop-cons, add-one, get_or, Bor, ap, sym, ◌∙◌, subst, IsTrue}
 use Rattle.std.specs.Bool.{Decides}
 use Rattle.std.specs.BTreeSet.{BTreeSet, contains}
 use Rattle.std.specs.BTreeMap.{is_at}
-use Rattle.std.specs.Cmp.{unsigned_tied}
 use Rattle.std.specs.Cmp.Lexicographic.{slice_cmp}
 use Rattle.std.specs.List.{list_any}
 use Rattle.std.specs.declared.cmp.Ordering.{Ordering}
 use Rattle.std.specs.Ordering.{eq_by_cmp, is_eq, nat_cmp}
-use Rattle.std.proofs.lemmas.Bool.{eq-eqb, eqb-true}
 use Rattle.std.proofs.lemmas.List.{drop-map, map_more, take_all}
 use Rattle.std.proofs.Math.Seq.{drop-append_seam}
 use Rattle.std.proofs.lemmas.Map.Text.{is_eq-slice_cmp}
 use Rattle.std.proofs.lemmas.Slice.Eq.{bytes_eq-Decides}
+use Rattle.just_syntax.proofs.Members.{added, number_decides}
 use Rattle.just_resolution.specs.Prelude.{IsAmong, Text, Token, is_name_in, is_number_in}
-
-number_decides : (k n : ℕ) → Decides (eq_by_cmp nat_cmp k n) (k ≡ n)
-number_decides k n = ((λ h. eqb-true k n (sym (unsigned_tied k n) ∙ h)), (λ e. unsigned_tied k n ∙ eq-eqb k n e))
 
 name_decides : (x y : Text) → Decides (is_eq (slice_cmp nat_cmp x y)) (x ≡ y)
 name_decides x y =
     let both = bytes_eq-Decides x y in
     ((λ h. both.0 (sym (is_eq-slice_cmp x y) ∙ h)), (λ e. is_eq-slice_cmp x y ∙ both.1 e))
-
-added : (P : Type 0) (t b x : Bool) → Decides t P → x ≡ cond t true b → (x ≡ true) ↔ (P ⊎ (b ≡ true))
-added P true b x d is = ((λ h. inl (d.0 refl)), (λ h. is))
-added P false b x d is = ((λ h. inr (sym is ∙ h)), (λ h. ⊎_elim (λ p. absurd (let e : false ≡ true = d.1 p in cc)) (λ k. is ∙ k) h))
 
 -- a set with one more number
 pub number_added : (old new : BTreeSet ℕ) (k : ℕ) → ((q : ℕ) → contains nat_cmp new q ≡ cond (is_at (nat_cmp k) q) true (contains nat_cmp old q)) → (n : ℕ)

@@ -1,5 +1,5 @@
 -- What is evaluated for a recipe is readable exactly if the tests of its parts say so, one after another.
-use Rattle.std.proofs.Common.{◌≡◌, ◌↔◌, ◌⊎◌, inl, inr, ⊎_elim, ℕ, Bool, true, false, List, [], ◌∷◌, ◌++◌, IsTrue, refl, sym, subst}
+use Rattle.std.proofs.Common.{◌≡◌, ◌↔◌, ◌⊎◌, inl, inr, ⊎_elim, ℕ, Bool, true, false, List, [], ◌∷◌, ◌++◌, IsTrue, sym, subst}
 use Rattle.just_resolution.specs.Prelude.{AllKnown, AllReadable, AreReadableInTurn, Expr, Function, HasValue, IsIn, MayAllOccur, MayFollowInTurn, MayOccur}
 use Rattle.just_resolution.specs.Prelude.{Parameter, expressions_of, parameter_expressions}
 use Rattle.just_value.specs.Value.{Names}
@@ -38,10 +38,6 @@ module _ (functions : List Function) (here readable : ℕ → Bool) where
     -- the last one may not occur
     pub occur_off : (answer : Bool) → answer ≡ false → (answer ≡ true) ↔ MayOccur functions here readable e → (false ≡ true) ↔ D
     occur_off answer off decides = refuses answer off decides (λ d. ((occur_append new e).0 (subst (MayAllOccur functions here readable) is (all.1 d))).1)
-
-  -- none is left
-  pub occur_end : (D : Type 0) (left : List Expr) → left ≡ [] → MayAllOccur functions here readable left ↔ D → (true ≡ true) ↔ D
-  occur_end D left none all = ((λ h. all.0 (subst (MayAllOccur functions here readable) (sym none) (tt, tt))), (λ d. refl))
 
 module _ (functions : List Function) (readable : ℕ → Bool) where
   -- the same numbers may be read

@@ -11,6 +11,7 @@ pub use Rattle.just_meaning.specs.View.{IsResolvedWith, assignments_view, functi
 pub use Rattle.just_meaning.specs.View.{ordered_view}
 pub use Rattle.just_syntax.specs.Keyed.{value_at}
 pub use Rattle.just_syntax.specs.Lists.{IsIn}
+pub use Rattle.just_syntax.specs.NumberSet.{is_member}
 pub use Rattle.just_syntax.specs.Plain.{Assignment, Expr, Function, Parameter, Text, Token, count}
 pub use Rattle.just_syntax.specs.View.{assignment_view, attributes_view, function_view, name_view, parameter_view}
 pub use Rattle.just_syntax.specs.View.{piece_views, recipe_parameter_view, token_view, view, views}

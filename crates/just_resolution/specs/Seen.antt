@@ -4,6 +4,7 @@ use Rattle.std.specs.Borrow.{Bor}
 use Rattle.std.specs.BTreeSet.{BTreeSet, contains_by}
 use Rattle.std.specs.Cmp.Lexicographic.{slice_cmp}
 use Rattle.std.specs.Ordering.{nat_cmp}
+use Rattle.just_syntax.specs.NumberSet.{is_member}
 use Rattle.just_syntax.specs.Plain.{Text, Token, Attribute, Expr}
 use Rattle.just_syntax.specs.View.{name_view, recipe_view, view}
 use Rattle.just_syntax.specs.declared.expression.Expression.{Expression}
@@ -56,7 +57,7 @@ is_name_in set name = contains_by (λ key. slice_cmp nat_cmp name key.now) set
 
 -- whether a number was taken
 abbrev pub is_taken : Readable → ℕ → Bool
-is_taken r n = is_number_in r.taken n
+is_taken r n = is_member r.taken n
 
 -- whether a number was taken, or is bound outside
 abbrev pub is_readable : Readable → ℕ → Bool

@@ -9,7 +9,7 @@ ghost use Rattle.just_resolution.specs.Prelude.{sites_in, sites_view, texts, vie
 use crate::numbers::own_numbers;
 use crate::readable::Readable;
 use crate::site::{Mention, Site};
-use crate::sites::sites_in;
+use crate::sites::refill;
 use just_syntax::expression::Expression;
 use just_syntax::function_definition::FunctionDefinition;
 use just_syntax::name::Name;
@@ -25,9 +25,10 @@ use std::collections::BTreeSet;
 // Each function that it reaches is scanned, unless it is admitted: then it and what it calls were scanned before, and
 // what bodies could read then they can read now. A function is admitted before it is scanned, so that none is scanned
 // twice, and mutual recursion terminates. If nothing is found, the admitted functions are a closed set: it holds what
-// they call.
+// they call. `sites` is filled anew for each scan.
 pub(crate) fn first_unreadable<'src>(
     alloc: Global,
+    sites: &mut Vec<Site<'src>>,
     functions: &Table<FunctionDefinition<'src>>,
     here: &Readable<'src, '_, '_>,
     readable: &Readable<'src, '_, '_>,
@@ -43,7 +44,7 @@ pub(crate) fn first_unreadable<'src>(
 {
     let mut pending = Vec::new(alloc);
     let own = BTreeSet::new(alloc);
-    let at_once = look_through(alloc, here, &own, &mut pending, expression)?;
+    let at_once = look_through(sites, here, &own, &mut pending, expression)?;
     if at_once.is_some() {
         return Ok(at_once);
     }
@@ -52,7 +53,7 @@ pub(crate) fn first_unreadable<'src>(
         if !is_new {
             continue;
         }
-        let beyond = look_through_function(alloc, functions, readable, &mut pending, name)?;
+        let beyond = look_through_function(alloc, sites, functions, readable, &mut pending, name)?;
         if beyond.is_some() {
             return Ok(beyond);
         }
@@ -64,6 +65,7 @@ pub(crate) fn first_unreadable<'src>(
 // readable. If nothing is found, the names that the body calls are added to `pending`.
 fn look_through_function<'src>(
     alloc: Global,
+    sites: &mut Vec<Site<'src>>,
     functions: &Table<FunctionDefinition<'src>>,
     readable: &Readable<'src, '_, '_>,
     pending: &mut Vec<&'src str>,
@@ -77,7 +79,7 @@ fn look_through_function<'src>(
     match functions.get(name) {
         Some(function) => {
             let own = own_numbers(alloc, &function.parameters)?;
-            look_through(alloc, readable, &own, pending, &function.body)
+            look_through(sites, readable, &own, pending, &function.body)
         }
         None => Ok(None),
     }
@@ -86,7 +88,7 @@ fn look_through_function<'src>(
 // The first variable in an expression that is neither own nor readable. If nothing is found, the names that it calls
 // are added to `pending`.
 fn look_through<'src>(
-    alloc: Global,
+    sites: &mut Vec<Site<'src>>,
     readable: &Readable<'src, '_, '_>,
     own: &BTreeSet<Number>,
     pending: &mut Vec<&'src str>,
@@ -98,12 +100,12 @@ fn look_through<'src>(
     ensures calls { IfOk result (λ found. IsNone found → texts pending.new.items ≡ texts pending.old.items
         ++ called_names (sites_in (view expression.now))) }
 {
-    let sites = sites_in(alloc, expression)?;
-    let unreadable = first_unreadable_site(readable, own, &sites);
+    refill(sites, expression)?;
+    let unreadable = first_unreadable_site(readable, own, sites.as_slice());
     if unreadable.is_some() {
         return Ok(unreadable);
     }
-    add_names(pending, &sites)?;
+    add_names(pending, sites.as_slice())?;
     Ok(None)
 }
 

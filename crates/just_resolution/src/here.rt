@@ -16,6 +16,7 @@ use crate::numbers::{
     add_parameter_numbers, add_recipe_numbers, assignment_numbers, number_fault, parameter_fault,
 };
 use crate::readable::Readable;
+use crate::site::Site;
 use just_host::execution_context::ExecutionContext;
 use just_host::justfile::Justfile;
 use just_syntax::expression::Expression;
@@ -71,11 +72,15 @@ pub(crate) fn are_readable_here<'src, 'run>(
         × AllReadable functions base (HasValue own) (attributes ++ es)
         × AreReadableInTurn functions base own [] ps)) }
 {
+    // Only parameters are taken, and they are few.
+    let here = Readable::new(alloc, scope, 0)?;
+    let bodies = Readable::new(alloc, context.scope, 0)?;
     let mut reader = Reader {
         functions: &context.module.functions,
-        here: Readable::new(alloc, scope),
-        bodies: Readable::new(alloc, context.scope),
+        here,
+        bodies,
         admitted: BTreeSet::new(alloc),
+        sites: Vec::new(alloc),
     };
     reader.may_occur_and_follow(alloc, recipe, parameters, expressions)
 }
@@ -89,6 +94,8 @@ struct Reader<'src, 'a, 'run> {
     // What bodies may read besides their own parameters.
     bodies: Readable<'src, 'a, 'run>,
     admitted: BTreeSet<&'src str>,
+    // Filled anew for each expression that is scanned.
+    sites: Vec<Site<'src>>,
 }
 
 impl<'src> Reader<'src, '_, '_> {
@@ -107,11 +114,12 @@ impl<'src> Reader<'src, '_, '_> {
             → IsAdmitted (map function_view self.old.functions.now) (is_readable self.old.bodies)
             (is_name_in self.new.admitted)) }
     {
-        if expression_fault(alloc, self.functions, expression)?.is_some() {
+        if expression_fault(&mut self.sites, self.functions, expression)?.is_some() {
             return Ok(false);
         }
         let unreadable = first_unreadable(
             alloc,
+            &mut self.sites,
             self.functions,
             &self.here,
             &self.bodies,

@@ -9,7 +9,7 @@ ghost use Rattle.just_resolution.specs.Prelude.{sites_in, sites_view, undefined,
 
 use crate::fault::Fault;
 use crate::site::{Mention, Site};
-use crate::sites::sites_in;
+use crate::sites::refill;
 use just_builtins::function::{get, is_left_out};
 use just_syntax::assignment::Assignment;
 use just_syntax::expression::Expression;
@@ -114,17 +114,17 @@ fn sites_fault<'src>(
     None
 }
 
-// The first fault in an expression.
+// The first fault in an expression. `sites` is filled anew.
 pub(crate) fn expression_fault<'src>(
-    alloc: Global,
+    sites: &mut Vec<Site<'src>>,
     functions: &Table<FunctionDefinition<'src>>,
     expression: &Expression<'src>,
 ) -> Result<Option<Fault<'src>>, OutOfMemory>
     ensures { IfOk result (λ fault. FindsUnknown (map function_view functions.now) (sites_in (view expression.now))
         (option_map module_fault_view fault)) }
 {
-    let sites = sites_in(alloc, expression)?;
-    Ok(sites_fault(functions, &sites))
+    refill(sites, expression)?;
+    Ok(sites_fault(functions, sites.as_slice()))
 }
 
 // The first fault in the values of assignments.
@@ -137,8 +137,9 @@ pub(crate) fn values_fault<'src>(
         (all_sites (map (λ a. a.value) (map assignment_view assignments.now)))
         (option_map module_fault_view fault)) }
 {
+    let mut sites = Vec::new(alloc);
     for assignment in assignments {
-        let fault = expression_fault(alloc, functions, &assignment.value)?;
+        let fault = expression_fault(&mut sites, functions, &assignment.value)?;
         if fault.is_some() {
             return Ok(fault);
         }
@@ -155,8 +156,9 @@ pub(crate) fn bodies_fault<'src>(
         IfOk result (λ fault. FindsUnknown all (all_sites (map (λ f. f.body) all))
         (option_map module_fault_view fault)) }
 {
+    let mut sites = Vec::new(alloc);
     for function in functions {
-        let fault = expression_fault(alloc, functions, &function.body)?;
+        let fault = expression_fault(&mut sites, functions, &function.body)?;
         if fault.is_some() {
             return Ok(fault);
         }
@@ -181,24 +183,28 @@ fn is_numbered(site: &Site) -> bool
     }
 }
 
-// Whether each variable in an expression has a number.
-fn is_expression_numbered(alloc: Global, expression: &Expression) -> Result<bool, OutOfMemory>
+// Whether each variable in an expression has a number. `sites` is filled anew.
+fn is_expression_numbered<'src>(
+    sites: &mut Vec<Site<'src>>,
+    expression: &Expression<'src>,
+) -> Result<bool, OutOfMemory>
     ensures { IfOk result (λ answer. IsTrue answer ↔ IsNumbered (view expression.now)) }
 {
-    let sites = sites_in(alloc, expression)?;
-    Ok(are_numbered(&sites))
+    refill(sites, expression)?;
+    Ok(are_numbered(sites.as_slice()))
 }
 
 // Whether each variable in the values of assignments has a number.
-pub(crate) fn are_values_numbered(
+pub(crate) fn are_values_numbered<'src>(
     alloc: Global,
-    assignments: &Table<Assignment>,
+    assignments: &Table<Assignment<'src>>,
 ) -> Result<bool, OutOfMemory>
     ensures { IfOk result (λ answer. IsTrue answer
         ↔ AllNumbered (map (λ a. a.value) (map assignment_view assignments.now))) }
 {
+    let mut sites = Vec::new(alloc);
     for assignment in assignments {
-        if !is_expression_numbered(alloc, &assignment.value)? {
+        if !is_expression_numbered(&mut sites, &assignment.value)? {
             return Ok(false);
         }
     }

@@ -13,6 +13,7 @@ use just_syntax::assignment::Assignment;
 use just_syntax::function_definition::FunctionDefinition;
 use just_syntax::name::Name;
 use just_syntax::number::Number;
+use just_syntax::number_set::NumberSet;
 use just_syntax::out_of_memory::OutOfMemory;
 use just_syntax::parameter::Parameter;
 use just_syntax::table::Table;
@@ -110,7 +111,7 @@ pub(crate) fn number_fault<'src>(
         → Finds (IsSound functions assignments outer) (IsFaulty functions assignments outer)
         (number_places [] (map parameter_view numbers.now)) (option_map module_fault_view fault)) }
 {
-    let mut seen = BTreeSet::new(alloc);
+    let mut seen = NumberSet::new(alloc, numbers.len())?;
     for (name, number) in numbers {
         if !seen.insert(*number)? {
             return Ok(Some(Fault::DuplicateNumber { variable: *name }));

@@ -10,6 +10,7 @@ use crate::admitted::first_unreadable;
 use crate::fault::Fault;
 use crate::readable::Readable;
 use crate::references::is_referenced;
+use crate::site::Site;
 use just_syntax::assignment::Assignment;
 use just_syntax::function_definition::FunctionDefinition;
 use just_syntax::name::Name;
@@ -37,11 +38,13 @@ pub(crate) fn order_fault<'src>(
         (IsFaulty all ordered (frames_view outer.now)) (name_places ordered [] ordered.order)
         (option_map module_fault_view fault)) }
 {
-    let mut readable = Readable::new(alloc, outer);
+    let mut readable = Readable::new(alloc, outer, assignments.len())?;
     let mut admitted = BTreeSet::new(alloc);
+    let mut sites = Vec::new(alloc);
     for name in evaluation_order {
         let fault = take_next(
             alloc,
+            &mut sites,
             functions,
             assignments,
             variable_references,
@@ -60,6 +63,7 @@ pub(crate) fn order_fault<'src>(
 // already taken may come again. The rest of the order does not matter: the clauses use an empty one.
 fn take_next<'src>(
     alloc: Global,
+    sites: &mut Vec<Site<'src>>,
     functions: &Table<FunctionDefinition<'src>>,
     assignments: &Table<Assignment<'src>>,
     variable_references: Option<&HashSet<Number>>,
@@ -90,7 +94,7 @@ fn take_next<'src>(
             if readable.has_taken(assignment.number) {
                 return Ok(None);
             }
-            take(alloc, functions, readable, admitted, assignment)
+            take(alloc, sites, functions, readable, admitted, assignment)
         }
         None => Ok(Some(Fault::UnknownAssignment { assignment: *name })),
     }
@@ -99,6 +103,7 @@ fn take_next<'src>(
 // Takes an assignment, unless it reads what is not readable; then the fault names the first such variable.
 fn take<'src>(
     alloc: Global,
+    sites: &mut Vec<Site<'src>>,
     functions: &Table<FunctionDefinition<'src>>,
     readable: &mut Readable<'src, '_, '_>,
     admitted: &mut BTreeSet<&'src str>,
@@ -118,8 +123,8 @@ fn take<'src>(
         → IsAdmitted (map function_view functions.now) (is_readable readable.old) (is_name_in admitted.new)) }
 {
     let value = &assignment.value;
-    let unreadable = first_unreadable(alloc, functions, readable, readable, admitted, value)?;
-    if let Some(variable) = unreadable {
+    let found = first_unreadable(alloc, sites, functions, readable, readable, admitted, value)?;
+    if let Some(variable) = found {
         return Ok(Some(Fault::UntakenVariable {
             assignment: assignment.name,
             variable,

@@ -1,42 +1,41 @@
 // What an assignment of the order may read.
 
-ghost use Rattle.std.specs.Prelude.{IsTrue, OnOk, false, ℕ, ◌↔◌, ◌≡◌, ◌⊎◌};
+ghost use Rattle.std.specs.Prelude.{IfOk, IsTrue, OnOk, false, ℕ, ◌↔◌, ◌≡◌, ◌⊎◌};
 
 use just_syntax::number::Number;
+use just_syntax::number_set::NumberSet;
 use just_syntax::out_of_memory::OutOfMemory;
 use just_value::scope::Scope;
 use std::alloc::Global;
-use std::collections::BTreeSet;
 
 // The numbers that may be read: those that were taken, and those that are bound outside.
 #[derive(Drop)]
 pub(crate) struct Readable<'src, 'scope, 'run> {
     outer: &'scope Scope<'src, 'run>,
-    taken: BTreeSet<Number>,
+    taken: NumberSet,
 }
 
 impl<'src, 'scope, 'run> Readable<'src, 'scope, 'run> {
     ghost use Rattle.just_resolution.specs.Seen.{is_readable, is_taken};
 
-    // With nothing taken. It does not allocate.
+    // With nothing taken. It allocates a byte for each number below `bound`.
     pub(crate) fn new(
         alloc: Global,
         outer: &'scope Scope<'src, 'run>,
-    ) -> Readable<'src, 'scope, 'run>
-        ensures taken { (n : ℕ) → is_taken result n ≡ false }
-        ensures outer { result.outer ≡ outer.entry }
+        bound: usize,
+    ) -> Result<Readable<'src, 'scope, 'run>, OutOfMemory>
+        ensures taken { IfOk result (λ readable. (n : ℕ) → is_taken readable n ≡ false) }
+        ensures outer { IfOk result (λ readable. readable.outer ≡ outer.entry) }
     {
-        Readable {
-            outer,
-            taken: BTreeSet::new(alloc),
-        }
+        let taken = NumberSet::new(alloc, bound)?;
+        Ok(Readable { outer, taken })
     }
 
     // Whether a number was taken.
     pub(crate) fn has_taken(&self, number: Number) -> bool
         ensures { result ≡ is_taken self.now number }
     {
-        self.taken.contains(&number)
+        self.taken.contains(number)
     }
 
     // Whether a number may be read.

@@ -30,6 +30,18 @@ pub fn sites_in<'src>(
     Ok(all)
 }
 
+// Where variables and calls occur in an expression, as `sites_in`, in a list that is used again: it is emptied first.
+pub(crate) fn refill<'src>(
+    sites: &mut Vec<Site<'src>>,
+    expression: &Expression<'src>,
+) -> Result<(), OutOfMemory>
+    ensures { OnOk result (sites_view sites.new.items ≡ sites_in (view expression.now)) }
+{
+    sites.clear();
+    add(sites, expression)?;
+    Ok(())
+}
+
 // Adds the sites of an expression. The recursive arms are functions of their own, to keep this frame small: expressions
 // may nest as deeply as the stack allows.
 #[cycle(add)]

@@ -7,6 +7,7 @@ use just_syntax::keyed::Keyed;
 use just_syntax::list_operator::ListOperator;
 use just_syntax::name::Name;
 use just_syntax::number::Number;
+use just_syntax::number_set::NumberSet;
 use just_syntax::numerator::Numerator;
 use just_syntax::parameter_kind::ParameterKind;
 use just_syntax::string_context::StringContext;
@@ -95,6 +96,27 @@ fn numbers_and_names(rt: HostRuntime) {
     let name = name("x");
     same(&rt, name.lexeme(), "x");
     same(&rt, name.token.lexeme(), "x");
+}
+
+// Numbers that are added to a set with the bound 2, one after another, and whether each is new.
+const ADDED: &[(u64, bool)] = &[
+    (1, true),
+    (u64::MAX, true),
+    (2, true),
+    (1, false),
+    (u64::MAX, false),
+];
+
+#[test]
+fn sets_of_numbers(rt: HostRuntime) {
+    let mut set = NumberSet::new(rt.alloc(), 2).expect(&rt, "no memory");
+    for (number, is_new) in ADDED {
+        let number = Number::new(*number);
+        is_so(&rt, "added before", set.contains(number) != *is_new);
+        let added = set.insert(number).expect(&rt, "no memory");
+        equal(&rt, "new", added, *is_new);
+    }
+    is_so(&rt, "0 is no member", !set.contains(Number::new(0)));
 }
 
 // Operators on lists, what each puts between two texts, and how it is written.

@@ -1,12 +1,11 @@
 -- Expressions whose parts are not boxes.
-use Rattle.std.proofs.Common.{◌≡◌, ℕ, suc, List, [], ◌∷◌, ◌++◌, ◌+◌, ◌<◌, length, get_or, drop, add-one, drop-cons, codes, refl, ap, sym, ◌∙◌, rules, Option}
-use Rattle.std.proofs.Common.{Some, None, Box, Global, option_map}
+use Rattle.std.proofs.Common.{◌≡◌, ℕ, suc, List, [], ◌∷◌, ◌++◌, ◌+◌, ◌<◌, length, get_or, drop, add-one, drop-cons, codes, refl, ap, sym, ◌∙◌, rules}
 use Rattle.just_syntax.specs.declared.expression.Expression.{Expression, Row_of-Expression, end_of-Expression, more_of-Expression, items-the_row-Expression}
 use Rattle.just_syntax.specs.declared.expression.Expression.{Row_of-Expression-FormatString-1-2, items-the_row-Expression-FormatString-1-2}
 use Rattle.just_syntax.specs.declared.expression.Expression.{end_of-Expression-FormatString-1-2, more_of-Expression-FormatString-1-2}
 use Rattle.just_syntax.specs.declared.expression.Expression.TheViews.{the_lemmas}
 use Rattle.just_syntax.specs.declared.expression.Expression.TheViews as expressions
-use Rattle.just_syntax.specs.Prelude.{Call, FormatString, ListOf, assert_view, conditional, join, literal_view, name_view, piece_views, printed, printed_call}
+use Rattle.just_syntax.specs.Prelude.{Call, FormatString, ListOf, literal_view, name_view, piece_views, printed, printed_call}
 use Rattle.just_syntax.specs.Prelude.{printed_pieces, printed_row, token_view, view, views}
 use Rattle.just_syntax.specs.Plain.{Cons, Piece, count}
 use Rattle.just_syntax.specs.declared.string_literal.StringLiteral.{StringLiteral as Written}
@@ -26,21 +25,6 @@ view_call es name = search (rules, the_lemmas, row_items)
 pub count_views : (es : List Expression) → count (views es) ≡ length es
 count_views [] = refl
 count_views (e ∷ es) = ap suc (count_views es)
-
-pub view_assert : (e : Box Expression Global) (m : Option (Box Expression Global)) (name : _)
-    → view (expressions.Assert e m name) ≡ assert_view (view e.value) (option_map (λ b. view b.value) m) (name_view name)
-view_assert e None name = refl
-view_assert e (Some m) name = refl
-
-pub view_conditional : (e a : Box Expression Global) (b : Option (Box Expression Global)) → view (expressions.Conditional e a b)
-    ≡ conditional (view e.value) (view a.value) (option_map (λ b. view b.value) b)
-view_conditional e a None = refl
-view_conditional e a (Some b) = refl
-
-pub view_join : (l : Option (Box Expression Global)) (t : _) (r : Box Expression Global)
-    → view (expressions.Join l t r) ≡ join (option_map (λ b. view b.value) l) (token_view t) (view r.value)
-view_join None t r = refl
-view_join (Some l) t r = refl
 
 piece_items : {n : _} (row : Row_of-Expression-FormatString-1-2 n) → pieces_view row ≡ piece_views (items-the_row-Expression-FormatString-1-2 n row)
 piece_items end_of-Expression-FormatString-1-2 = refl

@@ -12,4 +12,5 @@ pub mod View
 pub mod Unindented
 pub mod Levels
 pub mod Lists
+pub mod NumberSet
 pub mod Prelude

@@ -3,6 +3,7 @@ pub use Rattle.just_syntax.specs.Enclosure.{ticked}
 pub use Rattle.just_syntax.specs.Keyed.{IsInOrder, IsKeyed, value_at, with_value}
 pub use Rattle.just_syntax.specs.Levels.{levels, levels_of_part, levels_of_pieces, levels_of_row}
 pub use Rattle.just_syntax.specs.ListOperator.{separator}
+pub use Rattle.just_syntax.specs.NumberSet.{is_member}
 pub use Rattle.just_syntax.specs.ParameterKind.{is_variadic}
 pub use Rattle.just_syntax.specs.Place.{placed, start_of}
 pub use Rattle.just_syntax.specs.Plain.{Assignment, Call, FormatString, ListOf, Text}

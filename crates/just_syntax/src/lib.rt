@@ -19,6 +19,7 @@ pub mod line;
 pub mod list_operator;
 pub mod name;
 pub mod number;
+pub mod number_set;
 pub mod numerator;
 pub mod out_of_memory;
 pub mod parameter;

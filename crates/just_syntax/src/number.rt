@@ -25,4 +25,11 @@ impl Number {
     {
         Number(number)
     }
+
+    // Its value, as an index.
+    pub(crate) fn index(self) -> usize
+        ensures { result ≡ self }
+    {
+        self.0 as usize
+    }
 }

@@ -10,8 +10,9 @@ use Rattle.just_resolution.proofs.here.are_readable_here.Goals as goal
 pub returns : goal.returns
 returns c = IfOk-weaker c.may_occur_and_follow.result _ _
     (λ answer all. all_here (functions_view c.args.context.now.«module».now) (value_in (frames_view c.args.context.now.scope.now))
-    (value_in (frames_view c.args.scope.now)) (is_readable c.new-2.result)
-    (bound_alone c.new-2.result c.args.context.now.scope c.new-2.ensures.taken c.new-2.ensures.outer) (is_readable c.new.result) (answer ≡ true)
+    (value_in (frames_view c.args.scope.now)) (is_readable c.in_ok-bodies.bodies)
+    (bound_alone c.in_ok-bodies.bodies c.args.context.now.scope c.in_ok-bodies.ensures.taken c.in_ok-bodies.ensures.outer)
+    (is_readable c.in_ok-here.here) (answer ≡ true)
     (attribute_expressions (attributes_of c.args.recipe)) (expressions_view c.args.expressions.items) (map recipe_parameter_view c.args.parameters.now)
-    (bound_alone c.new.result c.args.scope c.new.ensures.taken c.new.ensures.outer) all)
+    (bound_alone c.in_ok-here.here c.args.scope c.in_ok-here.ensures.taken c.in_ok-here.ensures.outer) all)
     c.may_occur_and_follow.ensures

@@ -10,7 +10,7 @@ pub returns : goal.returns
 returns c =
     let all = numbered_decided (view c.args.expression.now) in
     let same : c.are_numbered.result ≡ list_all (λ s. is_numbered s.mention) (sites_in (view c.args.expression.now)) =
-    c.are_numbered.ensures ∙ ap (list_all (λ (s : declared.Site). is_numbered (site_view s).mention)) c.deref.ensures.value
-    ∙ sym (list_all-map (λ (s : Site). is_numbered s.mention) site_view c.in_ok-sites.sites.items)
-    ∙ ap (list_all (λ (s : Site). is_numbered s.mention)) c.in_ok-sites.ensures in
+    c.are_numbered.ensures ∙ ap (list_all (λ (s : declared.Site). is_numbered (site_view s).mention)) c.as_slice.ensures.value
+    ∙ sym (list_all-map (λ (s : Site). is_numbered s.mention) site_view c.refill.new.sites.items)
+    ∙ ap (list_all (λ (s : Site). is_numbered s.mention)) c.in_ok-refill.ensures in
     ((λ h. all.0 (sym same ∙ h)), (λ k. same ∙ all.1 k))

@@ -24,14 +24,14 @@ left c = ap (map name_view) (front_at c.args.evaluation_order.now c.loop-name.na
 
 pub loop-name-init : goal.loop-name-init
 loop-name-init c =
-    let same : frames_view c.new-readable.result.outer.now ≡ frames_view c.args.outer.now =
-    ap (λ (s : Bor Scope). frames_view s.now) c.new-readable.ensures.outer in
+    let same : frames_view c.in_ok-readable.readable.outer.now ≡ frames_view c.args.outer.now =
+    ap (λ (s : Bor Scope). frames_view s.now) c.in_ok-readable.ensures.outer in
     record {
       outer = same;
       walked = walks_from (map function_view c.args.functions.now) (ordered_view c.args.assignments.now [] c.args.variable_references)
-          (frames_view c.args.outer.now) (is_taken c.new-readable.result) (is_readable c.new-readable.result) (is_name_in c.new-admitted.result)
-          (map name_view c.args.evaluation_order.now) c.new-readable.ensures.taken (no_name c.new-admitted.result c.new-admitted.ensures.empty)
-          (readable_if c.new-readable.result (frames_view c.args.outer.now) same);
+          (frames_view c.args.outer.now) (is_taken c.in_ok-readable.readable) (is_readable c.in_ok-readable.readable) (is_name_in c.new-admitted.result)
+          (map name_view c.args.evaluation_order.now) c.in_ok-readable.ensures.taken (no_name c.new-admitted.result c.new-admitted.ensures.empty)
+          (readable_if c.in_ok-readable.readable (frames_view c.args.outer.now) same);
     }
 
 pub take_next-requires-clause-taken : goal.take_next-requires-clause-taken

@@ -11,5 +11,5 @@ returns-in-Some-clause-exact c =
       name_view c.in-Some.variable,
       refl,
       subst (λ (found : Option Name). FindsBeyond functions value readable readable (option_map name_view found))
-          c.in-Some.is c.in_ok-unreadable.ensures.exact,
+          c.in-Some.is c.in_ok-found.ensures.exact,
     )

@@ -16,6 +16,7 @@ taking c = record {
   here = c.loop-parameter.self.here;
   bodies = c.args.self.now.bodies;
   admitted = c.loop-parameter.self.admitted;
+  sites = c.loop-parameter.self.sites;
 }
 
 same : (c : After-may_all_occur) → IsSameReader (taking c) c.loop-parameter.self
