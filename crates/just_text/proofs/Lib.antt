@@ -7,5 +7,6 @@ pub mod Joined
 pub mod LastByte
 pub mod Names
 pub mod Pieces
+pub mod Runs
 pub mod Slashes
 pub mod Words

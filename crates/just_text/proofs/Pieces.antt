@@ -1,20 +1,18 @@
 -- The pieces of a text that `split` gives, and joined texts.
 use Rattle.std.proofs.Common.{◌≡◌, ℕ, zero, suc, ◌+◌, ◌-◌, ◌<◌, ◌≤◌, List, [], ◌∷◌, ◌++◌, length, take, drop, Some, None, Bor, Bool, true, false, cond, eqb}
-use Rattle.std.proofs.Common.{sym, refl, ap, subst, ◌∙◌, inl, inr, arith, encode_utf8, IsUtf8, All, flat_map}
+use Rattle.std.proofs.Common.{sym, refl, ap, subst, ◌∙◌, inl, inr, arith, encode_utf8, IsUtf8, All}
 use Rattle.std.specs.declared.str.Split.{Split}
 use Rattle.std.specs.List.{starts_with, onto_first}
 use Rattle.std.specs.Str.Iter.{split_steps, split_text, split_has_more, split_pattern, HasSubslice}
 use Rattle.std.specs.Str.Pattern.{FindsText, LacksTextAt, IsSplitAtFirstMatch}
 use Rattle.std.specs.Str.Replace.{ReplacesMatches}
 use Rattle.std.proofs.lemmas.Bool.{ne_eqb, cond_both, cases_Bool, both_ways}
-use Rattle.std.proofs.lemmas.Bool.Decides.{eqb_tells}
 use Rattle.std.proofs.lemmas.Iterator.{YieldsList}
 use Rattle.std.proofs.lemmas.Iterator.Splits.{YieldsList-from_shown_while}
 use Rattle.std.proofs.lemmas.List.{append_assoc, append-nil, length-append, length-drop, nil_from_length, take-append-drop}
 use Rattle.std.proofs.lemmas.List.Elements.{All-nil, All-cons, All-head, All-tail}
 use Rattle.std.proofs.lemmas.Slice.Eq.{bytes_eq-Decides}
 use Rattle.std.proofs.lemmas.Str.{chars-nil, chars_past_char, IsUtf8-past_char}
-use Rattle.just_text.specs.Quote.{in_quotes}
 use Rattle.just_text.specs.Prelude.{NoPieceHoldsSeparator, PiecesGiveTextBack, pieces, replaced}
 use Rattle.just_text.specs.Replace.{interleaved}
 use Rattle.just_text.specs.Split.{pieces_after}
@@ -138,18 +136,6 @@ pub replaced_is : (from to : List ℕ) (n : ℕ) (q : Bor (List ℕ)) (s out : L
 replaced_is [] to n q s out utf8 same runs = replaced_empty to n q s out utf8 same runs
 replaced_is (b ∷ bs) to n q s out utf8 same runs =
     rw (ne_eqb (length (b ∷ bs)) 0 (λ e. absurd (omega arith))) (replaced_filled (b ∷ bs) to n q s out (omega arith) same runs)
-
--- a byte replaced, byte by byte
-pub quotes_replaced : (text : List ℕ) → joined (39 ∷ 92 ∷ 39 ∷ 39 ∷ []) (pieces (39 ∷ []) text) ≡ flat_map in_quotes text
-unfolding pieces
-quotes_replaced [] = refl
-quotes_replaced (b ∷ bs) =
-    elim (eqb_tells b 39) [
-      | inl w ↦ rw (w.1) (joined_more (39 ∷ 92 ∷ 39 ∷ 39 ∷ []) [] (pieces_after (39 ∷ []) 0 bs) (pieces_after_some (39 ∷ []) 0 bs)
-          ∙ ap (λ t. (39 ∷ 92 ∷ 39 ∷ 39 ∷ []) ++ t) (quotes_replaced bs))
-      | inr w ↦ rw (w.0, ne_eqb 39 b (λ e. w.1 (sym e)))
-          (joined_onto (39 ∷ 92 ∷ 39 ∷ 39 ∷ []) b (pieces_after (39 ∷ []) 0 bs) (pieces_after_some (39 ∷ []) 0 bs) ∙ ap (λ t. b ∷ t) (quotes_replaced bs))
-    ]
 
 -- the text after a separator that it begins with
 after_separator : (p s : List ℕ) → starts_with eqb s p ≡ true → s ≡ p ++ drop (length p) s

@@ -38,7 +38,7 @@ words_gap : (gap ds : List ℕ) → NonePass is_not_whitespace gap → words_in 
 words_gap [] ds none = refl
 words_gap (c ∷ cs) ds none = rw (not-false (is_whitespace c) none.0) (words_gap cs ds none.1)
 
-filled_is : (x : List ℕ) → 0 < length x → is_filled x ≡ true
+pub filled_is : (x : List ℕ) → 0 < length x → is_filled x ≡ true
 filled_is [] some = absurd (omega arith)
 filled_is (c ∷ cs) some = ap not (ne_eqb (length (c ∷ cs)) 0 (λ e. absurd (omega arith)))
 

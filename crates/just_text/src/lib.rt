@@ -1,5 +1,5 @@
 // The operations of built-in functions on texts and paths, each equal to its definition. It depends on `just_syntax`
-// and on the kit's `percent_encoding`.
+// and on the kit's `memchr` and `percent_encoding`.
 #![tactic(auto)]
 
 pub mod affix;

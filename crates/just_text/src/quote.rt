@@ -3,7 +3,7 @@
 ghost use Rattle.std.specs.Prelude.{IfOk, string_bytes, ◌≡◌};
 ghost use Rattle.just_text.specs.Prelude.{single_quoted};
 
-use crate::replace::replace;
+use crate::replace::push_substituted;
 use just_syntax::out_of_memory::OutOfMemory;
 use std::alloc::Global;
 
@@ -15,6 +15,9 @@ use std::alloc::Global;
 pub fn quote(alloc: Global, text: &str) -> Result<String, OutOfMemory>
     ensures { IfOk result (λ quoted. string_bytes quoted ≡ single_quoted text.now) }
 {
-    let inner = replace(alloc, text, "'", "'\\''")?;
-    Ok(format!(in alloc; "'{inner}'")?)
+    let mut quoted = String::with_capacity(alloc, text.len().saturating_add(2))?;
+    quoted.push('\'')?;
+    push_substituted(&mut quoted, text, b'\'', "'\\''")?;
+    quoted.push('\'')?;
+    Ok(quoted)
 }

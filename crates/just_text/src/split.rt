@@ -1,8 +1,12 @@
 // Texts split into pieces.
 
-ghost use Rattle.std.specs.Prelude.{IfOk, length, map, string_bytes, ◌<◌, ◌≡◌};
+ghost use Rattle.std.specs.Prelude.{IfOk, IsAscii, length, map, not, slice_index, string_bytes, ℕ, ◌<◌, ◌==◌};
+ghost use Rattle.std.specs.Prelude.{◌≡◌, ◌≤◌};
+ghost use Rattle.std.specs.Char.{is_whitespace};
+ghost use Rattle.std.specs.List.{slice_split};
 ghost use Rattle.just_text.specs.Split as spec;
 
+use crate::replace::{only_byte, place_of};
 use just_syntax::out_of_memory::OutOfMemory;
 use std::alloc::Global;
 
@@ -15,11 +19,57 @@ use std::alloc::Global;
 pub fn split_whitespace(alloc: Global, text: &str) -> Result<Vec<String>, OutOfMemory>
     ensures { IfOk result (λ v. map string_bytes v.items ≡ spec.words text.now) }
 {
+    if text.is_ascii() {
+        return ascii_words(alloc, text);
+    }
     let mut words = Vec::new(alloc);
     for word in text.split_whitespace() {
         words.push(String::from_str(alloc, word)?)?;
     }
     Ok(words)
+}
+
+// The words of an ASCII text, found byte by byte.
+fn ascii_words(alloc: Global, text: &str) -> Result<Vec<String>, OutOfMemory>
+    requires { IsAscii text.now }
+    ensures { IfOk result (λ v. map string_bytes v.items ≡ spec.words text.now) }
+{
+    let bytes = text.as_bytes();
+    let mut words = Vec::new(alloc);
+    let mut start = white_or_not(bytes, false, 0);
+    while start < bytes.len() {
+        let end = white_or_not(bytes, true, start);
+        words.push(String::from_str(alloc, &text[start..end])?)?;
+        start = white_or_not(bytes, false, end);
+    }
+    Ok(words)
+}
+
+// The first index from `from` on at which a byte, as a character, is white space, or is not; the length if there is
+// none.
+fn white_or_not(bytes: &[u8], white: bool, from: usize) -> usize
+    requires { from ≤ length bytes.now }
+    ensures low { from ≤ result }
+    ensures high { result ≤ length bytes.now }
+    ensures lacks { (k : ℕ) → from ≤ k → k < result → is_whitespace (slice_index bytes.now k) ≡ not white }
+    ensures found { result < length bytes.now → is_whitespace (slice_index bytes.now result) ≡ white }
+{
+    for at in from..bytes.len() {
+        if is_white(bytes[at]) == white {
+            return at;
+        }
+    }
+    bytes.len()
+}
+
+// Whether a character, one of the first 256, is white space.
+fn is_white(byte: u8) -> bool
+    ensures { result ≡ is_whitespace byte }
+{
+    match byte {
+        33..=132 => false,
+        _ => matches!(byte, 9..=13 | 32 | 133 | 160),
+    }
 }
 
 /// The pieces between the occurrences of the separator, leftmost first and without overlaps, in order: one more than
@@ -56,9 +106,30 @@ fn pieces(alloc: Global, text: &str, separator: &str) -> Result<Vec<String>, Out
     requires { 0 < length separator.now }
     ensures { IfOk result (λ v. map string_bytes v.items ≡ spec.pieces separator.now text.now) }
 {
+    if let Some(byte) = only_byte(separator) {
+        return pieces_at_byte(alloc, text, byte);
+    }
     let mut all = Vec::new(alloc);
     for piece in text.split(separator) {
         all.push(String::from_str(alloc, piece)?)?;
     }
+    Ok(all)
+}
+
+// The pieces between the occurrences of an ASCII byte, found byte by byte.
+fn pieces_at_byte(alloc: Global, text: &str, separator: u8) -> Result<Vec<String>, OutOfMemory>
+    requires { separator < 128 }
+    ensures { IfOk result (λ v. map string_bytes v.items ≡ slice_split (λ b. b == separator) text.now) }
+{
+    let bytes = text.as_bytes();
+    let mut all = Vec::new(alloc);
+    let mut start = 0;
+    let mut at = place_of(text, separator, 0);
+    while at < bytes.len() {
+        all.push(String::from_str(alloc, &text[start..at])?)?;
+        start = at + 1;
+        at = place_of(text, separator, start);
+    }
+    all.push(String::from_str(alloc, &text[start..])?)?;
     Ok(all)
 }
