@@ -1,7 +1,6 @@
 mod Split
 pub mod Stacks
 pub mod Lines
-pub mod Texts
 pub mod Names
 pub mod Numbers
 mod Counts

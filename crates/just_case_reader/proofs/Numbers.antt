@@ -1,26 +1,39 @@
 -- Numbers given to names.
-use Rattle.std.proofs.Common.{◌≡◌, ◌≢◌, ℕ, suc, true, List, [], ◌∷◌, ◌++◌, Option, Some, None, refl, ap, ◌∙◌, ⊎_elim, if◌then◌else◌}
+use Rattle.std.proofs.Common.{◌≡◌, ℕ, suc, ◌+◌, List, [], ◌∷◌, ◌++◌, Option, Some, None, refl, sym, ap, ◌∙◌, ⊎_elim, arith, if◌then◌else◌, is_some}
 use Rattle.std.proofs.Math.Path.{fun_ext}
+use Rattle.std.specs.Cmp.Lexicographic.{nat_list_eq_equiv}
+use Rattle.std.specs.Map.{update}
 use Rattle.std.specs.Str.{bytes_eq}
 use Rattle.std.proofs.lemmas.Bool.{cases_Bool}
 use Rattle.std.proofs.lemmas.Slice.Eq.{bytes_eq-Decides}
 use Rattle.just_case_reader.specs.Prelude.{KnownNames, Text, number_of, with_names}
 use Rattle.just_case_reader.specs.Numbering.{with_numbers, with_name}
 
--- a known name changes nothing, and keeps its number
-pub known : (names : KnownNames) (name : Text) (n : ℕ) → names.number name ≡ Some n → names ≡ with_name names name
-known names name n had = rw (had) refl
+-- f and count are what a map holds of the names after one of them is given its number, the old one or the next
+module _ (names : KnownNames) (name : Text) (f : Text → Option ℕ) (count given : ℕ) (is_given : given ≡ number_of names name)
+    (put : (other : Text) → f other ≡ update bytes_eq names.number name (Some given) other)
+    (counted : count ≡ names.count + (if is_some (names.number name) then 0 else 1)) where
+  turned : (other : Text) → f other ≡ (if bytes_eq other name then Some given else names.number other)
+  turned other = put other ∙ ap (λ same. if same then Some given else names.number other) (nat_list_eq_equiv.symm name other)
 
--- a new name gets the next number, and other names keep theirs
-pub grown : (names : KnownNames) (name : Text) (f : Text → Option ℕ) (n : ℕ) → names.number name ≡ None → f name ≡ Some names.count
-    → ((other : Text) → other ≢ name → f other ≡ names.number other) → n ≡ suc names.count → record { number = f; count = n } ≡ with_name names name
-grown names name f n new named others counted =
-    let at : (other : Text) → f other ≡ (if bytes_eq other name then Some names.count else names.number other) =
-    λ other. ⊎_elim
-    (λ e. let same : other ≡ name = (bytes_eq-Decides other name).0 e in rw (e) (ap f same ∙ named))
-    (λ e. rw (e) (others other (λ same. absurd (let h : bytes_eq other name ≡ true = (bytes_eq-Decides other name).1 same in cc))))
-    (cases_Bool (bytes_eq other name)) in
-    rw (new, fun_ext at, counted) refl
+  by_number : (o : Option ℕ) → names.number name ≡ o → record { number = f; count = count } ≡ with_name names name
+  by_number None new =
+      let next : given ≡ names.count = rw (new) at is_given in
+      let more : count ≡ suc names.count = omega (arith, rw (new) at counted) in
+      rw (new, fun_ext turned, next, more) refl
+  by_number (Some k) had =
+      let kept : given ≡ k = rw (had) at is_given in
+      let as_many : count ≡ names.count = omega (arith, rw (had) at counted) in
+      let same : (other : Text) → f other ≡ names.number other =
+      λ other. ⊎_elim
+      (λ e. let found : f other ≡ Some given = rw (e) at (turned other) in
+      found ∙ ap Some kept ∙ sym (ap names.number ((bytes_eq-Decides other name).0 e) ∙ had))
+      (λ e. rw (e) at (turned other))
+      (cases_Bool (bytes_eq other name)) in
+      rw (had, fun_ext same, as_many) refl
+
+  pub numbered : record { number = f; count = count } ≡ with_name names name
+  numbered = by_number (names.number name) refl
 
 -- one more name after those so far
 with_last : (names : KnownNames) (xs : List Text) (x : Text) → with_names names (xs ++ x ∷ []) ≡ with_name (with_names names xs) x

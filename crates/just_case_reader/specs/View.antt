@@ -1,8 +1,7 @@
 -- Lines, stacks, the numbers of names, and cases, as plain data.
 use Rattle.std.specs.Prelude.{List, map, string_bytes, reverse, ℕ, Bool, nat_eq, Result, Ok, Err}
-use Rattle.std.specs.BTreeMap.{btree_map_len, get_by}
-use Rattle.std.specs.Cmp.Lexicographic.{slice_cmp}
-use Rattle.std.specs.Ordering.{nat_cmp}
+use Rattle.std.specs.HashMap.{get_by, hash_map_len}
+use Rattle.std.specs.Str.{bytes_eq}
 use Rattle.just_syntax.specs.Plain.{Expr}
 use Rattle.just_syntax.specs.View.{view, assignment_view, function_view, name_view, pair_view, pairs_view}
 use Rattle.just_syntax.specs.View.{text_numbered}
@@ -58,8 +57,8 @@ stack_view s = reverse (map (λ nested. view nested.part) s.expressions.items)
 
 abbrev pub numbering_view : Numbering → KnownNames
 numbering_view numbering = record {
-  number = λ name. get_by (λ key. slice_cmp nat_cmp name key.now) numbering.numbers;
-  count = btree_map_len numbering.numbers;
+  number = λ name. get_by (λ key. bytes_eq name key.now) numbering.numbers;
+  count = hash_map_len numbering.numbers;
 }
 
 abbrev pub number_set_view : {S : Type 0} → HashSet ℕ S → ℕ → Bool

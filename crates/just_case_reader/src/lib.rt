@@ -1,5 +1,5 @@
 // Cases, built from their lines: what each line says, the expressions that the lines build, and the numbers of their
-// names. It depends on `just_syntax` and `just_value`: reading a case needs no host.
+// names. It depends on `just_syntax`, `just_value` and the kit's `memchr`: reading a case needs no host.
 #![tactic(auto)]
 
 mod builder;

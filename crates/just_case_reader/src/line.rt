@@ -1,6 +1,7 @@
 // The lines of a case, each parsed by itself.
 
-ghost use Rattle.std.specs.Prelude.{IfOk, Some, if◌then◌else◌, length, map, position, ◌==◌, ◌≡◌};
+ghost use Rattle.std.specs.Prelude.{IfOk, Some, [], if◌then◌else◌, length, map, position, string_bytes, ◌++◌, ◌<◌};
+ghost use Rattle.std.specs.Prelude.{◌==◌, ◌∷◌, ◌≡◌};
 ghost use Rattle.std.specs.List.{after_first, before_first};
 ghost use Rattle.just_case_reader.specs.Prelude.{Assign, Bad, Call, Dotenv, Fail, ListOf, Override, bare_line};
 ghost use Rattle.just_case_reader.specs.Prelude.{case_line_view, first_name_line, is_skipped, limit, line_of};
@@ -135,11 +136,11 @@ fn parse_word<'case>(
         "assign" => assign_line(rest, false),
         "str" => Line::Literal {
             text: rest,
-            lexeme: format!(in alloc; "'{rest}'")?,
+            lexeme: enclosed(alloc, '\'', rest)?,
         },
         "cmd" => Line::Command {
             text: rest,
-            lexeme: format!(in alloc; "`{rest}`")?,
+            lexeme: enclosed(alloc, '`', rest)?,
         },
         "call" => call_line(rest),
         "list" => list_line(rest),
@@ -150,6 +151,18 @@ fn parse_word<'case>(
         "export" => assign_line(rest, true),
         _ => parse_rare(alloc, word, rest)?,
     })
+}
+
+// A text between two marks, which are ASCII characters.
+fn enclosed(alloc: Global, mark: char, text: &str) -> Result<String, OutOfMemory>
+    requires { mark < 128 }
+    ensures { IfOk result (λ lexeme. string_bytes lexeme ≡ mark ∷ text.now ++ mark ∷ []) }
+{
+    let mut lexeme = String::with_capacity(alloc, text.len().saturating_add(2))?;
+    lexeme.push(mark)?;
+    lexeme.push_str(text)?;
+    lexeme.push(mark)?;
+    Ok(lexeme)
 }
 
 // A line with a rarer word.
@@ -324,8 +337,9 @@ fn split_line(bytes: &[u8]) -> (&[u8], &[u8])
 }
 
 // The index of the first newline.
+#[tactic(auto, using(crate::proofs::Split::first_place))]
 fn newline_place(bytes: &[u8]) -> Option<usize>
     ensures { result ≡ position (λ byte. byte == 10) bytes.now }
 {
-    bytes.iter().position(|byte| *byte == b'\n')
+    memchr::memchr(b'\n', bytes)
 }

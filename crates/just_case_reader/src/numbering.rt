@@ -5,13 +5,13 @@ use just_syntax::name::Name;
 use just_syntax::number::Number;
 use just_syntax::out_of_memory::OutOfMemory;
 use std::alloc::Global;
-use std::collections::BTreeMap;
+use std::collections::HashMap;
 
 /// Names and their numbers. The number of a name is its index, counted from 0, among the different names in the order
 /// of their first occurrence.
 #[derive(Debug, Drop)]
 pub struct Numbering<'src> {
-    numbers: BTreeMap<&'src str, Number>,
+    numbers: HashMap<&'src str, Number>,
 }
 
 impl<'src> Numbering<'src> {
@@ -25,7 +25,7 @@ impl<'src> Numbering<'src> {
         ensures { numbering_view result ≡ no_names }
     {
         Numbering {
-            numbers: BTreeMap::new(alloc),
+            numbers: HashMap::new(alloc),
         }
     }
 
@@ -39,12 +39,9 @@ impl<'src> Numbering<'src> {
         ensures ok { OnOk result (numbering_view self.new ≡ with_name (numbering_view self.old) name.now) }
         ensures err { OnErr result (numbering_view self.new ≡ numbering_view self.old) }
     {
-        if let Some(number) = self.numbers.get(name) {
-            return Ok(*number);
-        }
-        let number = Number::new(self.numbers.len() as u64);
-        match self.numbers.insert(name, number) {
-            Ok(_) => Ok(number),
+        let next = Number::new(self.numbers.len() as u64);
+        match self.numbers.entry(name) {
+            Ok(entry) => Ok(*entry.or_insert(next)),
             Err(_) => Err(OutOfMemory),
         }
     }
