@@ -9,7 +9,7 @@ use Rattle.std.proofs.lemmas.Simd.{map-map}
 use Rattle.just_value.specs.declared.binding.Binding.{Binding}
 use Rattle.just_value.specs.Prelude.{AreRising, Bound, IsPlace, IsRising, bound_at, bound_view, frame_view, with_bound}
 use Rattle.just_value.proofs.Inserted.{insert_at, rising_inserted, set_at}
-use Rattle.just_value.proofs.Places.{at_end, below_place, lookup_at, lookup_between, rising_by_key, ties_back}
+use Rattle.just_value.proofs.Places.{at_end, at_start, below_place, lookup_at, lookup_between, rising_by_key, ties_back}
 
 pub nothing_rises : AreRising []
 unfolding IsStrictlySortedBy
@@ -41,6 +41,12 @@ module _ (bs : List Binding) (rising : AreRising bs) (n i : ℕ) where
   pub bound_missing : IsPlace (λ b. nat_cmp b.number n) bs (Err i) → bound_at n (frame_view bs) ≡ None
   bound_missing place = lookup_between (λ b. b.number) nat_cmp_total bs (rising_by_key (λ b. b.number) nat_cmp bs rising) n (λ b. (b.number, bound_view b))
       (λ m. is_eq (nat_cmp n m)) (λ b. ap is_eq (nat_cmp_total.antisymm n b.number) ∙ ties_back _) i place
+
+-- a number less than the first is not bound
+pub past_first : (bs : List Binding) → AreRising bs → (n : ℕ) (first : Binding) → ((d : Binding) → first ≡ get_or bs 0 d)
+    → is_lt (nat_cmp n first.number) ≡ true → bound_at n (frame_view bs) ≡ None
+past_first bs rising n first is lt = bound_missing bs rising n 0 (at_start (λ b. b.number) nat_cmp_total bs (rising_by_key (λ b. b.number) nat_cmp bs rising) n
+    (λ d. ap (λ (b : Binding). nat_cmp n b.number) (sym (is d)) ∙ less _ lt))
 
 module _ (bs : List Binding) (rising : AreRising bs) (b : Binding) (i : ℕ) where
   pub bound_over : IsPlace (λ x. nat_cmp x.number b.number) bs (Ok i) → frame_view (set bs i b) ≡ with_bound (frame_view bs) (bound_view b)

@@ -1,5 +1,10 @@
 -- Paired elements.
-use Rattle.std.proofs.Common.{◌≡◌, ℕ, ◌<◌, suc, List, [], ◌∷◌, ◌++◌, length, get_or, take, map, refl, ap, arith, zero}
+use Rattle.std.proofs.Common.{◌≡◌, ℕ, ◌<◌, ◌+◌, suc, List, [], ◌∷◌, ◌++◌, length, get_or, set, take, drop, map, Some, refl, ap, ap₂, sym, ◌∙◌, arith, zero}
+use Rattle.std.proofs.Common.{add-one, append_assoc}
+use Rattle.std.proofs.Math.Seq.{drop-cons, set-append_seam, get_or-append_seam}
+use Rattle.std.proofs.lemmas.Bool.{eq-eqb}
+use Rattle.std.proofs.lemmas.List.{map-set, get_or-map}
+use Rattle.just_value.specs.Applied.{applied}
 use Rattle.just_value.specs.Prelude.{paired}
 
 -- one more pair, viewed by f and g
@@ -11,3 +16,41 @@ paired_more f g s [] ys i d e h k = absurd (omega arith)
 paired_more f g s (x ∷ xs) [] i d e h k = absurd (omega arith)
 paired_more f g s (x ∷ xs) (y ∷ ys) zero d e h k = refl
 paired_more f g s (x ∷ xs) (y ∷ ys) (suc i) d e h k = ap (λ l. ((f x ++ s) ++ g y) ∷ l) (paired_more f g s xs ys i d e (omega arith) (omega arith))
+
+-- as many pairs as there are elements
+pub length_paired : (s : List ℕ) (xs ys : List (List ℕ)) → length xs ≡ length ys → length (paired s xs ys) ≡ length xs
+length_paired s [] ys e = refl
+length_paired s (x ∷ xs) [] e = absurd (omega (arith, e))
+length_paired s (x ∷ xs) (y ∷ ys) e = ap suc (length_paired s xs ys (omega (arith, e)))
+
+-- with one or as many on the right, the combination does not depend on the number on the left
+pub applied_alike : (s : List ℕ) (x : List ℕ) (xs : List (List ℕ)) (y : List ℕ)
+    → applied s (x ∷ xs) (y ∷ []) ≡ Some (map (λ z. (z ++ s) ++ y) (x ∷ xs))
+applied_alike s x [] y = refl
+applied_alike s x (z ∷ xs) y = refl
+
+pub applied_paired : (s : List ℕ) (xs ys : List (List ℕ)) → length xs ≡ length ys → applied s xs ys ≡ Some (paired s xs ys)
+applied_paired s [] [] e = refl
+applied_paired s [] (y ∷ ys) e = absurd (omega (arith, e))
+applied_paired s (x ∷ []) [] e = absurd (omega (arith, e))
+applied_paired s (x ∷ []) (y ∷ []) e = refl
+applied_paired s (x ∷ []) (y ∷ z ∷ ys) e = absurd (omega (arith, e))
+applied_paired s (x ∷ z ∷ xs) [] e = absurd (omega (arith, e))
+applied_paired s (x ∷ z ∷ xs) (y ∷ []) e = absurd (omega (arith, e))
+applied_paired s (x ∷ z ∷ xs) (y ∷ w ∷ ys) e = rw (eq-eqb (length (x ∷ z ∷ xs)) (length (y ∷ w ∷ ys)) e) refl
+
+-- Texts that are replaced in place, one after another. The first are done, and the others as they were.
+module _ {X : Type 0} (f : X → List ℕ) (xs ys : List X) (done : List (List ℕ)) (i : ℕ) (d : X) (so_far : map f xs ≡ done ++ map f (drop i ys))
+    (many : length done ≡ i) (within : i < length ys) (same : length xs ≡ length ys) where
+  split : map f xs ≡ done ++ f (get_or ys i d) ∷ map f (drop (suc i) ys)
+  split = so_far ∙ ap (λ zs. done ++ map f zs) (drop-cons ys i d within)
+
+  pub as_it_was : f (get_or xs i d) ≡ f (get_or ys i d)
+  as_it_was =
+      sym (get_or-map f xs i d [] (omega (arith, same))) ∙ (ap₂ (λ zs k. get_or zs k []) split (sym many)
+      ∙ get_or-append_seam done (f (get_or ys i d)) (map f (drop (suc i) ys)) [])
+
+  pub next_replaced : (x : X) → map f (set xs i x) ≡ (done ++ f x ∷ []) ++ map f (drop (i + 1) ys)
+  next_replaced x = rw (add-one)
+      (map-set f xs i x ∙ (ap₂ (λ zs k. set zs k (f x)) split (sym many)
+      ∙ (set-append_seam done (f (get_or ys i d)) (map f (drop (suc i) ys)) (f x) ∙ sym (append_assoc done (f x ∷ []) (map f (drop (suc i) ys))))))

@@ -68,6 +68,19 @@ module _ {X K : Type 0} (key : X → K) {R : K → K → Ordering} (total : IsTo
     ),
   )
 
+  -- the place of a number less than the first is the start
+  pub at_start : HoldsAt (λ x. R k (key x) ≡ Less) xs 0 → IsPlace (λ x. R (key x) k) xs (Err 0)
+  at_start first = (
+    omega arith,
+    (
+      λ i d lo hi. absurd (omega arith),
+      λ i d lo hi. total.antisymm _ _ ∙ ap ordering_reverse (elim (cases_lt 0 i) [
+        | inl after ↦ total.trans _ _ _ (first d) (Less-from_sorted _ xs 0 i d rising after hi)
+        | inr before ↦ let same : 0 ≡ i = omega arith in ap (λ j. R k (key (get_or xs j d))) (sym same) ∙ first d
+      ]),
+    ),
+  )
+
   pub below_place : (i : ℕ) → i < length xs → HoldsAt (λ x. R (key x) k ≡ Equal) xs i → AllWithin (λ x. R (key x) k ≡ Less) xs 0 i
   below_place i within here j d lo hi = sym (alike_right total _ _ _ (here d)) ∙ Less-from_sorted _ xs j i d rising hi within
 

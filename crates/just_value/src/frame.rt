@@ -1,6 +1,6 @@
 // Frames: bindings in ascending order of number.
 
-ghost use Rattle.std.specs.Prelude.{OnErr, OnOk, [], map, option_map, ◌≡◌};
+ghost use Rattle.std.specs.Prelude.{IfOk, OnErr, OnOk, [], map, option_map, ◌≡◌};
 ghost use Rattle.std.specs.Ordering.{nat_cmp};
 ghost use Rattle.std.specs.Map.{values_of};
 ghost use Rattle.just_value.specs.Prelude.{IsPlace, IsRising, bindings_left, bound_at, bound_view, frame_view};
@@ -40,17 +40,27 @@ impl<'src> Model for Frame<'src> {
 }
 
 impl<'src> Frame<'src> {
-    // An empty frame.
-    pub(crate) fn new(alloc: Global) -> Frame<'src>
-        ensures { frame_view result ≡ [] }
+    // An empty frame, with room for as many bindings.
+    pub(crate) fn with_capacity(alloc: Global, bindings: usize) -> Result<Frame<'src>, OutOfMemory>
+        ensures { IfOk result (λ frame. frame_view frame ≡ []) }
     {
-        Frame {
-            bindings: VecDeque::new(alloc),
-        }
+        let bindings = VecDeque::with_capacity(alloc, bindings)?;
+        Ok(Frame { bindings })
     }
 
     /// The binding of a number, if it is bound here.
     pub fn binding(&self, number: Number) -> Option<&Binding<'src>>
+        ensures { option_map (λ b. bound_view b.now) result ≡ bound_at number (frame_view self.now) }
+    {
+        match self.bindings.front() {
+            Some(first) if number < first.number => None,
+            _ => self.binding_from_first(number),
+        }
+    }
+
+    // The binding of a number. Most searches of an outer frame do without it, since its numbers are greater.
+    #[inline(never)]
+    fn binding_from_first(&self, number: Number) -> Option<&Binding<'src>>
         ensures { option_map (λ b. bound_view b.now) result ≡ bound_at number (frame_view self.now) }
     {
         match self.place(number) {
@@ -81,13 +91,14 @@ impl<'src> Frame<'src> {
         }
     }
 
-    // The index of a number's binding, or the index where it would be inserted. A number greater than the last needs no
-    // search.
+    // The index of a number's binding, or the index where it would be inserted. The last number and greater ones need
+    // no search.
     fn place(&self, number: Number) -> Result<usize, usize>
         ensures { IsPlace (λ b. nat_cmp b.number number) self.now result }
     {
         match self.bindings.back() {
             Some(last) if last.number < number => Err(self.bindings.len()),
+            Some(last) if last.number == number => Ok(self.bindings.len() - 1),
             _ => self
                 .bindings
                 .binary_search_by_key(&number, |binding| binding.number),

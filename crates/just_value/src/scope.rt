@@ -40,7 +40,7 @@ impl<'src, 'run> Scope<'src, 'run> {
         ensures { IfOk result (λ scope. frames_view scope ≡ with_constants [] 0 (map constant_view constants.now)
             ∷ []) }
     {
-        let mut frame = Frame::new(alloc);
+        let mut frame = Frame::with_capacity(alloc, constants.len())?;
         for (i, (key, value)) in constants.iter().enumerate() {
             let value = Value::from_text(alloc, value)?;
             frame.bind(constant(alloc, Numerator::constant(i), key, value))?;
@@ -60,11 +60,24 @@ impl<'src, 'run> Scope<'src, 'run> {
     pub fn child<'inner>(&'inner self, alloc: Global) -> Result<Scope<'src, 'inner>, OutOfMemory>
         ensures { IfOk result (λ scope. frames_view scope ≡ [] ∷ frames_view self.now) }
     {
+        self.child_with_capacity(alloc, 0)
+    }
+
+    /// As `child`, with room for as many bindings.
+    ///
+    /// # Errors
+    ///
+    /// Those of `child`.
+    pub fn child_with_capacity<'inner>(
+        &'inner self,
+        alloc: Global,
+        bindings: usize,
+    ) -> Result<Scope<'src, 'inner>, OutOfMemory>
+        ensures { IfOk result (λ scope. frames_view scope ≡ [] ∷ frames_view self.now) }
+    {
         let outer = prepended(alloc, &self.frame, &self.outer)?;
-        Ok(Scope {
-            frame: Frame::new(alloc),
-            outer,
-        })
+        let frame = Frame::with_capacity(alloc, bindings)?;
+        Ok(Scope { frame, outer })
     }
 
     /// Binds a number in the own frame; this replaces its binding there, if it has one. It allocates only for a number

@@ -212,6 +212,35 @@ impl Value {
             }),
         }
     }
+
+    /// As `apply`, with this value moved: its texts are extended where they are if the result has as many elements.
+    ///
+    /// # Errors
+    ///
+    /// Those of `apply`. This value is dropped.
+    pub fn into_applied<'src>(
+        self,
+        alloc: Global,
+        other: &Value,
+        operator: ListOperator,
+        token: Token<'src>,
+    ) -> Result<Value, Error<'src>>
+        ensures { UnlessStopped (ended (λ v. v) result)
+            (combined self operator other.now (token_view token.entry)) }
+    {
+        let others = &other.elements;
+        match (self.len(), others.len()) {
+            (1.., 1) => {
+                let texts = all_extended(self.into_elements(), operator.separator(), &others[0])?;
+                Ok(Value::from_elements(texts))
+            }
+            (m, n) if m == n => {
+                let texts = pairs_extended(self.into_elements(), operator.separator(), others)?;
+                Ok(Value::from_elements(texts))
+            }
+            _ => self.apply(alloc, other, operator, token),
+        }
+    }
 }
 
 impl fmt::Display for Value {
@@ -353,7 +382,12 @@ fn copies(alloc: Global, texts: &[String]) -> Result<Vec<String>, OutOfMemory>
 fn joined(alloc: Global, x: &str, separator: &str, y: &str) -> Result<String, OutOfMemory>
     ensures { IfOk result (λ text. string_bytes text ≡ (x.now ++ separator.now) ++ y.now) }
 {
-    let mut text = String::from_str(alloc, x)?;
+    let size = x
+        .len()
+        .saturating_add(separator.len())
+        .saturating_add(y.len());
+    let mut text = String::with_capacity(alloc, size)?;
+    text.push_str(x)?;
     text.push_str(separator)?;
     text.push_str(y)?;
     Ok(text)
@@ -404,4 +438,40 @@ fn in_pairs(
         all.push(joined(alloc, &xs[i], separator, &ys[i])?)?;
     }
     Ok(all)
+}
+
+// Appends the separator and y to a text.
+fn extend(text: &mut String, separator: &str, y: &str) -> Result<(), OutOfMemory>
+    ensures { OnOk result (string_bytes text.new ≡ (string_bytes text.old ++ separator.now) ++ y.now) }
+{
+    text.push_str(separator)?;
+    text.push_str(y)?;
+    Ok(())
+}
+
+// Each of the texts followed by y, in place.
+fn all_extended(mut xs: Vec<String>, separator: &str, y: &str) -> Result<Vec<String>, OutOfMemory>
+    ensures { IfOk result (λ v. map string_bytes v.items ≡ map (λ x. (x ++ separator.now) ++ y.now)
+        (map string_bytes xs.items)) }
+{
+    for i in 0..xs.len() {
+        extend(&mut xs[i], separator, y)?;
+    }
+    Ok(xs)
+}
+
+// The texts, paired, in place.
+fn pairs_extended(
+    mut xs: Vec<String>,
+    separator: &str,
+    ys: &[String],
+) -> Result<Vec<String>, OutOfMemory>
+    requires { length xs.items ≡ length ys.now }
+    ensures { IfOk result (λ v. map string_bytes v.items ≡ paired separator.now (map string_bytes xs.items)
+        (map string_bytes ys.now)) }
+{
+    for i in 0..xs.len() {
+        extend(&mut xs[i], separator, &ys[i])?;
+    }
+    Ok(xs)
 }

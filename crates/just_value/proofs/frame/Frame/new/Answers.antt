@@ -1,5 +1,0 @@
-use Rattle.just_value.proofs.Framed.{nothing_rises}
-use Rattle.just_value.proofs.frame.Frame.new.Goals as goal
-
-pub invariant_of-result : goal.invariant_of-result
-invariant_of-result c = rw c.new.ensures.items nothing_rises
