@@ -22,8 +22,10 @@ abbrev pub or_joined : Text → Option Text → Text
 or_joined base (Some directory) = joined_paths base directory
 or_joined base None = base
 
--- the directory that commands run in: the module's for a submodule, otherwise the search's, joined with the one that is
--- set
+-- the module's directory for a submodule, otherwise the search's
+abbrev pub base_directory : Fixed → Text
+base_directory f = if f.is_submodule then f.module_directory else f.search_directory
+
+-- the directory that commands run in: the base directory, joined with the one that is set
 abbrev pub working_directory : Fixed → Text
-working_directory f =
-    or_joined (if f.is_submodule then f.module_directory else f.search_directory) f.settings.working_directory
+working_directory f = or_joined (base_directory f) f.settings.working_directory

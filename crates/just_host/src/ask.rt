@@ -2,6 +2,7 @@
 
 ghost use Rattle.std.specs.Prelude.{false, map, option_map, string_bytes, ◌≡◌};
 ghost use Rattle.just_host.specs.Prelude.{AsksOnce, command_question, fixed_view, frames_view, pairs_view, replied};
+ghost use Rattle.just_host.specs.Prelude.{working_directory};
 
 use crate::command_question::CommandQuestion;
 use crate::execution_context::ExecutionContext;
@@ -33,7 +34,43 @@ pub fn ask_command<'call, 'src, 'run, H: Host>(
         (frames_view scope.now) command.now (option_map (λ words. map string_bytes words.now) arguments.entry) in
         AsksOnce H.step host.old question (replied result) host.new }
 {
-    let working_directory = context.working_directory(alloc)?;
+    match &context.module.settings.working_directory {
+        Some(_) => {
+            let directory = context.working_directory(alloc)?;
+            ask_in(
+                alloc, host, context, env, scope, command, arguments, &directory,
+            )
+        }
+        None => ask_in(
+            alloc,
+            host,
+            context,
+            env,
+            scope,
+            command,
+            arguments,
+            context.base_directory(),
+        ),
+    }
+}
+
+// `ask_command`, with the directory that the command runs in.
+fn ask_in<'call, 'src, 'run, H: Host>(
+    alloc: Global,
+    host: &'call mut H,
+    context: &'call ExecutionContext<'src, 'run>,
+    env: &BTreeMap<String, String>,
+    scope: &Scope<'src, 'run>,
+    command: &str,
+    arguments: Option<&[String]>,
+    directory: &str,
+) -> Result<String, CommandFault>
+    requires commands_run { context.now.config.now.dry_run ≡ false }
+    requires chosen { directory.now ≡ working_directory (fixed_view context.now) }
+    ensures asked { let question = command_question (fixed_view context.now) (pairs_view env.now)
+        (frames_view scope.now) command.now (option_map (λ words. map string_bytes words.now) arguments.entry) in
+        AsksOnce H.step host.old question (replied result) host.new }
+{
     let question = CommandQuestion {
         command,
         arguments,
@@ -43,7 +80,7 @@ pub fn ask_command<'call, 'src, 'run, H: Host>(
         dotenv: context.dotenv,
         settings: &context.module.settings,
         unexports: &context.module.unexports,
-        working_directory: &working_directory,
+        working_directory: directory,
     };
     host.command(alloc, &question)
 }

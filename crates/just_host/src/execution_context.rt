@@ -1,7 +1,7 @@
 // The fixed context of a module's evaluation.
 
 ghost use Rattle.std.specs.Prelude.{IfOk, string_bytes, ◌≡◌};
-ghost use Rattle.just_host.specs.Prelude.{fixed_view, working_directory};
+ghost use Rattle.just_host.specs.Prelude.{base_directory, fixed_view, working_directory};
 
 use crate::config::Config;
 use crate::justfile::Justfile;
@@ -63,8 +63,19 @@ impl<'src, 'run> ExecutionContext<'src, 'run> {
         }
     }
 
-    /// The directory that commands run in: the module's own for a submodule, otherwise that of the search, joined with
-    /// the one that is set. Upstream's `ExecutionContext::working_directory`.
+    /// The module's own directory for a submodule, otherwise that of the search.
+    pub fn base_directory(&self) -> &'run str
+        ensures { result.now ≡ base_directory (fixed_view self.now) }
+    {
+        if self.module.submodule {
+            &self.module.working_directory
+        } else {
+            &self.search.working_directory
+        }
+    }
+
+    /// The directory that commands run in: the base directory, joined with the one that is set. Upstream's
+    /// `ExecutionContext::working_directory`.
     ///
     /// # Errors
     ///
@@ -72,11 +83,7 @@ impl<'src, 'run> ExecutionContext<'src, 'run> {
     pub fn working_directory(&self, alloc: Global) -> Result<String, OutOfMemory>
         ensures { IfOk result (λ text. string_bytes text ≡ working_directory (fixed_view self.now)) }
     {
-        let base = if self.module.submodule {
-            &self.module.working_directory
-        } else {
-            &self.search.working_directory
-        };
+        let base = self.base_directory();
         match &self.module.settings.working_directory {
             Some(directory) => path::join(alloc, base, directory),
             None => Ok(String::from_str(alloc, base)?),
