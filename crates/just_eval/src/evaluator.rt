@@ -143,7 +143,8 @@ impl<'src, 'run> Evaluator<'src, 'run> {
             ([] ∷ frames_view context.now.scope.now) (map name_view names.entry.now)
             (ended frames_view result) host.new }
     {
-        let scope = context.scope.child(alloc)?;
+        let bindings = most_bound(references, names);
+        let scope = context.scope.child_with_capacity(alloc, bindings)?;
         let lists = context.module.settings.lists;
         let mut evaluator = Evaluator::of_assignments(alloc, Some(*context), lists, scope);
         for name in names {
@@ -365,6 +366,14 @@ impl<'src, 'run> Evaluator<'src, 'run> {
             Some(context) => context.module.settings.export,
             None => false,
         }
+    }
+}
+
+// How many assignments a run may bind: each once, and only those that are referenced.
+fn most_bound(references: Option<&HashSet<Number>>, names: &[Name]) -> usize {
+    match references {
+        Some(numbers) => numbers.len().min(names.len()),
+        None => names.len(),
     }
 }
 

@@ -312,7 +312,7 @@ impl<'src, 'run, 'here> ExpressionEvaluator<'src, 'run, 'here> {
     {
         let right = self.evaluate_value(alloc, host, rhs, budget)?;
         let left = form::empty_text(alloc)?;
-        left.apply(alloc, &right, ListOperator::Join, *operator)
+        left.into_applied(alloc, &right, ListOperator::Join, *operator)
     }
 
     // The value of `lhs ++ rhs`.

@@ -24,7 +24,7 @@ pub(crate) fn called_scope<'src, 'inner>(
     ensures { IfOk result (λ scope. frames_view scope ≡ with_parameters [] (map parameter_view parameters.now)
         values.items ∷ frames_view outer.now) }
 {
-    let mut scope = outer.child(alloc)?;
+    let mut scope = outer.child_with_capacity(alloc, parameters.len())?;
     bind_parameters(alloc, &mut scope, parameters, values)?;
     Ok(scope)
 }

@@ -63,7 +63,8 @@ impl<'src, 'run> Evaluator<'src, 'run> {
         // A refusal carries its own token.
         ensures token { IfErr result HasOwnToken }
     {
-        let mut evaluator = Evaluator::of_assignments(alloc, None, lists, scope.child(alloc)?);
+        let child = scope.child_with_capacity(alloc, evaluation_order.len())?;
+        let mut evaluator = Evaluator::of_assignments(alloc, None, lists, child);
         for name in evaluation_order {
             evaluator.evaluate_const_named(
                 alloc,

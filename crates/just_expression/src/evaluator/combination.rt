@@ -30,6 +30,6 @@ impl<'src, 'run, 'here> ExpressionEvaluator<'src, 'run, 'here> {
     {
         let left = self.evaluate_value(alloc, host, lhs, budget)?;
         let right = self.evaluate_value(alloc, host, rhs, budget)?;
-        left.apply(alloc, &right, operator, *token)
+        left.into_applied(alloc, &right, operator, *token)
     }
 }

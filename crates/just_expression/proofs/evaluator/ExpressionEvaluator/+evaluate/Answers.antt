@@ -125,7 +125,7 @@ evaluate_combination-returns-in_err-right g t c =
 
 pub evaluate_combination-returns : goal.evaluate_combination-returns
 evaluate_combination-returns g t c =
-    runs_on _ _ c.in_ok-left.ensures (runs_on _ _ c.in_ok-right.ensures (runs_done _ _ c.apply.ensures))
+    runs_on _ _ c.in_ok-left.ensures (runs_on _ _ c.in_ok-right.ensures (runs_done _ _ c.into_applied.ensures))
 
 pub evaluate_list_concatenation-returns-in_err-left : goal.evaluate_list_concatenation-returns-in_err-left
 evaluate_list_concatenation-returns-in_err-left g t c = runs_exit _ _ _ c.from_residual.ensures.1 (runs_ends _ _ _ c.in_err-left.ensures)
@@ -303,7 +303,7 @@ evaluate_root-returns-in_err-left g t c =
 pub evaluate_root-returns : goal.evaluate_root-returns
 evaluate_root-returns g t c =
     runs_on (meaning c.args.self.now (view c.args.rhs.now)) _ c.in_ok-right.ensures
-    (runs_done _ _ (rw c.in_ok-left.ensures at c.apply.ensures))
+    (runs_done _ _ (rw c.in_ok-left.ensures at c.into_applied.ensures))
 
 -- ---- string literals
 
