@@ -192,9 +192,6 @@ abbrev HeedsDeeper : Deeper → Type 0
 HeedsDeeper AtLimit = Unit {0}
 HeedsDeeper (WithinLimit run) = (f : Function) (s : Situation) (vs : List Value) → Heeds Value (run f s vs)
 
-answer_heeds : (t : Token) (a : Answer) → Heeds Value (done (answered t a))
-answer_heeds t a = tt
-
 returned_heeds : (t : Token) (r : Called) → Heeds Value (returned t r)
 returned_heeds t (Returned v) = tt
 returned_heeds t (Said message) = tt

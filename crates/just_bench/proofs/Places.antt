@@ -24,11 +24,6 @@ new_place before rest x old new fresh put =
     ∙ ap (λ xs. before ++ x ∷ xs) (places_same new (x.1 ∷ old) rest (one_more old new x.1 put))
     ∙ ap (λ t. before ++ cond t (first_places old rest) (x ∷ first_places (x.1 ∷ old) rest)) (sym fresh)
 
--- a number that did
-pub old_place : (before rest : List (Token × ℕ)) (x : Token × ℕ) (old new : List ℕ) → list_any (nat_eq x.1) old ≡ true → new ≡ old
-    → before ++ first_places new rest ≡ before ++ first_places old (x ∷ rest)
-old_place before rest x old new known same = rw (same, known) refl
-
 -- the added number was one of the remaining ones
 pub one_fewer : (old new : List ℕ) (k n : ℕ) (rest all : Bool) → list_any (nat_eq n) new ≡ cond (nat_eq k n) true (list_any (nat_eq n) old)
     → (list_any (nat_eq n) old || (nat_eq n k || rest)) ≡ all → (list_any (nat_eq n) new || rest) ≡ all

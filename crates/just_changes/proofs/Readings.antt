@@ -116,7 +116,3 @@ mentions_alike own other e same (OfVariable n) h = (h.0, λ k. h.1 (same n k))
 
 pub both_ways : (b : Bool) → b ≡ false → b ≡ true → ⊥
 both_ways b off on = let e : false ≡ true = sym off ∙ on in cc
-
--- nothing was collected yet, and everything remains
-pub from_none : {A M : Type 0} → (A → ⊥) → (A ⊎ M) ↔ M
-from_none none = ((λ h. ⊎_elim (λ a. absurd (none a)) (λ m. m) h), (λ m. inr m))

@@ -57,9 +57,6 @@ pub added_new : (old new : BTreeMap ℕ (Bor declared.Assignment)) (k : ℕ) (a 
     (n : ℕ) → assignment_in new n ≡ option_or (assignment_in old n) (if nat_eq k n then Some (assignment_view a.now) else None)
 added_new old new k a out updates n = by (nat_eq k n) refl
   where
-    view_of : Option (Bor declared.Assignment) → Option Assignment
-    view_of o = option_map (λ (b : Bor declared.Assignment). assignment_view b.now) o
-
     none : (o : Option (Bor declared.Assignment)) → is_some o ≡ false → option_map (λ (b : Bor declared.Assignment). assignment_view b.now) o ≡ None
     none None h = refl
     none (Some x) h = let e : true ≡ false = h in absurd (cc)

@@ -48,13 +48,6 @@ below_nothing frame names n h = by (value_of (bound_at n frame)) h
     by None e = e
     by (Some v) e = absurd (cc)
 
-pub has_below : (frame : Frame) (names : Names) (n : ℕ) → HasValue names n → HasValue (over frame names) n
-has_below frame names n h = by (value_of (bound_at n frame))
-  where
-    by : (x : Option Value) → (v : Value) × (option_or x (names n) ≡ Some v)
-    by None = h
-    by (Some v) = (v, refl)
-
 -- a number that had no value gets its value, and all others keep theirs
 pub stays : (frame : Frame) (names : Names) (b : Bound) → over frame names b.number ≡ None → (k : ℕ) (v : Value) → over frame names k ≡ Some v
     → over (with_bound frame b) names k ≡ Some v
