@@ -1,15 +1,15 @@
 // Wrong files, answers and constants, and the kind of difference that is reported for each.
 
-use crate::agreement::Run;
-use crate::check::{Tallies, check_case, check_file};
-use crate::contradiction::Contradiction;
-use crate::cutting::check_cuts;
-use crate::difference::Difference;
-use crate::failing::check_failing;
-use crate::stored_case::{StoredCase, cut};
-use crate::streams::check_streams;
-use crate::tally::Tally;
 use just_bench::fail_at::How;
+use just_judge::agreement::Run;
+use just_judge::check::{Tallies, check_case, check_file};
+use just_judge::contradiction::Contradiction;
+use just_judge::cutting::check_cuts;
+use just_judge::difference::Difference;
+use just_judge::failing::check_failing;
+use just_judge::stored_case::{StoredCase, cut};
+use just_judge::streams::check_streams;
+use just_judge::tally::Tally;
 use just_syntax::out_of_memory::OutOfMemory;
 use std::alloc::Global;
 use std::process::Abort;

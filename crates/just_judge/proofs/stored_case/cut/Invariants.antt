@@ -1,5 +1,5 @@
-use Rattle.just_stored_cases.specs.Stored.{UnseparatedTo}
-use Rattle.just_stored_cases.proofs.stored_case.cut.Given as goal
+use Rattle.just_judge.specs.Stored.{UnseparatedTo}
+use Rattle.just_judge.proofs.stored_case.cut.Given as goal
 
 -- no separator begins before the loop's offset
 abbrev pub invariant-loop-at : goal.invariant-loop-at

@@ -14,7 +14,11 @@ const TRIED_IN_A_ROW: usize = 16;
 
 /// Fails a case's questions from each one on, in both ways, and from the one after its last. Returns the first failure
 /// whose answer is not the one that follows from the stored answer and the failed question.
-pub(crate) fn check_failing(
+///
+/// # Errors
+///
+/// `OutOfMemory` if an allocation fails.
+pub fn check_failing(
     alloc: Global,
     tally: &mut Tally,
     stored: &StoredCase,

@@ -9,7 +9,11 @@ use std::alloc::Global;
 
 /// Cuts a case after each byte. Returns the first cut whose answer is neither a bad line at the cut nor that of a whole
 /// case.
-pub(crate) fn check_cuts(
+///
+/// # Errors
+///
+/// `OutOfMemory` if an allocation fails.
+pub fn check_cuts(
     alloc: Global,
     tally: &mut Tally,
     stored: &StoredCase,

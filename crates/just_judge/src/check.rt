@@ -19,7 +19,7 @@ use std::{env, fs, io};
 /// Runs the cases of a folder. Prints each case that differs and how, then what was tried. Returns the exit status: 0
 /// if no case differs, and 1 otherwise. The folder is the program's argument, or the working directory if there is
 /// none.
-pub(crate) fn check_cases<R: AllocGlobal + Env + Eprint + Files + Print>(rt: &R) -> u8
+pub fn check_cases<R: AllocGlobal + Env + Eprint + Files + Print>(rt: &R) -> u8
     ensures { result ≤ 1 }
 {
     match check_each(rt) {
@@ -33,7 +33,7 @@ pub(crate) fn check_cases<R: AllocGlobal + Env + Eprint + Files + Print>(rt: &R)
 
 /// What was tried on all cases.
 #[derive(Clone, Copy, Debug, Default)]
-pub(crate) struct Tallies {
+pub struct Tallies {
     cases: Tally,
     constants: BorneOut,
     failed_questions: Tally,
@@ -79,7 +79,11 @@ fn case_folder<R: AllocGlobal + Env>(rt: &R) -> io::Result<String> {
 }
 
 /// Returns how the case with this name in a folder differs from its file.
-pub(crate) fn check_case<R: AllocGlobal + Files>(
+///
+/// # Errors
+///
+/// That of an allocation. A file that cannot be read is a difference, `Unreadable`.
+pub fn check_case<R: AllocGlobal + Files>(
     rt: &R,
     tallies: &mut Tallies,
     folder: &str,
@@ -96,7 +100,11 @@ pub(crate) fn check_case<R: AllocGlobal + Files>(
 }
 
 /// Returns how the case in a file with these bytes differs from the file.
-pub(crate) fn check_file(
+///
+/// # Errors
+///
+/// `OutOfMemory` if an allocation fails.
+pub fn check_file(
     alloc: Global,
     tallies: &mut Tallies,
     file: &[u8],

@@ -1,21 +1,24 @@
 // A case with its answer, as a file stores them.
 
 ghost use Rattle.std.specs.Prelude.{◌≡◌, ◌≢◌, ◌<◌, ◌+◌, ◌∷◌, ℕ, List, length, None, IfSome};
-ghost use Rattle.just_stored_cases.specs.Stored.{UnseparatedTo, stored_file};
+ghost use Rattle.just_judge.specs.Stored.{UnseparatedTo, stored_file};
 
 // The line break at the end of a case's last line, and the beginning of the status line.
 const SEPARATOR: &[u8] = b"\n=> ";
 
 /// A case with the status and the answer that it must give.
 #[derive(Debug, Clone, Copy, PartialEq, Eq)]
-pub(crate) struct StoredCase<'file> {
-    pub(crate) case: &'file [u8],
-    pub(crate) status: u8,
-    pub(crate) answer: &'file [u8],
+pub struct StoredCase<'file> {
+    /// The bytes of the case.
+    pub case: &'file [u8],
+    /// The exit status, 0 to 9.
+    pub status: u8,
+    /// What the program must print.
+    pub answer: &'file [u8],
 }
 
 /// Cuts a file at the first line break that `=> ` follows. A digit and a line break must come next.
-pub(crate) fn cut(file: &[u8]) -> Option<StoredCase<'_>>
+pub fn cut(file: &[u8]) -> Option<StoredCase<'_>>
     ensures together { IfSome result (λ stored. file.now ≡ stored_file stored.case.now stored.status
         stored.answer.now) }
     ensures digit { IfSome result (λ stored. stored.status < 10) }

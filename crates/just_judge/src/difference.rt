@@ -9,7 +9,7 @@ use std::fmt;
 
 /// How a case differs from its file.
 #[derive(Clone, Copy, Debug, PartialEq, Eq)]
-pub(crate) enum Difference {
+pub enum Difference {
     /// The file cannot be read.
     Unreadable,
     /// The file has no status line.
@@ -32,7 +32,7 @@ pub(crate) enum Difference {
 
 impl Difference {
     /// Returns how a status and an answer differ from the stored ones.
-    pub(crate) fn between(stored: &StoredCase, status: u8, answer: &[u8]) -> Option<Difference>
+    pub fn between(stored: &StoredCase, status: u8, answer: &[u8]) -> Option<Difference>
         ensures { IsNone result ↔ ((status ≡ stored.now.status) × (answer.now ≡ stored.now.answer.now)) }
     {
         if status != stored.status {

@@ -11,7 +11,7 @@ use std::str;
 
 /// A stored case that ends with `run`, and its answer.
 #[derive(Clone, Copy, Debug)]
-pub(crate) struct Run<'file> {
+pub struct Run<'file> {
     // The lines before the line `run`.
     lines: &'file str,
     answer: &'file str,
@@ -23,7 +23,7 @@ impl<'file> Run<'file> {
     ///
     /// The law `const_agrees` requires a resolved module, so a run of an unresolved module is skipped. If a run's
     /// module is resolved, its assignments are also resolved before any run, since that requires less.
-    pub(crate) fn of_case(stored: &StoredCase<'file>) -> Option<Run<'file>> {
+    pub fn of_case(stored: &StoredCase<'file>) -> Option<Run<'file>> {
         let case = str::from_utf8(stored.case).ok()?;
         let answer = str::from_utf8(stored.answer).ok()?;
         if stored.status == 1 || answer.starts_with("unresolved\n") {
@@ -37,12 +37,20 @@ impl<'file> Run<'file> {
     }
 
     /// Returns what is constant before it.
-    pub(crate) fn constants(&self, alloc: Global) -> Result<String, OutOfMemory> {
+    ///
+    /// # Errors
+    ///
+    /// `OutOfMemory` if an allocation fails.
+    pub fn constants(&self, alloc: Global) -> Result<String, OutOfMemory> {
         evaluated(alloc, self.lines, "const")
     }
 
     /// Returns how it contradicts the given constants, if it does.
-    pub(crate) fn contradiction(
+    ///
+    /// # Errors
+    ///
+    /// `OutOfMemory` if an allocation fails.
+    pub fn contradiction(
         &self,
         alloc: Global,
         constants: &str,

@@ -4,7 +4,7 @@ use std::fmt;
 
 /// How a case's run contradicts what is constant before it.
 #[derive(Clone, Copy, Debug, PartialEq, Eq)]
-pub(crate) enum Contradiction {
+pub enum Contradiction {
     /// The module is resolved in the run, and its assignments are not resolved before the run.
     Unresolved,
     /// The settled and open variables are not those that the run evaluates, or are in another order.

@@ -1,8 +1,8 @@
 use Rattle.std.proofs.Common.{◌∙◌, ℕ, List, ap, drop, rules, arith}
 use Rattle.std.proofs.lemmas.List.{take_rest}
-use Rattle.just_stored_cases.specs.Stored.{SeparatedAt}
-use Rattle.just_stored_cases.proofs.Cut.{after_first, separated_within}
-use Rattle.just_stored_cases.proofs.stored_case.cut.Goals as goal
+use Rattle.just_judge.specs.Stored.{SeparatedAt}
+use Rattle.just_judge.proofs.Cut.{after_first, separated_within}
+use Rattle.just_judge.proofs.stored_case.cut.Goals as goal
 
 -- no status line follows the first separator
 pub returns-in_err-status-clause-none : goal.returns-in_err-status-clause-none

@@ -4,7 +4,7 @@ use std::io;
 
 /// How many uses of one kind were tried, and how many of them differ.
 #[derive(Clone, Copy, Debug, Default, PartialEq, Eq)]
-pub(crate) struct Tally {
+pub struct Tally {
     tried: usize,
     differing: usize,
 }

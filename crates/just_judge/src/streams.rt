@@ -13,7 +13,11 @@ const PIECES: usize = 8;
 
 /// Reads a case and writes its answer in pieces. Each read fails in turn, then each write, then the flush. Returns the
 /// first failure after which the status is not 1, or something else is written than what precedes the failure.
-pub(crate) fn check_streams(
+///
+/// # Errors
+///
+/// `OutOfMemory` if an allocation fails.
+pub fn check_streams(
     alloc: Global,
     tally: &mut Tally,
     stored: &StoredCase,

@@ -4,7 +4,7 @@ use Rattle.std.specs.Prelude.{codes}
 use Rattle.std.proofs.lemmas.Bool.{cases_order}
 use Rattle.std.proofs.lemmas.List.{length-append}
 use Rattle.std.proofs.Math.Seq.{drop-append_seam}
-use Rattle.just_stored_cases.specs.Stored.{SeparatedAt, UnseparatedTo, stored_file}
+use Rattle.just_judge.specs.Stored.{SeparatedAt, UnseparatedTo, stored_file}
 
 -- the bytes after the case
 abbrev after : ℕ → List ℕ → List ℕ
