@@ -82,7 +82,8 @@ impl<'case> Line<'case> {
 pub fn parse_lines<'case>(alloc: Global, case: &'case [u8]) -> Result<Vec<Line<'case>>, OutOfMemory>
     ensures { IfOk result (λ lines. map case_line_view lines.items ≡ map line_of (lines_of case.now)) }
 {
-    let mut lines = Vec::new(alloc);
+    // Most lines have eight bytes or more.
+    let mut lines = Vec::with_capacity(alloc, case.len() / 8)?;
     let mut rest = case;
     while !rest.is_empty() {
         let (line, after) = split_line(rest);

@@ -83,7 +83,7 @@ impl Value {
     pub fn from_string(alloc: Global, text: String) -> Result<Value, OutOfMemory>
         ensures { IfOk result (λ v. v ≡ string_bytes text ∷ []) }
     {
-        let mut elements = Vec::new(alloc);
+        let mut elements = Vec::with_capacity(alloc, 1)?;
         elements.push(text)?;
         Ok(Value::from_elements(elements))
     }
