@@ -31,19 +31,16 @@ impl Commands for FrameCounter {
         alloc: Global,
         question: &CommandQuestion,
     ) -> Result<String, CommandFault> {
-        keep_frames(&mut self.shown, question.scope)?;
+        keep_frames(alloc, &mut self.shown, question.scope)?;
         let count = question.scope.bindings().count();
         Ok(format!(in alloc; "{count}")?)
     }
 }
 
 // Adds the frames, innermost first.
-fn keep_frames<'call>(text: &'call mut String, scope: &'call Scope) -> Result<(), OutOfMemory> {
+fn keep_frames(alloc: Global, text: &mut String, scope: &Scope) -> Result<(), OutOfMemory> {
     keep_frame(text, scope.frame())?;
-    let Some(outer) = scope.parent() else {
-        return Ok(());
-    };
-    for frame in outer {
+    for frame in scope.outer_frames(alloc)? {
         keep_frame(text, frame)?;
     }
     Ok(())

@@ -29,5 +29,5 @@ pub use Rattle.just_expression.specs.Call.{BuiltIn, Defined, EndsBefore, Enters,
 pub use Rattle.just_expression.specs.Call.{requires_text}
 pub use Rattle.just_expression.specs.Parameter.{parameters_innermost}
 pub use Rattle.just_expression.specs.Reason.{reason_text}
-pub use Rattle.just_expression.specs.View.{RunsTo, context_of, deeper, is_non_const, meaning, open_in, program, row}
-pub use Rattle.just_expression.specs.View.{rules, situation}
+pub use Rattle.just_expression.specs.View.{RunsTo, context_of, deeper, is_non_const, meaning, open_in, operand_view}
+pub use Rattle.just_expression.specs.View.{program, row, rules, situation}

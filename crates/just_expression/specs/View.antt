@@ -1,5 +1,5 @@
 -- The situation of an expression evaluator as plain data, and what an expression means in it.
-use Rattle.std.specs.Prelude.{ℕ, Bool, false, List, Option, Some, None, Result, nat_eq}
+use Rattle.std.specs.Prelude.{ℕ, Bool, false, List, Option, Some, None, Result, map, nat_eq, string_bytes}
 use Rattle.std.specs.List.{list_any}
 use Rattle.std.specs.Option.{option_copied, option_map}
 use Rattle.just_syntax.specs.Plain.{Expr}
@@ -17,6 +17,8 @@ use Rattle.just_meaning.specs.Constant.{constantly, nowhere}
 use Rattle.just_meaning.specs.Meaning.{Program, Deeper, Row, Situation, eval, eval_row}
 use Rattle.just_meaning.specs.View.{program_view}
 use Rattle.just_expression.specs.declared.evaluator.ExpressionEvaluator.{ExpressionEvaluator}
+use Rattle.just_expression.specs.declared.operand.Operand.{Operand}
+use Rattle.just_expression.specs.declared.operand.Operand.TheVariants.{InPlace, Own}
 
 abbrev pub program_of : Option ExecutionContext → Program
 program_of (Some c) = program_view c
@@ -68,6 +70,11 @@ meaning e x = eval (program e) (deeper e) (situation e) x
 -- what a row of expressions means here
 abbrev pub row : ExpressionEvaluator → List Expression → Row
 row e xs = eval_row (program e) (deeper e) (situation e) 0 (views xs)
+
+-- an operand's texts
+abbrev pub operand_view : Operand → Value
+operand_view (InPlace texts) = map string_bytes texts.now
+operand_view (Own value) = value
 
 -- The result is the outcome of a run of the tree, whose questions take the host's state from `old` to `new`.
 abbrev pub RunsTo : {S : Type 0} → ExpressionEvaluator → Step S → S → Tree Value → Result Value Error → S → Type 0

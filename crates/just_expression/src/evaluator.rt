@@ -1,9 +1,10 @@
 // Evaluates expressions, in the order of their parts.
 
 ghost use Rattle.std.specs.Prelude.{[], option_map, ◌∷◌};
-ghost use Rattle.just_expression.specs.Prelude.{Join, RunsTo, assertion, assertion_text, branch, choice, combination};
-ghost use Rattle.just_expression.specs.Prelude.{comparison, conjunction, deeper, disjunction, gives, meaning};
-ghost use Rattle.just_expression.specs.Prelude.{name_view, negation, program, situation, succession, token_view, view};
+ghost use Rattle.just_expression.specs.Prelude.{Join, Runs, RunsTo, assertion, assertion_text, branch, choice};
+ghost use Rattle.just_expression.specs.Prelude.{combination, comparison, conjunction, deeper, disjunction, ended, gives};
+ghost use Rattle.just_expression.specs.Prelude.{meaning, name_view, negation, operand_view, program, rules, situation};
+ghost use Rattle.just_expression.specs.Prelude.{succession, token_view, view};
 
 mod call;
 mod combination;
@@ -11,6 +12,7 @@ mod leaf;
 mod row;
 
 use crate::form;
+use crate::operand::Operand;
 use just_host::execution_context::ExecutionContext;
 use just_host::host::Host;
 use just_syntax::conditional_operator::ConditionalOperator;
@@ -167,6 +169,26 @@ impl<'src, 'run, 'here> ExpressionEvaluator<'src, 'run, 'here> {
         }
     }
 
+    // The value of an operand that is only read. It is inlined, so that it adds no frame to a form's.
+    #[cycle(evaluate)]
+    #[inline(always)]
+    fn evaluate_operand<'parts, H: Host>(
+        &'parts self,
+        alloc: Global,
+        host: &mut H,
+        operand: &'parts Expression<'src>,
+        budget: usize,
+    ) -> Result<Operand<'parts>, Error<'src>>
+        ensures { Runs (rules self.now) H.step host.old (meaning self.now (view operand.now))
+            (ended operand_view result) host.new }
+    {
+        if let Some(texts) = self.texts_in_place(&*host, operand) {
+            return Ok(Operand::InPlace(texts));
+        }
+        let value = self.evaluate_value(alloc, host, operand, budget)?;
+        Ok(Operand::Own(value))
+    }
+
     // The value of `(contents)`.
     #[cycle(evaluate)]
     #[inline(never)]
@@ -262,9 +284,13 @@ impl<'src, 'run, 'here> ExpressionEvaluator<'src, 'run, 'here> {
         if form::is_regex(operator) {
             return Err(Error::LeftOutRegex { token: *token });
         }
-        let left = self.evaluate_value(alloc, host, lhs, budget)?;
+        let left = (&*self).evaluate_operand(alloc, host, &*lhs, budget)?;
+        if let Some(texts) = (&*self).texts_in_place(&*host, &*rhs) {
+            return Ok(form::compared(alloc, operator, left.elements(), texts)?);
+        }
         let right = self.evaluate_value(alloc, host, rhs, budget)?;
-        Ok(Value::from_bool(alloc, form::compares(operator, &left, &right))?)
+        let (left, right) = (left.elements(), right.elements());
+        Ok(form::compared(alloc, operator, left, right)?)
     }
 
     // The value of a conditional.
@@ -310,9 +336,9 @@ impl<'src, 'run, 'here> ExpressionEvaluator<'src, 'run, 'here> {
         ensures { RunsTo self.now H.step host.old (combination Join (gives ([] ∷ [])) (token_view operator.now)
             (meaning self.now (view rhs.now))) result host.new }
     {
-        let right = self.evaluate_value(alloc, host, rhs, budget)?;
+        let right = (&*self).evaluate_operand(alloc, host, &*rhs, budget)?;
         let left = form::empty_text(alloc)?;
-        left.into_applied(alloc, &right, ListOperator::Join, *operator)
+        form::applied(alloc, left, ListOperator::Join, right.elements(), operator)
     }
 
     // The value of `lhs ++ rhs`.

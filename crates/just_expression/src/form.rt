@@ -1,12 +1,16 @@
 // How forms combine the values of their parts.
 
-ghost use Rattle.std.specs.Prelude.{IfOk, [], string_bytes, ◌++◌, ◌∷◌, ◌≡◌};
+ghost use Rattle.std.specs.Prelude.{IfOk, [], map, string_bytes, ◌++◌, ◌∷◌, ◌≡◌};
 ghost use Rattle.just_expression.specs.Prelude.{Gave, UnlessStopped, asserted, compared, ended, from_condition};
-ghost use Rattle.just_expression.specs.Prelude.{is_regex, literal_view, unindented_if};
+ghost use Rattle.just_expression.specs.Prelude.{is_regex, literal_view, token_view, unindented_if};
+ghost use Rattle.just_value.specs.Applied.{combined};
+ghost use Rattle.just_value.specs.Value.{is_same};
 
 use just_syntax::conditional_operator::ConditionalOperator;
+use just_syntax::list_operator::ListOperator;
 use just_syntax::out_of_memory::OutOfMemory;
 use just_syntax::string_literal::StringLiteral;
+use just_syntax::token::Token;
 use just_syntax::unindent;
 use just_value::error::Error;
 use just_value::value::Value;
@@ -32,14 +36,49 @@ pub fn is_regex(operator: ConditionalOperator) -> bool
     }
 }
 
-/// Whether two values are equal, or differ, as the operator asks.
-pub fn compares(operator: ConditionalOperator, left: &Value, right: &Value) -> bool
-    ensures { from_condition result ≡ compared operator left.now right.now }
+/// The value of a comparison of two values. It is not inlined, so that a form's frame is small.
+#[inline(never)]
+pub fn compared(
+    alloc: Global,
+    operator: ConditionalOperator,
+    left: &[String],
+    right: &[String],
+) -> Result<Value, OutOfMemory>
+    ensures { IfOk result (λ v. v ≡ compared operator (map string_bytes left.now) (map string_bytes right.now)) }
+{
+    Value::from_bool(alloc, compares(operator, left, right))
+}
+
+// Whether two values are equal, or differ, as the operator asks.
+fn compares(operator: ConditionalOperator, left: &[String], right: &[String]) -> bool
+    ensures { from_condition result ≡ compared operator (map string_bytes left.now) (map string_bytes right.now) }
 {
     match operator {
-        ConditionalOperator::Inequality => *left != *right,
-        _ => *left == *right,
+        ConditionalOperator::Inequality => !are_same(left, right),
+        _ => are_same(left, right),
     }
+}
+
+/// A value and other texts, combined by a list operator. It is not inlined, so that a form's frame is small.
+#[inline(never)]
+pub fn applied<'src>(
+    alloc: Global,
+    left: Value,
+    operator: ListOperator,
+    texts: &[String],
+    token: &Token<'src>,
+) -> Result<Value, Error<'src>>
+    ensures { UnlessStopped (ended (λ v. v) result)
+        (combined left operator (map string_bytes texts.now) (token_view token.now)) }
+{
+    left.into_applied(alloc, texts, operator, *token)
+}
+
+// Whether two values have the same texts, in the same order.
+fn are_same(left: &[String], right: &[String]) -> bool
+    ensures { result ≡ is_same (map string_bytes left.now) (map string_bytes right.now) }
+{
+    *left == *right
 }
 
 /// The value of an assertion that holds: the condition's value with lists, one empty text without.

@@ -10,6 +10,7 @@ mod command;
 pub mod evaluator;
 pub mod form;
 pub mod internal;
+mod operand;
 mod parameters;
 pub mod text;
 pub mod variable;

@@ -42,9 +42,8 @@ pub fn exports<'name>(
         (framewise (map string_bytes unexports.now) (frames_view scope.now))) }
 {
     let mut changes = Vec::new(alloc);
-    if let Some(outer) = scope.parent() {
-        add_frames(alloc, outer, &mut changes)?;
-    }
+    let outer = scope.outer_frames(alloc)?;
+    add_frames(alloc, &outer, &mut changes)?;
     for name in unexports {
         changes.push(EnvironmentChange::Remove(name))?;
     }
@@ -55,14 +54,14 @@ pub fn exports<'name>(
 // Adds the exports of frames, given innermost first, from the outermost frame inward.
 fn add_frames<'name>(
     alloc: Global,
-    frames: &'name [&'name Frame<'_>],
+    frames: &[&'name Frame<'_>],
     changes: &mut Vec<EnvironmentChange<'name>>,
 ) -> Result<(), OutOfMemory>
     ensures { OnOk result (map change_view changes.new.items ≡ map change_view changes.old.items ++ frames_exports
         (map (λ frame. frame_view frame.now) frames.now)) }
 {
     for frame in frames.iter().rev() {
-        add_frame(alloc, frame, changes)?;
+        add_frame(alloc, *frame, changes)?;
     }
     Ok(())
 }

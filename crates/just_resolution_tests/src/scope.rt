@@ -153,11 +153,11 @@ fn binds_itself(scope: &Scope, number: u64) -> bool {
 }
 
 // How many frames are around a scope's own; -1 for a root.
-fn reported_outer(scope: &Scope) -> i64 {
-    if let Some(outer) = scope.parent() {
-        return outer.len() as i64;
+fn reported_outer(scope: &Scope, rt: &impl Abort, alloc: Global) -> i64 {
+    if scope.parent().is_none() {
+        return -1;
     }
-    -1
+    scope.outer_frames(alloc).expect(rt, "no memory").len() as i64
 }
 
 // Whether a number has this value in a scope.
@@ -212,7 +212,7 @@ fn report(scope: &Scope, rt: &impl Abort, alloc: Global, reported: &mut String) 
         write!(reported, "{number} {name} {value}{own}; ").expect(rt, "no memory");
     }
     report_own(scope, rt, alloc, reported);
-    let outer = reported_outer(scope);
+    let outer = reported_outer(scope, rt, alloc);
     write!(reported, " {outer}").expect(rt, "no memory");
 }
 
@@ -291,7 +291,7 @@ fn child_binds_its_own(rt: HostRuntime) {
     }
 }
 
-// The reports on a child of a root of these constants, and then on the root, are as expected, on a line each.
+// The reports on a child of a root of these constants, and then on its parent, are as expected, on a line each.
 fn are_reported(
     rt: &impl Abort,
     alloc: Global,
@@ -302,8 +302,6 @@ fn are_reported(
     bind_all(&mut root, rt, alloc, outer);
     let mut reported = String::new(alloc);
     report_child(&root, rt, alloc, own, &mut reported);
-    reported.push('\n').expect(rt, "no memory");
-    report(&root, rt, alloc, &mut reported);
     drop(root);
     reports(rt, reported, wanted);
 }
@@ -312,5 +310,7 @@ fn report_child(root: &Scope, rt: &impl Abort, alloc: Global, own: Bound, report
     let mut child = root.child(alloc).expect(rt, "no memory");
     bind_all(&mut child, rt, alloc, own);
     report(&child, rt, alloc, reported);
+    reported.push('\n').expect(rt, "no memory");
+    report(child.parent().expect(rt, "no parent"), rt, alloc, reported);
     drop(child);
 }

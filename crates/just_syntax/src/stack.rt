@@ -34,10 +34,10 @@ pub const ASSERT: usize = 848;
 pub const CALL: usize = 1088;
 
 /// What a comparison uses around its parts.
-pub const COMPARISON: usize = 816;
+pub const COMPARISON: usize = 896;
 
 /// What `+` uses around its parts.
-pub const CONCATENATION: usize = 864;
+pub const CONCATENATION: usize = 848;
 
 /// What `if` uses around its parts.
 pub const CONDITIONAL: usize = 784;
@@ -49,7 +49,7 @@ pub const FORMAT_STRING: usize = 896;
 pub const GROUP: usize = 448;
 
 /// What `/` of two expressions uses around its parts.
-pub const JOIN: usize = 864;
+pub const JOIN: usize = 848;
 
 /// What a list uses around its parts.
 pub const LIST: usize = 800;
@@ -64,7 +64,7 @@ pub const NOT: usize = 720;
 pub const OR: usize = 752;
 
 /// What `/` of one expression uses around its parts.
-pub const ROOT: usize = 864;
+pub const ROOT: usize = 752;
 
 /// What the body of a called function uses before its expression.
 pub const BODY: usize = 1168;

@@ -9,7 +9,8 @@ mod Numbering
 mod Pairs
 pub mod Places
 mod PositionalLaws
-mod Texts
+pub mod Texts
+mod Scopes
 mod Stepped
 pub mod Values
 mod Writes

@@ -1,5 +1,5 @@
 -- Bindings, frames, scopes and refusals as plain data.
-use Rattle.std.specs.Prelude.{◌≡◌, ℕ, List, ◌∷◌, map, Option, Some, None, string_bytes, option_map, Result, Ok, Err}
+use Rattle.std.specs.Prelude.{◌≡◌, ℕ, List, [], ◌∷◌, map, Option, Some, None, string_bytes, option_map, Result, Ok, Err}
 use Rattle.std.specs.Borrow.{Bor}
 use Rattle.std.specs.Str.{bytes_eq}
 use Rattle.just_syntax.specs.Plain.{Text, Token}
@@ -13,7 +13,7 @@ use Rattle.just_value.specs.declared.expression_context.ExpressionContext.{Expre
 use Rattle.just_value.specs.declared.frame.Frame.{Frame}
 use Rattle.just_value.specs.declared.list.List as list
 use Rattle.just_value.specs.declared.positional.Positional as declared_positional
-use Rattle.just_value.specs.declared.scope.Scope.{Scope}
+use Rattle.just_value.specs.declared.scope.Scope.{Scope, Scope', Held-Scope-outer, None', Some'}
 use Rattle.just_value.specs.declared.check_fault.CheckFault.{CheckFault}
 use Rattle.just_value.specs.declared.check_fault.CheckFault.TheVariants as checks
 use Rattle.just_value.specs.declared.compile_error.CompileError.{CompileError}
@@ -62,8 +62,18 @@ abbrev pub bindings_steps : Bindings → Option (Bor Binding) → Bindings → T
 bindings_steps s next t = TakesFirst deref (bindings_left s) next (bindings_left t)
 
 -- the frames of a scope, innermost first
-abbrev pub frames_view : Scope → Frames
-frames_view s = frame_view s.frame ∷ map (λ f. frame_view f.now) s.outer.items
+abbrev mutual
+  pub frames_view : Scope → Frames
+  frames_view (Scope' frame outer) = frame_view frame ∷ outer_view outer
+
+  pub outer_view : Held-Scope-outer → Frames
+  outer_view None' = []
+  outer_view (Some' pointer outer) = frames_view outer
+
+-- the frames of a scope, if there is one
+abbrev pub enclosing_view : Option (Bor Scope) → Frames
+enclosing_view None = []
+enclosing_view (Some scope) = frames_view scope.now
 
 -- a key and a text, as the caller passes them
 abbrev pub constant_view : Bor Text × Bor Text → Text × Text

@@ -3,8 +3,8 @@
 ghost use Rattle.std.specs.Prelude.{IfOk, OnErr, OnOk, [], map, option_map, ◌∷◌, ◌≡◌};
 ghost use Rattle.std.specs.Map.{values_of};
 ghost use Rattle.just_value.specs.Prelude.{IsRising, bindings_left, bound_innermost, bound_view, constant_bound};
-ghost use Rattle.just_value.specs.Prelude.{constant_view, frame_view, frames_view, innermost, outer_frames, own_frame};
-ghost use Rattle.just_value.specs.Prelude.{value_in, with_constants};
+ghost use Rattle.just_value.specs.Prelude.{constant_view, enclosing_view, frame_view, frames_view, innermost};
+ghost use Rattle.just_value.specs.Prelude.{outer_frames, own_frame, value_in, with_constants};
 
 use crate::binding::Binding;
 use crate::bindings::Bindings;
@@ -19,11 +19,11 @@ use just_syntax::token::Token;
 use std::alloc::Global;
 use std::fmt;
 
-/// An own frame, and the enclosing frames, innermost first.
+/// An own frame, and the scope around it, if there is one.
 #[derive(Drop)]
 pub struct Scope<'src, 'run> {
     frame: Frame<'src>,
-    outer: Vec<&'run Frame<'src>>,
+    outer: Option<&'run Scope<'src, 'run>>,
 }
 
 impl<'src, 'run> Scope<'src, 'run> {
@@ -45,14 +45,10 @@ impl<'src, 'run> Scope<'src, 'run> {
             let value = Value::from_text(alloc, value)?;
             frame.bind(constant(alloc, Numerator::constant(i), key, value))?;
         }
-        Ok(Scope {
-            frame,
-            outer: Vec::new(alloc),
-        })
+        Ok(Scope { frame, outer: None })
     }
 
-    /// A new frame without bindings, enclosed by the frames of this scope. It allocates one reference for each
-    /// enclosing frame. Upstream's `Scope::child`.
+    /// A new frame without bindings, enclosed by the frames of this scope. Upstream's `Scope::child`.
     ///
     /// # Errors
     ///
@@ -75,9 +71,11 @@ impl<'src, 'run> Scope<'src, 'run> {
     ) -> Result<Scope<'src, 'inner>, OutOfMemory>
         ensures { IfOk result (λ scope. frames_view scope ≡ [] ∷ frames_view self.now) }
     {
-        let outer = prepended(alloc, &self.frame, &self.outer)?;
         let frame = Frame::with_capacity(alloc, bindings)?;
-        Ok(Scope { frame, outer })
+        Ok(Scope {
+            frame,
+            outer: Some(self),
+        })
     }
 
     /// Binds a number in the own frame; this replaces its binding there, if it has one. It allocates only for a number
@@ -101,7 +99,7 @@ impl<'src, 'run> Scope<'src, 'run> {
         if let Some(own) = self.frame.binding(number) {
             return Some(own);
         }
-        binding_in(&self.outer, number)
+        binding_in(self.outer, number)
     }
 
     /// The value of a number in the innermost frame that binds it, if any does. Upstream's `Scope::value`.
@@ -129,40 +127,46 @@ impl<'src, 'run> Scope<'src, 'run> {
         &self.frame
     }
 
-    /// The enclosing frames, innermost first, if there are any. A scope from `root` has none, and one from `child` has
-    /// some. Upstream's `Scope::parent`, which gives a scope.
-    pub fn parent(&self) -> Option<&Vec<&'run Frame<'src>>>
-        ensures { option_map (λ outer. map (λ f. frame_view f.now) outer.now.items) result
-            ≡ outer_frames (frames_view self.now) }
+    /// The enclosing scope, if there is one. A scope from `root` has none, and one from `child` has one. Upstream's
+    /// `Scope::parent`.
+    pub fn parent(&self) -> Option<&'run Scope<'src, 'run>>
+        ensures { option_map (λ outer. frames_view outer.now) result ≡ outer_frames (frames_view self.now) }
     {
-        if self.outer.is_empty() {
-            return None;
+        self.outer
+    }
+
+    /// The frames of the enclosing scopes, innermost first. It allocates one reference for each.
+    ///
+    /// # Errors
+    ///
+    /// `OutOfMemory`, if an allocation fails: nothing is created.
+    pub fn outer_frames(&self, alloc: Global) -> Result<Vec<&'run Frame<'src>>, OutOfMemory>
+        ensures { IfOk result (λ frames. own_frame (frames_view self.now) ∷ map (λ f. frame_view f.now) frames.items
+            ≡ frames_view self.now) }
+    {
+        let mut frames = Vec::new(alloc);
+        let mut next = self.outer;
+        while let Some(scope) = next {
+            frames.push(&scope.frame)?;
+            next = scope.outer;
         }
-        Some(&self.outer)
+        Ok(frames)
     }
 }
 
-// One value followed by others. The others are passed as a vector, so that the caller needs no call to borrow a slice.
-fn prepended<T: Copy>(alloc: Global, first: T, others: &Vec<T>) -> Result<Vec<T>, OutOfMemory>
-    ensures { IfOk result (λ all. all.items ≡ first ∷ others.now.items) }
-{
-    let mut all = Vec::with_capacity(alloc, others.len().saturating_add(1))?;
-    all.push(first)?;
-    all.extend_from_slice(others)?;
-    Ok(all)
-}
-
-// The binding of a number in the first frame that has one.
-fn binding_in<'frame, 'src>(
-    frames: &[&'frame Frame<'src>],
+// The binding of a number in the innermost frame that has one, of a scope and those around it.
+fn binding_in<'run, 'src>(
+    scope: Option<&'run Scope<'src, 'run>>,
     number: Number,
-) -> Option<&'frame Binding<'src>>
-    ensures { option_map (λ b. bound_view b.now) result ≡ innermost number (map (λ f. frame_view f.now) frames.now) }
+) -> Option<&'run Binding<'src>>
+    ensures { option_map (λ b. bound_view b.now) result ≡ innermost number (enclosing_view scope.entry) }
 {
-    for frame in frames {
-        if let Some(found) = frame.binding(number) {
+    let mut next = scope;
+    while let Some(scope) = next {
+        if let Some(found) = scope.frame.binding(number) {
             return Some(found);
         }
+        next = scope.outer;
     }
     None
 }
@@ -195,9 +199,13 @@ fn constant<'src>(alloc: Global, number: Number, key: &'src str, value: Value) -
 // The frames, innermost first. The format is unspecified.
 impl fmt::Debug for Scope<'_, '_> {
     fn fmt<W: fmt::Write>(&self, f: &mut fmt::Formatter<W>) -> fmt::Result {
-        f.debug_list()
-            .entry(self.frame())
-            .entries(&self.outer)
-            .finish()
+        let mut list = f.debug_list();
+        list.entry(&self.frame);
+        let mut outer = self.outer;
+        while let Some(scope) = outer {
+            list.entry(&scope.frame);
+            outer = scope.outer;
+        }
+        list.finish()
     }
 }

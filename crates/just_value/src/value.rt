@@ -213,7 +213,8 @@ impl Value {
         }
     }
 
-    /// As `apply`, with this value moved: its texts are extended where they are if the result has as many elements.
+    /// As `apply`, with this value moved, and the other given by its texts: the texts of this one are extended where they
+    /// are if the result has as many elements.
     ///
     /// # Errors
     ///
@@ -221,14 +222,13 @@ impl Value {
     pub fn into_applied<'src>(
         self,
         alloc: Global,
-        other: &Value,
+        others: &[String],
         operator: ListOperator,
         token: Token<'src>,
     ) -> Result<Value, Error<'src>>
         ensures { UnlessStopped (ended (λ v. v) result)
-            (combined self operator other.now (token_view token.entry)) }
+            (combined self operator (map string_bytes others.now) (token_view token.entry)) }
     {
-        let others = &other.elements;
         match (self.len(), others.len()) {
             (1.., 1) => {
                 let texts = all_extended(self.into_elements(), operator.separator(), &others[0])?;
@@ -238,7 +238,10 @@ impl Value {
                 let texts = pairs_extended(self.into_elements(), operator.separator(), others)?;
                 Ok(Value::from_elements(texts))
             }
-            _ => self.apply(alloc, other, operator, token),
+            _ => {
+                let other = Value::from_elements(copies(alloc, others)?);
+                self.apply(alloc, &other, operator, token)
+            }
         }
     }
 }

@@ -14,7 +14,6 @@ use just_script::fail_at::FailAt;
 use just_syntax::out_of_memory::OutOfMemory;
 use just_value::element::Element;
 use just_value::error::{CommandFault, Error};
-use just_value::frame::Frame;
 use just_value::scope::Scope;
 use std::alloc::Global;
 use std::collections::BTreeMap;
@@ -79,7 +78,7 @@ impl Host for ReportingHost {
         alloc: Global,
         question: &CommandQuestion,
     ) -> Result<String, CommandFault> {
-        report_command(&mut self.reported, question)?;
+        report_command(alloc, &mut self.reported, question)?;
         self.host.command(alloc, question)
     }
 
@@ -105,14 +104,18 @@ pub(crate) fn refusal(error: &Error) -> &'static str {
 }
 
 // Adds a command, its arguments, its environment, the frames, and what is fixed in a run.
-fn report_command(reported: &mut String, question: &CommandQuestion) -> Result<(), OutOfMemory> {
+fn report_command(
+    alloc: Global,
+    reported: &mut String,
+    question: &CommandQuestion,
+) -> Result<(), OutOfMemory> {
     let command = question.command;
     write!(reported, "? {command}")?;
     if let Some(arguments) = question.arguments {
         report_arguments(reported, arguments)?;
     }
     report_environment(reported, question.env)?;
-    report_frames(question.scope, reported)?;
+    report_frames(alloc, question.scope, reported)?;
     report_fixed(reported, question)?;
     reported.push(';')?;
     Ok(())
@@ -158,19 +161,9 @@ pub(crate) fn report_environment(
 }
 
 // Adds the frames, innermost first, each in parentheses.
-fn report_frames(scope: &Scope, reported: &mut String) -> Result<(), OutOfMemory> {
+fn report_frames(alloc: Global, scope: &Scope, reported: &mut String) -> Result<(), OutOfMemory> {
     report_frame(scope.frame(), reported)?;
-    match scope.parent() {
-        Some(outer) => report_outer(outer, reported),
-        None => Ok(()),
-    }
-}
-
-fn report_outer<'call>(
-    outer: &'call [&'call Frame],
-    reported: &mut String,
-) -> Result<(), OutOfMemory> {
-    for frame in outer {
+    for frame in scope.outer_frames(alloc)? {
         report_frame(frame, reported)?;
     }
     Ok(())

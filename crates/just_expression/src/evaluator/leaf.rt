@@ -1,13 +1,15 @@
 // Evaluates variables and commands, which have no parts.
 
-ghost use Rattle.std.specs.Prelude.{◌≡◌};
-ghost use Rattle.just_expression.specs.Prelude.{RunsTo, command, context_of, is_non_const, name_view, open_in, program};
-ghost use Rattle.just_expression.specs.Prelude.{situation, token_view, variable};
+ghost use Rattle.std.specs.Prelude.{IfSome, map, string_bytes, ◌≡◌};
+ghost use Rattle.just_expression.specs.Prelude.{Gave, Runs, RunsTo, command, context_of, is_non_const};
+ghost use Rattle.just_expression.specs.Prelude.{meaning, name_view, open_in, program, rules, situation, token_view};
+ghost use Rattle.just_expression.specs.Prelude.{variable, view};
 
 use super::ExpressionEvaluator;
 use crate::internal::Reason;
 use crate::{command, variable};
 use just_host::host::Host;
+use just_syntax::expression::Expression;
 use just_syntax::name::Name;
 use just_syntax::number::Number;
 use just_syntax::token::Token;
@@ -15,6 +17,7 @@ use just_value::const_error::ConstError;
 use just_value::error::Error;
 use just_value::value::Value;
 use std::alloc::Global;
+use std::slice;
 
 impl<'src, 'run, 'here> ExpressionEvaluator<'src, 'run, 'here> {
     // The value of a variable. The host is not asked.
@@ -36,6 +39,47 @@ impl<'src, 'run, 'here> ExpressionEvaluator<'src, 'run, 'here> {
             return Err(Error::Const(ConstError::Variable(*name)));
         }
         variable::value_of(alloc, self.scope, name, number)
+    }
+
+    // The texts of an operand that is a literal, or a variable that is bound and not open, where they are. Any other
+    // operand has none in place. The host is not asked.
+    #[inline(never)]
+    pub(crate) fn texts_in_place<'parts, H: Host>(
+        &'parts self,
+        host: &H,
+        operand: &'parts Expression<'src>,
+    ) -> Option<&'parts [String]>
+        ensures { IfSome result (λ texts. Runs (rules self.now) H.step host.now (meaning self.now (view operand.now))
+            (Gave (map string_bytes texts.now)) host.now) }
+    {
+        match operand {
+            Expression::StringLiteral { string_literal } => {
+                Some(slice::from_ref(&string_literal.cooked))
+            }
+            Expression::Variable { name, number } => {
+                let value = self.value_in_place(host, name, *number)?;
+                Some(value.elements())
+            }
+            _ => None,
+        }
+    }
+
+    // The value of a variable that is bound and not open, where it is. The host is not asked.
+    fn value_in_place<H: Host>(
+        &self,
+        host: &H,
+        name: &Name<'src>,
+        number: Option<Number>,
+    ) -> Option<&Value>
+        ensures { IfSome result (λ value. Runs (rules self.now) H.step host.now (variable (name_view name.now) number
+            (situation self.now).names) (Gave value.now) host.now) }
+    {
+        let number = number?;
+        if self.is_open(number) {
+            return None;
+        }
+        let value = self.scope.value(number)?;
+        Some(value)
     }
 
     // Whether a variable is open: the const rules apply, and it has no constant value.

@@ -71,17 +71,29 @@ evaluate_comparison-returns-in_err-right g t c =
     let plain : is_regex c.args.operator ≡ false = cc in
     runs_else _ _ _ plain (runs_on _ _ c.in_ok-left.ensures (runs_exit _ _ _ c.from_residual-in_err-right.ensures.1 (runs_ends _ _ _ c.in_err-right.ensures)))
 
-pub evaluate_comparison-returns-in_err-from_bool : goal.evaluate_comparison-returns-in_err-from_bool
-evaluate_comparison-returns-in_err-from_bool g t c =
+pub evaluate_comparison-returns-in_err-compared : goal.evaluate_comparison-returns-in_err-compared
+evaluate_comparison-returns-in_err-compared g t c =
     let plain : is_regex c.args.operator ≡ false = cc in
-    runs_exit _ _ _ c.from_residual-in_err-from_bool.ensures.1
+    runs_exit _ _ _ c.from_residual-in_err-compared.ensures.1 (runs_else _ _ _ plain (runs_on _ _ c.in_ok-left.ensures (runs_stopped _)))
+
+pub evaluate_comparison-returns-in-Some : goal.evaluate_comparison-returns-in-Some
+evaluate_comparison-returns-in-Some g t c =
+    let plain : is_regex c.args.operator ≡ false = cc in
+    let right = rw c.in-Some.is at c.texts_in_place.ensures in
+    let given = rw c.elements.ensures at c.in_ok-compared.ensures in
+    runs_else _ _ _ plain (runs_on _ _ c.in_ok-left.ensures (runs_on _ _ right (runs_done _ _ (ap Gave given))))
+
+pub evaluate_comparison-returns-in_err-compared-2 : goal.evaluate_comparison-returns-in_err-compared-2
+evaluate_comparison-returns-in_err-compared-2 g t c =
+    let plain : is_regex c.args.operator ≡ false = cc in
+    runs_exit _ _ _ c.from_residual-in_err-compared-2.ensures.1
     (runs_else _ _ _ plain (runs_on _ _ c.in_ok-left.ensures (runs_on _ _ c.in_ok-right.ensures (runs_stopped _))))
 
 pub evaluate_comparison-returns : goal.evaluate_comparison-returns
 evaluate_comparison-returns g t c =
     let plain : is_regex c.args.operator ≡ false = cc in
-    runs_else _ _ _ plain
-    (runs_on _ _ c.in_ok-left.ensures (runs_on _ _ c.in_ok-right.ensures (runs_done _ _ (ap Gave (c.in_ok-from_bool.ensures ∙ c.compares.ensures)))))
+    let given = rw (c.elements-left.ensures, c.elements-right.ensures) at c.in_ok-compared-2.ensures in
+    runs_else _ _ _ plain (runs_on _ _ c.in_ok-left.ensures (runs_on _ _ c.in_ok-right.ensures (runs_done _ _ (ap Gave given))))
 
 pub evaluate_comparison-returns-then-is_regex : goal.evaluate_comparison-returns-then-is_regex
 evaluate_comparison-returns-then-is_regex g t c =
@@ -119,13 +131,18 @@ evaluate_conditional-returns g t c = elim c.if-is_truthy.branch [
 pub evaluate_combination-returns-in_err-left : goal.evaluate_combination-returns-in_err-left
 evaluate_combination-returns-in_err-left g t c = runs_exit _ _ _ c.from_residual.ensures.1 (runs_ends _ _ _ c.in_err-left.ensures)
 
+pub evaluate_combination-returns-in-Some : goal.evaluate_combination-returns-in-Some
+evaluate_combination-returns-in-Some g t c =
+    let right = rw c.in-Some.is at c.texts_in_place.ensures in
+    runs_on _ _ c.in_ok-left.ensures (runs_on _ _ right (runs_done _ _ c.applied.ensures))
+
 pub evaluate_combination-returns-in_err-right : goal.evaluate_combination-returns-in_err-right
 evaluate_combination-returns-in_err-right g t c =
     runs_on _ _ c.in_ok-left.ensures (runs_exit _ _ _ c.from_residual-in_err-right.ensures.1 (runs_ends _ _ _ c.in_err-right.ensures))
 
 pub evaluate_combination-returns : goal.evaluate_combination-returns
 evaluate_combination-returns g t c =
-    runs_on _ _ c.in_ok-left.ensures (runs_on _ _ c.in_ok-right.ensures (runs_done _ _ c.into_applied.ensures))
+    runs_on _ _ c.in_ok-left.ensures (runs_on _ _ c.in_ok-right.ensures (runs_done _ _ (rw c.elements.ensures at c.applied-2.ensures)))
 
 pub evaluate_list_concatenation-returns-in_err-left : goal.evaluate_list_concatenation-returns-in_err-left
 evaluate_list_concatenation-returns-in_err-left g t c = runs_exit _ _ _ c.from_residual.ensures.1 (runs_ends _ _ _ c.in_err-left.ensures)
@@ -303,7 +320,7 @@ evaluate_root-returns-in_err-left g t c =
 pub evaluate_root-returns : goal.evaluate_root-returns
 evaluate_root-returns g t c =
     runs_on (meaning c.args.self.now (view c.args.rhs.now)) _ c.in_ok-right.ensures
-    (runs_done _ _ (rw c.in_ok-left.ensures at c.into_applied.ensures))
+    (runs_done _ _ (rw (c.in_ok-left.ensures, c.elements.ensures) at c.applied.ensures))
 
 -- ---- string literals
 
@@ -419,3 +436,14 @@ evaluate_defined_function-returns g t c =
     body_runs (program self) c.args.calls_left _ _ (view function.body) _
     (inside_is (frames_view c.in_ok-scope.scope) (situation self) _ (function_view function) c.args.values.items bound refl)
     (rw c.in_body-evaluator.ensures at c.evaluate_value.ensures)
+
+-- ---- operands that are only read
+
+pub evaluate_operand-returns-in-Some : goal.evaluate_operand-returns-in-Some
+evaluate_operand-returns-in-Some g t c = rw c.in-Some.is at c.texts_in_place.ensures
+
+pub evaluate_operand-returns-in_err-value : goal.evaluate_operand-returns-in_err-value
+evaluate_operand-returns-in_err-value g t c = runs_exit _ _ _ c.from_residual.ensures.1 c.in_err-value.ensures
+
+pub evaluate_operand-returns : goal.evaluate_operand-returns
+evaluate_operand-returns g t c = c.in_ok-value.ensures

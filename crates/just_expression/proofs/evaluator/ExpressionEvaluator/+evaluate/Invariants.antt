@@ -4,13 +4,16 @@ use Rattle.just_expression.proofs.Rows.{PiecesLeft, RowLeft}
 use Rattle.just_expression.proofs.Texts.{AreTexts}
 use Rattle.just_expression.proofs.evaluator.ExpressionEvaluator.+evaluate.Given as goal
 
--- The measure of the recursion. Each level uses up some of its stack budget. Within a level the form comes after the
--- entry, and a body after both.
+-- The measure of the recursion. Each level uses up some of its stack budget. Within a level an operand and a body come
+-- after the entry, and the form after all three.
 abbrev pub decreases-evaluate_value : goal.decreases-evaluate_value
 decreases-evaluate_value g l = 3 * l.budget
 
 abbrev pub decreases-evaluate_defined_function : goal.decreases-evaluate_defined_function
 decreases-evaluate_defined_function g l = suc (3 * l.budget)
+
+abbrev pub decreases-evaluate_operand : goal.decreases-evaluate_operand
+decreases-evaluate_operand g l = suc (3 * l.budget)
 
 abbrev pub decreases-evaluate_and : goal.decreases-evaluate_and
 decreases-evaluate_and g l = suc (suc (3 * l.budget))
