@@ -285,12 +285,8 @@ impl<'src, 'run, 'here> ExpressionEvaluator<'src, 'run, 'here> {
             return Err(Error::LeftOutRegex { token: *token });
         }
         let left = (&*self).evaluate_operand(alloc, host, &*lhs, budget)?;
-        if let Some(texts) = (&*self).texts_in_place(&*host, &*rhs) {
-            return Ok(form::compared(alloc, operator, left.elements(), texts)?);
-        }
-        let right = self.evaluate_value(alloc, host, rhs, budget)?;
-        let (left, right) = (left.elements(), right.elements());
-        Ok(form::compared(alloc, operator, left, right)?)
+        let right = (&*self).evaluate_operand(alloc, host, &*rhs, budget)?;
+        form::compared(alloc, operator, left.elements(), right.elements())
     }
 
     // The value of a conditional.

@@ -38,15 +38,16 @@ pub fn is_regex(operator: ConditionalOperator) -> bool
 
 /// The value of a comparison of two values. It is not inlined, so that a form's frame is small.
 #[inline(never)]
-pub fn compared(
+pub fn compared<'src>(
     alloc: Global,
     operator: ConditionalOperator,
     left: &[String],
     right: &[String],
-) -> Result<Value, OutOfMemory>
-    ensures { IfOk result (λ v. v ≡ compared operator (map string_bytes left.now) (map string_bytes right.now)) }
+) -> Result<Value, Error<'src>>
+    ensures { UnlessStopped (ended (λ v. v) result)
+        (Gave (compared operator (map string_bytes left.now) (map string_bytes right.now))) }
 {
-    Value::from_bool(alloc, compares(operator, left, right))
+    Ok(Value::from_bool(alloc, compares(operator, left, right))?)
 }
 
 // Whether two values are equal, or differ, as the operator asks.

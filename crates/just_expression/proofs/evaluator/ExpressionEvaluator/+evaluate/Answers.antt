@@ -71,29 +71,11 @@ evaluate_comparison-returns-in_err-right g t c =
     let plain : is_regex c.args.operator ≡ false = cc in
     runs_else _ _ _ plain (runs_on _ _ c.in_ok-left.ensures (runs_exit _ _ _ c.from_residual-in_err-right.ensures.1 (runs_ends _ _ _ c.in_err-right.ensures)))
 
-pub evaluate_comparison-returns-in_err-compared : goal.evaluate_comparison-returns-in_err-compared
-evaluate_comparison-returns-in_err-compared g t c =
-    let plain : is_regex c.args.operator ≡ false = cc in
-    runs_exit _ _ _ c.from_residual-in_err-compared.ensures.1 (runs_else _ _ _ plain (runs_on _ _ c.in_ok-left.ensures (runs_stopped _)))
-
-pub evaluate_comparison-returns-in-Some : goal.evaluate_comparison-returns-in-Some
-evaluate_comparison-returns-in-Some g t c =
-    let plain : is_regex c.args.operator ≡ false = cc in
-    let right = rw c.in-Some.is at c.texts_in_place.ensures in
-    let given = rw c.elements.ensures at c.in_ok-compared.ensures in
-    runs_else _ _ _ plain (runs_on _ _ c.in_ok-left.ensures (runs_on _ _ right (runs_done _ _ (ap Gave given))))
-
-pub evaluate_comparison-returns-in_err-compared-2 : goal.evaluate_comparison-returns-in_err-compared-2
-evaluate_comparison-returns-in_err-compared-2 g t c =
-    let plain : is_regex c.args.operator ≡ false = cc in
-    runs_exit _ _ _ c.from_residual-in_err-compared-2.ensures.1
-    (runs_else _ _ _ plain (runs_on _ _ c.in_ok-left.ensures (runs_on _ _ c.in_ok-right.ensures (runs_stopped _))))
-
 pub evaluate_comparison-returns : goal.evaluate_comparison-returns
 evaluate_comparison-returns g t c =
     let plain : is_regex c.args.operator ≡ false = cc in
-    let given = rw (c.elements-left.ensures, c.elements-right.ensures) at c.in_ok-compared-2.ensures in
-    runs_else _ _ _ plain (runs_on _ _ c.in_ok-left.ensures (runs_on _ _ c.in_ok-right.ensures (runs_done _ _ (ap Gave given))))
+    let given = rw (c.elements.ensures, c.elements-2.ensures) at c.compared.ensures in
+    runs_else _ _ _ plain (runs_on _ _ c.in_ok-left.ensures (runs_on _ _ c.in_ok-right.ensures (runs_done _ _ given)))
 
 pub evaluate_comparison-returns-then-is_regex : goal.evaluate_comparison-returns-then-is_regex
 evaluate_comparison-returns-then-is_regex g t c =
