@@ -291,12 +291,10 @@ fn frame_on<'src, 'run>(
     alloc: Global,
     frame: &str,
 ) -> Scope<'src, 'run> {
-    let scope = if frame.starts_with('/') {
-        Scope::root(alloc, &[])
-    } else {
-        context.scope.child(alloc)
-    };
-    scope.expect(rt, "no memory")
+    if frame.starts_with('/') {
+        return Scope::root(alloc, &[]).expect(rt, "no memory");
+    }
+    context.scope.child(alloc).expect(rt, "no memory")
 }
 
 // Binds each of these numbers, a digit each, to no element.
