@@ -1,0 +1,7 @@
+use Rattle.std.proofs.Common.{arith}
+use Rattle.std.proofs.lemmas.Grind.{common_steps}
+use Rattle.just_report.proofs.Signs.{bar_is}
+use Rattle.just_report.proofs.report.push_mark_line.Goals as goal
+
+pub returns : goal.returns
+returns c = rw bar_is (grind (arith, common_steps))
