@@ -1,13 +1,13 @@
 -- The escapes of a text, byte by byte.
-use Rattle.std.proofs.Common.{◌≡◌, ℕ, suc, ◌+◌, ◌-◌, ◌<◌, ◌≤◌, if◌then◌else◌, nat_lt, List, [], ◌∷◌, ◌++◌, length, take, drop, get_or, refl, ap, sym, ◌∙◌, inl}
+use Rattle.std.proofs.Common.{◌≡◌, ℕ, suc, ◌+◌, ◌-◌, ◌<◌, ◌≤◌, if◌then◌else◌, nat_lt, List, [], ◌∷◌, ◌++◌, length, take, drop, get_or, refl, ap, sym, subst, ◌∙◌, inl}
 use Rattle.std.proofs.Common.{inr, arith, chars, IsUtf8, append_assoc, append-nil, lt-ltb, length-drop, get_or-drop, flat_map}
 use lib.Utf8.{encode, encodes}
 use Rattle.std.proofs.lemmas.Bool.{cases_lt}
 use Rattle.std.proofs.lemmas.Bool.Decides.{nat_tests}
-use Rattle.std.proofs.lemmas.List.{take_more, take_all}
+use Rattle.std.proofs.lemmas.List.{get_or-take, length-take, take_more, take_all}
 use Rattle.std.proofs.lemmas.List.Concat.{flat_map-append}
 use Rattle.std.proofs.lemmas.Str.{encode_ascii, encodes-chars, inside_one}
-use Rattle.just_value.specs.Prelude.{escaped}
+use Rattle.just_value.specs.Prelude.{IsPlain, escaped}
 
 -- a byte as a quoted text shows it
 unfoldable pub escaped_byte : ℕ → List ℕ
@@ -76,3 +76,21 @@ text_ends bs done start at utf8 end is =
     let run : take (at - start) (drop start bs) ≡ drop start bs = take_all _ _ (omega (arith, length-drop start bs)) in
     let text : take at bs ≡ bs = take_all at bs (omega arith) in
     sym (rw (run, text) at is) ∙ (ap (flat_map escaped_byte) (sym (encodes-chars bs utf8)) ∙ bytes_of_chars (chars bs))
+
+-- bytes without an escape are shown as they are
+plain_bytes : (bs : List ℕ) → ((i : ℕ) → i < length bs → IsPlain (get_or bs i 0)) → flat_map escaped_byte bs ≡ bs
+plain_bytes [] plain = refl
+plain_bytes (b ∷ bs) plain = rw (plain_byte b (plain 0 (omega arith)), plain_bytes bs (λ i within. plain (suc i) (omega arith))) refl
+
+pub plain_front : (bs : List ℕ) (n : ℕ) → n ≤ length bs → ((k : ℕ) → k < n → IsPlain (get_or bs k 0)) → flat_map escaped_byte (take n bs) ≡ take n bs
+plain_front bs n high plain =
+    plain_bytes (take n bs) (λ i within.
+    let here : i < n = omega (arith, length-take n bs) in
+    subst IsPlain (sym (get_or-take n bs i 0 here)) (plain i here))
+
+-- one more byte has no escape
+pub plain_more : (bs : List ℕ) (n : ℕ) → ((k : ℕ) → k < n → IsPlain (get_or bs k 0)) → IsPlain (get_or bs n 0) → (k : ℕ) → k < n + 1 → IsPlain (get_or bs k 0)
+plain_more bs n plain here k within = elim (cases_lt k n) [
+  | inl below ↦ plain k below
+  | inr above ↦ let same : n ≡ k = omega arith in subst (λ i. IsPlain (get_or bs i 0)) same here
+]

@@ -1,5 +1,5 @@
 -- How texts and values are shown.
-use Rattle.std.specs.Prelude.{ℕ, ◌==◌, ◌++◌, if◌then◌else◌, [], ◌∷◌, chars, codes, encode_utf8}
+use Rattle.std.specs.Prelude.{ℕ, ◌==◌, ◌<◌, ◌≡◌, ◌++◌, if◌then◌else◌, [], ◌∷◌, chars, codes, encode_utf8}
 use Rattle.std.specs.List.{flat_map, join_by}
 use Rattle.just_syntax.specs.Plain.{Text}
 use Rattle.just_value.specs.Value.{Value}
@@ -13,6 +13,10 @@ escaped c =
     else (if c == 34 then codes "\\\""
     else (if c == 92 then codes "\\\\"
     else encode_utf8 c))))
+
+-- a byte is shown as it is, unless it belongs to a longer character
+abbrev pub IsPlain : ℕ → Type 0
+IsPlain byte = byte < 128 → escaped byte ≡ byte ∷ []
 
 -- a text in quotes
 abbrev pub quoted : Text → Text

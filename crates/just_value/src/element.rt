@@ -1,8 +1,8 @@
 // How a text is displayed.
 
-ghost use Rattle.std.specs.Prelude.{MatchOption, [], ◌<◌, ◌∷◌, ◌≡◌};
+ghost use Rattle.std.specs.Prelude.{MatchOption, [], false, length, slice_index, ℕ, ◌<◌, ◌∷◌, ◌≡◌, ◌≤◌};
 ghost use Rattle.std.specs.Fmt.{WritesStyledOnOk};
-ghost use Rattle.just_value.specs.Prelude.{escaped, quoted};
+ghost use Rattle.just_value.specs.Prelude.{IsPlain, escaped, quoted};
 
 use std::fmt;
 
@@ -24,14 +24,14 @@ impl fmt::Display for Element<'_> {
     }
 }
 
-// A text in quotes. Each run of bytes between two escapes is written in one piece.
+// A text in quotes. Each run of bytes between two escapes is written in one piece, and so is a text without escapes.
 fn write_quoted<W: fmt::Write>(f: &mut fmt::Formatter<W>, text: &str) -> fmt::Result
     ensures { WritesStyledOnOk W.write_str_gives f.old result (quoted text.now) f.new }
 {
     f.write_str("\"")?;
     let bytes = text.as_bytes();
     let mut start = 0;
-    for at in 0..bytes.len() {
+    for at in plain_start(bytes)..bytes.len() {
         if let Some(escape) = escape_of(bytes[at]) {
             f.write_str(&text[start..at])?;
             f.write_str(escape)?;
@@ -40,6 +40,33 @@ fn write_quoted<W: fmt::Write>(f: &mut fmt::Formatter<W>, text: &str) -> fmt::Re
     }
     f.write_str(&text[start..])?;
     f.write_str("\"")
+}
+
+// How many bytes to pass over: all of them if none has an escape. It has no branch per byte, so that it is compiled to
+// instructions on many bytes at once.
+fn plain_start(bytes: &[u8]) -> usize
+    ensures bound { result ≤ length bytes.now }
+    ensures plain { (k : ℕ) → k < result → IsPlain (slice_index bytes.now k) }
+{
+    if has_escape(bytes) { 0 } else { bytes.len() }
+}
+
+// Whether any of the bytes has an escape.
+fn has_escape(bytes: &[u8]) -> bool
+    ensures { result ≡ false → (k : ℕ) → k < length bytes.now → IsPlain (slice_index bytes.now k) }
+{
+    let mut found = false;
+    for byte in bytes {
+        found |= is_escaped(*byte);
+    }
+    found
+}
+
+// Whether a byte has an escape.
+fn is_escaped(byte: u8) -> bool
+    ensures { result ≡ false → IsPlain byte }
+{
+    (byte == b'\t') | (byte == b'\r') | (byte == b'\n') | (byte == b'"') | (byte == b'\\')
 }
 
 // The escape of an ASCII character, if it has one. No other byte has one.

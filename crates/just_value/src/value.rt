@@ -101,8 +101,7 @@ impl Value {
     pub fn try_clone(&self, alloc: Global) -> Result<Value, OutOfMemory>
         ensures { IfOk result (λ v. v ≡ self.now) }
     {
-        let elements = copies(alloc, &self.elements)?;
-        Ok(Value::from_elements(elements))
+        copied(alloc, &self.elements)
     }
 
     /// The texts, in order. Upstream's `Value::elements`.
@@ -188,29 +187,7 @@ impl Value {
         ensures { UnlessStopped (ended (λ v. v) result)
             (combined self.now operator other.now (token_view token.entry)) }
     {
-        let separator = operator.separator();
-        let a = &self.elements;
-        let b = &other.elements;
-        match (a.len(), b.len()) {
-            (1, 1..) => {
-                let elements = after(alloc, &a[0], separator, b)?;
-                Ok(Value::from_elements(elements))
-            }
-            (1.., 1) => {
-                let elements = before(alloc, a, separator, &b[0])?;
-                Ok(Value::from_elements(elements))
-            }
-            (m, n) if m == n => {
-                let elements = in_pairs(alloc, a, separator, b)?;
-                Ok(Value::from_elements(elements))
-            }
-            _ => Err(Error::ListOperation {
-                lhs: self.try_clone(alloc)?,
-                operator,
-                rhs: other.try_clone(alloc)?,
-                token,
-            }),
-        }
+        combine(alloc, &self.elements, &other.elements, operator, token)
     }
 
     /// As `apply`, with this value moved, and the other given by its texts: the texts of this one are extended where they
@@ -238,10 +215,7 @@ impl Value {
                 let texts = pairs_extended(self.into_elements(), operator.separator(), others)?;
                 Ok(Value::from_elements(texts))
             }
-            _ => {
-                let other = Value::from_elements(copies(alloc, others)?);
-                self.apply(alloc, &other, operator, token)
-            }
+            _ => combine(alloc, &self.elements, others, operator, token),
         }
     }
 }
@@ -368,6 +342,47 @@ impl IntoIterator for Value {
     fn into_iter(self) -> vec::IntoIter<String> {
         self.into_elements().into_iter()
     }
+}
+
+// The texts of both lists, combined.
+fn combine<'src>(
+    alloc: Global,
+    a: &[String],
+    b: &[String],
+    operator: ListOperator,
+    token: Token<'src>,
+) -> Result<Value, Error<'src>>
+    ensures { UnlessStopped (ended (λ v. v) result)
+        (combined (map string_bytes a.now) operator (map string_bytes b.now) (token_view token.entry)) }
+{
+    let separator = operator.separator();
+    match (a.len(), b.len()) {
+        (1, 1..) => {
+            let texts = after(alloc, &a[0], separator, b)?;
+            Ok(Value::from_elements(texts))
+        }
+        (1.., 1) => {
+            let texts = before(alloc, a, separator, &b[0])?;
+            Ok(Value::from_elements(texts))
+        }
+        (m, n) if m == n => {
+            let texts = in_pairs(alloc, a, separator, b)?;
+            Ok(Value::from_elements(texts))
+        }
+        _ => Err(Error::ListOperation {
+            lhs: copied(alloc, a)?,
+            operator,
+            rhs: copied(alloc, b)?,
+            token,
+        }),
+    }
+}
+
+// A value of copies of the texts.
+fn copied(alloc: Global, texts: &[String]) -> Result<Value, OutOfMemory>
+    ensures { IfOk result (λ v. v ≡ map string_bytes texts.now) }
+{
+    Ok(Value::from_elements(copies(alloc, texts)?))
 }
 
 // Copies of the texts.

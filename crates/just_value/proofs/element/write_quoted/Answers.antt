@@ -1,22 +1,27 @@
-use Rattle.std.proofs.Common.{◌≡◌, ◌-◌, ◌<◌, ◌++◌, ◌∷◌, [], length, get_or, take, drop, refl, true, arith, append_assoc}
+use Rattle.std.proofs.Common.{◌≡◌, ◌-◌, ◌<◌, ◌++◌, ◌∷◌, [], length, get_or, take, drop, refl, true, ap, ◌∙◌, arith, append_assoc}
 use Rattle.std.specs.Fmt.{HasWrittenStyled}
 use Rattle.std.proofs.Output.{has_written_styled_nil}
 use Rattle.std.proofs.lemmas.Grind.{common_steps}
 use Rattle.std.proofs.lemmas.Str.{IsCharBoundary-start, IsCharBoundary-after_ascii}
 use Rattle.just_syntax.proofs.Styled.{styled_three, styled_four}
 use Rattle.just_value.specs.Prelude.{escaped}
-use Rattle.just_value.proofs.Escapes.{escaped_byte, ascii_byte, plain_byte, run_goes_on, run_ends, text_ends}
+use Rattle.just_value.proofs.Escapes.{escaped_byte, ascii_byte, plain_byte, plain_front, run_goes_on, run_ends, text_ends}
 use Rattle.just_value.proofs.element.write_quoted.Goals as goal
 use Rattle.just_value.proofs.element.write_quoted.Goals.{in-Some+in_ok-write_str-2+in_ok-write_str-3, in_default}
 
 pub loop-at-init : goal.loop-at-init
-loop-at-init g c = record {
-  low = omega arith;
-  boundary = IsCharBoundary-start c.args.text.now c.utf8.text;
-  done = [];
-  so_far = refl;
-  written = λ flush. has_written_styled_nil g.W.Write.write_str_gives c.write_str.new.self flush;
-}
+loop-at-init g c =
+    let same = c.as_bytes-bytes.ensures.value in
+    let start = c.plain_start-at in
+    let whole : start.result ≡ start.result - 0 = omega arith in
+    record {
+      low = omega arith;
+      boundary = IsCharBoundary-start c.args.text.now c.utf8.text;
+      done = [];
+      so_far = plain_front c.args.text.now start.result (rw same at start.ensures.bound) (rw same at start.ensures.plain)
+          ∙ ap (λ n. take n c.args.text.now) whole;
+      written = λ flush. has_written_styled_nil g.W.Write.write_str_gives c.write_str.new.self flush;
+    }
 
 pub loop-at-preserved : goal.loop-at-preserved
 loop-at-preserved g c =
