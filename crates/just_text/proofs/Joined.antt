@@ -1,7 +1,8 @@
 -- Joined texts.
-use Rattle.std.proofs.Common.{◌≡◌, ℕ, ◌<◌, List, [], ◌∷◌, ◌++◌, length, refl, ap, arith, flat_map}
+use Rattle.std.proofs.Common.{◌≡◌, ℕ, ◌<◌, List, [], ◌∷◌, ◌++◌, length, refl, ap, sym, ◌∙◌, arith, flat_map, if◌then◌else◌, ◌==◌}
 use Rattle.std.specs.List.{join_by, onto_first}
-use Rattle.std.proofs.lemmas.List.{append_assoc}
+use Rattle.std.proofs.lemmas.Bool.{ne_eqb}
+use Rattle.std.proofs.lemmas.List.{append_assoc, append-nil, flat_map_more}
 
 -- the texts with the separator between them
 abbrev pub joined : List ℕ → List (List ℕ) → List ℕ
@@ -16,3 +17,11 @@ joined_more separator x (p ∷ ps) some = ap (λ t. x ++ t) (append_assoc separa
 pub joined_onto : (separator : List ℕ) (b : ℕ) (ps : List (List ℕ)) → 0 < length ps → joined separator (onto_first b ps) ≡ b ∷ joined separator ps
 joined_onto separator b [] some = absurd (omega arith)
 joined_onto separator b (p ∷ ps) some = refl
+
+-- a text added after the others
+pub joined_after : (separator : List ℕ) (ps : List (List ℕ)) (x : List ℕ)
+    → joined separator (ps ++ x ∷ []) ≡ (joined separator ps ++ (if length ps == 0 then [] else separator)) ++ x
+joined_after separator [] x = append-nil x
+joined_after separator (p ∷ ps) x =
+    rw (ne_eqb (length (p ∷ ps)) 0 (λ e. absurd (omega arith)))
+    (ap (λ t. p ++ t) (sym (flat_map_more (λ y. separator ++ y) [] ps x)) ∙ simp append_assoc)

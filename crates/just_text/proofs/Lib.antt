@@ -2,6 +2,7 @@ pub mod Ascii
 pub mod Components
 pub mod Ends
 pub mod Escapes
+pub mod Exchanged
 mod Examples
 pub mod Joined
 pub mod LastByte

@@ -16,3 +16,7 @@ replaced text from to = if length from == 0 then interleaved text to else join_b
 -- a byte, or `to` instead of it if it is `from`
 abbrev pub substituted : ℕ → Text → ℕ → Text
 substituted from to b = if b == from then to else b ∷ []
+
+-- a byte, or the byte `to` instead of it if it is `from`
+abbrev pub exchanged : ℕ → ℕ → ℕ → ℕ
+exchanged from to b = if b == from then to else b

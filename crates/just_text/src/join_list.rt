@@ -14,5 +14,21 @@ use std::alloc::Global;
 pub fn join_list(alloc: Global, texts: &[String], separator: &str) -> Result<String, OutOfMemory>
     ensures { IfOk result (λ text. string_bytes text ≡ join_by (λ t. t) separator.now (map string_bytes texts.now)) }
 {
-    Ok(texts.join(alloc, separator)?)
+    let mut joined = String::with_capacity(alloc, joined_len(texts, separator))?;
+    let mut between = "";
+    for text in texts {
+        joined.push_str(between)?;
+        joined.push_str(text)?;
+        between = separator;
+    }
+    Ok(joined)
+}
+
+// At least the length of the joined texts in bytes, or `usize::MAX`.
+fn joined_len(texts: &[String], separator: &str) -> usize {
+    let mut len = separator.len().saturating_mul(texts.len());
+    for text in texts {
+        len = len.saturating_add(text.len());
+    }
+    len
 }

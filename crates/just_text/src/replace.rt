@@ -1,9 +1,9 @@
 // Texts with the occurrences of a text replaced.
 
-ghost use Rattle.std.specs.Prelude.{IfOk, MatchOption, OnOk, [], false, length, slice_index, string_bytes, true};
-ghost use Rattle.std.specs.Prelude.{ℕ, ⊤, ◌++◌, ◌<◌, ◌==◌, ◌∷◌, ◌≡◌, ◌≤◌};
-ghost use Rattle.std.specs.List.{flat_map};
-ghost use Rattle.just_text.specs.Prelude.{replaced, substituted};
+ghost use Rattle.std.specs.Prelude.{IfOk, IsAscii, MatchOption, OnOk, [], false, length, map, slice_index};
+ghost use Rattle.std.specs.Prelude.{string_bytes, true, ℕ, ⊤, ◌++◌, ◌<◌, ◌==◌, ◌∷◌, ◌≡◌, ◌≤◌};
+ghost use Rattle.std.specs.List.{flat_map, join_by};
+ghost use Rattle.just_text.specs.Prelude.{exchanged, pieces, replaced, substituted};
 
 use just_syntax::out_of_memory::OutOfMemory;
 use std::alloc::Global;
@@ -17,11 +17,80 @@ use std::alloc::Global;
 pub fn replace(alloc: Global, text: &str, from: &str, to: &str) -> Result<String, OutOfMemory>
     ensures { IfOk result (λ t. string_bytes t ≡ replaced text.now from.now to.now) }
 {
-    let Some(byte) = only_byte(from) else {
+    if from.is_empty() {
         return Ok(text.replace(alloc, from, to)?);
+    }
+    let Some(byte) = only_byte(from) else {
+        return with_text_substituted(alloc, text, from, to);
     };
+    match only_byte(to) {
+        Some(to) if text.is_ascii() => with_byte_replaced(alloc, text, byte, to),
+        _ => with_byte_substituted(alloc, text, byte, to),
+    }
+}
+
+// The text with one ASCII byte instead of another.
+fn with_byte_replaced(alloc: Global, text: &str, from: u8, to: u8) -> Result<String, OutOfMemory>
+    requires ascii { IsAscii text.now }
+    requires substitute { to < 128 }
+    ensures { IfOk result (λ t. string_bytes t ≡ map (exchanged from to) text.now) }
+{
+    let bytes = Vec::from_slice(alloc, text.as_bytes())?;
+    match String::from_utf8(all_exchanged(bytes, from, to)) {
+        Ok(text) => Ok(text),
+        Err(_) => unreachable!(),
+    }
+}
+
+// The bytes with one of them instead of another, in place.
+fn all_exchanged(mut bytes: Vec<u8>, from: u8, to: u8) -> Vec<u8>
+    ensures { result.items ≡ map (exchanged from to) bytes.items }
+{
+    for byte in bytes.iter_mut() {
+        *byte = exchanged(from, to, *byte);
+    }
+    bytes
+}
+
+// A byte, or another instead of it.
+fn exchanged(from: u8, to: u8, byte: u8) -> u8
+    ensures { result ≡ exchanged from to byte }
+{
+    if byte == from { to } else { byte }
+}
+
+// The text with `to` instead of each occurrence of an ASCII byte.
+fn with_byte_substituted(
+    alloc: Global,
+    text: &str,
+    from: u8,
+    to: &str,
+) -> Result<String, OutOfMemory>
+    requires { from < 128 }
+    ensures { IfOk result (λ t. string_bytes t ≡ flat_map (substituted from to.now) text.now) }
+{
     let mut replaced = String::with_capacity(alloc, text.len())?;
-    push_substituted(&mut replaced, text, byte, to)?;
+    push_substituted(&mut replaced, text, from, to)?;
+    Ok(replaced)
+}
+
+// The text with `to` instead of each occurrence of a text that is not empty.
+fn with_text_substituted(
+    alloc: Global,
+    text: &str,
+    from: &str,
+    to: &str,
+) -> Result<String, OutOfMemory>
+    requires { 0 < length from.now }
+    ensures { IfOk result (λ t. string_bytes t ≡ join_by (λ piece. piece) to.now (pieces from.now text.now)) }
+{
+    let mut replaced = String::with_capacity(alloc, text.len())?;
+    let mut between = "";
+    for piece in text.split(from) {
+        replaced.push_str(between)?;
+        replaced.push_str(piece)?;
+        between = to;
+    }
     Ok(replaced)
 }
 
