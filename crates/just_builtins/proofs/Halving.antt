@@ -1,5 +1,5 @@
 -- Binary search among strictly increasing names.
-use Rattle.std.proofs.Common.{◌≡◌, ℕ, true, cond, List, [], ◌∷◌, Some, None, Result, Ok, Err, refl, sym, ap, ◌∙◌, get_or, length, map, bytes_eq, find, is_some}
+use Rattle.std.proofs.Common.{◌≡◌, ℕ, true, List, [], ◌∷◌, Some, None, Result, Ok, Err, refl, sym, ap, ◌∙◌, get_or, length, map, bytes_eq, is_some}
 use Rattle.std.specs.Cmp.Lexicographic.{slice_cmp}
 use Rattle.std.specs.List.{AllByRecursion, list_any}
 use Rattle.std.specs.List.Sorted.{IsBinarySearchResult, IsSearchInRange, IsStrictlySortedBy}
@@ -13,12 +13,10 @@ use Rattle.std.proofs.lemmas.Cmp.{nat_list_cmp_total}
 use Rattle.std.proofs.lemmas.Map.Made.{is_some-lookup}
 use Rattle.std.proofs.lemmas.Map.Text.{is_eq-slice_cmp}
 use Rattle.std.proofs.lemmas.Simd.{map-map}
-use Rattle.just_builtins.specs.Prelude.{Text, find_in, rises}
-use Rattle.just_syntax.proofs.Tables.{map_cond}
+use Rattle.just_builtins.specs.Prelude.{Text, rises}
 use Rattle.just_value.proofs.Places.{lookup_at, lookup_between, searched}
-use Rattle.just_builtins.specs.declared.function.Function.{Function}
 
-abbrev order : Text → Text → Ordering
+abbrev pub order : Text → Text → Ordering
 order = slice_cmp nat_cmp
 
 less : (o : Ordering) → is_lt o ≡ true → o ≡ Less
@@ -26,15 +24,8 @@ less Less is = refl
 less Equal is = absurd (cc)
 less Greater is = absurd (cc)
 
--- the function for a name is a look-up
-pub looked : (entries : List (Text × Function)) (name : Text) → lookup (λ k. bytes_eq k name) entries ≡ find_in entries name
-looked [] name = refl
-looked (e ∷ es) name =
-    ap (cond (bytes_eq e.0 name) (Some e.1)) (looked es name)
-    ∙ sym (map_cond (λ (entry : Text × Function). entry.1) (bytes_eq e.0 name) (Some e) (find (λ entry. bytes_eq entry.0 name) es))
-
 module _ {X : Type 0} (key : X → Text) where
-  abbrev by_key : X → X → Ordering
+  abbrev pub by_key : X → X → Ordering
   by_key x y = order (key x) (key y)
 
   -- what is below the first of strictly increasing elements is below all of them
@@ -44,7 +35,7 @@ module _ {X : Type 0} (key : X → Text) where
       let parts = and_parts _ _ up in
       (below, below_all x z xs (nat_list_cmp_total.trans (key x) (key y) (key z) below (less _ parts.0)) parts.1)
 
-  sorted : (xs : List X) → rises (map key xs) ≡ true → IsStrictlySortedBy by_key xs
+  pub sorted : (xs : List X) → rises (map key xs) ≡ true → IsStrictlySortedBy by_key xs
   unfolding IsStrictlySortedBy
   sorted [] up = tt
   sorted (x ∷ []) up = (tt, tt)

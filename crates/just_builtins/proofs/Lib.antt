@@ -1,4 +1,5 @@
 pub mod Arguments
+pub mod Beginnings
 pub mod Calls
 pub mod Commands
 mod Examples

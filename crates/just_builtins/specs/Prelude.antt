@@ -27,7 +27,7 @@ pub use Rattle.just_builtins.specs.Message.{executable_not_unicode, executable_u
 pub use Rattle.just_builtins.specs.Message.{no_executable, no_parent, not_canonicalized, not_extracted, not_found}
 pub use Rattle.just_builtins.specs.Message.{not_read, outside_recipe, past_ascii, variable_not_unicode}
 pub use Rattle.just_builtins.specs.Message.{variable_unreadable}
-pub use Rattle.just_builtins.specs.Order.{rises}
+pub use Rattle.just_builtins.specs.Order.{begins_below, rises}
 pub use Rattle.just_builtins.specs.Reply.{Answers, Asks, Fails, Reply, says}
 pub use Rattle.just_builtins.specs.Shape.{builtin_of, fewest_arguments, is_text, most_arguments, unasked_nullary}
 pub use Rattle.just_builtins.specs.Shape.{unasked_unary, unasked_value_unary}
