@@ -1,9 +1,9 @@
 // Directories, faults and hosts.
 
 mod echo_host;
-mod map_host;
 mod shells;
 mod watched;
+mod written;
 
 use crate::around::{Around, MODULE, map, module_at};
 use crate::texts::{gives, is_either, long, owned, same, text_of};
@@ -15,17 +15,18 @@ use just_host::execution_context::ExecutionContext;
 use just_host::fault::fault_text;
 use just_host::host::Host;
 use just_host::justfile::Justfile;
+use just_host::map_host::MapHost;
 use just_host::no_host::NoHost;
 use just_host::number_question::NumberQuestion;
 use just_host::settings::Settings;
 use just_host::text_question::TextQuestion;
 use just_syntax::out_of_memory::OutOfMemory;
 use just_value::error::CommandFault;
-use map_host::{MapHost, written};
 use std::alloc::{AllocError, Global};
 use std::collections::BTreeMap;
 use std::process::Abort;
 use watched::Watched;
+use written::written;
 
 // Statuses, and the texts that report them.
 const STATUSES: &[(i32, &str)] = &[

@@ -52,6 +52,7 @@ pub use just_host::command_question::CommandQuestion;
 pub use just_host::directory_kind::DirectoryKind;
 pub use just_host::exports::{EnvironmentChange, exports};
 pub use just_host::host::{Host, STACK_BUDGET, TRIED_STACK_BUDGET};
+pub use just_host::map_host::MapHost;
 pub use just_host::no_host::NoHost;
 pub use just_host::number_question::NumberQuestion;
 pub use just_host::recorded::Recorded;

@@ -12,6 +12,7 @@ pub mod fault;
 pub mod function;
 pub mod host;
 pub mod justfile;
+pub mod map_host;
 pub mod no_host;
 pub mod number_question;
 mod printed;

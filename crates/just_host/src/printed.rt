@@ -1,13 +1,15 @@
 // Printing of questions.
 
-ghost use Rattle.std.specs.Prelude.{map, option_map, string_bytes};
+ghost use Rattle.std.specs.Prelude.{map, option_map, string_bytes, ◌++◌};
 ghost use Rattle.std.specs.Fmt.{WritesStyledOnOk};
 ghost use Rattle.just_host.specs.Prelude.{command_printed, spaced, spaced_given, text_printed};
+ghost use Rattle.just_value.specs.Prelude.{quoted};
 
 use crate::recorded::TextKind;
 use just_syntax::unstyled::write_unstyled;
 use just_value::element::Element;
 use std::fmt;
+use std::fmt::Display;
 
 // A command and its arguments, if it takes any.
 #[tactic(auto, using(just_syntax::proofs::Styled::styled_steps))]
@@ -19,9 +21,17 @@ pub(crate) fn write_command<W: fmt::Write>(
     ensures { WritesStyledOnOk W.write_str_gives f.old result
         (command_printed command.now (option_map (λ words. map string_bytes words.now) arguments.entry)) f.new }
 {
-    let command = Element(command);
-    write_unstyled(f, format_args!("command {command}"))?;
+    write_about(f, "command ", command)?;
     write_given(f, arguments)
+}
+
+// Words, and then a text in quotes.
+#[tactic(auto, using(just_syntax::proofs::Styled::styled_steps))]
+fn write_about<W: fmt::Write>(f: &mut fmt::Formatter<W>, words: &str, text: &str) -> fmt::Result
+    ensures { WritesStyledOnOk W.write_str_gives f.old result (words.now ++ quoted text.now) f.new }
+{
+    f.write_str(words)?;
+    Element(text).fmt(f)
 }
 
 // An optional list of texts in quotes, each after a space.
@@ -40,8 +50,7 @@ fn write_spaced<W: fmt::Write>(f: &mut fmt::Formatter<W>, texts: &[String]) -> f
     ensures { WritesStyledOnOk W.write_str_gives f.old result (spaced (map string_bytes texts.now)) f.new }
 {
     for text in texts {
-        let text = Element(text);
-        write_unstyled(f, format_args!(" {text}"))?;
+        write_about(f, " ", text)?;
     }
     Ok(())
 }
@@ -54,15 +63,14 @@ pub(crate) fn write_text_question<W: fmt::Write>(
 ) -> fmt::Result
     ensures { WritesStyledOnOk W.write_str_gives f.old result (text_printed kind about.now) f.new }
 {
-    let about = Element(about);
     match kind {
-        TextKind::Variable => write_unstyled(f, format_args!("variable {about}")),
+        TextKind::Variable => write_about(f, "variable ", about),
         TextKind::Directory(directory) => {
             write_unstyled(f, format_args!("directory {directory}"))
         }
-        TextKind::Canonicalize => write_unstyled(f, format_args!("canonicalize {about}")),
-        TextKind::Read => write_unstyled(f, format_args!("read {about}")),
-        TextKind::Which => write_unstyled(f, format_args!("which {about}")),
+        TextKind::Canonicalize => write_about(f, "canonicalize ", about),
+        TextKind::Read => write_about(f, "read ", about),
+        TextKind::Which => write_about(f, "which ", about),
         TextKind::Executable => f.write_str("executable"),
         TextKind::Arch => f.write_str("arch"),
         TextKind::Os => f.write_str("os"),

@@ -13,7 +13,7 @@ loop-text-preserved g c = λ flush.
     let i = c.loop-text.text-index in
     let text = c.text-item.result in
     let before = c.loop-text.invariant flush in
-    let now = c.in_ok-write_unstyled.ensures.styled before.flush (refl {a = true}) in
+    let now = c.in_ok-write_about.ensures before.flush (refl {a = true}) in
     let within : i < length texts = omega arith in
     let more : take (i + 1) texts ≡ take i texts ++ text ∷ [] = take_more texts i text within ∙ ap (λ x. take i texts ++ x ∷ []) (sym c.text-item.is) in
     let words : map string_bytes (take (i + 1) texts) ≡ map string_bytes (take i texts) ++ string_bytes text ∷ [] =

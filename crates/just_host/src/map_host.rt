@@ -1,29 +1,53 @@
 // A host that answers from maps.
 
-ghost use Rattle.std.specs.Prelude.{◌≡◌, false, IfOk, Some, string_bytes};
+ghost use Rattle.std.specs.Prelude.{IfOk, None, string_bytes, ◌≡◌};
 ghost use Rattle.std.specs.Option.{option_map};
 ghost use Rattle.just_host.specs.MapHost.{or_absent, text_for_key};
 ghost use Rattle.just_host.specs.Question.{UnlessNoMemory};
 ghost use Rattle.just_host.specs.View.{text_replied};
+ghost use Rattle.just_syntax.specs.Plain.{Text};
 
-use just_host::ask::ask_command;
-use just_host::command_question::CommandQuestion;
-use just_host::execution_context::ExecutionContext;
-use just_host::host::Host;
-use just_host::number_question::NumberQuestion;
-use just_host::text_answer::TextAnswer;
-use just_host::text_question::TextQuestion;
+use crate::command_question::CommandQuestion;
+use crate::host::Host;
+use crate::number_question::NumberQuestion;
+use crate::text_answer::TextAnswer;
+use crate::text_question::TextQuestion;
 use just_syntax::out_of_memory::OutOfMemory;
 use just_value::error::CommandFault;
 use std::alloc::Global;
 use std::collections::BTreeMap;
 
-/// Answers for commands, variables and files from maps. Each number is 1.
-#[derive(Drop)]
+/// A host that answers from maps. A command that is in none gets the fault `unknown command`, a variable or a file is
+/// `Absent`, and so is every other text; only its files exist, and each number is 1. For example a test of a justfile
+/// says what its commands output:
+///
+/// ```text
+/// let mut host = MapHost::new(alloc);
+/// host.commands.insert(String::from_str(alloc, "git rev-parse HEAD")?, String::from_str(alloc, "1f3a")?)?;
+/// ```
+#[derive(Debug, Drop)]
 pub struct MapHost {
+    /// The outputs of commands.
     pub commands: BTreeMap<String, String>,
+    /// The values of environment variables.
     pub variables: BTreeMap<String, String>,
+    /// The contents of files, by their paths.
     pub files: BTreeMap<String, String>,
+}
+
+impl MapHost {
+    /// A host whose maps are empty. It allocates nothing.
+    pub fn new(alloc: Global) -> MapHost
+        ensures commands { (key : Text) → text_for_key result.commands key ≡ None }
+        ensures variables { (key : Text) → text_for_key result.variables key ≡ None }
+        ensures files { (key : Text) → text_for_key result.files key ≡ None }
+    {
+        MapHost {
+            commands: BTreeMap::new(alloc),
+            variables: BTreeMap::new(alloc),
+            files: BTreeMap::new(alloc),
+        }
+    }
 }
 
 impl Host for MapHost {
@@ -92,19 +116,4 @@ fn answer_at(alloc: Global, map: &BTreeMap<String, String>, key: &str) -> TextAn
         Ok(None) => TextAnswer::Absent,
         Err(_) => TextAnswer::OutOfMemory,
     }
-}
-
-/// What a command writes in a context: the text that the host's map has for it. The host stays as it is.
-pub fn written<'call>(
-    alloc: Global,
-    host: &'call mut MapHost,
-    context: &'call ExecutionContext,
-    command: &str,
-) -> Result<String, CommandFault>
-    requires { context.now.config.now.dry_run ≡ false }
-    ensures same { host.new ≡ host.old }
-    ensures text { IfOk result (λ text. text_for_key host.old.commands command.now ≡ Some (string_bytes text)) }
-{
-    let env = BTreeMap::new(alloc);
-    ask_command(alloc, host, context, &env, context.scope, command, None)
 }
