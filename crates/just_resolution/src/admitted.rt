@@ -25,10 +25,11 @@ use std::collections::BTreeSet;
 // Each function that it reaches is scanned, unless it is admitted: then it and what it calls were scanned before, and
 // what bodies could read then they can read now. A function is admitted before it is scanned, so that none is scanned
 // twice, and mutual recursion terminates. If nothing is found, the admitted functions are a closed set: it holds what
-// they call. `sites` is filled anew for each scan.
+// they call. `sites` is filled anew for each scan, and `pending` for each expression.
 pub(crate) fn first_unreadable<'src>(
     alloc: Global,
     sites: &mut Vec<Site<'src>>,
+    pending: &mut Vec<&'src str>,
     functions: &Table<FunctionDefinition<'src>>,
     here: &Readable<'src, '_, '_>,
     readable: &Readable<'src, '_, '_>,
@@ -42,9 +43,9 @@ pub(crate) fn first_unreadable<'src>(
     ensures closed { IfOk result (λ found. IsNone found
         → IsAdmitted (map function_view functions.now) (is_readable readable.now) (is_name_in admitted.new)) }
 {
-    let mut pending = Vec::new(alloc);
+    pending.clear();
     let own = BTreeSet::new(alloc);
-    let at_once = look_through(sites, here, &own, &mut pending, expression)?;
+    let at_once = look_through(sites, here, &own, pending, expression)?;
     if at_once.is_some() {
         return Ok(at_once);
     }
@@ -53,7 +54,7 @@ pub(crate) fn first_unreadable<'src>(
         if !is_new {
             continue;
         }
-        let beyond = look_through_function(alloc, sites, functions, readable, &mut pending, name)?;
+        let beyond = look_through_function(alloc, sites, functions, readable, pending, name)?;
         if beyond.is_some() {
             return Ok(beyond);
         }

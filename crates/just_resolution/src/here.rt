@@ -81,6 +81,7 @@ pub(crate) fn are_readable_here<'src, 'run>(
         bodies,
         admitted: BTreeSet::new(alloc),
         sites: Vec::new(alloc),
+        pending: Vec::new(alloc),
     };
     reader.may_occur_and_follow(alloc, recipe, parameters, expressions)
 }
@@ -96,6 +97,7 @@ struct Reader<'src, 'a, 'run> {
     admitted: BTreeSet<&'src str>,
     // Filled anew for each expression that is scanned.
     sites: Vec<Site<'src>>,
+    pending: Vec<&'src str>,
 }
 
 impl<'src> Reader<'src, '_, '_> {
@@ -120,6 +122,7 @@ impl<'src> Reader<'src, '_, '_> {
         let unreadable = first_unreadable(
             alloc,
             &mut self.sites,
+            &mut self.pending,
             self.functions,
             &self.here,
             &self.bodies,

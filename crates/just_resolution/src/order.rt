@@ -41,10 +41,12 @@ pub(crate) fn order_fault<'src>(
     let mut readable = Readable::new(alloc, outer, assignments.len())?;
     let mut admitted = BTreeSet::new(alloc);
     let mut sites = Vec::new(alloc);
+    let mut pending = Vec::new(alloc);
     for name in evaluation_order {
         let fault = take_next(
             alloc,
             &mut sites,
+            &mut pending,
             functions,
             assignments,
             variable_references,
@@ -64,6 +66,7 @@ pub(crate) fn order_fault<'src>(
 fn take_next<'src>(
     alloc: Global,
     sites: &mut Vec<Site<'src>>,
+    pending: &mut Vec<&'src str>,
     functions: &Table<FunctionDefinition<'src>>,
     assignments: &Table<Assignment<'src>>,
     variable_references: Option<&HashSet<Number>>,
@@ -94,7 +97,9 @@ fn take_next<'src>(
             if readable.has_taken(assignment.number) {
                 return Ok(None);
             }
-            take(alloc, sites, functions, readable, admitted, assignment)
+            take(
+                alloc, sites, pending, functions, readable, admitted, assignment,
+            )
         }
         None => Ok(Some(Fault::UnknownAssignment { assignment: *name })),
     }
@@ -104,6 +109,7 @@ fn take_next<'src>(
 fn take<'src>(
     alloc: Global,
     sites: &mut Vec<Site<'src>>,
+    pending: &mut Vec<&'src str>,
     functions: &Table<FunctionDefinition<'src>>,
     readable: &mut Readable<'src, '_, '_>,
     admitted: &mut BTreeSet<&'src str>,
@@ -123,7 +129,9 @@ fn take<'src>(
         → IsAdmitted (map function_view functions.now) (is_readable readable.old) (is_name_in admitted.new)) }
 {
     let value = &assignment.value;
-    let found = first_unreadable(alloc, sites, functions, readable, readable, admitted, value)?;
+    let found = first_unreadable(
+        alloc, sites, pending, functions, readable, readable, admitted, value,
+    )?;
     if let Some(variable) = found {
         return Ok(Some(Fault::UntakenVariable {
             assignment: assignment.name,

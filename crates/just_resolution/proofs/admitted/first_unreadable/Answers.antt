@@ -18,7 +18,7 @@ pub loop-name-init : goal.loop-name-init
 loop-name-init c =
     let names : texts c.look_through.new.pending.items ≡ called_names (sites_in (view c.args.expression.now)) =
     c.in_ok-at_once.ensures.calls (sym c.if-is_some.ensures)
-    ∙ ap (λ (bs : List (Bor Text)). texts bs ++ called_names (sites_in (view c.args.expression.now))) c.new-pending.ensures.items in
+    ∙ ap (λ (bs : List (Bor Text)). texts bs ++ called_names (sites_in (view c.args.expression.now))) c.clear.ensures.items in
     begins (map function_view c.args.functions.now) (view c.args.expression.now) (is_readable c.args.here.now) (is_readable c.args.readable.now)
     (is_name_in c.args.admitted.now) (texts c.look_through.new.pending.items) c.requires.closed names
     (reads_at_once (map function_view c.args.functions.now) (view c.args.expression.now) (is_readable c.args.here.now) (is_readable c.args.readable.now)

@@ -17,6 +17,7 @@ taking c = record {
   bodies = c.args.self.now.bodies;
   admitted = c.loop-parameter.self.admitted;
   sites = c.loop-parameter.self.sites;
+  pending = c.loop-parameter.self.pending;
 }
 
 same : (c : After-may_all_occur) → IsSameReader (taking c) c.loop-parameter.self
