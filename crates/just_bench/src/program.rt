@@ -9,6 +9,7 @@ use crate::blocks::evaluate_blocks;
 use crate::run::evaluate_run;
 use crate::settled::evaluate_const;
 use crate::stream::{StreamError, read_case, write_text};
+use bumpalo::Bump;
 use just_case_reader::case::{Case, CaseError, build};
 use just_case_reader::evaluation::Evaluation;
 use just_case_reader::line::parse_lines;
@@ -100,7 +101,8 @@ fn answer_stream<R: Read, W: Write, A: Around>(
     ensures unwritten { IfSome (R.remaining reader.old) (λ case. LIMIT < length case → writer.new ≡ writer.old) }
 {
     let bytes = read_case(alloc, reader)?;
-    let mut text = String::new(alloc);
+    // Most answers are at most twice as long as their cases.
+    let mut text = String::with_capacity(alloc, bytes.len().saturating_mul(2))?;
     let status = answer_case(alloc, &mut text, &bytes, around)?;
     write_text(writer, &text)?;
     Ok(status)
@@ -117,7 +119,8 @@ fn answer_case<A: Around>(
     ensures answer { IfOk result (λ status. Added (string_bytes text.old) (string_bytes text.new) (λ printed.
         AnswersCase A.Made.step (MadeOf (A.gives around.now)) bytes.now printed status)) }
 {
-    let lines = parse_lines(alloc, bytes)?;
+    let arena = Bump::new(alloc);
+    let lines = parse_lines(alloc, &arena, bytes)?;
     match build(alloc, &lines) {
         Ok(case) => evaluate(alloc, text, case, around),
         Err(CaseError::BadLine(place)) => {

@@ -6,6 +6,7 @@ mod pending;
 mod silent;
 mod towers;
 
+use bumpalo::Bump;
 use just_bench::module_run::ModuleRun;
 use just_case_reader::case::{Case, build};
 use just_case_reader::line::parse_lines;
@@ -23,7 +24,8 @@ fn is_stopped<H: Host>(
     case: &str,
     recursion_limit: usize,
 ) -> bool {
-    let lines = parse_lines(alloc, case.as_bytes()).expect(rt, "no memory");
+    let arena = Bump::new(alloc);
+    let lines = parse_lines(alloc, &arena, case.as_bytes()).expect(rt, "no memory");
     let mut case = build(alloc, &lines).expect(rt, "no case");
     case.recursion_limit = recursion_limit;
     let parent = Scope::root(alloc, &[]).expect(rt, "no memory");

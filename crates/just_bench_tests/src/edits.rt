@@ -3,6 +3,7 @@
 mod sizes;
 
 use crate::evaluations::outer;
+use bumpalo::Bump;
 use just_case_reader::case::{Case, build};
 use just_case_reader::line::{Line, parse_lines};
 use just_changes::changed::changed;
@@ -172,8 +173,9 @@ pub(crate) fn changed_numbers(
     after: &str,
     outer: &Scope,
 ) -> Result<BTreeSet<Number>, Fail> {
-    let before = parse_lines(alloc, before.as_bytes());
-    let (before, after) = both(before, parse_lines(alloc, after.as_bytes()))?;
+    let arena = Bump::new(alloc);
+    let before = parse_lines(alloc, &arena, before.as_bytes());
+    let (before, after) = both(before, parse_lines(alloc, &arena, after.as_bytes()))?;
     changed_in_lines(alloc, &before, &after, outer)
 }
 

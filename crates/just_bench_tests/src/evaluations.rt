@@ -1,6 +1,7 @@
 // Evaluations in a scope that binds something, and of expressions that no lines describe.
 
 use crate::texts::{ends, is_so, owned, same};
+use bumpalo::Bump;
 use just_bench::module_run::ModuleRun;
 use just_bench::program::evaluate_in_scope;
 use just_case_reader::case::{Case, build};
@@ -74,7 +75,8 @@ pub(crate) fn answers_outside_nothing(
     answer: &str,
     status: u8,
 ) {
-    let lines = parse_lines(alloc, case.as_bytes()).expect(rt, "no memory");
+    let arena = Bump::new(alloc);
+    let lines = parse_lines(alloc, &arena, case.as_bytes()).expect(rt, "no memory");
     let case = build(alloc, &lines).expect(rt, "no case");
     let parent = outer(rt, alloc, "o", Value::new(alloc));
     answers_in(rt, alloc, case, &parent, answer, status);
@@ -105,7 +107,8 @@ fn operators_on_lists(rt: HostRuntime) {
 fn host_out_of_memory(rt: HostRuntime) {
     let alloc = rt.alloc();
     let case = b"cmd one\ncmd two\nand\nassign a\nreply x\nrun";
-    let lines = parse_lines(alloc, case).expect(&rt, "no memory");
+    let arena = Bump::new(alloc);
+    let lines = parse_lines(alloc, &arena, case).expect(&rt, "no memory");
     let case = build(alloc, &lines).expect(&rt, "no case");
     answers_without_memory(
         &rt,
@@ -134,7 +137,8 @@ fn answers_outside(rt: &impl Abort, alloc: Global, case: Case, answer: &str, sta
 fn bound_outside(rt: HostRuntime) {
     let alloc = rt.alloc();
     let case = b"cmd c\nassign o\noverride o 5\nrun";
-    let lines = parse_lines(alloc, case).expect(&rt, "no memory");
+    let arena = Bump::new(alloc);
+    let lines = parse_lines(alloc, &arena, case).expect(&rt, "no memory");
     let case = build(alloc, &lines).expect(&rt, "no case");
     let value = Value::from_text(alloc, "o").expect(&rt, "no memory");
     let parent = outer(&rt, alloc, "o", value);

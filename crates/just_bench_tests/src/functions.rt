@@ -4,6 +4,7 @@ use crate::case_run::reported_by_run;
 use crate::evaluations::{answers_outside_nothing, outer};
 use crate::frame_host::frame_host;
 use crate::texts::same;
+use bumpalo::Bump;
 use just_case_reader::case::build;
 use just_case_reader::line::parse_lines;
 use just_value::value::Value;
@@ -24,7 +25,8 @@ fn parameter_bound_outside(rt: HostRuntime) {
 
 // With `o` bound outside to no element, a case's commands are shown frames with these bindings.
 fn shows_frames(rt: &impl Abort, alloc: Global, case: &str, shown: &str) {
-    let lines = parse_lines(alloc, case.as_bytes()).expect(rt, "no memory");
+    let arena = Bump::new(alloc);
+    let lines = parse_lines(alloc, &arena, case.as_bytes()).expect(rt, "no memory");
     let described = build(alloc, &lines).expect(rt, "no case");
     let parent = outer(rt, alloc, "o", Value::new(alloc));
     let mut host = frame_host(alloc);

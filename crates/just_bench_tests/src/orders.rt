@@ -3,6 +3,7 @@
 use crate::case_run::reported_by_run;
 use crate::frame_host::frame_host;
 use crate::texts::{owned, questions_of, same};
+use bumpalo::Bump;
 use just_case_reader::case::build;
 use just_case_reader::line::parse_lines;
 use just_host::host::Host;
@@ -36,7 +37,8 @@ fn always_y(rt: &impl Abort, alloc: Global) -> ScriptedHost {
 
 // With this host, the case binds this.
 fn binds<H: Host>(rt: &impl Abort, alloc: Global, host: &mut H, case: &str, bound: &str) {
-    let lines = parse_lines(alloc, case.as_bytes()).expect(rt, "no memory");
+    let arena = Bump::new(alloc);
+    let lines = parse_lines(alloc, &arena, case.as_bytes()).expect(rt, "no memory");
     let described = build(alloc, &lines).expect(rt, "no case");
     let parent = Scope::root(alloc, &[]).expect(rt, "no memory");
     let reported = reported_by_run(rt, alloc, host, described, &parent);

@@ -2,7 +2,6 @@
 use Rattle.std.proofs.Common.{◌≡◌, ℕ, zero, suc, ◌<◌, List, [], ◌∷◌, ◌++◌, map, length, Option, Some, None, Result, Ok, Err, IfErr, OnOk, refl, sym, ap, ◌∙◌}
 use Rattle.std.proofs.Common.{arith, option_map, reverse}
 use Rattle.std.proofs.lemmas.List.{length-map, length-reverse, map-append, reverse-append}
-use Rattle.std.proofs.lemmas.Simd.{map-map}
 use Rattle.just_case_reader.specs.Prelude.{Done, IfBad, Nil, several, view, views}
 use Rattle.just_syntax.specs.Plain.{Expr, Exprs, Cons}
 use Rattle.just_syntax.specs.declared.expression.Expression.{Expression}
@@ -69,12 +68,10 @@ taken xs rest =
     ∙ ap (λ parts. Some (parts, rest)) (onto_reverse xs)
 
 -- the expressions pushed last are taken, and the others remain
-pub taken_from : {N : Type 0} (expression : N → Expression) (all front back : List N) (n : ℕ) → all ≡ front ++ back → length back ≡ n
-    → several n Nil (reverse (map (λ x. view (expression x)) all)) ≡ Some (views (map expression back), reverse (map (λ x. view (expression x)) front))
-taken_from expression all front back n is long =
-    let f : (x : _) → Expr = λ x. view (expression x) in
-    ap (λ xs. several n Nil (reverse (map f xs))) is
-    ∙ ap (several n Nil) (parted f front back)
-    ∙ ap (λ es. several n Nil (reverse es ++ reverse (map f front))) (sym (map-map view expression back))
-    ∙ ap (λ k. several k Nil (reverse (map view (map expression back)) ++ reverse (map f front))) (sym (length-map back expression ∙ long))
-    ∙ taken (map expression back) (reverse (map f front))
+pub taken_from : (all front back : List Expression) (n : ℕ) → all ≡ front ++ back → length back ≡ n
+    → several n Nil (reverse (map view all)) ≡ Some (views back, reverse (map view front))
+taken_from all front back n is long =
+    ap (λ xs. several n Nil (reverse (map view xs))) is
+    ∙ ap (several n Nil) (parted view front back)
+    ∙ ap (λ k. several k Nil (reverse (map view back) ++ reverse (map view front))) (sym long)
+    ∙ taken back (reverse (map view front))

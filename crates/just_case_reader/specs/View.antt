@@ -27,8 +27,8 @@ use Rattle.just_case_reader.specs.declared.evaluation.Evaluation.TheVariants as 
 abbrev pub case_line_view : Line → plain.Line
 case_line_view lines.Skipped = plain.Skipped
 case_line_view lines.Bad = plain.Bad
-case_line_view (lines.Literal text lexeme) = plain.Literal text.now (string_bytes lexeme)
-case_line_view (lines.Command text lexeme) = plain.Command text.now (string_bytes lexeme)
+case_line_view (lines.Literal text lexeme) = plain.Literal text.now lexeme.now
+case_line_view (lines.Command text lexeme) = plain.Command text.now lexeme.now
 case_line_view (lines.Variable name) = plain.Variable name.now
 case_line_view (lines.Unary operator) = plain.Unary operator
 case_line_view (lines.Binary operator) = plain.Binary operator
@@ -53,7 +53,7 @@ case_line_view (lines.Blocks names) = plain.Blocks names.now
 
 -- the expressions that are not yet assigned, the last first
 abbrev pub stack_view : Stack → List Expr
-stack_view s = reverse (map (λ nested. view nested.part) s.expressions.items)
+stack_view s = reverse (map view s.expressions.items)
 
 abbrev pub numbering_view : Numbering → KnownNames
 numbering_view numbering = record {

@@ -19,6 +19,7 @@ use just_syntax::assignment::Assignment;
 use just_syntax::function_definition::FunctionDefinition;
 use just_syntax::keyed::Keyed;
 use just_syntax::name::Name;
+use just_syntax::out_of_memory::OutOfMemory;
 use just_syntax::table::Table;
 use just_syntax::variables::set_of;
 use just_value::error::CommandFault;
@@ -38,18 +39,23 @@ pub(crate) struct Builder<'src> {
 }
 
 impl<'src> Builder<'src> {
-    /// The state before the first line. It allocates nothing.
-    pub(crate) fn new(alloc: Global) -> Builder<'src>
-        ensures { reading_view result ≡ nothing }
+    /// The state before the first of `lines` lines.
+    ///
+    /// # Errors
+    ///
+    /// `OutOfMemory`, if an allocation fails.
+    pub(crate) fn new(alloc: Global, lines: usize) -> Result<Builder<'src>, OutOfMemory>
+        ensures { IfOk result (λ builder. reading_view builder ≡ nothing) }
     {
-        Builder {
+        Ok(Builder {
             case: Case::new(alloc),
             is_over: false,
             last_command: None,
             numbering: Numbering::new(alloc),
             order: None,
-            stack: Stack::new(alloc),
-        }
+            // A line pushes one expression at most, and few cases leave more than this number on the stack.
+            stack: Stack::with_capacity(alloc, lines.min(4096))?,
+        })
     }
 
     /// The whole case, if its end was read. An order given by a line replaces that of the assignments.

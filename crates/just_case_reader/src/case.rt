@@ -109,7 +109,9 @@ pub fn build<'src>(alloc: Global, lines: &'src [Line<'src>]) -> Result<Case<'src
     ensures bad { (place : _) → result ≡ Err (CaseError.BadLine place)
         → described (map case_line_view lines.now) ≡ BadLine place }
 {
-    let mut builder = Builder::new(alloc);
+    let Ok(mut builder) = Builder::new(alloc, lines.len()) else {
+        return Err(CaseError::OutOfMemory);
+    };
     take_all(&mut builder, alloc, lines)?;
     builder
         .finished()

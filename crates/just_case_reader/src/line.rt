@@ -1,6 +1,6 @@
 // The lines of a case, each parsed by itself.
 
-ghost use Rattle.std.specs.Prelude.{IfOk, Some, [], if◌then◌else◌, length, map, position, string_bytes, ◌++◌, ◌<◌};
+ghost use Rattle.std.specs.Prelude.{IfOk, Some, [], if◌then◌else◌, length, map, position, ◌++◌, ◌<◌};
 ghost use Rattle.std.specs.Prelude.{◌==◌, ◌∷◌, ◌≡◌};
 ghost use Rattle.std.specs.List.{after_first, before_first};
 ghost use Rattle.just_case_reader.specs.Prelude.{Assign, Bad, Call, Dotenv, Fail, ListOf, Override, bare_line};
@@ -10,11 +10,13 @@ ghost use Rattle.just_case_reader.specs.Prelude.{operator_line, rare_line, rest_
 
 use crate::operator::{BinaryOperator, UnaryOperator};
 use crate::rest::{is_name, parse_names, parse_number, split_word};
+use bumpalo::Bump;
+use bumpalo::collections::into_bump_str;
 use just_syntax::out_of_memory::OutOfMemory;
 use std::alloc::Global;
 use std::str;
 
-/// A line of a case. It owns texts that are not slices of the case's bytes.
+/// A line of a case. Its texts are slices of the case's bytes, and its lexemes are in an arena.
 #[derive(Debug, Drop)]
 pub enum Line<'case> {
     /// An empty line, or one that begins with `#`.
@@ -22,11 +24,19 @@ pub enum Line<'case> {
     /// Not a valid line.
     Bad,
     /// `str T`: a literal is pushed.
-    Literal { text: &'case str, lexeme: String },
+    Literal {
+        text: &'case str,
+        lexeme: &'case str,
+    },
     /// `cmd T`: a command is pushed.
-    Command { text: &'case str, lexeme: String },
+    Command {
+        text: &'case str,
+        lexeme: &'case str,
+    },
     /// `var N`: a variable is pushed.
-    Variable { name: &'case str },
+    Variable {
+        name: &'case str,
+    },
     /// The expression on top becomes a part of another one.
     Unary(UnaryOperator),
     /// The two expressions on top are combined.
@@ -34,39 +44,69 @@ pub enum Line<'case> {
     /// `if`: a condition, a consequence and an `otherwise` are combined.
     If,
     /// `list K`: K expressions become a list.
-    List { count: u16 },
+    List {
+        count: u16,
+    },
     /// `call N K`: K expressions become the arguments of a call.
-    Call { name: &'case str, count: u16 },
+    Call {
+        name: &'case str,
+        count: u16,
+    },
     /// `assign N` or `export N`: the expression on top is assigned.
-    Assign { name: &'case str, export: bool },
+    Assign {
+        name: &'case str,
+        export: bool,
+    },
     /// `fun N P ..`: the expression on top is a function's body.
-    Function { names: &'case str },
+    Function {
+        names: &'case str,
+    },
     /// `override N T`: overrides a variable's value.
-    Override { name: &'case str, text: &'case str },
+    Override {
+        name: &'case str,
+        text: &'case str,
+    },
     /// `dotenv N T`: a variable of the dotenv map.
-    Dotenv { name: &'case str, text: &'case str },
+    Dotenv {
+        name: &'case str,
+        text: &'case str,
+    },
     /// `order N ..`: the order of evaluation.
-    Order { names: &'case str },
+    Order {
+        names: &'case str,
+    },
     /// `only N ..`: the referenced variables.
-    Only { names: &'case str },
+    Only {
+        names: &'case str,
+    },
     /// `reply T`: the next command outputs a text.
-    Reply { text: &'case str },
+    Reply {
+        text: &'case str,
+    },
     /// `fail K`: the next command ends with a status.
-    Fail { code: u16 },
+    Fail {
+        code: u16,
+    },
     /// `always T`: the last command outputs a text, whenever it is run.
-    Always { text: &'case str },
+    Always {
+        text: &'case str,
+    },
     /// `lists`: enables lists.
     Lists,
     /// `dry`: commands are shown instead of run.
     Dry,
     /// `limit K`: the recursion limit, which is one more than the number of calls that may be pending.
-    Limit { limit: u16 },
+    Limit {
+        limit: u16,
+    },
     /// `run`: the assignments are evaluated.
     Run,
     /// `const`: the assignments are evaluated before any run.
     Const,
     /// `blocks N ..`: the assignments are evaluated in two runs, the second in this order.
-    Blocks { names: &'case str },
+    Blocks {
+        names: &'case str,
+    },
 }
 
 impl<'case> Line<'case> {
@@ -78,8 +118,17 @@ impl<'case> Line<'case> {
     }
 }
 
-/// The lines of a case. Each ends with a newline, which the last may lack.
-pub fn parse_lines<'case>(alloc: Global, case: &'case [u8]) -> Result<Vec<Line<'case>>, OutOfMemory>
+/// The lines of a case. Each ends with a newline, which the last may lack. The lexemes of literals and commands, which
+/// have marks that the case does not have, are put into the arena.
+///
+/// # Errors
+///
+/// `OutOfMemory`, if an allocation fails.
+pub fn parse_lines<'case>(
+    alloc: Global,
+    arena: &'case Bump,
+    case: &'case [u8],
+) -> Result<Vec<Line<'case>>, OutOfMemory>
     ensures { IfOk result (λ lines. map case_line_view lines.items ≡ map line_of (lines_of case.now)) }
 {
     // Most lines have eight bytes or more.
@@ -87,31 +136,39 @@ pub fn parse_lines<'case>(alloc: Global, case: &'case [u8]) -> Result<Vec<Line<'
     let mut rest = case;
     while !rest.is_empty() {
         let (line, after) = split_line(rest);
-        lines.push(parse_line(alloc, line)?)?;
+        lines.push(parse_line(alloc, arena, line)?)?;
         rest = after;
     }
     Ok(lines)
 }
 
 // One line, without its newline.
-fn parse_line<'case>(alloc: Global, bytes: &'case [u8]) -> Result<Line<'case>, OutOfMemory>
+fn parse_line<'case>(
+    alloc: Global,
+    arena: &'case Bump,
+    bytes: &'case [u8],
+) -> Result<Line<'case>, OutOfMemory>
     ensures { IfOk result (λ line. case_line_view line ≡ line_of bytes.now) }
 {
     match str::from_utf8(bytes) {
-        Ok(text) => parse_text(alloc, text),
+        Ok(text) => parse_text(alloc, arena, text),
         Err(_) => Ok(Line::Bad),
     }
 }
 
 // One line, given as text.
-fn parse_text<'case>(alloc: Global, text: &'case str) -> Result<Line<'case>, OutOfMemory>
+fn parse_text<'case>(
+    alloc: Global,
+    arena: &'case Bump,
+    text: &'case str,
+) -> Result<Line<'case>, OutOfMemory>
     ensures { IfOk result (λ line. case_line_view line ≡ line_of_text text.now) }
 {
     if is_skipped(text) {
         return Ok(Line::Skipped);
     }
     let (word, rest) = split_word(text);
-    parse_word(alloc, word, rest)
+    parse_word(alloc, arena, word, rest)
 }
 
 // Whether a line is empty or a comment.
@@ -127,6 +184,7 @@ fn is_skipped(text: &str) -> bool
 // A line by its word and the text after it. The most frequent words come first.
 fn parse_word<'case>(
     alloc: Global,
+    arena: &'case Bump,
     word: &str,
     rest: &'case str,
 ) -> Result<Line<'case>, OutOfMemory>
@@ -137,11 +195,11 @@ fn parse_word<'case>(
         "assign" => assign_line(rest, false),
         "str" => Line::Literal {
             text: rest,
-            lexeme: enclosed(alloc, '\'', rest)?,
+            lexeme: enclosed(arena, '\'', rest)?,
         },
         "cmd" => Line::Command {
             text: rest,
-            lexeme: enclosed(alloc, '`', rest)?,
+            lexeme: enclosed(arena, '`', rest)?,
         },
         "call" => call_line(rest),
         "list" => list_line(rest),
@@ -155,15 +213,15 @@ fn parse_word<'case>(
 }
 
 // A text between two marks, which are ASCII characters.
-fn enclosed(alloc: Global, mark: char, text: &str) -> Result<String, OutOfMemory>
+fn enclosed<'case>(arena: &'case Bump, mark: char, text: &str) -> Result<&'case str, OutOfMemory>
     requires { mark < 128 }
-    ensures { IfOk result (λ lexeme. string_bytes lexeme ≡ mark ∷ text.now ++ mark ∷ []) }
+    ensures { IfOk result (λ lexeme. lexeme.now ≡ mark ∷ text.now ++ mark ∷ []) }
 {
-    let mut lexeme = String::with_capacity(alloc, text.len().saturating_add(2))?;
+    let mut lexeme = String::with_capacity(arena, text.len().saturating_add(2))?;
     lexeme.push(mark)?;
     lexeme.push_str(text)?;
     lexeme.push(mark)?;
-    Ok(lexeme)
+    Ok(into_bump_str(lexeme))
 }
 
 // A line with a rarer word.

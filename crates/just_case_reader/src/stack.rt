@@ -1,7 +1,7 @@
 // The expressions that are not yet assigned.
 
 ghost use Rattle.std.specs.Prelude.{IfErr, IfOk, None, OnOk, Some, [], codes, length, map, option_map, ◌++◌, ◌==◌, ◌∷◌};
-ghost use Rattle.std.specs.Prelude.{◌≡◌};
+ghost use Rattle.std.specs.Prelude.{◌≡◌, ◌≤◌};
 ghost use Rattle.just_syntax.specs.Plain as plain;
 ghost use Rattle.just_case_reader.specs.Prelude.{Done, IfBad, KnownNames, assert_view, number_of, of_operand, several};
 ghost use Rattle.just_case_reader.specs.Prelude.{stack_after, stack_view, together, token_of, view, views};
@@ -16,29 +16,30 @@ use just_syntax::number::Number;
 use just_syntax::out_of_memory::OutOfMemory;
 use just_syntax::stack::MOST_LEVELS;
 use std::alloc::Global;
+use std::mem;
 
 /// The expressions that are not yet assigned. A line takes its operands from the top; the uppermost is the rightmost.
 /// Its contents are unspecified after an error.
 #[derive(Debug, Drop)]
 pub struct Stack<'src> {
-    expressions: Vec<Nested<Expression<'src>>>,
-}
-
-// A part, and its depth of nesting. It is generic, so that a failing push needs no code that drops an expression.
-#[derive(Debug, Drop)]
-struct Nested<T> {
-    part: T,
-    levels: usize,
+    expressions: Vec<Expression<'src>>,
+    // The depth of nesting of each expression.
+    levels: Vec<usize>,
 }
 
 impl<'src> Stack<'src> {
-    /// An empty stack. It allocates nothing.
-    pub fn new(alloc: Global) -> Stack<'src>
-        ensures { stack_view result ≡ [] }
+    /// An empty stack with space for `count` expressions.
+    ///
+    /// # Errors
+    ///
+    /// `OutOfMemory`, if an allocation fails.
+    pub fn with_capacity(alloc: Global, count: usize) -> Result<Stack<'src>, OutOfMemory>
+        ensures { IfOk result (λ stack. stack_view stack ≡ []) }
     {
-        Stack {
-            expressions: Vec::new(alloc),
-        }
+        Ok(Stack {
+            expressions: Vec::with_capacity(alloc, count)?,
+            levels: Vec::with_capacity(alloc, count)?,
+        })
     }
 
     /// Whether each expression is assigned.
@@ -57,8 +58,9 @@ impl<'src> Stack<'src> {
         ensures ok { IfOk result (λ e. stack_view self.old ≡ view e ∷ stack_view self.new) }
         ensures bad { IfErr result (λ e. IfBad e (stack_view self.old ≡ [])) }
     {
+        self.levels.pop();
         match self.expressions.pop() {
-            Some(nested) => Ok(nested.part),
+            Some(expression) => Ok(expression),
             None => Err(LineError::Bad),
         }
     }
@@ -191,15 +193,30 @@ impl<'src> Stack<'src> {
         if self.expressions.len() < count {
             return Err(LineError::Bad);
         }
-        let taken = self.expressions.split_off(self.expressions.len() - count)?;
-        Ok(split_parts(alloc, taken)?)
+        let expressions = pop_parts(alloc, &mut self.expressions, count)?;
+        Ok((expressions, self.pop_levels(count)))
+    }
+
+    // Takes the depths of `count` expressions from the top, and returns the greatest.
+    fn pop_levels(&mut self, count: usize) -> usize
+        ensures { stack_view self.new ≡ stack_view self.old }
+    {
+        let mut deepest = 0;
+        for _ in 0..count {
+            deepest = deepest.max(self.levels.pop().unwrap_or(0));
+        }
+        deepest
     }
 
     // Pushes an expression of this depth, if it is not too great.
     fn push(&mut self, expression: Expression<'src>, levels: usize) -> Result<(), LineError>
         ensures { Done result (Some (view expression.entry ∷ stack_view self.old)) (stack_view self.new) }
     {
-        nest(&mut self.expressions, expression, levels)?;
+        if levels > MOST_LEVELS {
+            return Err(LineError::OutOfMemory);
+        }
+        self.levels.push(levels)?;
+        push_part(&mut self.expressions, expression)?;
         Ok(())
     }
 
@@ -208,52 +225,45 @@ impl<'src> Stack<'src> {
         ensures ok { IfOk result (λ taken. stack_view self.old ≡ view taken.0.value ∷ stack_view self.new) }
         ensures bad { IfErr result (λ e. IfBad e (stack_view self.old ≡ [])) }
     {
-        pop_boxed(alloc, &mut self.expressions)
+        let levels = self.pop_levels(1);
+        Ok((pop_boxed(alloc, &mut self.expressions)?, levels))
     }
 }
 
-// Pushes a part of this depth, if it is not too great.
-fn nest<T: Drop>(parts: &mut Vec<Nested<T>>, part: T, levels: usize) -> Result<(), OutOfMemory>
-    ensures { OnOk result (parts.new.items ≡ parts.old.items ++ record { part = part; levels = levels } ∷ []) }
+// Pushes a part. It is generic, so that a failing push needs no code that drops an expression.
+fn push_part<T: Drop>(parts: &mut Vec<T>, part: T) -> Result<(), OutOfMemory>
+    ensures { OnOk result (parts.new.items ≡ parts.old.items ++ part ∷ []) }
 {
-    if levels > MOST_LEVELS {
-        return Err(OutOfMemory);
-    }
-    parts.push(Nested { part, levels })?;
+    parts.push(part)?;
     Ok(())
 }
 
-// Takes the part on top, in a box, and returns its depth too.
-fn pop_boxed<T: Drop>(
+// Takes `count` parts from the top, in the order in which they were pushed. If these are all, and they fill at least
+// half of their vector, the vector itself is taken.
+fn pop_parts<T: Drop>(
     alloc: Global,
-    parts: &mut Vec<Nested<T>>,
-) -> Result<(Box<T>, usize), LineError>
-    ensures ok { IfOk result (λ taken. parts.old.items ≡ parts.new.items ++ record {
-      part = taken.0.value;
-      levels = taken.1;
-    } ∷ []) }
+    parts: &mut Vec<T>,
+    count: usize,
+) -> Result<Vec<T>, OutOfMemory>
+    requires { count ≤ length parts.old.items }
+    ensures taken { IfOk result (λ taken. parts.old.items ≡ parts.new.items ++ taken.items) }
+    ensures count { IfOk result (λ taken. length taken.items ≡ count) }
+{
+    if count == parts.len() && parts.capacity() / 2 <= count {
+        return Ok(mem::replace(parts, Vec::new(alloc)));
+    }
+    Ok(parts.split_off(parts.len() - count)?)
+}
+
+// Takes the part on top, in a box.
+fn pop_boxed<T: Drop>(alloc: Global, parts: &mut Vec<T>) -> Result<Box<T>, LineError>
+    ensures ok { IfOk result (λ taken. parts.old.items ≡ parts.new.items ++ taken.value ∷ []) }
     ensures bad { IfErr result (λ e. IfBad e (parts.old.items ≡ [])) }
 {
     match parts.pop() {
-        Some(Nested { part, levels }) => Ok((Box::new(alloc, part)?, levels)),
+        Some(part) => Ok(Box::new(alloc, part)?),
         None => Err(LineError::Bad),
     }
-}
-
-// The parts, and the depth of the deepest.
-fn split_parts<T: Drop>(
-    alloc: Global,
-    taken: Vec<Nested<T>>,
-) -> Result<(Vec<T>, usize), OutOfMemory>
-    ensures { IfOk result (λ parts. parts.0.items ≡ map (λ nested. nested.part) taken.items) }
-{
-    let mut parts = Vec::with_capacity(alloc, taken.len())?;
-    let mut levels = 0;
-    for nested in taken {
-        levels = levels.max(nested.levels);
-        parts.push(nested.part)?;
-    }
-    Ok((parts, levels))
 }
 
 // The depth of a form whose deepest part has this depth.

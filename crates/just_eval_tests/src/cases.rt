@@ -6,6 +6,7 @@ ghost use Rattle.just_eval_tests.specs.Prelude.{IsConst};
 use crate::bindings::with_flags;
 use crate::recipes::around::expression_of;
 use crate::{constants, interpreters, kept, settings};
+use bumpalo::Bump;
 use just_case_reader::case::{Case, build};
 use just_case_reader::line::{Line, parse_lines};
 use just_eval::evaluator::Evaluator;
@@ -41,7 +42,8 @@ pub(crate) fn reported(
     outside: &[(&'static str, &'static str)],
     subject: Subject,
 ) -> String {
-    let lines = parse_lines(alloc, case.as_bytes()).expect(rt, "no memory");
+    let arena = Bump::new(alloc);
+    let lines = parse_lines(alloc, &arena, case.as_bytes()).expect(rt, "no memory");
     reported_of(rt, alloc, &lines, outside, subject)
 }
 

@@ -5,6 +5,7 @@ use crate::compared::same;
 use crate::recipes::around::Around;
 use crate::recipes::failing::NEVER;
 use crate::recipes::hosts::ReportingHost;
+use bumpalo::Bump;
 use just_case_reader::line::{Line as CaseLine, parse_lines};
 use just_value::scope::Scope;
 use std::alloc::Global;
@@ -57,7 +58,8 @@ fn report_assignments(
     case: &str,
     exports_all: bool,
 ) {
-    let lines = parse_lines(alloc, case.as_bytes()).expect(rt, "no memory");
+    let arena = Bump::new(alloc);
+    let lines = parse_lines(alloc, &arena, case.as_bytes()).expect(rt, "no memory");
     evaluate(rt, alloc, &lines, host, exports_all);
     drop(lines);
 }

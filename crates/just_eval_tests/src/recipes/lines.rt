@@ -9,6 +9,7 @@ use crate::recipes::failing::{Failing, WAYS, questions, reported_failing};
 use crate::recipes::hosts::{ReportingHost, refusal};
 use crate::recipes::parameters::add_attributes;
 use crate::recipes::texts::{push, same_failing};
+use bumpalo::Bump;
 use just_case_reader::line::{Line as CaseLine, parse_lines};
 use just_case_reader::token::{name, token};
 use just_eval::resolved_here;
@@ -157,7 +158,8 @@ fn row_fails(rt: &impl Abort, alloc: Global, row: &Row, failing: Failing) {
 // Reports a line of pieces, after the questions asked.
 fn report_case(rt: &impl Abort, alloc: Global, host: &mut ReportingHost, row: &Row) {
     let (case, _, _, _, _) = *row;
-    let lines = parse_lines(alloc, case.as_bytes()).expect(rt, "no memory");
+    let arena = Bump::new(alloc);
+    let lines = parse_lines(alloc, &arena, case.as_bytes()).expect(rt, "no memory");
     report_pieces(rt, alloc, &lines, host, row);
     drop(lines);
 }

@@ -10,6 +10,7 @@ use crate::recipes::failing::{Failing, NEVER, WAYS, questions, reported_failing}
 use crate::recipes::hosts::{ReportingHost, refusal, report_environment};
 use crate::recipes::parameter_rows::{ROWS, Row};
 use crate::recipes::texts::{push, same_failing};
+use bumpalo::Bump;
 use just_case_reader::line::{Line as CaseLine, parse_lines};
 use just_case_reader::token::name;
 use just_eval::resolved_here;
@@ -115,7 +116,8 @@ fn report_row(
     exports_all: bool,
 ) -> String {
     let (case, _, _, _, _, _, _) = *row;
-    let lines = parse_lines(alloc, case.as_bytes()).expect(rt, "no memory");
+    let arena = Bump::new(alloc);
+    let lines = parse_lines(alloc, &arena, case.as_bytes()).expect(rt, "no memory");
     let checked = report_lines(rt, alloc, &lines, host, row, check, exports_all);
     drop(lines);
     checked

@@ -5,6 +5,7 @@ use crate::recipes::around::{Around, expressions_of};
 use crate::recipes::called::Called;
 use crate::recipes::lines::{interpolated, line_of};
 use crate::recipes::parameters::{add_attributes, add_parameters};
+use bumpalo::Bump;
 use just_case_reader::line::{Line as CaseLine, parse_lines};
 use just_case_reader::token::name;
 use just_eval::resolved_here;
@@ -240,7 +241,8 @@ const ROWS: &[Row] = &[
 fn resolved_or_not(rt: HostRuntime) {
     for row in ROWS {
         let (case, _, _, _, _, _) = *row;
-        let lines = parse_lines(rt.alloc(), case.as_bytes()).expect(&rt, "no memory");
+        let arena = Bump::new(rt.alloc());
+        let lines = parse_lines(rt.alloc(), &arena, case.as_bytes()).expect(&rt, "no memory");
         is_as_reported(&rt, rt.alloc(), &lines, row);
         drop(lines);
     }

@@ -1,4 +1,3 @@
-use Rattle.std.proofs.Common.{string_bytes}
 use Rattle.just_case_reader.specs.Line as lines
 use Rattle.just_case_reader.specs.Prelude.{reading_view, with_stack}
 use Rattle.just_case_reader.proofs.Stacks.{done_with}
@@ -7,8 +6,8 @@ use Rattle.just_case_reader.proofs.builder.Builder.read.Goals as goal
 pub returns-in-Literal : goal.returns-in-Literal
 returns-in-Literal c =
     let old = reading_view c.args.self.now in
-    rw (c.in-Literal.is) (done_with (with_stack (lines.Literal c.in-Literal.text.now (string_bytes c.in-Literal.lexeme)) old) c.literal.result _ _
-    (rw (c.deref.ensures) at (c.literal.ensures old.names)))
+    rw (c.in-Literal.is) (done_with (with_stack (lines.Literal c.in-Literal.text.now c.in-Literal.lexeme.now) old) c.literal.result _ _
+    (c.literal.ensures old.names))
 
 pub returns-in-Unary : goal.returns-in-Unary
 returns-in-Unary c =
