@@ -1,4 +1,5 @@
 -- The proofs of the crate.
+mod Displayed
 mod Lines
 mod Pointers
 mod Repeated

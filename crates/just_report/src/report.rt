@@ -1,6 +1,6 @@
 // Reports of errors.
 
-ghost use Rattle.std.specs.Prelude.{IfOk, OnOk, string_bytes, ◌++◌, ◌≡◌};
+ghost use Rattle.std.specs.Prelude.{IfOk, IfSome, OnOk, string_bytes, ◌++◌, ◌≡◌};
 ghost use Rattle.just_report.specs.Report.{line_at, mark_line, marks, numbered, place_line, report};
 ghost use Rattle.just_report.specs.Report.{source_lines};
 ghost use Rattle.just_syntax.specs.View.{token_view};
@@ -11,9 +11,10 @@ use crate::shown::push_shown;
 use just_syntax::out_of_memory::OutOfMemory;
 use just_syntax::token::Token;
 use std::alloc::Global;
+use std::fmt;
 
-/// The report of an error, as upstream prints it: the message; the path, line and column of a token, both counted from
-/// 1; and the line of the source with marks under the token. For example:
+/// The report of an error: what it displays; the path, line and column of a token, both counted from 1; and the line of
+/// the source with marks under the token. For example:
 ///
 /// ```text
 /// error: function `blake3` is left out
@@ -26,23 +27,24 @@ use std::alloc::Global;
 /// The column counts bytes, as a token does. A tab is shown as four spaces, and no other control character is shown. A
 /// wide character has two marks. A token without a text has the marks of the character at its place, and one past the
 /// end of its line has one mark. A line past the end of the source is shown as an empty one. The report ends with a
-/// newline. Upstream's `ColorDisplay` of a `Token`, without colours.
+/// newline. The layout follows upstream's reports, without colours.
 ///
 /// # Errors
 ///
 /// `OutOfMemory`, if an allocation fails: nothing is created.
-pub fn report(
+pub fn report<E: fmt::Display>(
     alloc: Global,
-    message: &str,
+    error: &E,
     token: &Token,
     source: &str,
 ) -> Result<String, OutOfMemory>
-    ensures { IfOk result (λ text. string_bytes text ≡ report message.now (token_view token.now) source.now) }
+    ensures { IfOk result (λ text. IfSome (E.output error.now)
+        (λ message. string_bytes text ≡ report message (token_view token.now) source.now)) }
 {
     let row = token.line.saturating_add(1);
     let number = format!(in alloc; "{row}")?;
     let line = line_at(source, token.line);
-    let mut text = format!(in alloc; "error: {message}\n")?;
+    let mut text = format!(in alloc; "error: {error}\n")?;
     push_place(&mut text, &number, token)?;
     push_source(&mut text, &number, line)?;
     push_mark_line(&mut text, &number, token, line)?;

@@ -1,6 +1,7 @@
-// Reports on tokens of several sources, in the form in which upstream prints them.
+// Reports on tokens of several sources.
 
 use crate::report::report;
+use just_syntax::out_of_memory::OutOfMemory;
 use just_syntax::token::Token;
 use std::alloc::Global;
 use std::process::Abort;
@@ -76,6 +77,17 @@ const ROWS: &[Row] = &[
     ),
 ];
 
+// Any error that displays itself can be reported.
+#[test]
+fn a_failed_allocation_is_reported(rt: HostRuntime) {
+    let alloc = rt.alloc();
+    let wanted = "error: out of memory\n ——▶ :1:1\n  │\n1 │ x\n  │ ^\n";
+    let wanted = String::from_str(alloc, wanted).expect(&rt, "no memory");
+    let token = Token::new("x", None);
+    let reported = report(alloc, &OutOfMemory, &token, "x\n").expect(&rt, "no memory");
+    assert_eq!(rt; reported, wanted);
+}
+
 #[test]
 fn reports_point_at_their_tokens(rt: HostRuntime) {
     for row in ROWS {
@@ -92,6 +104,6 @@ fn is_reported(rt: &impl Abort, alloc: Global, (line, column, lexeme, source, wa
         path: "justfile",
     };
     let wanted = format!(in alloc; "error: no such variable\n{wanted}").expect(rt, "no memory");
-    let reported = report(alloc, "no such variable", &token, source).expect(rt, "no memory");
+    let reported = report(alloc, &"no such variable", &token, source).expect(rt, "no memory");
     assert_eq!(rt; reported, wanted);
 }
