@@ -46,9 +46,29 @@ fn gives(rt: &impl Abort, made: Result<String, OutOfMemory>, wanted: &str) {
 fn texts(rt: HostRuntime) {
     let alloc = rt.alloc();
     gives(&rt, join(alloc, "a/", "b"), "a/b");
-    gives(&rt, replace(alloc, "aXbX", "X", "é"), "aébé");
     gives(&rt, quote(alloc, "it's"), "'it'\\''s'");
     gives(&rt, encode_uri_component(alloc, "/%\n~"), "%2F%25%0A~");
+}
+
+// A text, what is replaced in it and by what, and the text then: one byte by one, one byte by more, and more by any.
+const REPLACED: &[(&str, &str, &str, &str)] = &[
+    ("a,b,,c", ",", ";", "a;b;;c"),
+    (",", ",", ",", ","),
+    ("é,è", ",", ";", "é;è"),
+    ("", ",", ";", ""),
+    ("aXbX", "X", "é", "aébé"),
+    ("X", "X", "", ""),
+    ("ababa", "ab", "x", "xxa"),
+    ("xab", "ab", "", "x"),
+    ("aaa", "aa", "é", "éa"),
+    ("ab", "abc", "x", "ab"),
+];
+
+#[test]
+fn replaced(rt: HostRuntime) {
+    for (text, from, to, wanted) in REPLACED {
+        gives(&rt, replace(rt.alloc(), text, from, to), wanted);
+    }
 }
 
 // There is a text, and it is as expected.
@@ -90,6 +110,7 @@ fn words_are_changed(rt: &impl Abort, alloc: Global, words: &[String]) {
     gives_all(rt, alloc, append(alloc, "!", words), "a!|é!|b!");
     gives_all(rt, alloc, prepend(alloc, "x", words), "xa|xé|xb");
     gives(rt, join_list(alloc, words, ", "), "a, é, b");
+    gives(rt, join_list(alloc, &words[..0], ", "), "");
 }
 
 // Texts, and the same without their indentation.

@@ -47,6 +47,18 @@ fn values(rt: HostRuntime) {
         reports(&rt, reported_of(&rt, alloc, elements), wanted);
     }
     prints(&rt, alloc, &Element("x\ty"), "\"x\\ty\"");
+    prints(
+        &rt,
+        alloc,
+        &Element("a text of forty bytes, without an escape"),
+        "\"a text of forty bytes, without an escape\"",
+    );
+    prints(
+        &rt,
+        alloc,
+        &Element("a text of forty bytes, and then an escape\\"),
+        "\"a text of forty bytes, and then an escape\\\\\"",
+    );
 }
 
 // A value whose construction may fail has these elements, each followed by a `.`.
