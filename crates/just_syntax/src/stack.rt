@@ -34,7 +34,7 @@ pub const ASSERT: usize = 848;
 pub const CALL: usize = 1088;
 
 /// What a comparison uses around its parts.
-pub const COMPARISON: usize = 896;
+pub const COMPARISON: usize = 832;
 
 /// What `+` uses around its parts.
 pub const CONCATENATION: usize = 848;
