@@ -1,5 +1,6 @@
 -- The escapes of a text, byte by byte.
-use Rattle.std.proofs.Common.{◌≡◌, ℕ, suc, ◌+◌, ◌-◌, ◌<◌, ◌≤◌, if◌then◌else◌, nat_lt, List, [], ◌∷◌, ◌++◌, length, take, drop, get_or, refl, ap, sym, subst, ◌∙◌, inl}
+use Rattle.std.proofs.Common.{◌≡◌, ℕ, suc, ◌+◌, ◌-◌, ◌<◌, ◌≤◌, if◌then◌else◌, nat_lt, List, []}
+use Rattle.std.proofs.Common.{◌∷◌, ◌++◌, length, take, drop, get_or, refl, ap, sym, subst, ◌∙◌, inl}
 use Rattle.std.proofs.Common.{inr, arith, chars, IsUtf8, append_assoc, append-nil, lt-ltb, length-drop, get_or-drop, flat_map}
 use lib.Utf8.{encode, encodes}
 use Rattle.std.proofs.lemmas.Bool.{cases_lt}
