@@ -3,6 +3,7 @@
 ghost use Rattle.std.specs.Prelude.{IfOk, map, string_bytes, ◌≡◌};
 ghost use Rattle.std.specs.List.{join_by};
 
+use crate::replace::push_short;
 use just_syntax::out_of_memory::OutOfMemory;
 use std::alloc::Global;
 
@@ -17,7 +18,7 @@ pub fn join_list(alloc: Global, texts: &[String], separator: &str) -> Result<Str
     let mut joined = String::with_capacity(alloc, joined_len(texts, separator))?;
     let mut between = "";
     for text in texts {
-        joined.push_str(between)?;
+        push_short(&mut joined, between)?;
         joined.push_str(text)?;
         between = separator;
     }

@@ -5,7 +5,7 @@ ghost use Rattle.just_text.specs.Path as spec;
 
 use just_syntax::out_of_memory::OutOfMemory;
 use std::alloc::Global;
-use std::path::Path;
+use std::path::{Path, PathBuf};
 
 /// The second path if it begins with `/`, otherwise the two joined by a slash. No slash is added to a base that is
 /// empty or ends with one. Upstream's `join`, of two paths.
@@ -16,7 +16,10 @@ use std::path::Path;
 pub fn join(alloc: Global, base: &str, path: &str) -> Result<String, OutOfMemory>
     ensures { IfOk result (λ text. string_bytes text ≡ spec.joined_paths base.now path.now) }
 {
-    let joined = Path::new(base).join(alloc, path)?;
+    let capacity = base.len().saturating_add(path.len()).saturating_add(1);
+    let mut joined = PathBuf::with_capacity(alloc, capacity)?;
+    joined.push(base)?;
+    joined.push(path)?;
     Ok(joined.into_string())
 }
 

@@ -87,7 +87,7 @@ fn with_text_substituted(
     let mut replaced = String::with_capacity(alloc, text.len())?;
     let mut between = "";
     for piece in text.split(from) {
-        replaced.push_str(between)?;
+        push_short(&mut replaced, between)?;
         replaced.push_str(piece)?;
         between = to;
     }
@@ -103,6 +103,17 @@ pub(crate) fn only_byte(text: &str) -> Option<u8>
         return Some(bytes[0]);
     }
     None
+}
+
+// Appends a text that is likely to be one ASCII character: as a byte if it is.
+pub(crate) fn push_short(out: &mut String, text: &str) -> Result<(), OutOfMemory>
+    ensures { OnOk result (string_bytes out.new ≡ string_bytes out.old ++ text.now) }
+{
+    match only_byte(text) {
+        Some(byte) => out.push(byte as char)?,
+        None => out.push_str(text)?,
+    }
+    Ok(())
 }
 
 // Appends the text with `to` instead of each occurrence of an ASCII byte. Each run of bytes between two occurrences is
@@ -122,7 +133,7 @@ pub(crate) fn push_substituted(
     let mut at = place_of(text, byte, 0);
     while at < bytes.len() {
         out.push_str(&text[start..at])?;
-        out.push_str(to)?;
+        push_short(out, to)?;
         start = at + 1;
         at = place_of(text, byte, start);
     }

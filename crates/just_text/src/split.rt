@@ -47,6 +47,7 @@ fn ascii_words(alloc: Global, text: &str) -> Result<Vec<String>, OutOfMemory>
 
 // The first index from `from` on at which a byte, as a character, is white space, or is not; the length if there is
 // none.
+#[inline(always)]
 fn white_or_not(bytes: &[u8], white: bool, from: usize) -> usize
     requires { from ≤ length bytes.now }
     ensures low { from ≤ result }
