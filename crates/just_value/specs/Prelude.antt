@@ -19,7 +19,7 @@ pub use Rattle.just_value.specs.Positional.{override_of, positional, tail_before
 pub use Rattle.just_value.specs.Positional.{with_word}
 pub use Rattle.just_value.specs.Rising.{AreRising, AreRisingNames}
 pub use Rattle.just_value.specs.Said.{error_token}
-pub use Rattle.just_value.specs.Shown.{IsPlain, escaped, quoted, shown}
+pub use Rattle.just_value.specs.Shown.{IsPlain, escaped, quoted, quoted_after, shown}
 pub use Rattle.just_value.specs.Value.{EmptyTextIsTruthy, JoinsNoneAndOne, SameExactlyIfEqual, from_condition}
 pub use Rattle.just_value.specs.Value.{is_truthy, joined}
 pub use Rattle.just_value.specs.View.{bindings_left, bound_view, compile_refusal, compile_token, conjunction_of}

@@ -18,9 +18,13 @@ escaped c =
 abbrev pub IsPlain : ℕ → Type 0
 IsPlain byte = byte < 128 → escaped byte ≡ byte ∷ []
 
+-- a text after an opening, up to the closing quote
+abbrev pub quoted_after : Text → Text → Text
+quoted_after opening text = opening ++ (flat_map escaped (chars text) ++ codes "\"")
+
 -- a text in quotes
 abbrev pub quoted : Text → Text
-quoted text = codes "\"" ++ (flat_map escaped (chars text) ++ codes "\"")
+quoted text = quoted_after (codes "\"") text
 
 -- one element as a quoted text, otherwise the quoted elements in brackets
 abbrev pub shown : Value → Text

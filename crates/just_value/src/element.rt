@@ -2,7 +2,7 @@
 
 ghost use Rattle.std.specs.Prelude.{MatchOption, [], false, length, slice_index, ℕ, ◌<◌, ◌∷◌, ◌≡◌, ◌≤◌};
 ghost use Rattle.std.specs.Fmt.{WritesStyledOnOk};
-ghost use Rattle.just_value.specs.Prelude.{IsPlain, escaped, quoted};
+ghost use Rattle.just_value.specs.Prelude.{IsPlain, escaped, quoted_after};
 
 use std::fmt;
 
@@ -20,15 +20,19 @@ impl fmt::Display for Element<'_> {
     ghost styled_output = { λ element _. Some (quoted element.0.now) };
 
     fn fmt<W: fmt::Write>(&self, f: &mut fmt::Formatter<W>) -> fmt::Result {
-        write_quoted(f, self.0)
+        write_quoted(f, "\"", self.0)
     }
 }
 
-// A text in quotes. Each run of bytes between two escapes is written in one piece, and so is a text without escapes.
-fn write_quoted<W: fmt::Write>(f: &mut fmt::Formatter<W>, text: &str) -> fmt::Result
-    ensures { WritesStyledOnOk W.write_str_gives f.old result (quoted text.now) f.new }
+// A text in quotes, the first of them given with what comes before it. Each run of bytes between two escapes is written in one piece, and so is a text without escapes.
+pub(crate) fn write_quoted<W: fmt::Write>(
+    f: &mut fmt::Formatter<W>,
+    opening: &str,
+    text: &str,
+) -> fmt::Result
+    ensures { WritesStyledOnOk W.write_str_gives f.old result (quoted_after opening.now text.now) f.new }
 {
-    f.write_str("\"")?;
+    f.write_str(opening)?;
     let bytes = text.as_bytes();
     let mut start = 0;
     for at in plain_start(bytes)..bytes.len() {

@@ -9,7 +9,7 @@ ghost use Rattle.std.specs.Slice.Iter.{iter_rest};
 ghost use Rattle.just_value.specs.Prelude.{Ends, GivesItems, UnlessStopped, combined, ended, from_condition, is_truthy};
 ghost use Rattle.just_value.specs.Prelude.{joined, paired, quoted, token_view};
 
-use crate::element::Element;
+use crate::element::{Element, write_quoted};
 use crate::error::Error;
 use just_syntax::list_operator::ListOperator;
 use just_syntax::out_of_memory::OutOfMemory;
@@ -247,10 +247,11 @@ fn write_element<W: fmt::Write>(f: &mut fmt::Formatter<W>, first: bool, text: &s
     ensures { WritesStyledOnOk W.write_str_gives f.old result ((if first then [] else codes ", ") ++ quoted text.now)
         f.new }
 {
-    if !first {
-        f.write_str(", ")?;
+    if first {
+        write_quoted(f, "\"", text)
+    } else {
+        write_quoted(f, ", \"", text)
     }
-    Element(text).fmt(f)
 }
 
 impl PartialEq for Value {

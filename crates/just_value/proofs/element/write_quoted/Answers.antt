@@ -1,4 +1,4 @@
-use Rattle.std.proofs.Common.{◌≡◌, ◌-◌, ◌<◌, ◌++◌, ◌∷◌, [], length, get_or, take, drop, refl, true, ap, ◌∙◌, arith, append_assoc}
+use Rattle.std.proofs.Common.{◌≡◌, ◌-◌, ◌<◌, ◌++◌, [], length, get_or, take, drop, refl, true, ap, ◌∙◌, arith, append_assoc}
 use Rattle.std.specs.Fmt.{HasWrittenStyled}
 use Rattle.std.proofs.Output.{has_written_styled_nil}
 use Rattle.std.proofs.lemmas.Grind.{common_steps}
@@ -63,7 +63,7 @@ returns g c = λ flush ok.
     let l = c.loop-at in
     let bytes = c.args.text.now in
     let end : l.at ≡ length bytes = omega (arith, c.as_bytes-bytes.ensures.len) in
-    let start : HasWrittenStyled took c.args.f.now (34 ∷ []) c.write_str.new.self = c.in_ok-write_str.ensures.styled flush (refl {a = true}) in
+    let start : HasWrittenStyled took c.args.f.now c.args.opening.now c.write_str.new.self = c.in_ok-write_str.ensures.styled flush (refl {a = true}) in
     let before = l.invariant.written start.flush in
     let last = c.in_ok-write_str-4.ensures.styled before.flush (refl {a = true}) in
     let quote = c.write_str-3.ensures.styled last.flush ok in
