@@ -103,12 +103,25 @@ pub fn binary_plus(alloc: Global, builtin: Builtin, arguments: &[Value]) -> Resu
     }
 }
 
+// At least the length of the joined paths in bytes, or `usize::MAX`.
+fn joined_len(arguments: &[Value]) -> usize
+    requires { HasOneEach arguments.now }
+{
+    let mut len: usize = 0;
+    for i in 0..arguments.len() {
+        len = len
+            .saturating_add(text_at(arguments, i).len())
+            .saturating_add(1);
+    }
+    len
+}
+
 // Joins paths from left to right, in one buffer.
 fn joined(alloc: Global, arguments: &[Value]) -> Result<String, OutOfMemory>
     requires { HasOneEach arguments.now }
     ensures { IfOk result (λ path. string_bytes path ≡ all_joined [] arguments.now) }
 {
-    let mut path = PathBuf::new(alloc);
+    let mut path = PathBuf::with_capacity(alloc, joined_len(arguments))?;
     for i in 0..arguments.len() {
         path.push(text_at(arguments, i))?;
     }
