@@ -53,7 +53,7 @@ pub(crate) fn assignment_numbers<'src>(
     ensures { IfOk result (λ numbers. map parameter_view numbers.items
         ≡ numbered_assignments (map assignment_view assignments.now)) }
 {
-    let mut numbers = Vec::new(alloc);
+    let mut numbers = Vec::with_capacity(alloc, assignments.len())?;
     for assignment in assignments {
         add_number(&mut numbers, &assignment.name, assignment.number)?;
     }
