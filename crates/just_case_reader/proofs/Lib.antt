@@ -4,3 +4,4 @@ pub mod Lines
 pub mod Names
 pub mod Numbers
 mod Counts
+mod Described

@@ -47,7 +47,7 @@ first_open bytes some past =
     ∙ without_empty_end-one bytes some)
 
 -- the first line, and the lines after it
-lines_of-first : (bytes : List ℕ) → 0 < length bytes → lines_of bytes ≡ before_first (λ b. eqb b 10) bytes ∷ lines_of (after_first (λ b. eqb b 10) bytes)
+pub lines_of-first : (bytes : List ℕ) → 0 < length bytes → lines_of bytes ≡ before_first (λ b. eqb b 10) bytes ∷ lines_of (after_first (λ b. eqb b 10) bytes)
 lines_of-first bytes some =
     ⊎_elim (first_ended bytes) (first_open bytes some) (cases_lt (position_or_len (λ b. eqb b 10) bytes) (length bytes))
 

@@ -39,7 +39,7 @@ pub(crate) struct Builder<'src> {
 }
 
 impl<'src> Builder<'src> {
-    /// The state before the first of `lines` lines.
+    /// The state before the first line. It has memory for what about this number of lines need.
     ///
     /// # Errors
     ///
@@ -47,11 +47,13 @@ impl<'src> Builder<'src> {
     pub(crate) fn new(alloc: Global, lines: usize) -> Result<Builder<'src>, OutOfMemory>
         ensures { IfOk result (λ builder. reading_view builder ≡ nothing) }
     {
+        // An assignment has two lines or more, and few cases have more names than this number.
+        let names = (lines / 2).min(512);
         Ok(Builder {
-            case: Case::new(alloc),
+            case: Case::with_capacity(alloc, names)?,
             is_over: false,
             last_command: None,
-            numbering: Numbering::new(alloc),
+            numbering: Numbering::with_capacity(alloc, names)?,
             order: None,
             // A line pushes one expression at most, and few cases leave more than this number on the stack.
             stack: Stack::with_capacity(alloc, lines.min(4096))?,
@@ -73,7 +75,7 @@ impl<'src> Builder<'src> {
     }
 
     /// Executes a line. After the end, every line that is not skipped is bad.
-    pub(crate) fn take(&mut self, alloc: Global, line: &'src Line<'src>) -> Result<(), LineError>
+    pub(crate) fn take(&mut self, alloc: Global, line: &Line<'src>) -> Result<(), LineError>
         ensures { Done result (step (case_line_view line.now) (reading_view self.old)) (reading_view self.new) }
     {
         if self.is_over && !line.is_skipped() {
@@ -83,35 +85,35 @@ impl<'src> Builder<'src> {
     }
 
     // Executes a line before the end.
-    fn read(&mut self, alloc: Global, line: &'src Line<'src>) -> Result<(), LineError>
+    fn read(&mut self, alloc: Global, line: &Line<'src>) -> Result<(), LineError>
         ensures { Done result (read (case_line_view line.now) (reading_view self.old)) (reading_view self.new) }
     {
         match line {
             Line::Skipped => Ok(()),
             Line::Bad => Err(LineError::Bad),
-            Line::Literal { text, lexeme } => self.stack.literal(alloc, text, lexeme),
-            Line::Command { text, lexeme } => self.command(alloc, text, lexeme),
-            Line::Variable { name } => self.variable(name),
+            Line::Literal { text, lexeme } => self.stack.literal(alloc, *text, *lexeme),
+            Line::Command { text, lexeme } => self.command(alloc, *text, *lexeme),
+            Line::Variable { name } => self.variable(*name),
             Line::Unary(operator) => self.stack.unary(alloc, *operator),
             Line::Binary(operator) => self.stack.binary(alloc, *operator),
             Line::If => self.stack.conditional(alloc),
             Line::List { count } => self.stack.list(alloc, usize::from(*count)),
-            Line::Call { name, count } => self.stack.call(alloc, name, usize::from(*count)),
-            Line::Assign { name, export } => self.assign(name, *export),
-            Line::Function { names } => self.function(alloc, names),
-            Line::Override { name, text } => self.override_with(alloc, name, text),
-            Line::Dotenv { name, text } => self.dotenv(alloc, name, text),
-            Line::Order { names } => self.order(alloc, names),
-            Line::Only { names } => self.only(alloc, names),
-            Line::Reply { text } => self.reply(alloc, text),
+            Line::Call { name, count } => self.stack.call(alloc, *name, usize::from(*count)),
+            Line::Assign { name, export } => self.assign(*name, *export),
+            Line::Function { names } => self.function(alloc, *names),
+            Line::Override { name, text } => self.override_with(alloc, *name, *text),
+            Line::Dotenv { name, text } => self.dotenv(alloc, *name, *text),
+            Line::Order { names } => self.order(alloc, *names),
+            Line::Only { names } => self.only(alloc, *names),
+            Line::Reply { text } => self.reply(alloc, *text),
             Line::Fail { code } => self.fail(*code),
-            Line::Always { text } => self.always(alloc, text),
+            Line::Always { text } => self.always(alloc, *text),
             Line::Lists => self.lists(),
             Line::Dry => self.dry_run(),
             Line::Limit { limit } => self.limit(usize::from(*limit)),
             Line::Run => self.end(Evaluation::Run),
             Line::Const => self.end(Evaluation::Const),
-            Line::Blocks { names } => self.blocks(alloc, names),
+            Line::Blocks { names } => self.blocks(alloc, *names),
         }
     }
 

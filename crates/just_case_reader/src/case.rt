@@ -1,13 +1,14 @@
 // The contents of a case.
 
-ghost use Rattle.std.specs.Prelude.{IfOk, OnOk, [], length, map, ◌+◌, ◌≡◌};
+ghost use Rattle.std.specs.Prelude.{IfOk, OnOk, [], length, map, ◌+◌, ◌≡◌, ◌≤◌};
 ghost use Rattle.just_case_reader.specs.Prelude.{BadLine, Describes, case_line_view, case_view, described};
-ghost use Rattle.just_case_reader.specs.Prelude.{described_from, nothing, reading_view};
+ghost use Rattle.just_case_reader.specs.Prelude.{described_from, line_of, lines_of, nothing, reading_view};
 
 use crate::builder::Builder;
 use crate::evaluation::Evaluation;
-use crate::line::Line;
+use crate::line::{Line, parse_line, split_line};
 use crate::line_error::LineError;
+use bumpalo::Bump;
 use just_syntax::assignment::Assignment;
 use just_syntax::function_definition::FunctionDefinition;
 use just_syntax::name::Name;
@@ -48,13 +49,17 @@ pub struct Case<'src> {
 }
 
 impl<'src> Case<'src> {
-    /// An empty case. It allocates nothing.
-    pub(crate) fn new(alloc: Global) -> Case<'src>
-        ensures { case_view result ≡ nothing.case }
+    /// An empty case, with memory for this number of names in its order.
+    ///
+    /// # Errors
+    ///
+    /// `OutOfMemory`, if an allocation fails.
+    pub(crate) fn with_capacity(alloc: Global, names: usize) -> Result<Case<'src>, OutOfMemory>
+        ensures { IfOk result (λ case. case_view case ≡ nothing.case) }
     {
-        Case {
+        Ok(Case {
             assignments: Table::new(alloc),
-            evaluation_order: Vec::new(alloc),
+            evaluation_order: Vec::with_capacity(alloc, names)?,
             functions: Table::new(alloc),
             overrides: HashMap::new(alloc),
             references: None,
@@ -65,7 +70,7 @@ impl<'src> Case<'src> {
             dry_run: false,
             recursion_limit: RECURSION_LIMIT,
             evaluation: Evaluation::Run,
-        }
+        })
     }
 }
 
@@ -97,6 +102,63 @@ impl fmt::Display for CaseError {
 }
 
 impl Error for CaseError {}
+
+/// The case that a text describes. Each line is executed as soon as it is parsed. The arena holds the lexemes of literals
+/// and commands, which have marks that the text does not have.
+///
+/// # Errors
+///
+/// `BadLine` with the number of the first bad line. A case that does not end with `run`, `const` or `blocks` is bad at
+/// the line after its last. `OutOfMemory`, if an allocation fails, or if an expression nests too deeply for the stack.
+pub fn parse<'case>(
+    alloc: Global,
+    arena: &'case Bump,
+    text: &'case [u8],
+) -> Result<Case<'case>, CaseError>
+    ensures case { IfOk result (λ case. described (map line_of (lines_of text.now)) ≡ Describes (case_view case)) }
+    ensures bad { (place : _) → result ≡ Err (CaseError.BadLine place)
+        → described (map line_of (lines_of text.now)) ≡ BadLine place }
+{
+    // Most lines have eight bytes or more.
+    let Ok(mut builder) = Builder::new(alloc, text.len() / 8) else {
+        return Err(CaseError::OutOfMemory);
+    };
+    let count = take_text(&mut builder, alloc, arena, text)?;
+    builder
+        .finished()
+        .ok_or(CaseError::BadLine(count.saturating_add(1)))
+}
+
+// Executes the lines of a text up to the first bad one, and returns their number.
+fn take_text<'case>(
+    builder: &mut Builder<'case>,
+    alloc: Global,
+    arena: &'case Bump,
+    text: &'case [u8],
+) -> Result<usize, CaseError>
+    ensures ok { IfOk result (λ count. described_from 1 (reading_view builder.old) (map line_of (lines_of text.now))
+        ≡ described_from (count + 1) (reading_view builder.new) []) }
+    ensures few { IfOk result (λ count. count ≤ length text.now) }
+    ensures bad { (place : _) → result ≡ Err (CaseError.BadLine place)
+        → described_from 1 (reading_view builder.old) (map line_of (lines_of text.now)) ≡ BadLine place }
+{
+    let mut rest = text;
+    let mut count: usize = 0;
+    while !rest.is_empty() {
+        let (line, after) = split_line(rest);
+        let Ok(line) = parse_line(alloc, arena, line) else {
+            return Err(CaseError::OutOfMemory);
+        };
+        count += 1;
+        match builder.take(alloc, &line) {
+            Ok(()) => {}
+            Err(LineError::Bad) => return Err(CaseError::BadLine(count)),
+            Err(LineError::OutOfMemory) => return Err(CaseError::OutOfMemory),
+        }
+        rest = after;
+    }
+    Ok(count)
+}
 
 /// The case that lines describe.
 ///

@@ -143,7 +143,7 @@ pub fn parse_lines<'case>(
 }
 
 // One line, without its newline.
-fn parse_line<'case>(
+pub(crate) fn parse_line<'case>(
     alloc: Global,
     arena: &'case Bump,
     bytes: &'case [u8],
@@ -385,7 +385,7 @@ fn operator_line<'case>(word: &str) -> Line<'case>
 }
 
 // The bytes before and after the first newline. Without a newline the second part is empty.
-fn split_line(bytes: &[u8]) -> (&[u8], &[u8])
+pub(crate) fn split_line(bytes: &[u8]) -> (&[u8], &[u8])
     ensures line { result.0.now ≡ before_first (λ byte. byte == 10) bytes.now }
     ensures rest { result.1.now ≡ after_first (λ byte. byte == 10) bytes.now }
 {

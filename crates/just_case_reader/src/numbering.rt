@@ -20,13 +20,17 @@ impl<'src> Numbering<'src> {
     ghost use Rattle.just_case_reader.specs.Numbering.{no_names, number_of, numbers_of, parameters_with_numbers, with_name, with_names};
     ghost use Rattle.just_case_reader.specs.View.{numbering_view};
 
-    /// No names. It allocates nothing.
-    pub fn new(alloc: Global) -> Numbering<'src>
-        ensures { numbering_view result ≡ no_names }
+    /// No names, with memory for this number of them.
+    ///
+    /// # Errors
+    ///
+    /// `OutOfMemory`, if an allocation fails.
+    pub fn with_capacity(alloc: Global, names: usize) -> Result<Numbering<'src>, OutOfMemory>
+        ensures { IfOk result (λ numbering. numbering_view numbering ≡ no_names) }
     {
-        Numbering {
-            numbers: HashMap::new(alloc),
-        }
+        Ok(Numbering {
+            numbers: HashMap::with_capacity(alloc, names)?,
+        })
     }
 
     /// The number of a name; a new name gets the next number.
