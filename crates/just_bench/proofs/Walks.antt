@@ -7,6 +7,7 @@ use Rattle.std.proofs.lemmas.Simd.{map-map}
 use Rattle.std.specs.HashMap.{HashMap}
 use Rattle.std.specs.Map.{lookup}
 use Rattle.std.specs.declared.string.String.{String}
+use Rattle.std.specs.Borrow.{Bor}
 use Rattle.just_bench.specs.Prelude.{Added, Extends, Frames, Gave, Goes, Kept, Module, OrderPrints, Outcome, PrintedBlock, Refusal, RunResult, Step, Text}
 use Rattle.just_bench.specs.Prelude.{Token, Walks, block_lines, block_of, blocks_in, dynamically, end_line, found_by, in_order, name_view, names_of}
 use Rattle.just_bench.specs.Prelude.{next_number, order_line, recording, refusal_line, still_coming, taken_in, taken_view, text_numbered, turn, with_block}
@@ -137,8 +138,8 @@ pub none_asked : {A S : Type 0} (m : HashMap ℕ (String A) S) → m.entries ≡
 none_asked {A} m none = ap {B = ℕ → Option Text} (λ (entries : List (ℕ × String A)) (n : ℕ). option_map string_bytes (lookup (nat_eq n) entries)) none
 
 -- the names of the taken variables
-pub same_names : (taken others : List (Name × ℕ)) → taken ≡ others → map (λ variable. name_view variable.0) taken ≡ names_of (map taken_view others)
-same_names taken others same = ap (map (λ variable. name_view variable.0)) same ∙ sym (map-map (λ variable. variable.0) taken_view others)
+pub same_names : (taken others : List (Bor Name × ℕ)) → taken ≡ others → map (λ variable. name_view variable.0.now) taken ≡ names_of (map taken_view others)
+same_names taken others same = ap (map (λ variable. name_view variable.0.now)) same ∙ sym (map-map (λ variable. variable.0) taken_view others)
 
 -- a walk of the whole order, after the line of taken variables
 pub order_prints : {S : Type 0} {step : Step S} {m : Module} {found : Option RunResult} (old mid new : Text) (host : S) (kept : List Kept)

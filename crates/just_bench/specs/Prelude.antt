@@ -16,6 +16,7 @@ pub use Rattle.just_script.specs.Failing.{PassesOrFails}
 pub use Rattle.just_script.specs.Script.{AnswersByScript, Script}
 pub use Rattle.just_script.specs.View.{failing_view, script_view}
 pub use Rattle.just_script.specs.declared.scripted_host.ScriptedHost.{ScriptedHost}
+pub use Rattle.just_syntax.specs.NumberSet.{is_member}
 pub use Rattle.just_syntax.specs.Plain.{Assignment, Text, Token}
 pub use Rattle.just_syntax.specs.View.{assignment_view, function_view, name_view, pair_view, text_numbered}
 pub use Rattle.just_value.specs.Frames.{Bound, Frames, bound_at, bound_innermost, own_frame}

@@ -1,14 +1,14 @@
 -- The variables that are taken from an order.
-use Rattle.std.specs.Prelude.{ℕ, Bool, List, [], ◌∷◌, nat_eq, Option, Some, None, if◌then◌else◌}
-use Rattle.std.specs.List.{list_any}
+use Rattle.std.specs.Prelude.{ℕ, Bool, false, ◌||◌, List, [], ◌∷◌, nat_eq, Option, Some, None, if◌then◌else◌}
+use Rattle.std.specs.Borrow.{Bor}
 use Rattle.just_syntax.specs.Plain.{Token, Assignment}
 use Rattle.just_syntax.specs.View.{name_view}
 use Rattle.just_syntax.specs.declared.name.Name.{Name}
 use Rattle.just_meaning.specs.Assignments.{Assignments, assignment_at}
 
 -- a name and its number, as plain data
-abbrev pub taken_view : Name × ℕ → Token × ℕ
-taken_view variable = (name_view variable.0, variable.1)
+abbrev pub taken_view : Bor Name × ℕ → Token × ℕ
+taken_view variable = (name_view variable.0.now, variable.1)
 
 -- the number of an assignment, if it is referenced
 abbrev pub number_in : (ℕ → Bool) → Option Assignment → Option ℕ
@@ -30,11 +30,11 @@ referenced_names m [] = []
 referenced_names m (t ∷ ts) = with_number t (referenced_number m t) (referenced_names m ts)
 
 -- the first occurrence of each number that did not occur before
-abbrev pub first_places : List ℕ → List (Token × ℕ) → List (Token × ℕ)
+abbrev pub first_places : (ℕ → Bool) → List (Token × ℕ) → List (Token × ℕ)
 first_places came [] = []
 first_places came (x ∷ xs) =
-    if list_any (nat_eq x.1) came then first_places came xs else x ∷ first_places (x.1 ∷ came) xs
+    if came x.1 then first_places came xs else x ∷ first_places (λ n. nat_eq n x.1 || came n) xs
 
 -- the names of an order whose assignments are referenced, each at its first occurrence, with their numbers
 abbrev pub taken_in : Assignments → List Token → List (Token × ℕ)
-taken_in m order = first_places [] (referenced_names m order)
+taken_in m order = first_places (λ n. false) (referenced_names m order)

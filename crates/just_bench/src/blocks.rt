@@ -178,7 +178,7 @@ fn print_turns<'call, 'src, 'run, H: Host>(
     run: &'call mut ModuleRun<'src>,
     host: &mut Recorder<H>,
     order: &[Name<'src>],
-    taken: &[(Name<'src>, Number)],
+    taken: &[(&Name<'src>, Number)],
     mut blocks: Blocks<'src, 'run>,
 ) -> Result<Option<Blocks<'src, 'run>>, OutOfMemory>
     ensures walks { IfOk result (λ found. Added (string_bytes text.old) (string_bytes text.new) (λ printed.
@@ -208,7 +208,7 @@ fn print_turn<'call, 'src, H: Host>(
     run: &'call mut ModuleRun<'src>,
     host: &mut Recorder<H>,
     name: Name<'src>,
-    taken: &[(Name, Number)],
+    taken: &[(&Name, Number)],
     at: usize,
     blocks: &mut Blocks<'src, '_>,
 ) -> Result<Result<usize, Error<'src>>, OutOfMemory>
@@ -245,7 +245,7 @@ fn add_block(
     text: &mut String,
     name: &Name,
     asked: &[Recorded],
-    taken: &[(Name, Number)],
+    taken: &[(&Name, Number)],
     at: usize,
     questions: &mut HashMap<Number, String>,
 ) -> Result<usize, OutOfMemory>
@@ -271,7 +271,7 @@ fn add_block(
 }
 
 // The number of the variable at an index, if it has this name.
-fn number_at(taken: &[(Name, Number)], at: usize, name: &Name) -> Option<Number>
+fn number_at(taken: &[(&Name, Number)], at: usize, name: &Name) -> Option<Number>
     ensures number { result ≡ plain.next_number (drop at (map taken_view taken.now)) (name_view name.now) }
     ensures within { IfSome result (λ _. at < length taken.now) }
 {
@@ -283,7 +283,7 @@ fn number_at(taken: &[(Name, Number)], at: usize, name: &Name) -> Option<Number>
 }
 
 // The number of the next variable, if it has this name.
-fn next_number(coming: &[(Name, Number)], name: &Name) -> Option<Number>
+fn next_number(coming: &[(&Name, Number)], name: &Name) -> Option<Number>
     ensures number { result ≡ plain.next_number (map taken_view coming.now) (name_view name.now) }
     ensures one { IfSome result (λ _. 0 < length coming.now) }
 {

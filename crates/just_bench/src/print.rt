@@ -25,15 +25,16 @@ pub fn print_questions(text: &mut String, questions: &[Recorded]) -> Result<(), 
         (map recorded_view questions.now)) }
 {
     for question in questions {
-        writeln!(text, "? {question}")?;
+        write!(text, "? {question}")?;
+        text.push('\n')?;
     }
     Ok(())
 }
 
 /// Adds the line of an order: `order`, and each variable that is taken.
-pub fn print_order(text: &mut String, taken: &[(Name, Number)]) -> Result<(), OutOfMemory>
+pub fn print_order(text: &mut String, taken: &[(&Name, Number)]) -> Result<(), OutOfMemory>
     ensures { OnOk result (string_bytes text.new ≡ string_bytes text.old
-        ++ order_line (map (λ taken. name_view taken.0) taken.now)) }
+        ++ order_line (map (λ taken. name_view taken.0.now) taken.now)) }
 {
     text.push_str("order")?;
     for (name, _) in taken {
@@ -61,7 +62,8 @@ pub fn print_bindings<'call>(
 pub fn print_value(text: &mut String, name: &Name, value: &Value) -> Result<(), OutOfMemory>
     ensures { OnOk result (string_bytes text.new ≡ string_bytes text.old ++ value_line (name_view name.now) value.now) }
 {
-    writeln!(text, "{name} = {value}")?;
+    write!(text, "{name} = {value}")?;
+    text.push('\n')?;
     Ok(())
 }
 

@@ -10,9 +10,8 @@ use crate::run::evaluate_run;
 use crate::settled::evaluate_const;
 use crate::stream::{StreamError, read_case, write_text};
 use bumpalo::Bump;
-use just_case_reader::case::{Case, CaseError, build};
+use just_case_reader::case::{Case, CaseError, parse};
 use just_case_reader::evaluation::Evaluation;
-use just_case_reader::line::parse_lines;
 use just_script::fail_at::How;
 use just_syntax::out_of_memory::OutOfMemory;
 use just_value::scope::Scope;
@@ -86,7 +85,7 @@ fn exit_status(answered: Result<u8, StreamError>) -> u8
     }
 }
 
-// The bytes and the lines, which the texts of a case's expressions borrow, outlive them here.
+// The bytes, which the texts of a case's expressions borrow, outlive them here.
 fn answer_stream<R: Read, W: Write, A: Around>(
     alloc: Global,
     reader: &mut R,
@@ -120,8 +119,7 @@ fn answer_case<A: Around>(
         AnswersCase A.Made.step (MadeOf (A.gives around.now)) bytes.now printed status)) }
 {
     let arena = Bump::new(alloc);
-    let lines = parse_lines(alloc, &arena, bytes)?;
-    match build(alloc, &lines) {
+    match parse(alloc, &arena, bytes) {
         Ok(case) => evaluate(alloc, text, case, around),
         Err(CaseError::BadLine(place)) => {
             writeln!(text, "bad line {place}")?;

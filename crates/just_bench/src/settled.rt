@@ -152,7 +152,7 @@ fn assigned_numbers(
 ) -> Result<HashSet<Number>, OutOfMemory>
     ensures { IfOk result (λ numbers. number_set_view numbers ≡ assigned_in (map assignment_view assignments.now)) }
 {
-    let mut numbers = HashSet::new(alloc);
+    let mut numbers = HashSet::with_capacity(alloc, assignments.len())?;
     for assignment in assignments {
         numbers.insert(assignment.number)?;
     }
@@ -163,7 +163,7 @@ fn assigned_numbers(
 fn print_settled(
     evaluator: &Evaluator,
     text: &mut String,
-    taken: &[(Name, Number)],
+    taken: &[(&Name, Number)],
 ) -> Result<(), OutOfMemory>
     ensures { OnOk result (string_bytes text.new ≡ string_bytes text.old
         ++ flat_map (variable_line (stage_state_of evaluator.now)) (map taken_view taken.now)) }

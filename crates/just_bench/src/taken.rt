@@ -1,13 +1,14 @@
 // The variables that are taken from an order.
 
 ghost use Rattle.std.specs.Prelude.{IfOk, List, OnOk, [], map, ℕ, ◌++◌, ◌∷◌, ◌≡◌};
-ghost use Rattle.just_bench.specs.Prelude.{Token, first_places, name_view, ordered_view, referenced_number, taken_in};
+ghost use Rattle.just_bench.specs.Prelude.{Token, first_places, is_member, name_view, ordered_view, referenced_number, taken_in};
 ghost use Rattle.just_bench.specs.Prelude.{taken_view};
 
 use just_resolution::references::is_referenced;
 use just_syntax::assignment::Assignment;
 use just_syntax::name::Name;
 use just_syntax::number::Number;
+use just_syntax::number_set::NumberSet;
 use just_syntax::out_of_memory::OutOfMemory;
 use just_syntax::table::Table;
 use std::alloc::Global;
@@ -15,20 +16,20 @@ use std::collections::HashSet;
 
 /// The names of an order whose assignments are referenced, each at its first occurrence, with their numbers. Without a
 /// set, each is referenced.
-pub(crate) fn taken_variables<'src>(
+pub(crate) fn taken_variables<'order, 'src>(
     alloc: Global,
     assignments: &Table<Assignment>,
-    order: &[Name<'src>],
+    order: &'order [Name<'src>],
     references: Option<&HashSet<Number>>,
-) -> Result<Vec<(Name<'src>, Number)>, OutOfMemory>
+) -> Result<Vec<(&'order Name<'src>, Number)>, OutOfMemory>
     ensures { IfOk result (λ taken. map taken_view taken.items
         ≡ taken_in (ordered_view assignments.now order.now references.entry) (map name_view order.now)) }
 {
-    let mut seen = HashSet::new(alloc);
-    let mut taken = Vec::new(alloc);
+    let mut seen = NumberSet::new(alloc, assignments.len())?;
+    let mut taken = Vec::with_capacity(alloc, order.len())?;
     for name in order {
         if let Some(number) = number_of(assignments, references, name) {
-            take_once(&mut seen, &mut taken, *name, number)?;
+            take_once(&mut seen, &mut taken, name, number)?;
         }
     }
     Ok(taken)
@@ -52,15 +53,16 @@ fn number_of(
 }
 
 // Takes a variable, unless its number occurred before.
-fn take_once<'src>(
-    seen: &mut HashSet<Number>,
-    taken: &mut Vec<(Name<'src>, Number)>,
-    name: Name<'src>,
+fn take_once<'order, 'src>(
+    seen: &mut NumberSet,
+    taken: &mut Vec<(&'order Name<'src>, Number)>,
+    name: &'order Name<'src>,
     number: Number,
 ) -> Result<(), OutOfMemory>
     // Also for the names after it.
-    ensures { OnOk result ((rest : List (Token × ℕ)) → map taken_view taken.new.items ++ first_places seen.new.keys rest
-        ≡ map taken_view taken.old.items ++ first_places seen.old.keys ((name_view name.entry, number) ∷ rest)) }
+    ensures { OnOk result ((rest : List (Token × ℕ)) → map taken_view taken.new.items ++ first_places (is_member seen.new) rest
+        ≡ map taken_view taken.old.items ++ first_places (is_member seen.old)
+        ((name_view name.now, number) ∷ rest)) }
 {
     if !seen.insert(number)? {
         return Ok(());
