@@ -1,8 +1,8 @@
 // The variables that are taken from an order.
 
 ghost use Rattle.std.specs.Prelude.{IfOk, List, OnOk, [], map, ℕ, ◌++◌, ◌∷◌, ◌≡◌};
-ghost use Rattle.just_bench.specs.Prelude.{Token, first_places, is_member, name_view, ordered_view, referenced_number, taken_in};
-ghost use Rattle.just_bench.specs.Prelude.{taken_view};
+ghost use Rattle.just_bench.specs.Prelude.{Token, first_places, is_member, name_view, ordered_view};
+ghost use Rattle.just_bench.specs.Prelude.{referenced_number, taken_in, taken_view};
 
 use just_resolution::references::is_referenced;
 use just_syntax::assignment::Assignment;
@@ -60,7 +60,8 @@ fn take_once<'order, 'src>(
     number: Number,
 ) -> Result<(), OutOfMemory>
     // Also for the names after it.
-    ensures { OnOk result ((rest : List (Token × ℕ)) → map taken_view taken.new.items ++ first_places (is_member seen.new) rest
+    ensures { OnOk result ((rest : List (Token × ℕ)) → map taken_view taken.new.items
+        ++ first_places (is_member seen.new) rest
         ≡ map taken_view taken.old.items ++ first_places (is_member seen.old)
         ((name_view name.now, number) ∷ rest)) }
 {
