@@ -24,7 +24,8 @@ impl fmt::Display for Element<'_> {
     }
 }
 
-// A text in quotes, the first of them given with what comes before it. Each run of bytes between two escapes is written in one piece, and so is a text without escapes.
+// A text in quotes, the first of them given with what comes before it. Each run of bytes between two escapes is written
+// in one piece, and so is a text without escapes.
 pub(crate) fn write_quoted<W: fmt::Write>(
     f: &mut fmt::Formatter<W>,
     opening: &str,
@@ -46,16 +47,23 @@ pub(crate) fn write_quoted<W: fmt::Write>(
     f.write_str("\"")
 }
 
-// How many bytes to pass over: all of them if none has an escape. It has no branch per byte, so that it is compiled to
-// instructions on many bytes at once.
+// From this number of bytes on, it pays to look for an escape before each byte is looked up.
+const LONG: usize = 16;
+
+// How many bytes to pass over: all of them if there are many and none has an escape.
 fn plain_start(bytes: &[u8]) -> usize
     ensures bound { result ≤ length bytes.now }
     ensures plain { (k : ℕ) → k < result → IsPlain (slice_index bytes.now k) }
 {
-    if has_escape(bytes) { 0 } else { bytes.len() }
+    if bytes.len() < LONG || has_escape(bytes) {
+        0
+    } else {
+        bytes.len()
+    }
 }
 
-// Whether any of the bytes has an escape.
+// Whether any of the bytes has an escape. It has no branch per byte, so that it is compiled to instructions on many
+// bytes at once.
 fn has_escape(bytes: &[u8]) -> bool
     ensures { result ≡ false → (k : ℕ) → k < length bytes.now → IsPlain (slice_index bytes.now k) }
 {

@@ -190,8 +190,8 @@ impl Value {
         combine(alloc, &self.elements, &other.elements, operator, token)
     }
 
-    /// As `apply`, with this value moved, and the other given by its texts: the texts of this one are extended where they
-    /// are if the result has as many elements.
+    /// As `apply`, with this value moved, and the other given by its texts: the texts of this one are extended where
+    /// they are if the result has as many elements.
     ///
     /// # Errors
     ///
