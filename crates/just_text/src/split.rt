@@ -45,11 +45,11 @@ fn ascii_words(alloc: Global, text: &str) -> Result<Vec<String>, OutOfMemory>
     Ok(words)
 }
 
-// The first index from `from` on at which a byte, as a character, is white space, or is not; the length if there is
-// none.
+// The first index from `from` on at which an ASCII character is white space, or is not; the length if there is none.
 #[inline(always)]
 fn white_or_not(bytes: &[u8], white: bool, from: usize) -> usize
-    requires { from ≤ length bytes.now }
+    requires start { from ≤ length bytes.now }
+    requires ascii { IsAscii bytes.now }
     ensures low { from ≤ result }
     ensures high { result ≤ length bytes.now }
     ensures lacks { (k : ℕ) → from ≤ k → k < result → is_whitespace (slice_index bytes.now k) ≡ not white }
@@ -63,13 +63,14 @@ fn white_or_not(bytes: &[u8], white: bool, from: usize) -> usize
     bytes.len()
 }
 
-// Whether a character, one of the first 256, is white space.
+// Whether an ASCII character is white space.
 fn is_white(byte: u8) -> bool
+    requires { byte < 128 }
     ensures { result ≡ is_whitespace byte }
 {
     match byte {
-        33..=132 => false,
-        _ => matches!(byte, 9..=13 | 32 | 133 | 160),
+        33.. => false,
+        _ => matches!(byte, 9..=13 | 32),
     }
 }
 
