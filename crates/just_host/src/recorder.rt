@@ -12,6 +12,7 @@ use crate::text_question::TextQuestion;
 use just_syntax::out_of_memory::OutOfMemory;
 use just_value::error::CommandFault;
 use std::alloc::Global;
+use std::mem;
 
 /// A host that records each question, and then asks another host. If there is no memory for the record, the other host
 /// is not asked, and the answer is `OutOfMemory`.
@@ -38,6 +39,16 @@ impl<H> Recorder<H> {
         ensures { map recorded_view result.now ≡ records_view self.now }
     {
         &self.questions
+    }
+
+    /// The questions so far, in order, moved out of the recorder: it then has those that are asked from here on. It
+    /// allocates nothing. So an explainer has the questions of each call that it makes.
+    pub fn take_questions(&mut self, alloc: Global) -> Vec<Recorded>
+        ensures host { inner_host self.new ≡ inner_host self.old }
+        ensures taken { map recorded_view result.items ≡ records_view self.old }
+        ensures none_left { records_view self.new ≡ [] }
+    {
+        mem::replace(&mut self.questions, Vec::new(alloc))
     }
 
     /// The inner host. It allocates nothing.
