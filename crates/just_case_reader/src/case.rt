@@ -103,8 +103,8 @@ impl fmt::Display for CaseError {
 
 impl Error for CaseError {}
 
-/// The case that a text describes. Each line is executed as soon as it is parsed. The arena holds the lexemes of literals
-/// and commands, which have marks that the text does not have.
+/// The case that a text describes. Each line is executed as soon as it is parsed. The arena holds the lexemes of
+/// literals and commands, which have marks that the text does not have.
 ///
 /// # Errors
 ///

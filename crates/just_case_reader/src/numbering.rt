@@ -17,7 +17,8 @@ pub struct Numbering<'src> {
 impl<'src> Numbering<'src> {
     ghost use Rattle.std.specs.Prelude.{◌≡◌, IfOk, OnOk, OnErr, map};
     ghost use Rattle.just_syntax.specs.View.{parameter_view};
-    ghost use Rattle.just_case_reader.specs.Numbering.{no_names, number_of, numbers_of, parameters_with_numbers, with_name, with_names};
+    ghost use Rattle.just_case_reader.specs.Numbering.{no_names, number_of, numbers_of, parameters_with_numbers};
+    ghost use Rattle.just_case_reader.specs.Numbering.{with_name, with_names};
     ghost use Rattle.just_case_reader.specs.View.{numbering_view};
 
     /// No names, with memory for this number of them.

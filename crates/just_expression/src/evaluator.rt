@@ -2,7 +2,8 @@
 
 ghost use Rattle.std.specs.Prelude.{[], option_map, ◌∷◌};
 ghost use Rattle.just_expression.specs.Prelude.{Join, Runs, RunsTo, assertion, assertion_text, branch, choice};
-ghost use Rattle.just_expression.specs.Prelude.{combination, comparison, conjunction, deeper, disjunction, ended, gives};
+ghost use Rattle.just_expression.specs.Prelude.{combination, comparison, conjunction, deeper, disjunction};
+ghost use Rattle.just_expression.specs.Prelude.{ended, gives};
 ghost use Rattle.just_expression.specs.Prelude.{meaning, name_view, negation, operand_view, program, rules, situation};
 ghost use Rattle.just_expression.specs.Prelude.{succession, token_view, view};
 

@@ -1,10 +1,9 @@
 // What a called function's parameters are bound to.
 
 ghost use Rattle.std.specs.Prelude.{IfOk, OnOk, [], length, map, ◌∷◌, ◌≡◌};
-ghost use Rattle.just_expression.specs.Prelude.{bound_view, frames_view, name_view, parameter_view};
-ghost use Rattle.just_expression.specs.Prelude.{parameters_innermost, plainly_bound, with_parameters};
+ghost use Rattle.just_expression.specs.Prelude.{frames_view, parameter_view};
+ghost use Rattle.just_expression.specs.Prelude.{parameters_innermost, with_parameters};
 
-use just_syntax::attribute_set::AttributeSet;
 use just_syntax::name::Name;
 use just_syntax::number::Number;
 use just_syntax::out_of_memory::OutOfMemory;
@@ -43,25 +42,8 @@ fn bind_parameters<'src>(
     let mut index = 0;
     for value in values {
         let (name, number) = parameters[index];
-        scope.bind(plain_binding(alloc, name, number, value))?;
+        scope.bind(Binding::new(alloc, name, number, value))?;
         index += 1;
     }
     Ok(())
-}
-
-// A binding with no attributes and no marks.
-fn plain_binding(alloc: Global, name: Name, number: Number, value: Value) -> Binding
-    ensures { bound_view result ≡ plainly_bound (name_view name.entry) number value }
-{
-    Binding {
-        attributes: AttributeSet::new(alloc),
-        eager: false,
-        export: false,
-        file_depth: 0,
-        name,
-        number,
-        prelude: false,
-        private: false,
-        value,
-    }
 }
