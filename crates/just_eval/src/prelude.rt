@@ -35,8 +35,10 @@ pub use just_value::check_fault::CheckFault;
 pub use just_value::compile_error::CompileError;
 pub use just_value::const_error::ConstError;
 pub use just_value::const_eval_error::ConstEvalError;
+pub use just_value::element::Element;
 pub use just_value::error::{CommandFault, Error};
 pub use just_value::expression_context::ExpressionContext;
+pub use just_value::positional::Positional;
 pub use just_value::scope::Scope;
 pub use just_value::value::Value;
 
