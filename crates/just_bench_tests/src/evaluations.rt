@@ -11,7 +11,6 @@ use just_case_reader::token::{name, token};
 use just_host::no_host::NoHost;
 use just_host::recorder::Recorder;
 use just_syntax::assignment::Assignment;
-use just_syntax::attribute_set::AttributeSet;
 use just_syntax::expression::Expression;
 use just_syntax::number::Number;
 use just_syntax::string_literal::StringLiteral;
@@ -39,17 +38,7 @@ pub(crate) fn outer<'src, 'run>(
 
 // The binding of a name, whose number is 0, to a value.
 fn binding<'src>(alloc: Global, lexeme: &'src str, value: Value) -> Binding<'src> {
-    Binding {
-        attributes: AttributeSet::new(alloc),
-        eager: false,
-        export: false,
-        file_depth: 0,
-        name: name(lexeme),
-        number: Number::new(0),
-        prelude: false,
-        private: false,
-        value,
-    }
+    Binding::new(alloc, name(lexeme), Number::new(0), value)
 }
 
 // In a scope a case has this answer and this status.

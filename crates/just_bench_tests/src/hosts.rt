@@ -268,7 +268,11 @@ fn records_each_question(rt: HostRuntime) {
         &questions_of(&rt, alloc, &host),
         "? command \"c\\t\" \"a b\" \"\\\"\"\n? command \"c\\t\"\n? command \"c\\t\"\n",
     );
-    drop(host);
+    let taken = host.take_questions(alloc);
+    let last = last_kept(&rt, alloc, &taken);
+    same(&rt, "taken", &last, "c\t no arguments K=\"v w\" L=\"\" ");
+    same(&rt, "left", &questions_of(&rt, alloc, &host), "");
+    drop((taken, host));
     asks_on(&rt, alloc, &asking);
     drop(asking);
 }

@@ -202,10 +202,8 @@ fn set_to(rt: &impl Abort, alloc: Global, shell: Option<&str>) -> Settings {
     if let Some(line) = shell {
         let line = long(rt, alloc, line);
         let command = line.split(';').next().expect(rt, "no command");
-        settings.shell = Some(Interpreter {
-            arguments: after(rt, alloc, &line),
-            command: owned(rt, alloc, command),
-        });
+        let command = owned(rt, alloc, command);
+        settings.shell = Some(Interpreter::new(command, after(rt, alloc, &line)));
     }
     settings
 }

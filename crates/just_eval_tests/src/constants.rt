@@ -150,9 +150,7 @@ pub(crate) fn line_of<'src>(
     let start = Fragment::Text { token: token("<") };
     let end = Fragment::Text { token: token(">") };
     let fragments = vec![in alloc; start, Fragment::Interpolation { expression }, end];
-    Line {
-        fragments: fragments.expect(rt, "no memory"),
-    }
+    Line::new(fragments.expect(rt, "no memory"))
 }
 
 /// What an expression evaluates to: as a value, as a text, as both with a host, and in a line with that host; then how

@@ -22,7 +22,7 @@ pub(crate) fn interpreter<'src>(
     list: Expression<'src>,
 ) -> Interpreter<Expression<'src>> {
     let (command, arguments) = first_and_others(rt, elements_of(rt, list));
-    Interpreter { arguments, command }
+    Interpreter::new(command, arguments)
 }
 
 fn first_and_others<T: Drop>(rt: &impl Abort, mut elements: Vec<T>) -> (T, Vec<T>) {

@@ -108,7 +108,7 @@ pub(crate) fn add<'src>(
     name: Name<'src>,
     value: Setting<'src>,
 ) {
-    sets.insert(Set { name, value }).expect(rt, "no memory");
+    sets.insert(Set::new(name, value)).expect(rt, "no memory");
 }
 
 /// What settings evaluate to: each one that is set, after its name; or the refusal.

@@ -26,10 +26,7 @@ fn print_shell<'src>(
 ) -> Result<()>
     requires before_runs { IsConst stage.now }
 {
-    let set = Set {
-        name: Name::new("shell", None),
-        value: Setting::Shell(command),
-    };
+    let set = Set::new(Name::new("shell", None), Setting::Shell(command));
     let mut sets = Table::new(alloc);
     sets.insert(set)?;
     match stage.evaluate_sets(alloc, sets) {
@@ -60,15 +57,13 @@ fn shell<'src>(alloc: Global) -> Result<Interpreter<Expression<'src>>, OutOfMemo
     let mut arguments = Vec::new(alloc);
     arguments.push(Expression::literal(alloc, "-c", "'-c'")?)?;
     let command = Expression::variable(Name::new("s", None), Number::new(0));
-    Ok(Interpreter { arguments, command })
+    Ok(Interpreter::new(command, arguments))
 }
 
 // [[]]
 fn no_shell<'src>(alloc: Global) -> Interpreter<Expression<'src>> {
-    Interpreter {
-        arguments: Vec::new(alloc),
-        command: Expression::list(Vec::new(alloc), Token::new("[", None)),
-    }
+    let command = Expression::list(Vec::new(alloc), Token::new("[", None));
+    Interpreter::new(command, Vec::new(alloc))
 }
 
 // if s == 'sh' { '/tmp' } else { t }

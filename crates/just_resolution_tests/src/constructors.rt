@@ -175,6 +175,14 @@ fn is_numbered(given: Name, number: Number, lexeme: &str, wanted: u64) -> bool {
 }
 
 #[test]
+fn numbers(rt: HostRuntime) {
+    let alloc = rt.alloc();
+    is_so(&rt, "value", Number::new(7).get() == 7);
+    prints(&rt, alloc, &Number::new(0), "0");
+    prints(&rt, alloc, &Number::new(u64::MAX), "18446744073709551615");
+}
+
+#[test]
 fn plain_assignments(rt: HostRuntime) {
     let alloc = rt.alloc();
     let assignment = Assignment::new(name("x"), Number::new(3), variable("a"));

@@ -3,7 +3,6 @@
 use crate::compared::{equal, reports};
 use crate::modules::Variable;
 use crate::parts::{name, numbered, owned, push, value};
-use just_syntax::attribute_set::AttributeSet;
 use just_syntax::number::Number;
 use just_syntax::parameter::Parameter;
 use just_syntax::parameter_kind::ParameterKind;
@@ -103,18 +102,9 @@ pub(crate) fn bind<'src>(
     number: u64,
     text: &str,
 ) {
-    let bound = scope.bind(Binding {
-        attributes: AttributeSet::new(alloc),
-        eager: false,
-        export: false,
-        file_depth: 0,
-        name: name(lexeme),
-        number: Number::new(number),
-        prelude: false,
-        private: false,
-        value: value(rt, alloc, &[text]),
-    });
-    bound.expect(rt, "no memory");
+    let value = value(rt, alloc, &[text]);
+    let binding = Binding::new(alloc, name(lexeme), Number::new(number), value);
+    scope.bind(binding).expect(rt, "no memory");
 }
 
 // Names, numbers and texts, bound one after the other.

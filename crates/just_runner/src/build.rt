@@ -74,7 +74,7 @@ fn add_lines<'src>(alloc: Global, lines: &mut Vec<Continued<'src>>) -> Result<()
 fn compiler<'src>(alloc: Global) -> Result<Line<'src>, OutOfMemory> {
     let flags = interpolation(variable("flags", 2));
     let fragments = vec![in alloc; text("cc "), flags, text(" ")]?;
-    Ok(Line { fragments })
+    Ok(Line::new(fragments))
 }
 
 // `   -o {{output}} {{target}}.c`
@@ -82,14 +82,14 @@ fn files<'src>(alloc: Global) -> Result<Line<'src>, OutOfMemory> {
     let output = interpolation(variable("output", 1));
     let target = interpolation(variable("target", 0));
     let fragments = vec![in alloc; text("   -o "), output, text(" "), target, text(".c")]?;
-    Ok(Line { fragments })
+    Ok(Line::new(fragments))
 }
 
 // `echo '{{{{built}}' {{recipe_name()}}`
 fn end<'src>(alloc: Global) -> Result<Line<'src>, OutOfMemory> {
     let recipe_name = Expression::call(name("recipe_name"), Vec::new(alloc));
     let fragments = vec![in alloc; text("echo '{{{{built}}' "), interpolation(recipe_name)]?;
-    Ok(Line { fragments })
+    Ok(Line::new(fragments))
 }
 
 fn text<'src>(lexeme: &'src str) -> Fragment<'src> {

@@ -152,10 +152,8 @@ fn interpreter(
     (text, argument): (&str, &str),
     times: usize,
 ) -> Interpreter<String> {
-    Interpreter {
-        arguments: copies(rt, alloc, argument, times),
-        command: repeated(rt, alloc, text, times),
-    }
+    let command = repeated(rt, alloc, text, times);
+    Interpreter::new(command, copies(rt, alloc, argument, times))
 }
 
 fn repeated(rt: &impl Abort, alloc: Global, text: &str, times: usize) -> String {

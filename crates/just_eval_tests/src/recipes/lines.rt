@@ -273,7 +273,7 @@ pub(crate) fn line_of<'src>(
         push(rt, &mut fragments, fragment);
     }
     drop(left);
-    Line { fragments }
+    Line::new(fragments)
 }
 
 // A piece of a line.

@@ -10,7 +10,6 @@ use just_case_reader::line::{Line as CaseLine, parse_lines};
 use just_case_reader::token::name;
 use just_eval::resolved_here;
 use just_host::execution_context::ExecutionContext;
-use just_syntax::attribute_set::AttributeSet;
 use just_syntax::line::Line;
 use just_syntax::number::Number;
 use just_value::binding::Binding;
@@ -307,16 +306,6 @@ fn bind_all<'src>(scope: &mut Scope<'src, '_>, rt: &impl Abort, alloc: Global, d
 }
 
 fn bind<'src>(scope: &mut Scope<'src, '_>, rt: &impl Abort, alloc: Global, number: u64) {
-    let bound = scope.bind(Binding {
-        attributes: AttributeSet::new(alloc),
-        eager: false,
-        export: false,
-        file_depth: 0,
-        name: name("bound"),
-        number: Number::new(number),
-        prelude: false,
-        private: false,
-        value: Value::new(alloc),
-    });
-    bound.expect(rt, "no memory");
+    let binding = Binding::new(alloc, name("bound"), Number::new(number), Value::new(alloc));
+    scope.bind(binding).expect(rt, "no memory");
 }

@@ -86,9 +86,7 @@ fn reads_the_one_before<'src>(rt: &impl Abort, alloc: Global, lexeme: &'src str,
 
 // This many texts and interpolations of number 1000.
 fn line_of<'src>(rt: &impl Abort, alloc: Global, text: &'src str, count: u64) -> Line<'src> {
-    let mut line = Line {
-        fragments: Vec::new(alloc),
-    };
+    let mut line = Line::new(Vec::new(alloc));
     for _ in 0..count {
         push_pair(&mut line, rt, text);
     }
