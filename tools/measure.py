@@ -198,17 +198,23 @@ def measured(program, name, case, answer):
 
 
 def measure_instructions(program):
-    print("instructions: what valgrind counts of each kind of case, of one size")
+    print("instructions: what valgrind counts of each kind of case; each size twice the one before, with its factor")
     for family, smallest in FAMILIES:
-        lines, answer = family(smallest)
-        case = ("\n".join(lines) + "\n").encode()
-        print(f"{family.__name__} of {smallest}: {counted(program, family.__name__, case, answer.encode())}")
+        print(f"\n{family.__name__}: {family.__doc__}")
+        before = None
+        for n in [smallest, 2 * smallest, 4 * smallest, 8 * smallest]:
+            lines, answer = family(n)
+            case = ("\n".join(lines) + "\n").encode()
+            now = counted(program, f"{family.__name__} of {n}", case, answer.encode())
+            factor = f"{now / before:.2f}" if before else ""
+            print(f"{n:>8} {now:>14} {factor:>7}")
+            before = now
 
 
 def counted(program, name, case, answer):
     """How many instructions a case with a known answer takes."""
     with tempfile.NamedTemporaryFile("r") as log:
-        command = ["valgrind", "--tool=cachegrind", "--cache-sim=no", "--cachegrind-out-file=/dev/null", f"--log-file={log.name}", program]
+        command = ["valgrind", "--tool=cachegrind", "--cache-sim=no", "--cachegrind-out-file=/dev/null", "--main-stacksize=500000000", f"--log-file={log.name}", program]
         # (the loader looks through all variables that there are)
         run = Run(command, case, environment={"PATH": os.defpath})
         if run.output != answer:

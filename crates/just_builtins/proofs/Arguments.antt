@@ -1,14 +1,14 @@
 -- The arguments of a call.
-use Rattle.std.proofs.Common.{◌≡◌, ℕ, ◌<◌, ◌≤◌, List, [], ◌∷◌, refl, sym, ap, ◌∙◌, arith, length, drop, map, get_or, unwrap_or, Option, Some, None, Bor}
+use Rattle.std.proofs.Common.{◌≡◌, ℕ, ◌<◌, ◌≤◌, List, [], ◌∷◌, refl, sym, ap, ◌∙◌, arith, length, drop, get_or, unwrap_or, Option, Some, None, Bor}
 use Rattle.std.proofs.Common.{option_map, slice_get}
 use Rattle.std.proofs.lemmas.Option.{slice_get-get_or}
 use Rattle.just_builtins.specs.Prelude.{Value, argument_at, values_given}
 
 -- a value with exactly one element is the view of that element
-pub only : {A : Type 0} (f : A → List ℕ) (xs : List A) (x : A) (v : Value) (t : List ℕ) → map f xs ≡ v → length v ≡ 1 → x ≡ get_or xs 0 x → t ≡ f x → v ≡ t ∷ []
-only f [] x v t e n g h = absurd (omega (arith, ap length e))
-only f (y ∷ []) x v t e n g h = sym e ∙ ap (λ u. u ∷ []) (ap f (sym g) ∙ sym h)
-only f (y ∷ z ∷ zs) x v t e n g h = absurd (omega (arith, ap length e))
+pub only : (xs : List (List ℕ)) (x : List ℕ) (v : Value) (t : List ℕ) → xs ≡ v → length v ≡ 1 → x ≡ get_or xs 0 x → t ≡ x → v ≡ t ∷ []
+only [] x v t e n g h = absurd (omega (arith, ap length e))
+only (y ∷ []) x v t e n g h = sym e ∙ ap (λ u. u ∷ []) (sym g ∙ sym h)
+only (y ∷ z ∷ zs) x v t e n g h = absurd (omega (arith, ap length e))
 
 -- the argument at a position
 pub read_at : (vs : List Value) (i : ℕ) (v : Value) → i < length vs → v ≡ get_or vs i v → argument_at vs i ≡ v

@@ -1,6 +1,6 @@
 -- Environment variables.
-use Rattle.std.proofs.Common.{◌≡◌, ℕ, ◌+◌, ◌<◌, Bool, true, false, cond, List, [], ◌∷◌, Option, Some, None, Result, Ok, Err, refl, sym, ap, subst, ◌∙◌}
-use Rattle.std.proofs.Common.{bytes_eq, drop, get_or, length, map, option_map, string_bytes}
+use Rattle.std.proofs.Common.{◌≡◌, ℕ, suc, ◌+◌, ◌<◌, Bool, true, false, cond, List, [], ◌∷◌, Option, Some, None, Result, Ok, Err, refl, sym, ap, subst, ◌∙◌}
+use Rattle.std.proofs.Common.{add-one, bytes_eq, drop, drop-cons, get_or, length, map, option_map, string_bytes}
 use Rattle.std.specs.BTreeMap.{is_at}
 use Rattle.std.specs.Cmp.Lexicographic.{slice_cmp}
 use Rattle.std.specs.Map.{lookup}
@@ -11,7 +11,6 @@ use Rattle.std.proofs.lemmas.Map.Text.{is_eq-slice_cmp}
 use Rattle.just_builtins.specs.Prelude.{Answer, Answers, Asked, AskedOr, Called, Context, Frames, Gave, GivesOr, IsReply, Outcome, Reply, Returned, Runs, Step}
 use Rattle.just_builtins.specs.Prelude.{Text, TextOf, Value, asks_environment, asks_text, entry, first_set, frameless, freely, outcome, text_answered, tree}
 use Rattle.just_builtins.specs.Prelude.{variable_not_unicode, variable_reply, variable_unreadable}
-use Rattle.just_syntax.proofs.Lists.{rest_from}
 use Rattle.just_host.specs.Question.{Variable}
 use Rattle.just_builtins.specs.Asking.{or_asks, none_set}
 use Rattle.just_builtins.specs.declared.call_fault.CallFault.{CallFault}
@@ -51,35 +50,35 @@ module _ {S : Type 0} (step : Step S) (shown : Frames) where
       (asked_or step shown (TextOf (Variable key)) (λ rest. text_answered rest (variable_not_unicode key) (variable_unreadable key)) a result taken is)
 
   -- one of several variables, if a run from it on is a run of all
-  module _ {A : Type 0} (dotenv : List (Text × Text)) (old mid new : S) (keys : List (String A)) (i : ℕ) (s : String A) (key : Text) (within : i < length keys)
-      (here : s ≡ get_or keys i s) (same : key ≡ string_bytes s)
-      (so_far : (rest : Reply) (o : Outcome Called) (last : S) → Runs freely step mid (tree shown (first_set dotenv rest (map string_bytes (drop i keys)))) o
-      last → Runs freely step old (tree shown (first_set dotenv rest (map string_bytes keys))) o last)
+  module _ (dotenv : List (Text × Text)) (old mid new : S) (keys : List Text) (i : ℕ) (s key : Text) (within : i < length keys)
+      (here : s ≡ get_or keys i s) (same : key ≡ s)
+      (so_far : (rest : Reply) (o : Outcome Called) (last : S) → Runs freely step mid (tree shown (first_set dotenv rest (drop i keys))) o
+      last → Runs freely step old (tree shown (first_set dotenv rest keys)) o last)
       (r : Result (Option Value) CallFault) (turn : AskedOr step mid shown (variable_reply dotenv key) r new) where
     abbrev left : List Text
-    left = map string_bytes (drop (i + 1) keys)
+    left = drop (i + 1) keys
 
     from : (rest : Reply) (o : Outcome Called) (last : S) → Runs freely step mid (tree shown (first_set dotenv rest (key ∷ left))) o last
-        → Runs freely step old (tree shown (first_set dotenv rest (map string_bytes keys))) o last
+        → Runs freely step old (tree shown (first_set dotenv rest keys)) o last
     from rest o last run =
-        let all = rest_from string_bytes keys i s within here ∙ ap (λ t. t ∷ left) (sym same) in
+        let all = drop-cons keys i s within ∙ ap (λ t. t ∷ drop (suc i) keys) (sym here) ∙ ap (λ j. s ∷ drop j keys) (sym (add-one i)) ∙ ap (λ t. t ∷ left) (sym same) in
         so_far rest o last (subst (λ ks. Runs freely step mid (tree shown (first_set dotenv rest ks)) o last) (sym all) run)
 
     pub not_set : r ≡ Ok None → (rest : Reply) (o : Outcome Called) (last : S) → Runs freely step new (tree shown (first_set dotenv rest left)) o last
-        → Runs freely step old (tree shown (first_set dotenv rest (map string_bytes keys))) o last
+        → Runs freely step old (tree shown (first_set dotenv rest keys)) o last
     not_set is rest o last run =
         from rest o last (subst (λ x. AskedOr step mid shown (variable_reply dotenv key) x new) is turn (first_set dotenv rest left) o last run)
 
     pub set : (v : Value) → r ≡ Ok (Some v) → (rest : Reply)
-        → Runs freely step old (tree shown (first_set dotenv rest (map string_bytes keys))) (Gave (Returned v)) new
+        → Runs freely step old (tree shown (first_set dotenv rest keys)) (Gave (Returned v)) new
     set v is rest =
         from rest (Gave (Returned v)) new (subst (λ x. AskedOr step mid shown (variable_reply dotenv key) x new) is turn (first_set dotenv rest left))
 
     pub ended : (result : Result (Option Value) CallFault) (e d : CallFault) → r ≡ Err d → result ≡ Err e → e ≡ d
-        → AskedOr step old shown (λ rest. first_set dotenv rest (map string_bytes keys)) result new
+        → AskedOr step old shown (λ rest. first_set dotenv rest keys) result new
     ended result e d is out alike =
         let all = subst (λ x. AskedOr step mid shown (variable_reply dotenv key) x new) (is ∙ ap Err (sym alike)) turn in
-        subst (λ x. AskedOr step old shown (λ rest. first_set dotenv rest (map string_bytes keys)) x new) (sym out)
+        subst (λ x. AskedOr step old shown (λ rest. first_set dotenv rest keys) x new) (sym out)
         (λ rest. (from rest (outcome (Err e)) new (all (first_set dotenv rest left)).0, (all (first_set dotenv rest left)).1))
 
   -- all of them, and then the result if none is set

@@ -1,6 +1,6 @@
 // Environment variables.
 
-ghost use Rattle.std.specs.Prelude.{Option, map, option_map, string_bytes};
+ghost use Rattle.std.specs.Prelude.{Option, option_map};
 ghost use Rattle.just_builtins.specs.Prelude.{Asked, AskedOr, Frames, GivesOr, IsReply, function_context_view};
 ghost use Rattle.just_builtins.specs.Prelude.{pairs_view, text_replied, variable_not_unicode, variable_unreadable};
 ghost use Rattle.just_builtins.specs.Asking as spec;
@@ -11,6 +11,7 @@ use just_host::function::Context;
 use just_host::host::Host;
 use just_host::text_answer::TextAnswer;
 use just_host::text_question::TextQuestion;
+use just_syntax::text::Text;
 use just_value::value::Value;
 use std::alloc::Global;
 use std::collections::BTreeMap;
@@ -45,11 +46,10 @@ fn first_set<H: Host>(
     alloc: Global,
     host: &mut H,
     dotenv: &BTreeMap<String, String>,
-    keys: &[String],
+    keys: &[Text],
 ) -> Result<Option<Value>, CallFault>
     ensures { (shown : Frames)
-        → AskedOr H.step host.old shown (λ rest. spec.first_set (pairs_view dotenv.now) rest
-        (map string_bytes keys.now)) result host.new }
+        → AskedOr H.step host.old shown (λ rest. spec.first_set (pairs_view dotenv.now) rest keys.now) result host.new }
 {
     for key in keys {
         if let Some(value) = variable(alloc, host, dotenv, key)? {
@@ -103,8 +103,8 @@ fn variable_answered(
 }
 
 // The result if none of the variables is set.
-fn unset(alloc: Global, keys: &[String], default: Option<&Value>) -> Result<Value, CallFault>
-    ensures { IsReply (spec.none_set (map string_bytes keys.now) (option_map (λ value. value.now) default.entry))
+fn unset(alloc: Global, keys: &[Text], default: Option<&Value>) -> Result<Value, CallFault>
+    ensures { IsReply (spec.none_set keys.now (option_map (λ value. value.now) default.entry))
         result }
 {
     match default {

@@ -1,9 +1,10 @@
 // Messages of built-in functions that return no value.
 
-ghost use Rattle.std.specs.Prelude.{IfOk, map, string_bytes, ◌≡◌};
+ghost use Rattle.std.specs.Prelude.{IfOk, string_bytes, ◌≡◌};
 ghost use Rattle.just_builtins.specs.Message as spec;
 
 use just_syntax::out_of_memory::OutOfMemory;
+use just_syntax::text::Text;
 use just_value::list::List;
 use std::alloc::Global;
 
@@ -147,8 +148,8 @@ pub fn variable_unreadable(alloc: Global, key: &str, text: &str) -> Result<Strin
 }
 
 /// None of these variables is set: ``environment variables `a` and `b` not present``.
-pub fn no_variable(alloc: Global, keys: &[String]) -> Result<String, OutOfMemory>
-    ensures { IfOk result (λ message. string_bytes message ≡ spec.no_variable (map string_bytes keys.now)) }
+pub fn no_variable(alloc: Global, keys: &[Text]) -> Result<String, OutOfMemory>
+    ensures { IfOk result (λ message. string_bytes message ≡ spec.no_variable keys.now) }
 {
     match keys {
         [] => Ok(String::from_str(alloc, "empty environment variable list with no default")?),

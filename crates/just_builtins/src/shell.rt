@@ -12,6 +12,7 @@ use just_host::fault::fault_text;
 use just_host::function::Context;
 use just_host::host::Host;
 use just_syntax::out_of_memory::OutOfMemory;
+use just_syntax::text::Text;
 use just_text::join_list;
 use just_value::element::Element;
 use just_value::error::CommandFault;
@@ -88,13 +89,14 @@ fn shell_call(alloc: Global, arguments: &[Value]) -> Result<Value, CallFault>
 }
 
 // The texts, each in quotes.
-fn quoted_texts(alloc: Global, arguments: &[Value]) -> Result<Vec<String>, OutOfMemory>
+fn quoted_texts(alloc: Global, arguments: &[Value]) -> Result<Vec<Text>, OutOfMemory>
     requires { HasOneEach arguments.now }
-    ensures { IfOk result (λ texts. map string_bytes texts.items ≡ map quoted (map first arguments.now)) }
+    ensures { IfOk result (λ texts. texts.items ≡ map quoted (map first arguments.now)) }
 {
     let mut texts = Vec::new(alloc);
     for i in 0..arguments.len() {
-        texts.push(Element(text_at(arguments, i)).to_string(alloc)?)?;
+        let text = Element(text_at(arguments, i)).to_string(alloc)?;
+        texts.push(Text::from_string(text))?;
     }
     Ok(texts)
 }

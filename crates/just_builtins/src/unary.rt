@@ -19,6 +19,7 @@ use crate::{message, path};
 use just_host::function::Context;
 use just_host::host::Host;
 use just_syntax::out_of_memory::OutOfMemory;
+use just_syntax::text::Text;
 use just_text::{case, quote, uri};
 use just_value::value::Value;
 use std::alloc::Global;
@@ -93,12 +94,12 @@ pub fn unary_map(alloc: Global, builtin: Builtin, value: &Value) -> Result<Value
 }
 
 // The texts, each in quotes.
-fn quoted(alloc: Global, texts: &[String]) -> Result<Vec<String>, OutOfMemory>
-    ensures { IfOk result (λ v. map string_bytes v.items ≡ map single_quoted (map string_bytes texts.now)) }
+fn quoted(alloc: Global, texts: &[Text]) -> Result<Vec<Text>, OutOfMemory>
+    ensures { IfOk result (λ v. v.items ≡ map single_quoted texts.now) }
 {
     let mut all = Vec::with_capacity(alloc, texts.len())?;
     for text in texts {
-        all.push(quote::quote(alloc, text)?)?;
+        all.push(Text::from_string(quote::quote(alloc, text)?))?;
     }
     Ok(all)
 }

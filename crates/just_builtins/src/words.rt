@@ -1,9 +1,10 @@
 // Values with an affix added to each element.
 
-ghost use Rattle.std.specs.Prelude.{IfOk, [], map, string_bytes, ◌++◌, ◌∷◌, ◌≡◌};
+ghost use Rattle.std.specs.Prelude.{IfOk, [], ◌++◌, ◌∷◌, ◌≡◌};
 ghost use Rattle.just_builtins.specs.Prelude.{each, joined, words};
 
 use just_syntax::out_of_memory::OutOfMemory;
+use just_syntax::text::Text;
 use just_text::{affix, join_list, split};
 use just_value::value::Value;
 use std::alloc::Global;
@@ -42,16 +43,16 @@ pub fn prepend(
 }
 
 // The words of the joined elements.
-fn words_of(alloc: Global, value: &Value) -> Result<Vec<String>, OutOfMemory>
-    ensures { IfOk result (λ v. map string_bytes v.items ≡ words (joined value.now)) }
+fn words_of(alloc: Global, value: &Value) -> Result<Vec<Text>, OutOfMemory>
+    ensures { IfOk result (λ v. v.items ≡ words (joined value.now)) }
 {
     let text = value.join(alloc)?;
     split::split_whitespace(alloc, &text)
 }
 
 // One element: the texts, joined by spaces.
-fn spaced(alloc: Global, texts: &[String]) -> Result<Value, OutOfMemory>
-    ensures { IfOk result (λ v. v ≡ joined (map string_bytes texts.now) ∷ []) }
+fn spaced(alloc: Global, texts: &[Text]) -> Result<Value, OutOfMemory>
+    ensures { IfOk result (λ v. v ≡ joined texts.now ∷ []) }
 {
     let text = join_list::join_list(alloc, texts, " ")?;
     Value::from_string(alloc, text)

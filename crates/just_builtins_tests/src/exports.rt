@@ -1,6 +1,6 @@
 // What a scope exports.
 
-use crate::texts::{all_owned, gives, long, same, text_of};
+use crate::texts::{all_owned, gives, list_of, long, same, text_of};
 use just_host::exports::exports;
 use just_syntax::attribute_set::AttributeSet;
 use just_syntax::name::Name;
@@ -125,7 +125,6 @@ fn bind_all(scope: &mut Scope, rt: &impl Abort, alloc: Global, bindings: &[Bound
 
 fn binding<'src>(rt: &impl Abort, alloc: Global, number: Number, bound: &Bound) -> Binding<'src> {
     let (lexeme, texts, export) = *bound;
-    let value = Value::from_elements(all_owned(rt, alloc, texts));
     Binding {
         attributes: AttributeSet::new(alloc),
         eager: false,
@@ -135,7 +134,7 @@ fn binding<'src>(rt: &impl Abort, alloc: Global, number: Number, bound: &Bound) 
         number,
         prelude: false,
         private: false,
-        value,
+        value: list_of(rt, alloc, texts),
     }
 }
 

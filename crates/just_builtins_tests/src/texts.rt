@@ -1,6 +1,7 @@
 // Texts, and comparisons of results with what is expected. A test ends if memory runs out.
 
 use just_syntax::out_of_memory::OutOfMemory;
+use just_value::value::Value;
 use std::alloc::Global;
 use std::process::Abort;
 
@@ -44,6 +45,15 @@ pub fn all_owned(rt: &impl Abort, alloc: Global, texts: &[&str]) -> Vec<String> 
         all.push(owned(rt, alloc, text)).expect(rt, "no memory");
     }
     all
+}
+
+/// The list of these texts.
+pub fn list_of(rt: &impl Abort, alloc: Global, texts: &[&str]) -> Value {
+    let mut list = Value::new(alloc);
+    for text in texts {
+        list.push(text).expect(rt, "no memory");
+    }
+    list
 }
 
 /// A text in which each piece between two `~` is repeated a thousand times.

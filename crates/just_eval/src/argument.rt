@@ -87,7 +87,7 @@ fn add_words(
         ++ words_of (recipe_parameter_view parameter.now) value.now) }
 {
     if parameter.kind.is_variadic() || parameter.multiple {
-        let mut elements = value.try_clone(alloc)?.into_elements();
+        let mut elements = value.to_strings(alloc)?;
         words.append(&mut elements)?;
     } else {
         words.push(value.join(alloc)?)?;

@@ -30,6 +30,7 @@ pub use just_syntax::variables::{number_of, overrides_of, references_of};
 
 // Values, scopes, and the errors of evaluation.
 pub use just_syntax::out_of_memory::OutOfMemory;
+pub use just_syntax::text::Text;
 pub use just_value::binding::Binding;
 pub use just_value::check_fault::CheckFault;
 pub use just_value::compile_error::CompileError;

@@ -1,5 +1,5 @@
 -- The situation of an expression evaluator as plain data, and what an expression means in it.
-use Rattle.std.specs.Prelude.{ℕ, Bool, false, List, Option, Some, None, Result, map, nat_eq, string_bytes}
+use Rattle.std.specs.Prelude.{ℕ, Bool, false, List, Option, Some, None, Result, nat_eq}
 use Rattle.std.specs.List.{list_any}
 use Rattle.std.specs.Option.{option_copied, option_map}
 use Rattle.just_syntax.specs.Plain.{Expr}
@@ -73,7 +73,7 @@ row e xs = eval_row (program e) (deeper e) (situation e) 0 (views xs)
 
 -- an operand's texts
 abbrev pub operand_view : Operand → Value
-operand_view (InPlace texts) = map string_bytes texts.now
+operand_view (InPlace texts) = texts.now
 operand_view (Own value) = value
 
 -- The result is the outcome of a run of the tree, whose questions take the host's state from `old` to `new`.

@@ -1,6 +1,6 @@
 // How forms combine the values of their parts.
 
-ghost use Rattle.std.specs.Prelude.{IfOk, [], map, string_bytes, ◌++◌, ◌∷◌, ◌≡◌};
+ghost use Rattle.std.specs.Prelude.{IfOk, [], string_bytes, ◌++◌, ◌∷◌, ◌≡◌};
 ghost use Rattle.just_expression.specs.Prelude.{Gave, UnlessStopped, asserted, compared, ended, from_condition};
 ghost use Rattle.just_expression.specs.Prelude.{is_regex, literal_view, token_view, unindented_if};
 ghost use Rattle.just_value.specs.Applied.{combined};
@@ -10,6 +10,7 @@ use just_syntax::conditional_operator::ConditionalOperator;
 use just_syntax::list_operator::ListOperator;
 use just_syntax::out_of_memory::OutOfMemory;
 use just_syntax::string_literal::StringLiteral;
+use just_syntax::text::Text;
 use just_syntax::token::Token;
 use just_syntax::unindent;
 use just_value::error::Error;
@@ -41,18 +42,18 @@ pub fn is_regex(operator: ConditionalOperator) -> bool
 pub fn compared<'src>(
     alloc: Global,
     operator: ConditionalOperator,
-    left: &[String],
-    right: &[String],
+    left: &[Text],
+    right: &[Text],
 ) -> Result<Value, Error<'src>>
     ensures { UnlessStopped (ended (λ v. v) result)
-        (Gave (compared operator (map string_bytes left.now) (map string_bytes right.now))) }
+        (Gave (compared operator left.now right.now)) }
 {
     Ok(Value::from_bool(alloc, compares(operator, left, right))?)
 }
 
 // Whether two values are equal, or differ, as the operator asks.
-fn compares(operator: ConditionalOperator, left: &[String], right: &[String]) -> bool
-    ensures { from_condition result ≡ compared operator (map string_bytes left.now) (map string_bytes right.now) }
+fn compares(operator: ConditionalOperator, left: &[Text], right: &[Text]) -> bool
+    ensures { from_condition result ≡ compared operator left.now right.now }
 {
     match operator {
         ConditionalOperator::Inequality => !are_same(left, right),
@@ -66,18 +67,18 @@ pub fn applied<'src>(
     alloc: Global,
     left: Value,
     operator: ListOperator,
-    texts: &[String],
+    texts: &[Text],
     token: &Token<'src>,
 ) -> Result<Value, Error<'src>>
     ensures { UnlessStopped (ended (λ v. v) result)
-        (combined left operator (map string_bytes texts.now) (token_view token.now)) }
+        (combined left operator texts.now (token_view token.now)) }
 {
     left.into_applied(alloc, texts, operator, *token)
 }
 
 // Whether two values have the same texts, in the same order.
-fn are_same(left: &[String], right: &[String]) -> bool
-    ensures { result ≡ is_same (map string_bytes left.now) (map string_bytes right.now) }
+fn are_same(left: &[Text], right: &[Text]) -> bool
+    ensures { result ≡ is_same left.now right.now }
 {
     *left == *right
 }

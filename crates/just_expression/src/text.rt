@@ -1,9 +1,10 @@
 // Values where a single text is required.
 
-ghost use Rattle.std.specs.Prelude.{string_bytes, ◌≡◌};
+ghost use Rattle.std.specs.Prelude.{◌≡◌};
 ghost use Rattle.just_expression.specs.Prelude.{ended, string_context_view, text_in};
 
 use just_syntax::string_context::StringContext;
+use just_syntax::text::Text;
 use just_value::error::Error;
 use just_value::value::Value;
 
@@ -12,8 +13,8 @@ use just_value::value::Value;
 /// # Errors
 ///
 /// `ListInStringContext` if the value does not have exactly one element.
-pub fn one_text<'src>(value: Value, context: StringContext<'src>) -> Result<String, Error<'src>>
-    ensures { ended string_bytes result ≡ text_in (string_context_view context.entry) value }
+pub fn one_text<'src>(value: Value, context: StringContext<'src>) -> Result<Text, Error<'src>>
+    ensures { ended (λ text. text) result ≡ text_in (string_context_view context.entry) value }
 {
     if value.len() != 1 {
         return Err(Error::ListInStringContext { context, value });

@@ -191,9 +191,9 @@ number_answer (Err e) = Failed NoMemory
 
 abbrev pub recorded_view : Recorded → Kept
 recorded_view (recorded.Command command arguments env) =
-    KeptCommand (string_bytes command) (option_map (λ words. map string_bytes words.items) arguments) (pairs_view env)
-recorded_view (recorded.Text kind text) = KeptText kind (string_bytes text)
-recorded_view (recorded.Exists path) = KeptExistence (string_bytes path)
+    KeptCommand command (option_map (λ words. map string_bytes words.items) arguments) (pairs_view env)
+recorded_view (recorded.Text kind text) = KeptText kind text
+recorded_view (recorded.Exists path) = KeptExistence path
 recorded_view (recorded.Number question) = KeptNumber question
 
 -- the records of the questions so far

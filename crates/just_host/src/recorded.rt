@@ -10,6 +10,7 @@ use crate::number_question::NumberQuestion;
 use crate::printed::{write_command, write_text_question};
 use crate::text_question::TextQuestion;
 use just_syntax::out_of_memory::OutOfMemory;
+use just_syntax::text::Text;
 use just_syntax::unstyled::write_unstyled;
 use just_value::element::Element;
 use std::alloc::Global;
@@ -22,17 +23,17 @@ use std::fmt;
 pub enum Recorded {
     /// A command, its arguments if it takes any, and the recipe's environment.
     Command {
-        command: String,
+        command: Text,
         arguments: Option<Vec<String>>,
         env: BTreeMap<String, String>,
     },
     /// A question that a text answers, and its variable, path or name, which is empty if it has none.
     Text {
         kind: TextKind,
-        text: String,
+        text: Text,
     },
     /// Whether something exists at a path.
-    Exists(String),
+    Exists(Text),
     /// A question that a number answers.
     Number(NumberQuestion),
 }
@@ -64,7 +65,7 @@ impl Recorded {
             None => None,
         };
         Ok(Recorded::Command {
-            command: String::from_str(alloc, question.command)?,
+            command: Text::from_str(alloc, question.command)?,
             arguments,
             env: env_copy(question.env)?,
         })
@@ -76,7 +77,7 @@ impl Recorded {
     {
         Ok(Recorded::Text {
             kind: kind_of(question),
-            text: String::from_str(alloc, text_of(question))?,
+            text: Text::from_str(alloc, text_of(question))?,
         })
     }
 }

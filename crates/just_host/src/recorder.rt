@@ -10,6 +10,7 @@ use crate::recorded::Recorded;
 use crate::text_answer::TextAnswer;
 use crate::text_question::TextQuestion;
 use just_syntax::out_of_memory::OutOfMemory;
+use just_syntax::text::Text;
 use just_value::error::CommandFault;
 use std::alloc::Global;
 use std::mem;
@@ -96,7 +97,7 @@ impl<H: Host> Host for Recorder<H> {
     }
 
     fn exists(&mut self, alloc: Global, path: &str) -> Result<bool, OutOfMemory> {
-        let copy = String::from_str(alloc, path)?;
+        let copy = Text::from_str(alloc, path)?;
         self.keep(Recorded::Exists(copy))?;
         self.host.exists(alloc, path)
     }

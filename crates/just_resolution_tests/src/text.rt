@@ -3,6 +3,7 @@
 
 use crate::compared::{equal, is_so, reports, same};
 use just_syntax::out_of_memory::OutOfMemory;
+use just_syntax::text::Text;
 use just_syntax::unindent;
 use just_text::affix::{append, prepend};
 use just_text::case::{capitalize, lowercase, uppercase};
@@ -86,7 +87,7 @@ fn cases(rt: HostRuntime) {
 }
 
 // Texts whose computation may fail are as expected; they are written with `|` between them.
-fn gives_all(rt: &impl Abort, alloc: Global, made: Result<Vec<String>, OutOfMemory>, wanted: &str) {
+fn gives_all(rt: &impl Abort, alloc: Global, made: Result<Vec<Text>, OutOfMemory>, wanted: &str) {
     let texts = made.expect(rt, "no memory");
     let reported = texts.join(alloc, "|").expect(rt, "no memory");
     reports(rt, reported, wanted);
@@ -106,7 +107,7 @@ fn cut_texts(rt: HostRuntime) {
 }
 
 // The words `a`, `é` and `b`, with something after or before each, and as one text.
-fn words_are_changed(rt: &impl Abort, alloc: Global, words: &[String]) {
+fn words_are_changed(rt: &impl Abort, alloc: Global, words: &[Text]) {
     gives_all(rt, alloc, append(alloc, "!", words), "a!|é!|b!");
     gives_all(rt, alloc, prepend(alloc, "x", words), "xa|xé|xb");
     gives(rt, join_list(alloc, words, ", "), "a, é, b");

@@ -4,6 +4,7 @@ use crate::compared::reports;
 use crate::parts::{owned, prints, token, value};
 use just_syntax::list_operator::ListOperator;
 use just_syntax::out_of_memory::OutOfMemory;
+use just_syntax::text::Text;
 use just_value::element::Element;
 use just_value::error::Error;
 use just_value::value::Value;
@@ -77,7 +78,7 @@ fn constructors(rt: HostRuntime) {
     holds(&rt, alloc, Value::from_bool(alloc, false), "");
     let text = owned(&rt, alloc, "foo");
     holds(&rt, alloc, Value::from_string(alloc, text), "foo.");
-    let one = Some(owned(&rt, alloc, "bar"));
+    let one = Some(Text::from_string(owned(&rt, alloc, "bar")));
     holds(&rt, alloc, Value::from_iterator(alloc, one), "bar.");
     let texts = value(&rt, alloc, SEVERAL).into_elements();
     holds(&rt, alloc, Value::from_iterator(alloc, texts), "a.b c.");

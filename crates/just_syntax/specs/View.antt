@@ -50,7 +50,7 @@ abbrev pub name_view : Name → plain.Token
 name_view name = token_view name.token
 
 abbrev pub literal_view : Written → plain.Literal
-literal_view s = record { cooked = string_bytes s.cooked; lexeme = s.lexeme.now; indented = s.indented }
+literal_view s = record { cooked = s.cooked; lexeme = s.lexeme.now; indented = s.indented }
 
 abbrev pub assert_view : Expr → Option Expr → plain.Token → Expr
 assert_view e (Some m) t = plain.Assert e m t

@@ -1,6 +1,6 @@
 // The syntax that evaluation works on: names, expressions, assignments, functions, and tables of them, each with its
-// view as plain data, and `unindent`, which computes the text of an indented string. It depends on std alone. Its
-// `proofs/` also hold general lemmas on lists, tables and texts.
+// view as plain data, and `unindent`, which computes the text of an indented string. It depends on std and on
+// `just_short_text`, whose `Text` it passes on. Its `proofs/` also hold general lemmas on lists, tables and texts.
 #![tactic(auto)]
 
 pub mod assignment;
@@ -33,6 +33,7 @@ pub mod stack;
 pub mod string_context;
 pub mod string_literal;
 pub mod table;
+pub mod text;
 pub mod token;
 mod unindented;
 pub mod unstyled;

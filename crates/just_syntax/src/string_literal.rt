@@ -4,13 +4,14 @@ ghost use Rattle.std.specs.Prelude.{IfOk, false, ◌≡◌};
 ghost use Rattle.just_syntax.specs.Prelude.{literal_view};
 
 use crate::out_of_memory::OutOfMemory;
+use crate::text::Text;
 use std::alloc::Global;
 use std::fmt;
 
 /// A string literal: its text, how it was written, and whether its text was unindented.
 #[derive(Debug, Drop)]
 pub struct StringLiteral<'src> {
-    pub cooked: String,
+    pub cooked: Text,
     pub lexeme: &'src str,
     pub indented: bool,
 }
@@ -34,7 +35,7 @@ impl<'src> StringLiteral<'src> {
         }) }
     {
         Ok(StringLiteral {
-            cooked: String::from_str(alloc, text)?,
+            cooked: Text::from_str(alloc, text)?,
             lexeme,
             indented: false,
         })

@@ -7,7 +7,7 @@ use Rattle.std.specs.List.{flat_map, slice_split, onto_first}
 use Rattle.std.proofs.Math.Seq.{drop-cons}
 use Rattle.std.proofs.lemmas.Bool.{both_ways, cases_Bool, cases_lt, cond_both, eq-eqb, false_from_ne_true, ne_eqb}
 use Rattle.std.proofs.lemmas.Bool.Decides.{eqb_tells}
-use Rattle.std.proofs.lemmas.List.{append_assoc, drop-drop, drop_all, map-append, get_or-take, length-take, take_all, take-append-drop}
+use Rattle.std.proofs.lemmas.List.{append_assoc, drop-drop, drop_all, get_or-take, length-take, take_all, take-append-drop}
 use Rattle.std.proofs.lemmas.List.Concat.{flat_map-append}
 use Rattle.std.proofs.lemmas.List.Elements.{All-from_get_or}
 use Rattle.std.proofs.lemmas.List.Splits.{slice_split_none, slice_split_at, length-slice_split}
@@ -202,11 +202,10 @@ unfolding filled
 filled_end bs at past = rw (drop_all at bs past) refl
 
 -- one more text pushed, before the rest
-pub one_pushed : {X : Type 0} (f : X → List ℕ) (xs ys : List X) (x : X) (text : List ℕ) (rest whole : List (List ℕ)) → ys ≡ xs ++ x ∷ [] → f x ≡ text
-    → map f xs ++ text ∷ rest ≡ whole → map f ys ++ rest ≡ whole
-one_pushed f xs ys x text rest whole is same so_far =
-    ap (λ zs. map f zs ++ rest) is ∙ (ap (λ ts. ts ++ rest) (map-append f xs (x ∷ []))
-    ∙ (append_assoc (map f xs) (f x ∷ []) rest ∙ (ap (λ t. map f xs ++ t ∷ rest) same ∙ so_far)))
+pub one_pushed : (xs ys : List (List ℕ)) (x text : List ℕ) (rest whole : List (List ℕ)) → ys ≡ xs ++ x ∷ [] → x ≡ text → xs ++ text ∷ rest ≡ whole
+    → ys ++ rest ≡ whole
+one_pushed xs ys x text rest whole is same so_far =
+    ap (λ zs. zs ++ rest) is ∙ (append_assoc xs (x ∷ []) rest ∙ (ap (λ t. xs ++ t ∷ rest) same ∙ so_far))
 
 -- a byte that is not in the front of the rest is not in that part of the text
 pub rest_lacks : (b : ℕ) (bs : List ℕ) (from n : ℕ) → Nowhere (Passes (is_byte b) (drop from bs)) 0 n → (k : ℕ) → from ≤ k → k < from + n

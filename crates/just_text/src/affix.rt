@@ -1,8 +1,9 @@
 // Texts with a suffix or a prefix added to each.
 
-ghost use Rattle.std.specs.Prelude.{IfOk, map, string_bytes, ◌++◌, ◌≡◌};
+ghost use Rattle.std.specs.Prelude.{IfOk, map, ◌++◌, ◌≡◌};
 
 use just_syntax::out_of_memory::OutOfMemory;
+use just_syntax::text::Text;
 use std::alloc::Global;
 
 /// Each text followed by the suffix, in order. Upstream's `append`, of the texts that it goes over.
@@ -10,9 +11,8 @@ use std::alloc::Global;
 /// # Errors
 ///
 /// `OutOfMemory`, if an allocation fails: nothing is created.
-pub fn append(alloc: Global, suffix: &str, texts: &[String]) -> Result<Vec<String>, OutOfMemory>
-    ensures { IfOk result (λ v. map string_bytes v.items ≡ map (λ text. text ++ suffix.now)
-        (map string_bytes texts.now)) }
+pub fn append(alloc: Global, suffix: &str, texts: &[Text]) -> Result<Vec<Text>, OutOfMemory>
+    ensures { IfOk result (λ v. v.items ≡ map (λ text. text ++ suffix.now) texts.now) }
 {
     let mut all = Vec::with_capacity(alloc, texts.len())?;
     for text in texts {
@@ -26,9 +26,8 @@ pub fn append(alloc: Global, suffix: &str, texts: &[String]) -> Result<Vec<Strin
 /// # Errors
 ///
 /// `OutOfMemory`, if an allocation fails: nothing is created.
-pub fn prepend(alloc: Global, prefix: &str, texts: &[String]) -> Result<Vec<String>, OutOfMemory>
-    ensures { IfOk result (λ v. map string_bytes v.items ≡ map (λ text. prefix.now ++ text)
-        (map string_bytes texts.now)) }
+pub fn prepend(alloc: Global, prefix: &str, texts: &[Text]) -> Result<Vec<Text>, OutOfMemory>
+    ensures { IfOk result (λ v. v.items ≡ map (λ text. prefix.now ++ text) texts.now) }
 {
     let mut all = Vec::with_capacity(alloc, texts.len())?;
     for text in texts {
@@ -38,10 +37,11 @@ pub fn prepend(alloc: Global, prefix: &str, texts: &[String]) -> Result<Vec<Stri
 }
 
 // The second text appended to the first.
-fn concatenated(alloc: Global, front: &str, back: &str) -> Result<String, OutOfMemory>
-    ensures { IfOk result (λ text. string_bytes text ≡ front.now ++ back.now) }
+fn concatenated(alloc: Global, front: &str, back: &str) -> Result<Text, OutOfMemory>
+    ensures { IfOk result (λ text. text ≡ front.now ++ back.now) }
 {
-    let mut text = String::from_str(alloc, front)?;
-    text.push_str(back)?;
+    let mut text = Text::with_capacity(alloc, front.len().saturating_add(back.len()))?;
+    text.push_str(alloc, front)?;
+    text.push_str(alloc, back)?;
     Ok(text)
 }

@@ -1,6 +1,6 @@
 // Texts split into pieces.
 
-ghost use Rattle.std.specs.Prelude.{IfOk, IsAscii, length, map, not, slice_index, string_bytes, ℕ, ◌<◌, ◌==◌};
+ghost use Rattle.std.specs.Prelude.{IfOk, IsAscii, length, not, slice_index, ℕ, ◌<◌, ◌==◌};
 ghost use Rattle.std.specs.Prelude.{◌≡◌, ◌≤◌};
 ghost use Rattle.std.specs.Char.{is_whitespace};
 ghost use Rattle.std.specs.List.{slice_split};
@@ -8,6 +8,7 @@ ghost use Rattle.just_text.specs.Split as spec;
 
 use crate::replace::{only_byte, place_of};
 use just_syntax::out_of_memory::OutOfMemory;
+use just_syntax::text::Text;
 use std::alloc::Global;
 
 /// The pieces between characters of the property White_Space that are not empty, in order. Upstream's `split` without a
@@ -16,30 +17,30 @@ use std::alloc::Global;
 /// # Errors
 ///
 /// `OutOfMemory`, if an allocation fails: nothing is created.
-pub fn split_whitespace(alloc: Global, text: &str) -> Result<Vec<String>, OutOfMemory>
-    ensures { IfOk result (λ v. map string_bytes v.items ≡ spec.words text.now) }
+pub fn split_whitespace(alloc: Global, text: &str) -> Result<Vec<Text>, OutOfMemory>
+    ensures { IfOk result (λ v. v.items ≡ spec.words text.now) }
 {
     if text.is_ascii() {
         return ascii_words(alloc, text);
     }
     let mut words = Vec::new(alloc);
     for word in text.split_whitespace() {
-        words.push(String::from_str(alloc, word)?)?;
+        words.push(Text::from_str(alloc, word)?)?;
     }
     Ok(words)
 }
 
 // The words of an ASCII text, found byte by byte.
-fn ascii_words(alloc: Global, text: &str) -> Result<Vec<String>, OutOfMemory>
+fn ascii_words(alloc: Global, text: &str) -> Result<Vec<Text>, OutOfMemory>
     requires { IsAscii text.now }
-    ensures { IfOk result (λ v. map string_bytes v.items ≡ spec.words text.now) }
+    ensures { IfOk result (λ v. v.items ≡ spec.words text.now) }
 {
     let bytes = text.as_bytes();
     let mut words = Vec::new(alloc);
     let mut start = white_or_not(bytes, false, 0);
     while start < bytes.len() {
         let end = white_or_not(bytes, true, start);
-        words.push(String::from_str(alloc, &text[start..end])?)?;
+        words.push(Text::from_str(alloc, &text[start..end])?)?;
         start = white_or_not(bytes, false, end);
     }
     Ok(words)
@@ -80,8 +81,8 @@ fn is_white(byte: u8) -> bool
 /// # Errors
 ///
 /// `OutOfMemory`, if an allocation fails: nothing is created.
-pub fn split(alloc: Global, text: &str, separator: &str) -> Result<Vec<String>, OutOfMemory>
-    ensures { IfOk result (λ v. map string_bytes v.items ≡ spec.split text.now separator.now) }
+pub fn split(alloc: Global, text: &str, separator: &str) -> Result<Vec<Text>, OutOfMemory>
+    ensures { IfOk result (λ v. v.items ≡ spec.split text.now separator.now) }
 {
     if separator.is_empty() {
         characters(alloc, text)
@@ -91,47 +92,46 @@ pub fn split(alloc: Global, text: &str, separator: &str) -> Result<Vec<String>, 
 }
 
 // The characters.
-fn characters(alloc: Global, text: &str) -> Result<Vec<String>, OutOfMemory>
-    ensures { IfOk result (λ v. map string_bytes v.items ≡ spec.characters text.now) }
+fn characters(alloc: Global, text: &str) -> Result<Vec<Text>, OutOfMemory>
+    ensures { IfOk result (λ v. v.items ≡ spec.characters text.now) }
 {
     let mut all = Vec::new(alloc);
     for c in text.chars() {
-        let mut character = String::new(alloc);
-        character.push(c)?;
-        all.push(character)?;
+        let mut bytes = [0; 4];
+        all.push(Text::from_str(alloc, c.encode_utf8(&mut bytes))?)?;
     }
     Ok(all)
 }
 
 // The pieces between the occurrences of a separator that is not empty.
-fn pieces(alloc: Global, text: &str, separator: &str) -> Result<Vec<String>, OutOfMemory>
+fn pieces(alloc: Global, text: &str, separator: &str) -> Result<Vec<Text>, OutOfMemory>
     requires { 0 < length separator.now }
-    ensures { IfOk result (λ v. map string_bytes v.items ≡ spec.pieces separator.now text.now) }
+    ensures { IfOk result (λ v. v.items ≡ spec.pieces separator.now text.now) }
 {
     if let Some(byte) = only_byte(separator) {
         return pieces_at_byte(alloc, text, byte);
     }
     let mut all = Vec::new(alloc);
     for piece in text.split(separator) {
-        all.push(String::from_str(alloc, piece)?)?;
+        all.push(Text::from_str(alloc, piece)?)?;
     }
     Ok(all)
 }
 
 // The pieces between the occurrences of an ASCII byte, found byte by byte.
-fn pieces_at_byte(alloc: Global, text: &str, separator: u8) -> Result<Vec<String>, OutOfMemory>
+fn pieces_at_byte(alloc: Global, text: &str, separator: u8) -> Result<Vec<Text>, OutOfMemory>
     requires { separator < 128 }
-    ensures { IfOk result (λ v. map string_bytes v.items ≡ slice_split (λ b. b == separator) text.now) }
+    ensures { IfOk result (λ v. v.items ≡ slice_split (λ b. b == separator) text.now) }
 {
     let bytes = text.as_bytes();
     let mut all = Vec::new(alloc);
     let mut start = 0;
     let mut at = place_of(text, separator, 0);
     while at < bytes.len() {
-        all.push(String::from_str(alloc, &text[start..at])?)?;
+        all.push(Text::from_str(alloc, &text[start..at])?)?;
         start = at + 1;
         at = place_of(text, separator, start);
     }
-    all.push(String::from_str(alloc, &text[start..])?)?;
+    all.push(Text::from_str(alloc, &text[start..])?)?;
     Ok(all)
 }

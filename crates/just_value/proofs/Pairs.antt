@@ -3,19 +3,16 @@ use Rattle.std.proofs.Common.{◌≡◌, ℕ, ◌<◌, ◌+◌, suc, List, [], �
 use Rattle.std.proofs.Common.{add-one, append_assoc}
 use Rattle.std.proofs.Math.Seq.{drop-cons, set-append_seam, get_or-append_seam}
 use Rattle.std.proofs.lemmas.Bool.{eq-eqb}
-use Rattle.std.proofs.lemmas.List.{map-set, get_or-map}
 use Rattle.just_value.specs.Applied.{applied}
 use Rattle.just_value.specs.Prelude.{paired}
 
--- one more pair, viewed by f and g
-pub paired_more : {X Y : Type 0} (f : X → List ℕ) (g : Y → List ℕ) (s : List ℕ) (xs : List X) (ys : List Y) (i : ℕ) (d : X) (e : Y)
-    → i < length xs → i < length ys
-    → paired s (map f (take (suc i) xs)) (map g (take (suc i) ys))
-    ≡ paired s (map f (take i xs)) (map g (take i ys)) ++ ((f (get_or xs i d) ++ s) ++ g (get_or ys i e)) ∷ []
-paired_more f g s [] ys i d e h k = absurd (omega arith)
-paired_more f g s (x ∷ xs) [] i d e h k = absurd (omega arith)
-paired_more f g s (x ∷ xs) (y ∷ ys) zero d e h k = refl
-paired_more f g s (x ∷ xs) (y ∷ ys) (suc i) d e h k = ap (λ l. ((f x ++ s) ++ g y) ∷ l) (paired_more f g s xs ys i d e (omega arith) (omega arith))
+-- one more pair
+pub paired_more : (s : List ℕ) (xs ys : List (List ℕ)) (i : ℕ) (d e : List ℕ) → i < length xs → i < length ys
+    → paired s (take (suc i) xs) (take (suc i) ys) ≡ paired s (take i xs) (take i ys) ++ ((get_or xs i d ++ s) ++ get_or ys i e) ∷ []
+paired_more s [] ys i d e h k = absurd (omega arith)
+paired_more s (x ∷ xs) [] i d e h k = absurd (omega arith)
+paired_more s (x ∷ xs) (y ∷ ys) zero d e h k = refl
+paired_more s (x ∷ xs) (y ∷ ys) (suc i) d e h k = ap (λ l. ((x ++ s) ++ y) ∷ l) (paired_more s xs ys i d e (omega arith) (omega arith))
 
 -- as many pairs as there are elements
 pub length_paired : (s : List ℕ) (xs ys : List (List ℕ)) → length xs ≡ length ys → length (paired s xs ys) ≡ length xs
@@ -40,17 +37,14 @@ applied_paired s (x ∷ z ∷ xs) (y ∷ []) e = absurd (omega (arith, e))
 applied_paired s (x ∷ z ∷ xs) (y ∷ w ∷ ys) e = rw (eq-eqb (length (x ∷ z ∷ xs)) (length (y ∷ w ∷ ys)) e) refl
 
 -- Texts that are replaced in place, one after another. The first are done, and the others as they were.
-module _ {X : Type 0} (f : X → List ℕ) (xs ys : List X) (done : List (List ℕ)) (i : ℕ) (d : X) (so_far : map f xs ≡ done ++ map f (drop i ys))
-    (many : length done ≡ i) (within : i < length ys) (same : length xs ≡ length ys) where
-  split : map f xs ≡ done ++ f (get_or ys i d) ∷ map f (drop (suc i) ys)
-  split = so_far ∙ ap (λ zs. done ++ map f zs) (drop-cons ys i d within)
+module _ (xs ys done : List (List ℕ)) (i : ℕ) (d : List ℕ) (so_far : xs ≡ done ++ drop i ys) (many : length done ≡ i) (within : i < length ys) where
+  split : xs ≡ done ++ get_or ys i d ∷ drop (suc i) ys
+  split = so_far ∙ ap (λ zs. done ++ zs) (drop-cons ys i d within)
 
-  pub as_it_was : f (get_or xs i d) ≡ f (get_or ys i d)
-  as_it_was =
-      sym (get_or-map f xs i d [] (omega (arith, same))) ∙ (ap₂ (λ zs k. get_or zs k []) split (sym many)
-      ∙ get_or-append_seam done (f (get_or ys i d)) (map f (drop (suc i) ys)) [])
+  pub as_it_was : get_or xs i d ≡ get_or ys i d
+  as_it_was = ap₂ (λ zs k. get_or zs k d) split (sym many) ∙ get_or-append_seam done (get_or ys i d) (drop (suc i) ys) d
 
-  pub next_replaced : (x : X) → map f (set xs i x) ≡ (done ++ f x ∷ []) ++ map f (drop (i + 1) ys)
+  pub next_replaced : (x : List ℕ) → set xs i x ≡ (done ++ x ∷ []) ++ drop (i + 1) ys
   next_replaced x = rw (add-one)
-      (map-set f xs i x ∙ (ap₂ (λ zs k. set zs k (f x)) split (sym many)
-      ∙ (set-append_seam done (f (get_or ys i d)) (map f (drop (suc i) ys)) (f x) ∙ sym (append_assoc done (f x ∷ []) (map f (drop (suc i) ys))))))
+      (ap₂ (λ zs k. set zs k x) split (sym many)
+      ∙ (set-append_seam done (get_or ys i d) (drop (suc i) ys) x ∙ sym (append_assoc done (x ∷ []) (drop (suc i) ys))))

@@ -1,8 +1,7 @@
 // Values: lists of texts.
 
-ghost use Rattle.std.specs.Prelude.{IfOk, List, OnErr, OnOk, String, [], codes, if◌then◌else◌, length, map};
+ghost use Rattle.std.specs.Prelude.{IfOk, List, OnErr, OnOk, [], codes, if◌then◌else◌, length, map};
 ghost use Rattle.std.specs.Prelude.{string_bytes, ℕ, ◌++◌, ◌==◌, ◌∷◌, ◌≡◌};
-ghost use Rattle.std.specs.declared.alloc.Global.{Global};
 ghost use Rattle.std.specs.Fmt.{WritesStyledOnOk};
 ghost use Rattle.std.specs.Iterator.Adapters.{IterYieldsInOrder};
 ghost use Rattle.std.specs.Slice.Iter.{iter_rest};
@@ -13,6 +12,7 @@ use crate::element::{Element, write_quoted};
 use crate::error::Error;
 use just_syntax::list_operator::ListOperator;
 use just_syntax::out_of_memory::OutOfMemory;
+use just_syntax::text::Text;
 use just_syntax::token::Token;
 use std::alloc::Global;
 use std::cmp::Ordering;
@@ -23,15 +23,15 @@ use std::{fmt, slice, vec};
 /// A list of texts. A call whose allocation fails returns `OutOfMemory`, and changes nothing.
 #[derive(Debug, Drop)]
 pub struct Value {
-    elements: Vec<String>,
+    elements: Vec<Text>,
 }
 
 impl Model for Value {
-    ghost use Rattle.std.specs.Prelude.{List, ℕ, map, string_bytes};
+    ghost use Rattle.std.specs.Prelude.{List, ℕ};
 
     ghost Value = { List (List ℕ) };
 
-    ghost view = { λ v. map string_bytes v.elements.items };
+    ghost view = { λ v. v.elements.items };
 }
 
 impl Value {
@@ -58,21 +58,21 @@ impl Value {
 
     /// These elements, moved. It allocates nothing, and keeps the allocator of `elements`. Upstream's
     /// `From<Vec<String>>`.
-    pub fn from_elements(elements: Vec<String>) -> Value
-        ensures { result ≡ map string_bytes elements.items }
+    pub fn from_elements(elements: Vec<Text>) -> Value
+        ensures { result ≡ elements.items }
     {
         Value { elements }
     }
 
     /// The texts of an iterator, in order. They are moved. `OutOfMemory`, if an allocation fails: those taken so far
     /// are dropped. Upstream's `FromIterator<String>`.
-    pub fn from_iterator<I: IntoIterator<Item = String>>(
+    pub fn from_iterator<I: IntoIterator<Item = Text>>(
         alloc: Global,
         elements: I,
     ) -> Result<Value, OutOfMemory>
         requires { Ends I.into_iter_gives I.IntoIter.can_next I.IntoIter.remaining elements }
         ensures { IfOk result (λ v. (texts : List _) × GivesItems I.into_iter_gives I.IntoIter.next_gives elements texts
-            × (v ≡ map string_bytes texts)) }
+            × (v ≡ texts)) }
     {
         let elements = elements.into_iter().collect(alloc)?;
         Ok(Value::from_elements(elements))
@@ -83,8 +83,15 @@ impl Value {
     pub fn from_string(alloc: Global, text: String) -> Result<Value, OutOfMemory>
         ensures { IfOk result (λ v. v ≡ string_bytes text ∷ []) }
     {
+        Value::from_element(alloc, Text::from_string(text))
+    }
+
+    /// The one element `element`, which is moved. `OutOfMemory`, if an allocation fails: it is dropped.
+    pub fn from_element(alloc: Global, element: Text) -> Result<Value, OutOfMemory>
+        ensures { IfOk result (λ v. v ≡ element ∷ []) }
+    {
         let mut elements = Vec::with_capacity(alloc, 1)?;
-        elements.push(text)?;
+        elements.push(element)?;
         Ok(Value::from_elements(elements))
     }
 
@@ -93,8 +100,7 @@ impl Value {
     pub fn from_text(alloc: Global, text: &str) -> Result<Value, OutOfMemory>
         ensures { IfOk result (λ v. v ≡ text.now ∷ []) }
     {
-        let text = String::from_str(alloc, text)?;
-        Value::from_string(alloc, text)
+        Value::from_element(alloc, Text::from_str(alloc, text)?)
     }
 
     /// A copy of the value. `OutOfMemory`, if an allocation fails: nothing is created. Upstream's `Value::clone`.
@@ -105,24 +111,35 @@ impl Value {
     }
 
     /// The texts, in order. Upstream's `Value::elements`.
-    pub fn elements(&self) -> &[String]
-        ensures { map string_bytes result.now ≡ self.now }
+    pub fn elements(&self) -> &[Text]
+        ensures { result.now ≡ self.now }
     {
         self.elements.as_slice()
     }
 
     /// The texts, in order. They are moved. Upstream's `Value::into_elements`.
-    pub fn into_elements(self) -> Vec<String>
-        ensures { map string_bytes result.items ≡ self }
+    pub fn into_elements(self) -> Vec<Text>
+        ensures { result.items ≡ self }
     {
         let Value { elements: texts } = self;
         texts
     }
 
+    /// Copies of the texts as strings, in order. `OutOfMemory`, if an allocation fails: nothing is created.
+    pub fn to_strings(&self, alloc: Global) -> Result<Vec<String>, OutOfMemory>
+        ensures { IfOk result (λ strings. map string_bytes strings.items ≡ self.now) }
+    {
+        let mut strings = Vec::with_capacity(alloc, self.len())?;
+        for text in self.elements() {
+            strings.push(String::from_str(alloc, text)?)?;
+        }
+        Ok(strings)
+    }
+
     /// Iterates over the texts, in order. Upstream's `Value::iter`.
-    pub fn iter(&self) -> slice::Iter<'_, String>
-        ensures rest { map string_bytes (iter_rest result) ≡ self.now }
-        ensures runs { IterYieldsInOrder (String Global) }
+    pub fn iter(&self) -> slice::Iter<'_, Text>
+        ensures rest { iter_rest result ≡ self.now }
+        ensures runs { IterYieldsInOrder (List ℕ) }
     {
         self.elements.iter()
     }
@@ -155,7 +172,7 @@ impl Value {
         ensures err { OnErr result (self.new ≡ self.old) }
     {
         let alloc = *self.elements.allocator();
-        let text = String::from_str(alloc, element)?;
+        let text = Text::from_str(alloc, element)?;
         self.elements.push(text)?;
         Ok(())
     }
@@ -199,20 +216,30 @@ impl Value {
     pub fn into_applied<'src>(
         self,
         alloc: Global,
-        others: &[String],
+        others: &[Text],
         operator: ListOperator,
         token: Token<'src>,
     ) -> Result<Value, Error<'src>>
         ensures { UnlessStopped (ended (λ v. v) result)
-            (combined self operator (map string_bytes others.now) (token_view token.entry)) }
+            (combined self operator others.now (token_view token.entry)) }
     {
         match (self.len(), others.len()) {
             (1.., 1) => {
-                let texts = all_extended(self.into_elements(), operator.separator(), &others[0])?;
+                let texts = all_extended(
+                    alloc,
+                    self.into_elements(),
+                    operator.separator(),
+                    &others[0],
+                )?;
                 Ok(Value::from_elements(texts))
             }
             (m, n) if m == n => {
-                let texts = pairs_extended(self.into_elements(), operator.separator(), others)?;
+                let texts = pairs_extended(
+                    alloc,
+                    self.into_elements(),
+                    operator.separator(),
+                    others,
+                )?;
                 Ok(Value::from_elements(texts))
             }
             _ => combine(alloc, &self.elements, others, operator, token),
@@ -311,36 +338,35 @@ impl Ord for Value {
 }
 
 impl<'a> IntoIterator for &'a Value {
-    ghost use Rattle.std.specs.Prelude.{◌≡◌, map, string_bytes, String};
+    ghost use Rattle.std.specs.Prelude.{List, ℕ, ◌≡◌};
     ghost use Rattle.std.specs.Iterator.Adapters.{IterYieldsInOrder};
     ghost use Rattle.std.specs.Slice.Iter.{iter_rest};
-    ghost use Rattle.std.specs.declared.alloc.Global.{Global};
 
-    type Item = &'a String;
+    type Item = &'a Text;
 
-    type IntoIter = slice::Iter<'a, String>;
+    type IntoIter = slice::Iter<'a, Text>;
 
-    ghost into_iter_gives = { λ v r. (map string_bytes (iter_rest r) ≡ v.now) × IterYieldsInOrder (String Global) };
+    ghost into_iter_gives = { λ v r. (iter_rest r ≡ v.now) × IterYieldsInOrder (List ℕ) };
 
-    fn into_iter(self) -> slice::Iter<'a, String> {
+    fn into_iter(self) -> slice::Iter<'a, Text> {
         self.iter()
     }
 }
 
 impl IntoIterator for Value {
-    ghost use Rattle.std.specs.Prelude.{◌≡◌, map, string_bytes, String};
+    ghost use Rattle.std.specs.Prelude.{List, ℕ, ◌≡◌};
     ghost use Rattle.std.specs.Iterator.Runs.{EveryRun, ItemsAre};
     ghost use Rattle.std.specs.Vec.Iter.{into_iter_items, into_iter_steps};
     ghost use Rattle.std.specs.declared.alloc.Global.{Global};
 
-    type Item = String;
+    type Item = Text;
 
-    type IntoIter = vec::IntoIter<String>;
+    type IntoIter = vec::IntoIter<Text>;
 
-    ghost into_iter_gives = { λ v r. (map string_bytes (into_iter_items r) ≡ v)
-        × EveryRun (into_iter_steps {X = String Global} {Z = Global}) (λ p. ItemsAre p (into_iter_items p.from)) };
+    ghost into_iter_gives = { λ v r. (into_iter_items r ≡ v)
+        × EveryRun (into_iter_steps {X = List ℕ} {Z = Global}) (λ p. ItemsAre p (into_iter_items p.from)) };
 
-    fn into_iter(self) -> vec::IntoIter<String> {
+    fn into_iter(self) -> vec::IntoIter<Text> {
         self.into_elements().into_iter()
     }
 }
@@ -348,13 +374,13 @@ impl IntoIterator for Value {
 // The texts of both lists, combined.
 fn combine<'src>(
     alloc: Global,
-    a: &[String],
-    b: &[String],
+    a: &[Text],
+    b: &[Text],
     operator: ListOperator,
     token: Token<'src>,
 ) -> Result<Value, Error<'src>>
     ensures { UnlessStopped (ended (λ v. v) result)
-        (combined (map string_bytes a.now) operator (map string_bytes b.now) (token_view token.entry)) }
+        (combined a.now operator b.now (token_view token.entry)) }
 {
     let separator = operator.separator();
     match (a.len(), b.len()) {
@@ -380,42 +406,41 @@ fn combine<'src>(
 }
 
 // A value of copies of the texts.
-fn copied(alloc: Global, texts: &[String]) -> Result<Value, OutOfMemory>
-    ensures { IfOk result (λ v. v ≡ map string_bytes texts.now) }
+fn copied(alloc: Global, texts: &[Text]) -> Result<Value, OutOfMemory>
+    ensures { IfOk result (λ v. v ≡ texts.now) }
 {
     Ok(Value::from_elements(copies(alloc, texts)?))
 }
 
 // Copies of the texts.
-fn copies(alloc: Global, texts: &[String]) -> Result<Vec<String>, OutOfMemory>
-    ensures { IfOk result (λ v. map string_bytes v.items ≡ map string_bytes texts.now) }
+fn copies(alloc: Global, texts: &[Text]) -> Result<Vec<Text>, OutOfMemory>
+    ensures { IfOk result (λ v. v.items ≡ texts.now) }
 {
     let mut all = Vec::with_capacity(alloc, texts.len())?;
     for text in texts {
-        all.push(String::from_str(alloc, text)?)?;
+        all.push(Text::from_str(alloc, text)?)?;
     }
     Ok(all)
 }
 
 // Two texts with a third between them.
-fn joined(alloc: Global, x: &str, separator: &str, y: &str) -> Result<String, OutOfMemory>
-    ensures { IfOk result (λ text. string_bytes text ≡ (x.now ++ separator.now) ++ y.now) }
+fn joined(alloc: Global, x: &str, separator: &str, y: &str) -> Result<Text, OutOfMemory>
+    ensures { IfOk result (λ text. text ≡ (x.now ++ separator.now) ++ y.now) }
 {
     let size = x
         .len()
         .saturating_add(separator.len())
         .saturating_add(y.len());
-    let mut text = String::with_capacity(alloc, size)?;
-    text.push_str(x)?;
-    text.push_str(separator)?;
-    text.push_str(y)?;
+    let mut text = Text::with_capacity(alloc, size)?;
+    text.push_str(alloc, x)?;
+    text.push_str(alloc, separator)?;
+    text.push_str(alloc, y)?;
     Ok(text)
 }
 
 // x followed by each of the texts.
-fn after(alloc: Global, x: &str, separator: &str, ys: &[String]) -> Result<Vec<String>, OutOfMemory>
-    ensures { IfOk result (λ v. map string_bytes v.items ≡ map (λ y. (x.now ++ separator.now) ++ y)
-        (map string_bytes ys.now)) }
+fn after(alloc: Global, x: &str, separator: &str, ys: &[Text]) -> Result<Vec<Text>, OutOfMemory>
+    ensures { IfOk result (λ v. v.items ≡ map (λ y. (x.now ++ separator.now) ++ y) ys.now) }
 {
     let mut all = Vec::with_capacity(alloc, ys.len())?;
     for y in ys {
@@ -425,14 +450,8 @@ fn after(alloc: Global, x: &str, separator: &str, ys: &[String]) -> Result<Vec<S
 }
 
 // Each of the texts followed by y.
-fn before(
-    alloc: Global,
-    xs: &[String],
-    separator: &str,
-    y: &str,
-) -> Result<Vec<String>, OutOfMemory>
-    ensures { IfOk result (λ v. map string_bytes v.items ≡ map (λ x. (x ++ separator.now) ++ y.now)
-        (map string_bytes xs.now)) }
+fn before(alloc: Global, xs: &[Text], separator: &str, y: &str) -> Result<Vec<Text>, OutOfMemory>
+    ensures { IfOk result (λ v. v.items ≡ map (λ x. (x ++ separator.now) ++ y.now) xs.now) }
 {
     let mut all = Vec::with_capacity(alloc, xs.len())?;
     for x in xs {
@@ -444,13 +463,12 @@ fn before(
 // The texts, paired.
 fn in_pairs(
     alloc: Global,
-    xs: &[String],
+    xs: &[Text],
     separator: &str,
-    ys: &[String],
-) -> Result<Vec<String>, OutOfMemory>
+    ys: &[Text],
+) -> Result<Vec<Text>, OutOfMemory>
     requires { length xs.now ≡ length ys.now }
-    ensures { IfOk result (λ v. map string_bytes v.items ≡ paired separator.now (map string_bytes xs.now)
-        (map string_bytes ys.now)) }
+    ensures { IfOk result (λ v. v.items ≡ paired separator.now xs.now ys.now) }
 {
     let mut all = Vec::with_capacity(alloc, xs.len())?;
     for i in 0..xs.len() {
@@ -460,37 +478,41 @@ fn in_pairs(
 }
 
 // Appends the separator and y to a text.
-fn extend(text: &mut String, separator: &str, y: &str) -> Result<(), OutOfMemory>
-    ensures { OnOk result (string_bytes text.new ≡ (string_bytes text.old ++ separator.now) ++ y.now) }
+fn extend(alloc: Global, text: &mut Text, separator: &str, y: &str) -> Result<(), OutOfMemory>
+    ensures { OnOk result (text.new ≡ (text.old ++ separator.now) ++ y.now) }
 {
-    text.push_str(separator)?;
-    text.push_str(y)?;
+    text.push_str(alloc, separator)?;
+    text.push_str(alloc, y)?;
     Ok(())
 }
 
 // Each of the texts followed by y, in place.
-fn all_extended(mut xs: Vec<String>, separator: &str, y: &str) -> Result<Vec<String>, OutOfMemory>
-    ensures { IfOk result (λ v. map string_bytes v.items ≡ map (λ x. (x ++ separator.now) ++ y.now)
-        (map string_bytes xs.items)) }
+fn all_extended(
+    alloc: Global,
+    mut xs: Vec<Text>,
+    separator: &str,
+    y: &str,
+) -> Result<Vec<Text>, OutOfMemory>
+    ensures { IfOk result (λ v. v.items ≡ map (λ x. (x ++ separator.now) ++ y.now) xs.items) }
 {
     for i in 0..xs.len() {
-        extend(&mut xs[i], separator, y)?;
+        extend(alloc, &mut xs[i], separator, y)?;
     }
     Ok(xs)
 }
 
 // The texts, paired, in place.
 fn pairs_extended(
-    mut xs: Vec<String>,
+    alloc: Global,
+    mut xs: Vec<Text>,
     separator: &str,
-    ys: &[String],
-) -> Result<Vec<String>, OutOfMemory>
+    ys: &[Text],
+) -> Result<Vec<Text>, OutOfMemory>
     requires { length xs.items ≡ length ys.now }
-    ensures { IfOk result (λ v. map string_bytes v.items ≡ paired separator.now (map string_bytes xs.items)
-        (map string_bytes ys.now)) }
+    ensures { IfOk result (λ v. v.items ≡ paired separator.now xs.items ys.now) }
 {
     for i in 0..xs.len() {
-        extend(&mut xs[i], separator, &ys[i])?;
+        extend(alloc, &mut xs[i], separator, &ys[i])?;
     }
     Ok(xs)
 }

@@ -2,7 +2,7 @@
 // with large settings; no clause forbids a call to give up.
 
 use crate::around::compares;
-use crate::texts::{all_owned, owned, same};
+use crate::texts::{all_owned, list_of, owned, same};
 use just_host::config::Config;
 use just_host::settings::Settings;
 use just_syntax::interpreter::Interpreter;
@@ -187,7 +187,7 @@ fn settings_are_compared(rt: HostRuntime) {
 
 // Sets a thousand elements and texts of several thousand bytes.
 fn enlarge(rt: &impl Abort, alloc: Global, settings: &mut Settings) {
-    settings.dotenv_command = Value::from_elements(copies(rt, alloc, "env", 1000));
+    settings.dotenv_command = list_of(rt, alloc, &["env"; 1000]);
     settings.shell = Some(interpreter(rt, alloc, ("sh", "-c"), 1000));
     settings.tempdir = Some(repeated(rt, alloc, "/ab", 1000));
 }

@@ -179,7 +179,7 @@ impl<'src, 'run> Evaluator<'src, 'run> {
     {
         let value = self.evaluate_value_const(alloc, expression)?;
         match one_text(value, context) {
-            Ok(text) => Ok(text),
+            Ok(text) => Ok(text.into_string(alloc)?),
             Err(error) => Err(error.unwrap_const()),
         }
     }

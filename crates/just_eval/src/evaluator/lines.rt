@@ -79,7 +79,8 @@ impl<'src, 'run> Evaluator<'src, 'run> {
             (ended string_bytes result) host.new }
     {
         let value = self.evaluate_expression(alloc, host, expression)?;
-        one_text(value, context)
+        let text = one_text(value, context)?;
+        Ok(text.into_string(alloc)?)
     }
 
     /// The text of a line: its fragments in order. In text `{{{{` stands for `{{`; an interpolation is its value joined

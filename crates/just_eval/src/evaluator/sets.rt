@@ -125,7 +125,7 @@ impl<'src, 'run> Evaluator<'src, 'run> {
             let value = self.evaluate_value_const(alloc, argument)?;
             all = form::extended(all, value)?;
         }
-        command_of(all, setting)
+        command_of(alloc, all, setting)
     }
 }
 
@@ -163,18 +163,20 @@ fn keep(settings: &mut Settings, setting: &Setting)
     }
 }
 
-// A command and its arguments. It does not allocate.
+// A command and its arguments.
 fn command_of<'src>(
+    alloc: Global,
     elements: Value,
     setting: Name<'src>,
 ) -> Result<Interpreter<String>, CompileError<'src>>
-    ensures command { const_ended interpreter_view result ≡ meant.command_of (name_view setting.entry) elements }
+    ensures command { UnlessStopped (const_ended interpreter_view result)
+        (meant.command_of (name_view setting.entry) elements) }
     ensures token { IfErr result HasOwnToken }
 {
-    let mut arguments = elements.into_elements();
-    if arguments.is_empty() {
+    if elements.is_empty() {
         return Err(ConstEvalError::EmptyInterpreter { setting }.into_compile_error());
     }
+    let mut arguments = elements.to_strings(alloc)?;
     let command = arguments.remove(0);
     Ok(Interpreter { arguments, command })
 }

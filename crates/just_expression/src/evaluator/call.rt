@@ -23,6 +23,13 @@ use just_value::scope::Scope;
 use just_value::value::Value;
 use std::alloc::Global;
 
+// The part of `stack::BODY` that arguments nest on too: Rattle's own compiler inlines the function that enters a body
+// into the one that evaluates the arguments.
+const ENTRY: usize = 512;
+
+// What is left of `stack::BODY` for the body alone.
+const REST_OF_BODY: usize = stack::BODY - ENTRY;
+
 impl<'src, 'run, 'here> ExpressionEvaluator<'src, 'run, 'here> {
     // The value of a call. The arguments are evaluated first, and then the callee.
     #[cycle(evaluate)]
@@ -43,6 +50,10 @@ impl<'src, 'run, 'here> ExpressionEvaluator<'src, 'run, 'here> {
         let Some(context) = self.context else {
             return Err(Error::Const(ConstError::FunctionCall(*name)));
         };
+        if budget < ENTRY {
+            return Err(Error::OutOfMemory);
+        }
+        let budget = budget - ENTRY;
         let callee = resolve_callee(alloc, context, name, self.calls_left, arguments.len())?;
         let mut values = Vec::with_capacity(alloc, arguments.len())?;
         for argument in arguments {
@@ -80,10 +91,10 @@ impl<'src, 'run, 'here> ExpressionEvaluator<'src, 'run, 'here> {
             RunsTo self.now H.step host.old (eval p (dynamic p calls_left) (inside (value_in s.below) s f values.items)
             f.body) result host.new }
     {
-        if budget < stack::BODY {
+        if budget < REST_OF_BODY {
             return Err(Error::OutOfMemory);
         }
-        let budget = budget - stack::BODY;
+        let budget = budget - REST_OF_BODY;
         let scope = called_scope(alloc, &function.parameters, values, self.below)?;
         let evaluator = (&*self).in_body(calls_left, &scope);
         evaluator.evaluate_value(alloc, host, &function.body, budget)

@@ -1,6 +1,6 @@
 // Evaluates variables and commands, which have no parts.
 
-ghost use Rattle.std.specs.Prelude.{IfSome, map, string_bytes, ◌≡◌};
+ghost use Rattle.std.specs.Prelude.{IfSome, ◌≡◌};
 ghost use Rattle.just_expression.specs.Prelude.{Gave, Runs, RunsTo, command, context_of, is_non_const};
 ghost use Rattle.just_expression.specs.Prelude.{meaning, name_view, open_in, program, rules, situation, token_view};
 ghost use Rattle.just_expression.specs.Prelude.{variable, view};
@@ -12,6 +12,7 @@ use just_host::host::Host;
 use just_syntax::expression::Expression;
 use just_syntax::name::Name;
 use just_syntax::number::Number;
+use just_syntax::text::Text;
 use just_syntax::token::Token;
 use just_value::const_error::ConstError;
 use just_value::error::Error;
@@ -48,9 +49,9 @@ impl<'src, 'run, 'here> ExpressionEvaluator<'src, 'run, 'here> {
         &'parts self,
         host: &H,
         operand: &'parts Expression<'src>,
-    ) -> Option<&'parts [String]>
+    ) -> Option<&'parts [Text]>
         ensures { IfSome result (λ texts. Runs (rules self.now) H.step host.now (meaning self.now (view operand.now))
-            (Gave (map string_bytes texts.now)) host.now) }
+            (Gave texts.now) host.now) }
     {
         match operand {
             Expression::StringLiteral { string_literal } => {

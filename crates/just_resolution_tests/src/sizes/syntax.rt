@@ -87,7 +87,7 @@ fn a_thousand_attributes_and_pieces(rt: HostRuntime) {
     have_attributes(&rt, alloc, &names);
     let text = names.join(alloc, "").expect(&rt, "no memory");
     let literal = StringLiteral::new(alloc, &text, "'..'").expect(&rt, "no memory");
-    is_so(&rt, "literal", literal.cooked == text);
+    is_so(&rt, "literal", literal.cooked.as_str() == text.as_str());
     let command = Expression::backtick(alloc, &text, token("`..`")).expect(&rt, "no memory");
     is_so(&rt, "command", holds_text(&command, &text));
     let literal = Expression::literal(alloc, &text, "'..'").expect(&rt, "no memory");

@@ -39,9 +39,9 @@ fn made_of_a_thousand_elements(rt: HostRuntime) {
     let alloc = rt.alloc();
     let elements = thousand(&rt, alloc);
     holds(&rt, alloc, pushed(&rt, alloc, &elements), &elements);
-    let value = Value::from_elements(thousand(&rt, alloc));
+    let value = Value::from_elements(pushed(&rt, alloc, &elements).into_elements());
     holds(&rt, alloc, value, &elements);
-    let value = Value::from_iterator(alloc, thousand(&rt, alloc)).expect(&rt, "no memory");
+    let value = Value::from_iterator(alloc, pushed(&rt, alloc, &elements)).expect(&rt, "no memory");
     holds(&rt, alloc, copied(&rt, alloc, &value), &elements);
     holds(&rt, alloc, value, &elements);
 }
@@ -53,7 +53,7 @@ fn repeats(rt: &impl Abort, alloc: Global, text: String, times: usize) {
 
 // Values, joined and built from one long text, are these texts.
 fn are_joined(rt: &impl Abort, alloc: Global, elements: &[String]) {
-    let value = Value::from_elements(texts(rt, alloc, "ab", 1000));
+    let value = pushed(rt, alloc, &texts(rt, alloc, "ab", 1000));
     let joined = value.join(alloc).expect(rt, "no memory");
     drop(value);
     is_so(
@@ -78,9 +78,9 @@ fn is_one(value: &Value, text: &str) -> bool {
 
 // An operator between a thousand elements and as many, one, or one less, gives the expected value.
 fn are_applied(rt: &impl Abort, alloc: Global) {
-    let many = Value::from_elements(texts(rt, alloc, "ab", 1000));
+    let many = pushed(rt, alloc, &texts(rt, alloc, "ab", 1000));
     let one = Value::from_text(alloc, "c").expect(rt, "no memory");
-    let less = Value::from_elements(texts(rt, alloc, "c", 999));
+    let less = pushed(rt, alloc, &texts(rt, alloc, "c", 999));
     gives(rt, alloc, &many, &many, "abab");
     gives(rt, alloc, &many, &one, "abc");
     gives(rt, alloc, &one, &many, "cab");
@@ -111,7 +111,7 @@ fn put_together_of_a_thousand_elements(rt: HostRuntime) {
 #[test]
 fn gone_over_a_thousand_elements(rt: HostRuntime) {
     let alloc = rt.alloc();
-    let value = Value::from_elements(texts(&rt, alloc, "ab", 1000));
+    let value = pushed(&rt, alloc, &texts(&rt, alloc, "ab", 1000));
     repeats(&rt, alloc, reported(&rt, alloc, &value), 2000);
     let own = reported_of_own(&rt, alloc, copied(&rt, alloc, &value));
     repeats(&rt, alloc, own, 1000);
@@ -121,7 +121,7 @@ fn gone_over_a_thousand_elements(rt: HostRuntime) {
 #[test]
 fn a_thousand_elements_compared(rt: HostRuntime) {
     let alloc = rt.alloc();
-    let value = Value::from_elements(thousand(&rt, alloc));
+    let value = pushed(&rt, alloc, &thousand(&rt, alloc));
     let mut more = copied(&rt, alloc, &value);
     is_so(&rt, "equal", are_equal(&value, &more));
     more.push("").expect(&rt, "no memory");

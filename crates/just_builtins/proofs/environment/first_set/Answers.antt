@@ -1,4 +1,4 @@
-use Rattle.std.proofs.Common.{◌≡◌, ◌∙◌, sym, ap, subst, Ok, None, map, string_bytes}
+use Rattle.std.proofs.Common.{◌≡◌, ◌∙◌, sym, ap, subst, Ok, None}
 use Rattle.std.proofs.lemmas.List.{drop_all}
 use Rattle.std.proofs.lemmas.Result.{err_from_is_err_and}
 use Rattle.just_builtins.specs.Prelude.{Runs, first_set, freely, pairs_view, tree}
@@ -35,4 +35,4 @@ pub returns : goal.returns
 returns g c = λ shown rest o last run.
     let dotenv = pairs_view c.args.dotenv.now in
     c.loop-key.invariant shown rest o last (subst (λ ks. Runs freely g.H.Host.step c.loop-key.host (tree shown (first_set dotenv rest ks)) o last)
-    (sym (ap (map string_bytes) (drop_all c.loop-key.key-index c.args.keys.now c.loop-key-test.false))) run)
+    (sym (drop_all c.loop-key.key-index c.args.keys.now c.loop-key-test.false)) run)

@@ -6,7 +6,7 @@ use Rattle.just_builtins.proofs.shell.quoted_texts.Goals as goal
 
 pub loop-i-preserved : goal.loop-i-preserved
 loop-i-preserved c = one_more (λ v. quoted (first v)) c.args.arguments.now c.loop-i.i _ _ _ _ _ c.loop-i-test.true c.text_at.ensures c.in_ok-push.ensures.items
-    c.in_ok-to_string.ensures.ok c.loop-i.invariant
+    (c.from_string.ensures ∙ c.in_ok-text.ensures.ok) c.loop-i.invariant
 
 pub returns : goal.returns
 returns c = all_done (λ v. quoted (first v)) c.args.arguments.now c.loop-i.i _ _ c.loop-i-test.false c.loop-i.invariant

@@ -1,5 +1,5 @@
-use Rattle.std.proofs.Common.{◌≡◌, ◌++◌, map, take, string_bytes}
+use Rattle.std.proofs.Common.{◌≡◌, ◌++◌, map, take}
 use Rattle.just_text.proofs.affix.append.Given as goal
 
 abbrev pub invariant-loop-text : goal.invariant-loop-text
-invariant-loop-text l = map string_bytes l.all.items ≡ map (λ text. text ++ l.suffix) (map string_bytes (take l.text-index l.texts))
+invariant-loop-text l = l.all.items ≡ map (λ text. text ++ l.suffix) (take l.text-index l.texts)

@@ -1,4 +1,4 @@
-use Rattle.std.proofs.Common.{◌<◌, ◌≤◌, ◌++◌, ◌∷◌, ◌∙◌, ◌-◌, length, take, drop, ap, sym, arith, map, string_bytes, append-nil}
+use Rattle.std.proofs.Common.{◌<◌, ◌≤◌, ◌++◌, ◌∷◌, ◌∙◌, ◌-◌, length, take, drop, ap, sym, arith, append-nil}
 use Rattle.just_text.proofs.Runs.{filled_end, one_pushed, past_first, skipped, taken, words_are_filled}
 use Rattle.just_text.proofs.split.ascii_words.Goals as goal
 
@@ -38,13 +38,13 @@ loop-start-preserved c =
     record {
       high = rw same at next.ensures.high;
       first = rw same at next.ensures.found;
-      done = one_pushed string_bytes _ _ _ _ _ _ c.in_ok-push.ensures.items (c.in_ok-from_str.ensures.ok ∙ c.range.ensures.value)
-          (ap (λ ps. map string_bytes l.words.items ++ ps) (ap (λ ws. run ∷ ws) (sym gap) ∙ sym word) ∙ l.invariant.done);
+      done = one_pushed _ _ _ _ _ _ c.in_ok-push.ensures.items (c.in_ok-from_str.ensures ∙ c.range.ensures.value)
+          (ap (λ ps. l.words.items ++ ps) (ap (λ ws. run ∷ ws) (sym gap) ∙ sym word) ∙ l.invariant.done);
     }
 
 pub returns : goal.returns
 returns c =
     let l = c.loop-start in
     let past : length c.args.text.now ≤ l.start = omega (arith, c.as_bytes-bytes.ensures.len) in
-    sym (append-nil _) ∙ (ap (λ ws. map string_bytes l.words.items ++ ws) (sym (filled_end c.args.text.now l.start past))
+    sym (append-nil _) ∙ (ap (λ ws. l.words.items ++ ws) (sym (filled_end c.args.text.now l.start past))
     ∙ (l.invariant.done ∙ words_are_filled c.args.text.now c.requires))

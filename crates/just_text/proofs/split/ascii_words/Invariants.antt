@@ -1,5 +1,5 @@
 use Rattle.std.specs.Char.{is_whitespace}
-use Rattle.std.proofs.Common.{◌-◌, drop, false, ◌++◌, length, map, slice_index, string_bytes, ◌<◌, ◌≡◌, ◌≤◌}
+use Rattle.std.proofs.Common.{◌-◌, drop, false, ◌++◌, length, slice_index, ◌<◌, ◌≡◌, ◌≤◌}
 use Rattle.just_text.proofs.Runs.{filled}
 use Rattle.just_text.proofs.split.ascii_words.Given as goal
 
@@ -8,7 +8,7 @@ abbrev pub invariant-loop-start : goal.invariant-loop-start
 invariant-loop-start l = record {
   high : l.start ≤ length l.fn.text;
   first : l.start < length l.fn.text → is_whitespace (slice_index l.fn.text l.start) ≡ false;
-  done : map string_bytes l.words.items ++ filled (drop l.start l.fn.text) ≡ filled l.fn.text;
+  done : l.words.items ++ filled (drop l.start l.fn.text) ≡ filled l.fn.text;
 }
 
 abbrev pub decreases-loop-start : goal.decreases-loop-start

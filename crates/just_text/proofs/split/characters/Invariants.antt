@@ -1,5 +1,5 @@
-use Rattle.std.proofs.Common.{◌≡◌, map, string_bytes, encode_utf8}
+use Rattle.std.proofs.Common.{◌≡◌, map, encode_utf8}
 use Rattle.just_text.proofs.split.characters.Given as goal
 
 abbrev pub invariant-loop-c : goal.invariant-loop-c
-invariant-loop-c l = map string_bytes l.all.items ≡ map encode_utf8 l.yielded
+invariant-loop-c l = l.all.items ≡ map encode_utf8 l.yielded

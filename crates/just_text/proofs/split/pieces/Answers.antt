@@ -1,4 +1,4 @@
-use Rattle.std.proofs.Common.{◌≡◌, ◌∙◌, ap, sym, subst, map, string_bytes, IfOk}
+use Rattle.std.proofs.Common.{◌≡◌, ◌∙◌, ap, sym, subst, IfOk}
 use Rattle.std.proofs.lemmas.Iterator.Consumers.{YieldsList-end}
 use Rattle.just_text.proofs.Pieces.{YieldsList-from_pieces}
 use Rattle.just_text.proofs.Runs.{pieces_of_byte}
@@ -15,4 +15,4 @@ pub returns-in-Some : goal.returns-in-Some
 returns-in-Some c =
     let text = c.args.text.now in
     let same = sym (pieces_of_byte c.in-Some.byte text) ∙ ap (λ separator. pieces separator text) (sym c.in-Some.ensures.1) in
-    subst (λ ps. IfOk c.pieces_at_byte.result (λ v. map string_bytes v.items ≡ ps)) same c.pieces_at_byte.ensures
+    subst (λ ps. IfOk c.pieces_at_byte.result (λ v. v.items ≡ ps)) same c.pieces_at_byte.ensures

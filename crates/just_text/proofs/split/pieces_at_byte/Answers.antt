@@ -1,4 +1,4 @@
-use Rattle.std.proofs.Common.{◌≡◌, ◌<◌, ◌++◌, ◌∙◌, [], length, get_or, refl, ap, sym, arith, eqb, eqb-true, map, string_bytes, append-nil}
+use Rattle.std.proofs.Common.{◌≡◌, ◌<◌, ◌++◌, ◌∙◌, [], length, get_or, refl, ap, sym, arith, eqb, eqb-true, append-nil}
 use Rattle.std.proofs.lemmas.Str.{IsCharBoundary-start, IsCharBoundary-after_ascii}
 use Rattle.just_text.proofs.Runs.{cut_here, cut_none, one_pushed}
 use Rattle.just_text.proofs.split.pieces_at_byte.Goals as goal
@@ -27,8 +27,8 @@ loop-at-preserved c =
       boundary = IsCharBoundary-after_ascii bytes l.at c.utf8.text within (omega (arith, byte));
       lacks = c.place_of-at-in-loop-at.ensures.lacks;
       found = c.place_of-at-in-loop-at.ensures.found;
-      done = one_pushed string_bytes _ _ _ _ _ _ c.in_ok-push.ensures.items (c.in_ok-from_str.ensures.ok ∙ c.range.ensures.value)
-          (ap (λ ps. map string_bytes l.all.items ++ ps) (sym cut) ∙ l.invariant.done);
+      done = one_pushed _ _ _ _ _ _ c.in_ok-push.ensures.items (c.in_ok-from_str.ensures ∙ c.range.ensures.value)
+          (ap (λ ps. l.all.items ++ ps) (sym cut) ∙ l.invariant.done);
     }
 
 pub returns : goal.returns
@@ -37,5 +37,5 @@ returns c =
     let bytes = c.args.text.now in
     let end : l.at ≡ length bytes = omega (arith, c.as_bytes-bytes.ensures.len, l.invariant.high) in
     let last = cut_none (λ b. eqb b c.args.separator) bytes l.start l.at l.invariant.low end l.invariant.lacks in
-    sym (append-nil _) ∙ one_pushed string_bytes _ _ _ _ [] _ c.in_ok-push-2.ensures.items (c.in_ok-from_str-2.ensures.ok ∙ c.range_from.ensures.value)
-    (ap (λ ps. map string_bytes l.all.items ++ ps) (sym last) ∙ l.invariant.done)
+    sym (append-nil _) ∙ one_pushed _ _ _ _ [] _ c.in_ok-push-2.ensures.items (c.in_ok-from_str-2.ensures ∙ c.range_from.ensures.value)
+    (ap (λ ps. l.all.items ++ ps) (sym last) ∙ l.invariant.done)

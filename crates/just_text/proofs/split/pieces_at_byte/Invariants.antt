@@ -1,5 +1,5 @@
 use Rattle.std.specs.List.{slice_split}
-use Rattle.std.proofs.Common.{◌-◌, drop, false, true, IsCharBoundary, ◌++◌, length, map, slice_index, string_bytes, ℕ, ◌<◌, ◌==◌, ◌≡◌, ◌≤◌}
+use Rattle.std.proofs.Common.{◌-◌, drop, false, true, IsCharBoundary, ◌++◌, length, slice_index, ℕ, ◌<◌, ◌==◌, ◌≡◌, ◌≤◌}
 use Rattle.just_text.proofs.split.pieces_at_byte.Given as goal
 
 -- the pieces so far, and then those of the rest, are all pieces
@@ -10,7 +10,7 @@ invariant-loop-at l = record {
   boundary : IsCharBoundary l.fn.text l.start;
   lacks : (k : ℕ) → l.start ≤ k → k < l.at → (slice_index l.fn.text k == l.fn.separator) ≡ false;
   found : l.at < length l.fn.text → (slice_index l.fn.text l.at == l.fn.separator) ≡ true;
-  done : map string_bytes l.all.items ++ slice_split (λ b. b == l.fn.separator) (drop l.start l.fn.text)
+  done : l.all.items ++ slice_split (λ b. b == l.fn.separator) (drop l.start l.fn.text)
       ≡ slice_split (λ b. b == l.fn.separator) l.fn.text;
 }
 

@@ -1,5 +1,5 @@
-use Rattle.std.proofs.Common.{◌≡◌, ◌<◌, ◌+◌, ◌++◌, ◌∷◌, ◌∙◌, [], List, ℕ, get_or, length, take, drop, ap, sym, arith, map, string_bytes}
-use Rattle.std.proofs.lemmas.List.{length-map, length-set, length-take, map-append, map_more}
+use Rattle.std.proofs.Common.{◌≡◌, ◌<◌, ◌+◌, ◌++◌, ◌∷◌, ◌∙◌, [], List, ℕ, length, take, drop, ap, sym, arith, map}
+use Rattle.std.proofs.lemmas.List.{length-map, length-set, length-take, map_more}
 use Rattle.just_value.proofs.Pairs.{as_it_was, next_replaced}
 use Rattle.just_value.proofs.value.all_extended.Goals as goal
 
@@ -10,17 +10,15 @@ loop-i-preserved c =
     let i = c.loop-i.i in
     let x = c.index_mut.result.now in
     let f : List ℕ → List ℕ = λ t. (t ++ c.args.separator.now) ++ c.args.y.now in
-    let done = map f (map string_bytes (take i ys)) in
+    let done = map f (take i ys) in
     let within : i < length ys = omega (arith, c.len-i-end.ensures, c.args.xs.ok.0) in
-    let many : length done ≡ i = omega (arith, length-map (map string_bytes (take i ys)) f, length-map (take i ys) (λ k. string_bytes k), length-take i ys) in
+    let many : length done ≡ i = omega (arith, length-map (take i ys) f, length-take i ys) in
     let same = c.loop-i.invariant.same in
     let so_far = c.loop-i.invariant.so_far in
-    let old = ap (λ k. string_bytes k) c.index_mut.ensures.value ∙ as_it_was string_bytes xs ys done i x so_far many within same in
+    let old = c.index_mut.ensures.value ∙ as_it_was xs ys done i x so_far many within in
     let new = c.in_ok-extend.ensures ∙ ap f old in
-    let more = sym (ap (map f) (map_more (λ k. string_bytes k) ys i x within)
-    ∙ map-append f (map string_bytes (take i ys)) (string_bytes (get_or ys i x) ∷ [])) in
     record {
       same = length-set xs i c.extend.new.text ∙ same;
-      so_far = next_replaced string_bytes xs ys done i x so_far many within same c.extend.new.text
-          ∙ ap (λ ts. ts ++ map string_bytes (drop (i + 1) ys)) (ap (λ t. done ++ t ∷ []) new ∙ more);
+      so_far = next_replaced xs ys done i x so_far many within c.extend.new.text
+          ∙ ap (λ ts. ts ++ drop (i + 1) ys) (ap (λ t. done ++ t ∷ []) new ∙ sym (map_more f ys i x within));
     }

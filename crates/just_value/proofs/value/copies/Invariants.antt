@@ -1,5 +1,5 @@
-use Rattle.std.proofs.Common.{◌≡◌, take, string_bytes, map}
+use Rattle.std.proofs.Common.{◌≡◌, take}
 use Rattle.just_value.proofs.value.copies.Given as goal
 
 abbrev pub invariant-loop-text : goal.invariant-loop-text
-invariant-loop-text l = map string_bytes l.all.items ≡ map string_bytes (take l.text-index l.texts)
+invariant-loop-text l = l.all.items ≡ take l.text-index l.texts

@@ -1,6 +1,5 @@
-use Rattle.std.proofs.Common.{◌<◌, length, string_bytes, arith, add-one}
+use Rattle.std.proofs.Common.{◌<◌, length, arith, add-one}
 use Rattle.std.proofs.lemmas.Grind.{common_steps}
-use Rattle.std.proofs.lemmas.List.{map_push}
 use Rattle.just_value.proofs.Pairs.{paired_more}
 use Rattle.just_value.proofs.value.in_pairs.Goals as goal
 
@@ -10,10 +9,9 @@ loop-i-preserved c =
     let y : c.loop-i.i < length c.args.ys.now = omega arith in
     rw (
       c.in_ok-push.ensures.items,
-      map_push,
       add-one,
       c.loop-i.invariant,
-      paired_more string_bytes string_bytes c.args.separator.now c.args.xs.now
+      paired_more c.args.separator.now c.args.xs.now
           c.args.ys.now c.loop-i.i c.index-xs-i.result c.index-ys-i.result x y,
     )
     (grind (arith, common_steps))

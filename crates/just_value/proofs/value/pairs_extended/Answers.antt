@@ -1,5 +1,5 @@
-use Rattle.std.proofs.Common.{◌≡◌, ◌<◌, ◌+◌, ◌++◌, ◌∷◌, ◌∙◌, [], length, take, drop, ap, ap₂, sym, arith, add-one, map, string_bytes}
-use Rattle.std.proofs.lemmas.List.{length-map, length-set, length-take}
+use Rattle.std.proofs.Common.{◌≡◌, ◌<◌, ◌+◌, ◌++◌, ◌∷◌, ◌∙◌, [], length, take, drop, ap, ap₂, sym, arith, add-one}
+use Rattle.std.proofs.lemmas.List.{length-set, length-take}
 use Rattle.just_value.specs.Prelude.{paired}
 use Rattle.just_value.proofs.Pairs.{as_it_was, length_paired, next_replaced, paired_more}
 use Rattle.just_value.proofs.value.pairs_extended.Goals as goal
@@ -13,21 +13,21 @@ loop-i-preserved c =
     let i = c.loop-i.i in
     let x = c.index_mut.result.now in
     let z = c.index-ys-i.result in
-    let lefts = map string_bytes (take i ys) in
-    let rights = map string_bytes (take i zs) in
+    let lefts = take i ys in
+    let rights = take i zs in
     let done = paired s lefts rights in
     let within : i < length ys = omega (arith, c.len-i-end.ensures, c.args.xs.ok.0) in
     let beside : i < length zs = omega (arith, c.requires) in
-    let left : length lefts ≡ i = omega (arith, length-map (take i ys) (λ k. string_bytes k), length-take i ys) in
-    let right : length rights ≡ i = omega (arith, length-map (take i zs) (λ k. string_bytes k), length-take i zs) in
+    let left : length lefts ≡ i = omega (arith, length-take i ys) in
+    let right : length rights ≡ i = omega (arith, length-take i zs) in
     let many = length_paired s lefts rights (left ∙ sym right) ∙ left in
     let same = c.loop-i.invariant.same in
     let so_far = c.loop-i.invariant.so_far in
-    let old = ap (λ k. string_bytes k) c.index_mut.ensures.value ∙ as_it_was string_bytes xs ys done i x so_far many within same in
-    let new = c.in_ok-extend.ensures ∙ ap₂ (λ a b. (a ++ s) ++ b) old (c.deref.ensures ∙ ap (λ k. string_bytes k) c.index-ys-i.is) in
-    let more = sym (paired_more string_bytes string_bytes s ys zs i x z within beside) in
+    let old = c.index_mut.ensures.value ∙ as_it_was xs ys done i x so_far many within in
+    let new = c.in_ok-extend.ensures ∙ ap₂ (λ a b. (a ++ s) ++ b) old (c.deref.ensures ∙ c.index-ys-i.is) in
+    let more = sym (paired_more s ys zs i x z within beside) in
     record {
       same = length-set xs i c.extend.new.text ∙ same;
-      so_far = next_replaced string_bytes xs ys done i x so_far many within same c.extend.new.text
-          ∙ ap (λ ts. ts ++ map string_bytes (drop (i + 1) ys)) (rw (add-one) (ap (λ t. done ++ t ∷ []) new ∙ more));
+      so_far = next_replaced xs ys done i x so_far many within c.extend.new.text
+          ∙ ap (λ ts. ts ++ drop (i + 1) ys) (rw (add-one) (ap (λ t. done ++ t ∷ []) new ∙ more));
     }

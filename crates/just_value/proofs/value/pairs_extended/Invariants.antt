@@ -1,4 +1,4 @@
-use Rattle.std.proofs.Common.{◌≡◌, ◌++◌, take, drop, string_bytes, map, length}
+use Rattle.std.proofs.Common.{◌≡◌, ◌++◌, take, drop, length}
 use Rattle.just_value.specs.Prelude.{paired}
 use Rattle.just_value.proofs.value.pairs_extended.Given as goal
 
@@ -6,6 +6,5 @@ use Rattle.just_value.proofs.value.pairs_extended.Given as goal
 abbrev pub invariant-loop-i : goal.invariant-loop-i
 invariant-loop-i l = record {
   same : length l.xs.items ≡ length l.fn.xs.items;
-  so_far : map string_bytes l.xs.items
-      ≡ paired l.fn.separator (map string_bytes (take l.i l.fn.xs.items)) (map string_bytes (take l.i l.fn.ys)) ++ map string_bytes (drop l.i l.fn.xs.items);
+  so_far : l.xs.items ≡ paired l.fn.separator (take l.i l.fn.xs.items) (take l.i l.fn.ys) ++ drop l.i l.fn.xs.items;
 }

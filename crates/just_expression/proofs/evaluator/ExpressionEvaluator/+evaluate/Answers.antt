@@ -259,7 +259,7 @@ evaluate_format_string-returns-in_err-push_str-2 g t c =
 pub evaluate_format_string-loop-expression-preserved : goal.evaluate_format_string-loop-expression-preserved
 evaluate_format_string-loop-expression-preserved g t c =
     let made = c.loop-expression.invariant.0 in
-    let text = joined c.in_ok-value.value ++ string_bytes c.loop-expression-item.result.1.cooked in (
+    let text = joined c.in_ok-value.value ++ c.loop-expression-item.result.1.cooked in (
       made ++ text,
       rw (
         c.in_ok-push_str-2.ensures.bytes,
@@ -403,8 +403,11 @@ evaluate_call-returns-in-Defined g t c =
 pub evaluate_value-returns-then-budget-lt-FORM : goal.evaluate_value-returns-then-budget-lt-FORM
 evaluate_value-returns-then-budget-lt-FORM g t c = runs_stopped _
 
-pub evaluate_defined_function-returns-then-budget-lt-BODY : goal.evaluate_defined_function-returns-then-budget-lt-BODY
-evaluate_defined_function-returns-then-budget-lt-BODY g t c = runs_stopped _
+pub evaluate_call-returns-then-budget-lt-ENTRY : goal.evaluate_call-returns-then-budget-lt-ENTRY
+evaluate_call-returns-then-budget-lt-ENTRY g t c = runs_stopped _
+
+pub evaluate_defined_function-returns-then-budget-lt-REST_OF_BODY : goal.evaluate_defined_function-returns-then-budget-lt-REST_OF_BODY
+evaluate_defined_function-returns-then-budget-lt-REST_OF_BODY g t c = runs_stopped _
 
 pub evaluate_defined_function-returns-in_err-scope : goal.evaluate_defined_function-returns-in_err-scope
 evaluate_defined_function-returns-in_err-scope g t c = runs_exit _ _ _ c.from_residual.ensures.1 (runs_stopped _)

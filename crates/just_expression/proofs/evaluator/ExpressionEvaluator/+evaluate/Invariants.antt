@@ -70,5 +70,5 @@ invariant-evaluate_call-loop-argument g l = record {
 -- the text after the start so far
 abbrev pub invariant-evaluate_format_string-loop-expression : goal.invariant-evaluate_format_string-loop-expression
 invariant-evaluate_format_string-loop-expression g l =
-    (made : Text) × (string_bytes l.text ≡ string_bytes l.start.cooked ++ made)
+    (made : Text) × (string_bytes l.text ≡ l.start.cooked ++ made)
     × PiecesLeft g.H.Host.step l.self l.fn.host l.expressions l.expression-index l.host made
