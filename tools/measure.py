@@ -150,6 +150,18 @@ def calls_of_built_ins(n):
     return lines + ["run"], "".join(answer)
 
 
+def elements_of_a_list(n):
+    """One list of n literals."""
+    texts = ", ".join('"x"' for _ in range(n))
+    return ["str x"] * n + [f"list {n}", "assign a", "lists", "run"], f"a = [{texts}]\n"
+
+
+def parameters_of_a_function(n):
+    """One function of n parameters, called with n arguments."""
+    names = " ".join(f"p{i}" for i in range(n))
+    return ["var p0", f"fun f {names}"] + ["str x"] * n + [f"call f {n}", "assign a", "run"], 'a = "x"\n'
+
+
 FAMILIES = [
     (chain_of_additions, 1_100),
     (assignments_in_a_row, 4_000),
@@ -164,6 +176,8 @@ FAMILIES = [
     (functions_in_a_row, 112),
     (calls_of_one_function, 3_000),
     (calls_of_built_ins, 3_000),
+    (elements_of_a_list, 125),
+    (parameters_of_a_function, 125),
 ]
 
 
