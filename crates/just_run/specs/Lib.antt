@@ -1,0 +1,4 @@
+pub mod Arguments
+pub mod View
+pub mod Said
+pub mod Run
