@@ -16,7 +16,7 @@ use std::process::Abort;
 // A refusal says this text at the token of this lexeme, and so does the compile error that it becomes.
 fn expect(rt: &impl Abort, alloc: Global, error: ConstEvalError, text: &str, at: &str) {
     prints(rt, alloc, &error, text);
-    occurs(rt, text, Some(error.context()), Some(at));
+    occurs(rt, text, Some(error.token()), Some(at));
     let ended = error.into_compile_error();
     occurs(rt, text, ended.token(), Some(at));
     says(rt, alloc, ended, text);
@@ -43,7 +43,7 @@ fn const_errors_say(rt: HostRuntime) {
         ),
     ] {
         prints(&rt, alloc, &error, text);
-        occurs(&rt, text, Some(error.context()), Some(at));
+        occurs(&rt, text, Some(error.token()), Some(at));
         expect(&rt, alloc, ConstEvalError::Const(error), text, at);
     }
 }

@@ -22,7 +22,7 @@ pub enum ConstError<'src> {
 
 impl<'src> ConstError<'src> {
     /// The token of the refusal. Upstream's `ConstError::context`.
-    pub fn context(self) -> Token<'src>
+    pub fn token(self) -> Token<'src>
         ensures { token_view result ≡ const_token (const_refusal self.entry) }
     {
         match self {

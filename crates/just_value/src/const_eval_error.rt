@@ -57,12 +57,12 @@ pub enum ConstEvalError<'src> {
 
 impl<'src> ConstEvalError<'src> {
     /// The token of the refusal. Upstream's `ConstEvalError::context`.
-    pub fn context(&self) -> Token<'src>
+    pub fn token(&self) -> Token<'src>
         ensures { token_view result ≡ const_eval_token (const_eval_refusal self.now) }
     {
         match self {
             ConstEvalError::Assert { message: _, name } => name.token,
-            ConstEvalError::Const(error) => error.context(),
+            ConstEvalError::Const(error) => error.token(),
             ConstEvalError::EmptyInterpreter { setting } => setting.token,
             ConstEvalError::ListInStringContext { context, value: _ } => context.token(),
             ConstEvalError::Internal { token, .. }
@@ -77,7 +77,7 @@ impl<'src> ConstEvalError<'src> {
         ensures token { compile_token result ≡ Some (const_eval_token (const_eval_refusal self.entry)) }
     {
         CompileError::ConstEval {
-            token: self.context(),
+            token: self.token(),
             error: self,
         }
     }

@@ -101,7 +101,7 @@ impl<'src> Error<'src> {
         ensures { option_map token_view result ≡ error_token (refusal self.now) }
     {
         match self {
-            Error::Const(error) => Some(error.context()),
+            Error::Const(error) => Some(error.token()),
             Error::ListInStringContext { context, .. } => Some(context.token()),
             Error::Assert { name, .. }
             | Error::FunctionCall { function: name, .. }

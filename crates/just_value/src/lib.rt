@@ -5,6 +5,7 @@
 pub mod binding;
 pub mod bindings;
 pub mod check_fault;
+mod combination;
 pub mod compile_error;
 pub mod const_error;
 pub mod const_eval_error;

@@ -1,5 +1,5 @@
 use Rattle.std.proofs.Common.{◌≡◌, take}
-use Rattle.just_value.proofs.value.copies.Given as goal
+use Rattle.just_value.proofs.value.copied.Given as goal
 
 abbrev pub invariant-loop-text : goal.invariant-loop-text
 invariant-loop-text l = l.all.items ≡ take l.text-index l.texts

@@ -1,7 +1,7 @@
 use Rattle.std.proofs.Common.{◌<◌, length, arith, add-one}
 use Rattle.std.proofs.lemmas.Grind.{common_steps}
 use Rattle.just_value.proofs.Pairs.{paired_more}
-use Rattle.just_value.proofs.value.in_pairs.Goals as goal
+use Rattle.just_value.proofs.combination.in_pairs.Goals as goal
 
 pub loop-i-preserved : goal.loop-i-preserved
 loop-i-preserved c =

@@ -1,7 +1,7 @@
 use Rattle.std.proofs.Common.{◌≡◌, ◌<◌, ◌+◌, ◌++◌, ◌∷◌, ◌∙◌, [], List, ℕ, length, take, drop, ap, sym, arith, map}
 use Rattle.std.proofs.lemmas.List.{length-map, length-set, length-take, map_more}
 use Rattle.just_value.proofs.Pairs.{as_it_was, next_replaced}
-use Rattle.just_value.proofs.value.all_extended.Goals as goal
+use Rattle.just_value.proofs.combination.all_extended.Goals as goal
 
 pub loop-i-preserved : goal.loop-i-preserved
 loop-i-preserved c =

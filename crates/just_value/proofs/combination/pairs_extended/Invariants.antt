@@ -1,6 +1,6 @@
 use Rattle.std.proofs.Common.{◌≡◌, ◌++◌, take, drop, length}
 use Rattle.just_value.specs.Prelude.{paired}
-use Rattle.just_value.proofs.value.pairs_extended.Given as goal
+use Rattle.just_value.proofs.combination.pairs_extended.Given as goal
 
 -- the first are extended, and the others as they were
 abbrev pub invariant-loop-i : goal.invariant-loop-i

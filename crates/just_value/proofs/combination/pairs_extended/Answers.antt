@@ -2,7 +2,7 @@ use Rattle.std.proofs.Common.{◌≡◌, ◌<◌, ◌+◌, ◌++◌, ◌∷◌, 
 use Rattle.std.proofs.lemmas.List.{length-set, length-take}
 use Rattle.just_value.specs.Prelude.{paired}
 use Rattle.just_value.proofs.Pairs.{as_it_was, length_paired, next_replaced, paired_more}
-use Rattle.just_value.proofs.value.pairs_extended.Goals as goal
+use Rattle.just_value.proofs.combination.pairs_extended.Goals as goal
 
 pub loop-i-preserved : goal.loop-i-preserved
 loop-i-preserved c =

@@ -1,5 +1,5 @@
 use Rattle.std.proofs.Common.{◌≡◌, ◌++◌, take, drop, map, length}
-use Rattle.just_value.proofs.value.all_extended.Given as goal
+use Rattle.just_value.proofs.combination.all_extended.Given as goal
 
 -- the first are extended, and the others as they were
 abbrev pub invariant-loop-i : goal.invariant-loop-i
