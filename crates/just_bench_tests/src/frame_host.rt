@@ -1,7 +1,8 @@
 // A host that inspects the frames that its commands are shown.
 
+use just_host::command_host::{CommandHost, Commands};
 use just_host::command_question::CommandQuestion;
-use just_script::commands::{CommandHost, Commands};
+use just_host::no_host::NoHost;
 use just_syntax::out_of_memory::OutOfMemory;
 use just_value::error::CommandFault;
 use just_value::frame::Frame;
@@ -17,15 +18,15 @@ pub(crate) struct FrameCounter {
 }
 
 /// A host whose commands were shown nothing yet.
-pub(crate) fn frame_host(alloc: Global) -> CommandHost<FrameCounter> {
-    CommandHost {
-        commands: FrameCounter {
-            shown: String::new(alloc),
-        },
-    }
+pub(crate) fn frame_host(alloc: Global) -> CommandHost<FrameCounter, NoHost> {
+    CommandHost::new(FrameCounter {
+        shown: String::new(alloc),
+    })
 }
 
 impl Commands for FrameCounter {
+    ghost answers = { λ _ _ _ _. Unit {0} };
+
     fn answer(
         &mut self,
         alloc: Global,

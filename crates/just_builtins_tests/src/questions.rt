@@ -4,6 +4,7 @@ use crate::around::{Around, MODULE, insert, map};
 use crate::host::{Asked, answer_in, answer_of, is_reported};
 use crate::texts::{long, owned, same};
 use just_host::ask::ask_command;
+use just_host::command_host::{CommandHost, Commands};
 use just_host::command_question::CommandQuestion;
 use just_host::directory_kind::DirectoryKind;
 use just_host::execution_context::ExecutionContext;
@@ -13,7 +14,6 @@ use just_host::recorded::Recorded;
 use just_host::recorder::Recorder;
 use just_host::settings::Settings;
 use just_host::text_question::TextQuestion;
-use just_script::commands::{CommandHost, Commands};
 use just_syntax::interpreter::Interpreter;
 use just_syntax::out_of_memory::OutOfMemory;
 use just_value::error::CommandFault;
@@ -154,6 +154,8 @@ enum Describer {
 }
 
 impl Commands for Describer {
+    ghost answers = { λ _ _ _ _. Unit {0} };
+
     fn answer(
         &mut self,
         alloc: Global,
@@ -187,7 +189,7 @@ fn commands(rt: HostRuntime) {
 fn runs<'src>(rt: &impl Abort, alloc: Global, place: &'src str, command: &Command) {
     let (shell, arguments, takes_shell_name, printed, words) = *command;
     let commands = Describer::Words { takes_shell_name };
-    let mut host = Recorder::new(alloc, CommandHost { commands });
+    let mut host = Recorder::new(alloc, CommandHost::new(commands));
     let around = Around::plain(rt, alloc, place, set_to(rt, alloc, shell));
     let answer = answer_with(rt, alloc, &mut host, &around.context(), arguments);
     drop(around);
@@ -223,7 +225,7 @@ fn after(rt: &impl Abort, alloc: Global, line: &str) -> Vec<String> {
 fn answer_with<'call>(
     rt: &'call impl Abort,
     alloc: Global,
-    host: &'call mut Recorder<CommandHost<Describer>>,
+    host: &'call mut Recorder<CommandHost<Describer, NoHost>>,
     context: &'call ExecutionContext,
     arguments: Option<&str>,
 ) -> Result<String, CommandFault> {
@@ -346,9 +348,7 @@ fn held_in<'call>(
     }
     ask_command(
         alloc,
-        &mut CommandHost {
-            commands: Describer::Context,
-        },
+        &mut CommandHost::new(Describer::Context),
         context,
         env,
         context.scope,

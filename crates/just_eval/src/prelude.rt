@@ -51,6 +51,7 @@ pub use just_host::search::Search;
 pub use just_host::settings::Settings;
 
 // The host, and what it is asked.
+pub use just_host::command_host::{CommandHost, Commands};
 pub use just_host::command_question::CommandQuestion;
 pub use just_host::directory_kind::DirectoryKind;
 pub use just_host::exports::{EnvironmentChange, exports};
@@ -60,6 +61,7 @@ pub use just_host::no_host::NoHost;
 pub use just_host::number_question::NumberQuestion;
 pub use just_host::recorded::Recorded;
 pub use just_host::recorder::Recorder;
+pub use just_host::replay_host::{ReplayHost, Reply};
 pub use just_host::text_answer::TextAnswer;
 pub use just_host::text_question::TextQuestion;
 

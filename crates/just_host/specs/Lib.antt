@@ -12,4 +12,6 @@ pub mod Exports
 pub mod View
 pub mod MapHost
 pub mod NoHost
+pub mod CommandHost
+pub mod Replay
 pub mod Prelude

@@ -3,6 +3,7 @@
 #![tactic(auto)]
 
 pub mod ask;
+pub mod command_host;
 pub mod command_question;
 pub mod config;
 pub mod directory_kind;
@@ -18,6 +19,7 @@ pub mod number_question;
 mod printed;
 pub mod recorded;
 pub mod recorder;
+pub mod replay_host;
 pub mod search;
 pub mod settings;
 pub mod text_answer;

@@ -4,12 +4,13 @@ use crate::bindings::report_frame;
 use crate::recipes::around::DIRECTORY;
 use crate::recipes::failing::Failing;
 use crate::recipes::texts::add;
+use just_host::command_host::{CommandHost, Commands};
 use just_host::command_question::CommandQuestion;
 use just_host::host::Host;
+use just_host::no_host::NoHost;
 use just_host::number_question::NumberQuestion;
 use just_host::text_answer::TextAnswer;
 use just_host::text_question::TextQuestion;
-use just_script::commands::{CommandHost, Commands};
 use just_script::fail_at::FailAt;
 use just_syntax::out_of_memory::OutOfMemory;
 use just_value::element::Element;
@@ -24,6 +25,8 @@ use std::process::Abort;
 struct Brackets {}
 
 impl Commands for Brackets {
+    ghost answers = { λ _ _ _ _. Unit {0} };
+
     fn answer(
         &mut self,
         alloc: Global,
@@ -39,15 +42,13 @@ impl Commands for Brackets {
 #[derive(Drop)]
 pub(crate) struct ReportingHost {
     pub(crate) reported: String,
-    host: FailAt<CommandHost<Brackets>>,
+    host: FailAt<CommandHost<Brackets, NoHost>>,
 }
 
 impl ReportingHost {
     /// A host that passes this many questions on, and then fails.
     pub(crate) fn new(alloc: Global, (passed, how): Failing) -> ReportingHost {
-        let host = CommandHost {
-            commands: Brackets {},
-        };
+        let host = CommandHost::new(Brackets {});
         ReportingHost {
             reported: String::new(alloc),
             host: FailAt::new(host, passed, how),
