@@ -181,16 +181,21 @@ FAMILIES = [
 ]
 
 
+def grown(family, smallest):
+    """A family's cases at four sizes, each twice the one before: its name, its size, its bytes and its answer."""
+    for n in [smallest, 2 * smallest, 4 * smallest, 8 * smallest]:
+        lines, answer = family(n)
+        yield f"{family.__name__} of {n}", n, ("\n".join(lines) + "\n").encode(), answer.encode()
+
+
 def measure_growth(program):
     print("growth: each size twice the one before; time and memory with their factors")
     for family, smallest in FAMILIES:
         print(f"\n{family.__name__}: {family.__doc__}")
         print(f"{'n':>8} {'bytes':>8} {'seconds':>9} {'factor':>7} {'KiB':>9} {'factor':>7}")
         before = None
-        for n in [smallest, 2 * smallest, 4 * smallest, 8 * smallest]:
-            lines, answer = family(n)
-            case = ("\n".join(lines) + "\n").encode()
-            now = measured(program, f"{family.__name__} of {n}", case, answer.encode())
+        for name, n, case, answer in grown(family, smallest):
+            now = measured(program, name, case, answer)
             factors = [f"{new / old:.2f}" for new, old in zip(now, before)] if before else ["", ""]
             print(f"{n:>8} {len(case):>8} {now[0]:>9.4f} {factors[0]:>7} {now[1]:>9} {factors[1]:>7}")
             before = now
@@ -216,10 +221,8 @@ def measure_instructions(program):
     for family, smallest in FAMILIES:
         print(f"\n{family.__name__}: {family.__doc__}")
         before = None
-        for n in [smallest, 2 * smallest, 4 * smallest, 8 * smallest]:
-            lines, answer = family(n)
-            case = ("\n".join(lines) + "\n").encode()
-            now = counted(program, f"{family.__name__} of {n}", case, answer.encode())
+        for name, n, case, answer in grown(family, smallest):
+            now = counted(program, name, case, answer)
             factor = f"{now / before:.2f}" if before else ""
             print(f"{n:>8} {now:>14} {factor:>7}")
             before = now
@@ -228,7 +231,8 @@ def measure_instructions(program):
 def counted(program, name, case, answer):
     """How many instructions a case with a known answer takes."""
     with tempfile.NamedTemporaryFile("r") as log:
-        command = ["valgrind", "--tool=cachegrind", "--cache-sim=no", "--cachegrind-out-file=/dev/null", "--main-stacksize=500000000", f"--log-file={log.name}", program]
+        command = ["valgrind", "--tool=cachegrind", "--cache-sim=no", "--cachegrind-out-file=/dev/null"]
+        command += ["--main-stacksize=500000000", f"--log-file={log.name}", program]
         # (the loader looks through all variables that there are)
         run = Run(command, case, environment={"PATH": os.defpath})
         if run.output != answer:

@@ -61,7 +61,9 @@ module _ {S : Type 0} (step : Step S) (shown : Frames) where
     from : (rest : Reply) (o : Outcome Called) (last : S) → Runs freely step mid (tree shown (first_set dotenv rest (key ∷ left))) o last
         → Runs freely step old (tree shown (first_set dotenv rest keys)) o last
     from rest o last run =
-        let all = drop-cons keys i s within ∙ ap (λ t. t ∷ drop (suc i) keys) (sym here) ∙ ap (λ j. s ∷ drop j keys) (sym (add-one i)) ∙ ap (λ t. t ∷ left) (sym same) in
+        let with_key : (t : Text) → t ≡ key → t ∷ left ≡ key ∷ left = λ t is. ap (λ x. x ∷ left) is in
+        let next = drop-cons keys i s within ∙ ap (λ t. t ∷ drop (suc i) keys) (sym here) in
+        let all = next ∙ ap (λ j. s ∷ drop j keys) (sym (add-one i)) ∙ with_key s (sym same) in
         so_far rest o last (subst (λ ks. Runs freely step mid (tree shown (first_set dotenv rest ks)) o last) (sym all) run)
 
     pub not_set : r ≡ Ok None → (rest : Reply) (o : Outcome Called) (last : S) → Runs freely step new (tree shown (first_set dotenv rest left)) o last

@@ -1,6 +1,6 @@
 -- How the words of a call are given to a recipe's parameters.
-use Rattle.std.specs.Prelude.{ℕ, Bool, true, false, not, ◌&&◌, ◌||◌, ◌+◌, ◌==◌, List, [], ◌∷◌, Option, Some, None, Result, Ok, Err}
-use Rattle.std.specs.Prelude.{is_some, if◌then◌else◌, nat_le, take, drop, length, option_map}
+use Rattle.std.specs.Prelude.{ℕ, Bool, true, false, not, ◌&&◌, ◌||◌, ◌+◌, ◌==◌, List, [], ◌∷◌, Option, Some, None}
+use Rattle.std.specs.Prelude.{Result, Ok, Err, is_some, if◌then◌else◌, nat_le, take, drop, length, option_map}
 use Rattle.just_syntax.specs.declared.parameter_kind.ParameterKind.{ParameterKind}
 use Rattle.just_syntax.specs.declared.parameter_kind.ParameterKind.TheVariants.{Singular, Plus, Star}
 use Rattle.just_syntax.specs.Prelude.{is_variadic}

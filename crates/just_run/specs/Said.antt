@@ -19,7 +19,8 @@ counted found = if found == 1 then codes "1 argument" else decimal found ++ code
 -- `recipe build got 1 argument but takes 2`, with the recipe in backticks
 abbrev pub miscount_text : Miscount → Text
 miscount_text m =
-    codes "recipe `" ++ (m.recipe ++ (codes "` got " ++ (counted m.found ++ (codes " but " ++ required m.found m.fewest m.most))))
+    let is_required = codes " but " ++ required m.found m.fewest m.most in
+    codes "recipe `" ++ (m.recipe ++ (codes "` got " ++ (counted m.found ++ is_required)))
 
 abbrev pub argument_error_text : Option Miscount → Text
 argument_error_text (Some m) = miscount_text m

@@ -6,5 +6,6 @@ use Rattle.just_run.specs.Arguments.{Miscount}
 
 -- the number of words that an error reports; nothing for `OutOfMemory`
 abbrev pub miscount : ArgumentError → Option Miscount
-miscount (Count recipe found fewest most) = Some (record { recipe = recipe.now; found = found; fewest = fewest; most = most })
+miscount (Count recipe found fewest most) =
+    Some (record { recipe = recipe.now; found = found; fewest = fewest; most = most })
 miscount OutOfMemory = None

@@ -8,7 +8,6 @@ ghost use Rattle.just_run.specs.declared.argument_error.ArgumentError.TheVariant
 
 use just_syntax::out_of_memory::OutOfMemory;
 use just_syntax::unstyled::write_unstyled;
-use std::alloc::{AllocError, AllocFailed};
 use std::error::Error;
 use std::fmt;
 
@@ -92,22 +91,6 @@ impl From<OutOfMemory> for ArgumentError<'_> {
     ghost from_gives = { λ _ e. e ≡ Wanted };
 
     fn from(_error: OutOfMemory) -> Self {
-        ArgumentError::OutOfMemory
-    }
-}
-
-impl From<AllocError> for ArgumentError<'_> {
-    ghost from_gives = { λ _ e. e ≡ Wanted };
-
-    fn from(_error: AllocError) -> Self {
-        ArgumentError::OutOfMemory
-    }
-}
-
-impl<T: Drop> From<AllocFailed<T>> for ArgumentError<'_> {
-    ghost from_gives = { λ _ e. e ≡ Wanted };
-
-    fn from(_error: AllocFailed<T>) -> Self {
         ArgumentError::OutOfMemory
     }
 }
