@@ -5,6 +5,8 @@ mod Assigned
 mod There
 mod Here
 mod Lines
+mod Commands
+mod Backslash
 mod Same
 mod Arguments
 mod Attributes

@@ -1,3 +1,5 @@
 pub mod View
 pub mod Check
+pub mod Commands
+pub mod Joined
 pub mod Prelude

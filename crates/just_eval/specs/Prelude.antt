@@ -38,6 +38,9 @@ pub use Rattle.just_value.specs.Value.{Value}
 pub use Rattle.just_value.specs.View.{HasOwnToken, bound_view, compile_refusal, const_ended, ended, frames_view}
 pub use Rattle.just_value.specs.View.{refusal}
 pub use Rattle.just_eval.specs.Check.{GivesVerdict, IsJudged, verdict_view}
+pub use Rattle.just_eval.specs.Commands.{commands, commands_of, ends_with_backslash, is_continued, is_continued_by}
+pub use Rattle.just_eval.specs.Commands.{lines_expressions, unjoined, with_line, without_backslash}
+pub use Rattle.just_eval.specs.Joined.{joined_view, texts_view}
 pub use Rattle.just_eval.specs.View.{Assigned, IsAtStart, IsBound, IsConst, IsInRun, IsResolvedIn, IsSameButScope}
 pub use Rattle.just_eval.specs.View.{IsSameButScopeAndEnvironment, MayCall, MayCallIn, OpensOrEnds, Resolves, WasBound}
 pub use Rattle.just_eval.specs.View.{arguments_view, below_of, calls_left_in, calls_left_of, dynamic_meaning}

@@ -15,6 +15,7 @@ mod commands;
 mod constants;
 mod lines;
 mod parameters;
+mod recipe_lines;
 mod sets;
 
 use just_expression::evaluator::ExpressionEvaluator;

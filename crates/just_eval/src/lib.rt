@@ -5,6 +5,7 @@
 
 mod argument;
 pub mod evaluator;
+mod joined;
 pub mod laws;
 mod line;
 pub mod prelude;

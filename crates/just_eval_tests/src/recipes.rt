@@ -7,6 +7,7 @@ mod calls;
 mod evaluated;
 mod failing;
 mod hosts;
+mod joined;
 mod lines;
 mod parameter_rows;
 mod parameters;
