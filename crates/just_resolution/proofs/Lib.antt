@@ -1,13 +1,13 @@
 pub mod Closure
 mod Deciding
-mod Faults
-mod Finding
+pub mod Faults
+pub mod Finding
 mod Numbering
-mod Ordering
+pub mod Ordering
 mod Readers
 mod Resolving
 mod Rows
 pub mod Sets
 pub mod Occurrences
-mod Tables
+pub mod Tables
 mod Turns

@@ -161,7 +161,7 @@ module _ (functions : List Function) (assignments : Assignments) where
 
   module _ (outer : Frames) where
     -- what is readable was taken or is bound outside
-    taken_or_bound : (taken readable : ℕ → Bool) (numbers : List ℕ) → ((n : ℕ) → IsTrue (readable n) ↔ (IsTrue (taken n) ⊎ HasValue (value_in outer) n))
+    pub taken_or_bound : (taken readable : ℕ → Bool) (numbers : List ℕ) → ((n : ℕ) → IsTrue (readable n) ↔ (IsTrue (taken n) ⊎ HasValue (value_in outer) n))
         → ((n : ℕ) → IsIn numbers n ↔ IsTrue (taken n)) →
         (n : ℕ) → IsTrue (readable n) ↔ IsTakenOrBound outer numbers n
     taken_or_bound taken readable numbers readable_if same n = (
@@ -170,7 +170,7 @@ module _ (functions : List Function) (assignments : Assignments) where
     )
 
     -- if the same is readable, the same may come next and the same may not
-    next_alike : (P Q : ℕ → Type 0) (t : Token) → ((n : ℕ) → P n ↔ Q n) → MayComeNext functions assignments P t → MayComeNext functions assignments Q t
+    pub next_alike : (P Q : ℕ → Type 0) (t : Token) → ((n : ℕ) → P n ↔ Q n) → MayComeNext functions assignments P t → MayComeNext functions assignments Q t
     next_alike P Q t same h = (h.0, λ a found referenced n r. (same n).0 (h.1 a found referenced n r))
 
     beyond_alike : (P Q : ℕ → Type 0) (e : Expr) (v : Token) → ((n : ℕ) → P n ↔ Q n) → IsUnreadableBeyond functions P e v → IsUnreadableBeyond functions Q e v
@@ -188,12 +188,12 @@ module _ (functions : List Function) (assignments : Assignments) where
     reads_alike P Q e v same (inl first) = inl (unreadable_alike P Q same (sites_in e) (Some v) first)
     reads_alike P Q e v same (inr later) = inr (unreadable_alike P Q same (sites_in e) None later.0, beyond_alike P Q e v same later.1)
 
-    misplaced_alike : (P Q : ℕ → Type 0) (t : Token) (f : ModuleFault) → ((n : ℕ) → P n ↔ Q n) → IsMisplaced functions assignments P t f
+    pub misplaced_alike : (P Q : ℕ → Type 0) (t : Token) (f : ModuleFault) → ((n : ℕ) → P n ↔ Q n) → IsMisplaced functions assignments P t f
         → IsMisplaced functions assignments Q t f
     misplaced_alike P Q t f same (inl none) = inl none
     misplaced_alike P Q t f same (inr r) = inr (r.0, r.1, r.2, (r.3.0, r.3.1, reads_alike P Q r.0.value r.3.0 same r.3.2))
 
-    with_one : (o : Option Assignment) (numbers : List ℕ) (n : ℕ) → IsIn (with_taken assignments o numbers) n
+    pub with_one : (o : Option Assignment) (numbers : List ℕ) (n : ℕ) → IsIn (with_taken assignments o numbers) n
         ↔ (IsIn numbers n ⊎ ((a : Assignment) × (o ≡ Some a) × (assignments.referenced a.number ≡ true) × (a.number ≡ n)))
     with_one None numbers n = ((λ h. inl h), (λ h. ⊎_elim (λ k. k) (λ k. absurd (let e : None ≡ Some k.0 = k.1 in cc)) h))
     with_one (Some a) numbers n = by (assignments.referenced a.number) refl

@@ -19,14 +19,18 @@ use just_syntax::table::Table;
 use std::alloc::Global;
 use std::collections::BTreeSet;
 
-// The first variable that an expression may not read: by itself one that is not readable here, or through functions one
-// that is not readable in bodies.
-//
-// Each function that it reaches is scanned, unless it is admitted: then it and what it calls were scanned before, and
-// what bodies could read then they can read now. A function is admitted before it is scanned, so that none is scanned
-// twice, and mutual recursion terminates. If nothing is found, the admitted functions are a closed set: it holds what
-// they call. `sites` is filled anew for each scan, and `pending` for each expression.
-pub(crate) fn first_unreadable<'src>(
+/// The first variable that an expression may not read: by itself one that is not readable `here`, or through functions
+/// one that is not `readable` in bodies.
+///
+/// Each function that it reaches is scanned, unless it is admitted: then it and what it calls were scanned before, and
+/// what bodies could read then they can read now. A function is admitted before it is scanned, so that none is scanned
+/// twice, and mutual recursion terminates. If nothing is found, the admitted functions are a closed set: it holds what
+/// they call. `sites` is filled anew for each scan, and `pending` for each expression.
+///
+/// # Errors
+///
+/// `OutOfMemory` if an allocation fails: nothing is decided.
+pub fn first_unreadable<'src>(
     alloc: Global,
     sites: &mut Vec<Site<'src>>,
     pending: &mut Vec<&'src str>,

@@ -81,8 +81,8 @@ fn call_fault<'src>(
     }
 }
 
-// The fault of a variable or a call, if there is one.
-fn site_fault<'src>(
+/// The fault of a variable or a call, if there is one. It allocates nothing.
+pub fn site_fault<'src>(
     functions: &Table<FunctionDefinition<'src>>,
     site: &Site<'src>,
 ) -> Option<Fault<'src>>

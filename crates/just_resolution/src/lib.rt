@@ -4,15 +4,15 @@
 // or on the evaluator.
 #![tactic(auto)]
 
-mod admitted;
+pub mod admitted;
 mod expressions;
 pub mod fault;
 pub mod first_fault;
 mod here;
-mod known;
+pub mod known;
 pub mod numbers;
 mod order;
-mod readable;
+pub mod readable;
 pub mod references;
 pub mod resolved;
 pub mod resolved_const;

@@ -45,8 +45,12 @@ pub(crate) fn numbering_fault<'src>(
     Ok(parameter_fault(parent, &numbers[first_parameter..]))
 }
 
-// Assignments with their numbers.
-pub(crate) fn assignment_numbers<'src>(
+/// The names of assignments with their numbers, in the order of the names.
+///
+/// # Errors
+///
+/// `OutOfMemory` if an allocation fails.
+pub fn assignment_numbers<'src>(
     alloc: Global,
     assignments: &Table<Assignment<'src>>,
 ) -> Result<Vec<(Name<'src>, Number)>, OutOfMemory>
@@ -60,8 +64,12 @@ pub(crate) fn assignment_numbers<'src>(
     Ok(numbers)
 }
 
-// Adds the parameters of functions with their numbers.
-pub(crate) fn add_parameter_numbers<'src>(
+/// Adds the parameters of functions with their numbers, in the order of the functions' names.
+///
+/// # Errors
+///
+/// `OutOfMemory` if an allocation fails.
+pub fn add_parameter_numbers<'src>(
     numbers: &mut Vec<(Name<'src>, Number)>,
     functions: &Table<FunctionDefinition<'src>>,
 ) -> Result<(), OutOfMemory>

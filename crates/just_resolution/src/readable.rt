@@ -8,18 +8,22 @@ use just_syntax::out_of_memory::OutOfMemory;
 use just_value::scope::Scope;
 use std::alloc::Global;
 
-// The numbers that may be read: those that were taken, and those that are bound outside.
+/// The numbers that may be read: those that were taken, and those that are bound outside.
 #[derive(Drop)]
-pub(crate) struct Readable<'src, 'scope, 'run> {
-    outer: &'scope Scope<'src, 'run>,
+pub struct Readable<'src, 'scope, 'run> {
+    pub outer: &'scope Scope<'src, 'run>,
     taken: NumberSet,
 }
 
 impl<'src, 'scope, 'run> Readable<'src, 'scope, 'run> {
     ghost use Rattle.just_resolution.specs.Seen.{is_readable, is_taken};
 
-    // With nothing taken. It allocates a byte for each number below `bound`.
-    pub(crate) fn new(
+    /// With nothing taken. It allocates a byte for each number below `bound`.
+    ///
+    /// # Errors
+    ///
+    /// `OutOfMemory` if an allocation fails: nothing is created.
+    pub fn new(
         alloc: Global,
         outer: &'scope Scope<'src, 'run>,
         bound: usize,
@@ -31,22 +35,26 @@ impl<'src, 'scope, 'run> Readable<'src, 'scope, 'run> {
         Ok(Readable { outer, taken })
     }
 
-    // Whether a number was taken.
-    pub(crate) fn has_taken(&self, number: Number) -> bool
+    /// Whether a number was taken.
+    pub fn has_taken(&self, number: Number) -> bool
         ensures { result ≡ is_taken self.now number }
     {
         self.taken.contains(number)
     }
 
-    // Whether a number may be read.
-    pub(crate) fn contains(&self, number: Number) -> bool
+    /// Whether a number may be read.
+    pub fn contains(&self, number: Number) -> bool
         ensures { result ≡ is_readable self.now number }
     {
         self.has_taken(number) || self.outer.value(number).is_some()
     }
 
-    // Takes a number.
-    pub(crate) fn take(&mut self, number: Number) -> Result<(), OutOfMemory>
+    /// Takes a number.
+    ///
+    /// # Errors
+    ///
+    /// `OutOfMemory` if an allocation fails.
+    pub fn take(&mut self, number: Number) -> Result<(), OutOfMemory>
         ensures taken { OnOk result ((n : ℕ) → IsTrue (is_taken self.new n)
             ↔ (IsTrue (is_taken self.old n) ⊎ (number ≡ n))) }
         ensures outer { self.new.outer ≡ self.old.outer }

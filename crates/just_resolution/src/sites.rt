@@ -30,8 +30,12 @@ pub fn sites_in<'src>(
     Ok(all)
 }
 
-// Where variables and calls occur in an expression, as `sites_in`, in a list that is used again: it is emptied first.
-pub(crate) fn refill<'src>(
+/// Where variables and calls occur in an expression, as `sites_in`, in a list that is used again: it is emptied first.
+///
+/// # Errors
+///
+/// `OutOfMemory` if an allocation fails.
+pub fn refill<'src>(
     sites: &mut Vec<Site<'src>>,
     expression: &Expression<'src>,
 ) -> Result<(), OutOfMemory>

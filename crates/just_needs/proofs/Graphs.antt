@@ -1,0 +1,58 @@
+-- The nodes of a graph.
+use Rattle.std.proofs.Common.{◌≡◌, ◌⊎◌, inl, inr, ⊎_elim, ℕ, Bool, true, false, cond, List, [], ◌∷◌, ◌++◌, map, Some, Vec, refl, ap, sym}
+use Rattle.std.specs.BTreeMap.{is_at}
+use Rattle.std.specs.List.{flat_map}
+use Rattle.std.specs.Map.{lookup}
+use Rattle.std.specs.Ordering.{nat_cmp}
+use Rattle.std.specs.Str.{bytes_eq}
+use Rattle.std.proofs.lemmas.Slice.Eq.{bytes_eq-Decides}
+use Rattle.just_syntax.proofs.Lists.{in_first, in_second}
+use Rattle.just_syntax.proofs.Members.{number_decides}
+use Rattle.just_needs.specs.declared.numbered.Valued.{Valued}
+use Rattle.just_needs.specs.Prelude.{Function, IsIn, OfFunction, OfVariable, PlainNode, Text, function_at, function_view, graph_view, looked_up, nodes_in}
+use Rattle.just_needs.specs.Prelude.{read_by, read_by_body}
+use Rattle.just_needs.specs.declared.graph.Graph.{Graph}
+use Rattle.just_needs.proofs.Walk.{AreAll}
+
+abbrev variables : Graph → List PlainNode
+variables g = map (λ e. OfVariable e.0) g.numbered.entries
+
+abbrev functions : Graph → List PlainNode
+functions g = map (λ f. OfFunction f.name.lexeme) (map function_view g.functions.now)
+
+-- the variables and the functions of a graph
+abbrev pub all_nodes : Graph → List PlainNode
+all_nodes g = variables g ++ functions g
+
+-- a number that has no entry reads nothing
+variable_known : {A : Type 0} (is_followed : ℕ → Bool) (es : List (ℕ × Vec Valued A)) (n : ℕ)
+    → IsIn (map (λ e. OfVariable e.0) es) (OfVariable n) ⊎ (flat_map (nodes_in is_followed) (looked_up (lookup (is_at (nat_cmp n)) es)) ≡ [])
+variable_known is_followed [] n = inr refl
+variable_known is_followed (e ∷ es) n = by (is_at (nat_cmp n) e.0) refl (variable_known is_followed es n)
+  where
+    by : (b : Bool) → is_at (nat_cmp n) e.0 ≡ b
+        → IsIn (map (λ e. OfVariable e.0) es) (OfVariable n) ⊎ (flat_map (nodes_in is_followed) (looked_up (lookup (is_at (nat_cmp n)) es)) ≡ [])
+        → IsIn (map (λ e. OfVariable e.0) (e ∷ es)) (OfVariable n)
+        ⊎ (flat_map (nodes_in is_followed) (looked_up (cond b (Some e.1) (lookup (is_at (nat_cmp n)) es))) ≡ [])
+    by true is rest = inl (inl (ap OfVariable (sym ((number_decides n e.0).0 is))))
+    by false is rest = ⊎_elim (λ h. inl (inr h)) (λ none. inr none) rest
+
+-- a name that no function has reads nothing
+function_known : (is_followed : ℕ → Bool) (fs : List Function) (t : Text)
+    → IsIn (map (λ f. OfFunction f.name.lexeme) fs) (OfFunction t) ⊎ (read_by_body is_followed (function_at fs t) ≡ [])
+function_known is_followed [] t = inr refl
+function_known is_followed (f ∷ fs) t = by (bytes_eq t f.name.lexeme) refl (function_known is_followed fs t)
+  where
+    by : (b : Bool) → bytes_eq t f.name.lexeme ≡ b
+        → IsIn (map (λ f. OfFunction f.name.lexeme) fs) (OfFunction t) ⊎ (read_by_body is_followed (function_at fs t) ≡ [])
+        → IsIn (map (λ f. OfFunction f.name.lexeme) (f ∷ fs)) (OfFunction t) ⊎ (read_by_body is_followed (cond b (Some f) (function_at fs t)) ≡ [])
+    by true is rest = inl (inl (ap OfFunction (sym ((bytes_eq-Decides t f.name.lexeme).0 is))))
+    by false is rest = ⊎_elim (λ h. inl (inr h)) (λ none. inr none) rest
+
+pub are_all : (g : Graph) → AreAll (read_by (graph_view g)) (all_nodes g)
+are_all g (OfVariable n) =
+    ⊎_elim (λ h. inl (in_first (variables g) (functions g) (OfVariable n) h)) (λ none. inr none)
+    (variable_known (graph_view g).is_followed g.numbered.entries n)
+are_all g (OfFunction t) =
+    ⊎_elim (λ h. inl (in_second (variables g) (functions g) (OfFunction t) h)) (λ none. inr none)
+    (function_known (graph_view g).is_followed (map function_view g.functions.now) t)

@@ -1,0 +1,6 @@
+pub mod Graphs
+pub mod Members
+pub mod Needing
+pub mod Nodes
+pub mod Staying
+pub mod Walk

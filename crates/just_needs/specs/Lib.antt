@@ -1,0 +1,4 @@
+pub mod Needed
+pub mod Graph
+pub mod View
+pub mod Prelude

@@ -1,0 +1,18 @@
+-- The names that the contracts and proofs of this crate share, passed on from one place. Declares nothing.
+pub use Rattle.just_meaning.specs.Reaches.{CallOf, Occurs, VariableOf, function_at}
+pub use Rattle.just_meaning.specs.View.{functions_view}
+pub use Rattle.just_resolution.specs.Seen.{is_name_in, is_number_in, mention_view, site_view}
+pub use Rattle.just_resolution.specs.Seen.{sites_view}
+pub use Rattle.just_resolution.specs.Sites.{Site, sites_in}
+pub use Rattle.just_syntax.specs.Lists.{IsIn}
+pub use Rattle.just_syntax.specs.NumberSet.{is_member}
+pub use Rattle.just_syntax.specs.Plain.{Assignment, Expr, Function, Text}
+pub use Rattle.just_syntax.specs.Variables.{first_unknown}
+pub use Rattle.just_syntax.specs.View.{assignment_view, function_view, name_view, parameter_view, unknown_name, view}
+pub use Rattle.just_value.specs.Frames.{Frames, value_in}
+pub use Rattle.just_value.specs.View.{frames_view}
+pub use Rattle.just_needs.specs.Graph.{IsReached, OfFunction, OfVariable, PlainGraph, PlainNode, node_at, nodes_at}
+pub use Rattle.just_needs.specs.Graph.{nodes_in, owns, read_by, read_by_body, values_numbered, variable_at}
+pub use Rattle.just_needs.specs.Needed.{IsFollowed, IsNeeded, StaysResolved}
+pub use Rattle.just_needs.specs.View.{found_values, graph_view, has, is_reached, looked_up, node_view, nodes_view}
+pub use Rattle.just_needs.specs.View.{values_in}

@@ -1,0 +1,13 @@
+// What a run needs: the variables of an expression, and the variables that have to be evaluated for some names. It
+// builds on the definitions of `just_meaning` and on the walk over expressions of the test of resolution, and never on
+// the evaluator.
+#![tactic(auto)]
+
+mod graph;
+pub mod needed;
+mod node;
+mod numbered;
+mod reached;
+pub mod references;
+#[cfg(test)]
+mod tests;
