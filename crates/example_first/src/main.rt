@@ -4,36 +4,21 @@
 
 use anyhow::Result;
 use just_eval::prelude::*;
+use just_run::run::Run;
 use std::alloc::Global;
-use std::collections::{BTreeMap, HashMap};
+use std::collections::HashMap;
 
 #[derive(Drop)]
 struct Greeter;
 
-impl Host for Greeter {
-    ghost step = { λ _ _ _ _. Unit {0} };
+impl Commands for Greeter {
+    ghost answers = { λ _ _ _ _. Unit {0} };
 
-    fn command(&mut self, alloc: Global, asked: &CommandQuestion) -> Result<String, CommandFault> {
+    fn answer(&mut self, alloc: Global, asked: &CommandQuestion) -> Result<String, CommandFault> {
         if asked.command == "whoami" {
             return Ok(String::from_str(alloc, "Ada")?);
         }
         NoHost.command(alloc, asked)
-    }
-
-    fn text(&mut self, alloc: Global, asked: TextQuestion) -> TextAnswer {
-        NoHost.text(alloc, asked)
-    }
-
-    fn exists(&mut self, alloc: Global, path: &str) -> Result<bool, OutOfMemory> {
-        NoHost.exists(alloc, path)
-    }
-
-    fn number(&mut self, alloc: Global, asked: NumberQuestion) -> Result<u64, OutOfMemory> {
-        NoHost.number(alloc, asked)
-    }
-
-    fn stack_budget(&self) -> usize {
-        TRIED_STACK_BUDGET
     }
 }
 
@@ -84,7 +69,7 @@ fn module<'src>(alloc: Global) -> Result<Justfile<'src>, OutOfMemory> {
 fn run(rt: &impl Print, alloc: Global, outer: &Scope, given: &[(String, String)]) -> Result<()> {
     let module = module(alloc)?;
     let overrides = overrides_of(alloc, &module.assignments, given)?;
-    evaluate(rt, alloc, outer, &module, &overrides)
+    evaluate(rt, alloc, outer, &module, overrides)
 }
 
 fn evaluate<'src>(
@@ -92,23 +77,13 @@ fn evaluate<'src>(
     alloc: Global,
     outer: &Scope<'src, '_>,
     module: &Justfile<'src>,
-    overrides: &HashMap<Number, String>,
+    overrides: HashMap<Number, String>,
 ) -> Result<()> {
-    let config = Config::new(alloc, "/work")?;
-    let dotenv = BTreeMap::new(alloc);
-    let search = Search::new(alloc, "/work/justfile", "/work")?;
-    match Evaluator::evaluate_assignments(
-        alloc,
-        &mut Greeter,
-        &config,
-        &dotenv,
-        module,
-        overrides,
-        outer,
-        &search,
-        RECURSION_LIMIT,
-        None,
-    ) {
+    let mut run = Run::new(alloc, module)?;
+    run.overrides = overrides;
+    let mut host = CommandHost::new(Greeter);
+    host.stack_budget = TRIED_STACK_BUDGET;
+    match run.evaluate(alloc, &mut host, outer) {
         Ok(scope) => print_bindings(rt, &scope),
         Err(error) => print_error(rt, &error),
     }

@@ -1,0 +1,95 @@
+// A small recipe runner. Each line of standard input has the words that the recipe `build` of `example_justfile` is
+// called with. The program prints what would be run.
+#![tactic(auto)]
+
+ghost use Rattle.std.specs.Prelude.{◌<◌};
+
+use anyhow::Result;
+use example_justfile::module::module;
+use example_justfile::recipe::{lines, parameters, recipe};
+use just_eval::prelude::*;
+use just_run::arguments::group_arguments;
+use just_run::recipe_call::RecipeCall;
+use just_run::run::Run;
+use std::alloc::Global;
+
+#[derive(Drop)]
+struct Git;
+
+impl Commands for Git {
+    ghost answers = { λ _ _ _ _. Unit {0} };
+
+    fn answer(&mut self, alloc: Global, asked: &CommandQuestion) -> Result<String, CommandFault> {
+        if asked.command == "git rev-parse HEAD" {
+            return Ok(String::from_str(alloc, "1f3a")?);
+        }
+        NoHost.command(alloc, asked)
+    }
+}
+
+fn invoke<'src>(
+    rt: &impl Print,
+    alloc: Global,
+    outer: &Scope<'src, '_>,
+    module: &Justfile<'src>,
+    words: &str,
+) -> Result<()> {
+    let run = Run::new(alloc, module)?;
+    let mut host = CommandHost::new(Git);
+    let scope = run.evaluate(alloc, &mut host, outer)?;
+    call(rt, alloc, &mut host, &run.context(&scope), words)
+}
+
+fn call(
+    rt: &impl Print,
+    alloc: Global,
+    host: &mut impl Host,
+    context: &ExecutionContext,
+    words: &str,
+) -> Result<()>
+    requires may_call { 0 < context.now.recursion_limit }
+{
+    let (recipe, parameters) = (recipe(alloc)?, parameters(alloc)?);
+    let words = words.split_whitespace().collect::<Vec<&str>>(alloc)?;
+    let call = RecipeCall {
+        recipe: &recipe,
+        parameters: &parameters,
+        arguments: group_arguments(alloc, &recipe, &parameters, &words)?,
+        is_dependency: false,
+    };
+    start(rt, alloc, host, context, &call)
+}
+
+fn start<'src>(
+    rt: &impl Print,
+    alloc: Global,
+    host: &mut impl Host,
+    context: &ExecutionContext<'src, '_>,
+    call: &RecipeCall<'_, 'src>,
+) -> Result<()>
+    requires may_call { 0 < context.now.recursion_limit }
+{
+    let (scope, _, env) = call.evaluate(alloc, host, &|_, _, _| Ok(()), context)?;
+    for (key, value) in &env {
+        println!(rt; "  {key}={value}")?;
+    }
+    let name = Some(call.recipe.name);
+    let evaluator = Evaluator::new(alloc, context, env, false, name, &scope)?;
+    for command in evaluator.evaluate_lines(alloc, host, &lines(alloc)?)? {
+        println!(rt; "  > {command}")?;
+    }
+    Ok(())
+}
+
+fn main(rt: HostRuntime) -> Result<()> {
+    let outer = Scope::root(rt.alloc(), &[])?;
+    let module = module(rt.alloc())?;
+    for words in rt.lines(rt.alloc()) {
+        let words = words?;
+        println!(rt; "build {words}")?;
+        if let Err(error) = invoke(&rt, rt.alloc(), &outer, &module, &words) {
+            println!(rt; "  error: {error}")?;
+        }
+    }
+    Ok(())
+}
