@@ -1,5 +1,5 @@
-// A small explainer: for each variable of `example_justfile` it prints what evaluating the variable asks, and its value
-// if commands answered as below.
+// A small explainer. For each variable of `example_justfile` it prints the value and the questions that evaluating it
+// asks.
 #![tactic(auto)]
 
 use anyhow::Result;
@@ -9,7 +9,7 @@ use just_needs::needed::needed;
 use just_run::run::Run;
 use std::alloc::Global;
 
-// A host whose commands output their own text in parentheses, so that values show where it gets to.
+// Each command outputs its own text in parentheses, so that a value shows which outputs it contains.
 #[derive(Drop)]
 struct Shown;
 
