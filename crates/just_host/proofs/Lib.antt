@@ -2,3 +2,4 @@ pub mod Paths
 pub mod Left
 pub mod Checked
 pub mod Changes
+mod Entries

@@ -10,6 +10,7 @@ pub mod Printed
 pub mod CommandLine
 pub mod Exports
 pub mod View
+pub mod SettingValue
 pub mod MapHost
 pub mod NoHost
 pub mod CommandHost

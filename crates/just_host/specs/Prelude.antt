@@ -16,6 +16,8 @@ pub use Rattle.just_host.specs.NoHost.{not_run}
 pub use Rattle.just_host.specs.Printed.{command_printed, directory_word, spaced, spaced_given, text_printed}
 pub use Rattle.just_host.specs.Question.{Answer, Failed, Question, TextOf, UnlessNoMemory, command_question}
 pub use Rattle.just_host.specs.Recorded.{kind_of, recorded, text_of}
+pub use Rattle.just_host.specs.SettingValue.{entries, entry_view, interpreter_shown, is_set, setting_value_view}
+pub use Rattle.just_host.specs.SettingValue.{line_of, value_named}
 pub use Rattle.just_host.specs.Settings.{called_in, default_shell_arguments, shell_of, unset}
 pub use Rattle.just_host.specs.View.{change_view, command_view, config_view, existence_answer, existence_question}
 pub use Rattle.just_host.specs.View.{fixed_view, inner_host, justfile_view, number_answer, number_question}

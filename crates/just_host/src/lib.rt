@@ -21,6 +21,7 @@ pub mod recorded;
 pub mod recorder;
 pub mod replay_host;
 pub mod search;
+pub mod setting_value;
 pub mod settings;
 pub mod text_answer;
 pub mod text_question;

@@ -46,7 +46,10 @@ fn write_given<W: fmt::Write>(f: &mut fmt::Formatter<W>, texts: Option<&[String]
 }
 
 // Texts in quotes, each after a space.
-fn write_spaced<W: fmt::Write>(f: &mut fmt::Formatter<W>, texts: &[String]) -> fmt::Result
+pub(crate) fn write_spaced<W: fmt::Write>(
+    f: &mut fmt::Formatter<W>,
+    texts: &[String],
+) -> fmt::Result
     ensures { WritesStyledOnOk W.write_str_gives f.old result (spaced (map string_bytes texts.now)) f.new }
 {
     for text in texts {
