@@ -77,7 +77,7 @@ impl<'src> Stage<'src> {
             &self.assignments,
             &self.evaluation_order,
             parent,
-            &self.references,
+            Some(&self.references),
         )
     }
 
@@ -97,7 +97,7 @@ impl<'src> Stage<'src> {
             &self.evaluation_order,
             &self.overrides,
             parent,
-            &self.references,
+            Some(&self.references),
             self.lists,
         )
     }

@@ -1,11 +1,15 @@
 -- How outcomes before any run are composed.
-use Rattle.std.proofs.Common.{◌≡◌, ℕ, ◌+◌, ◌<◌, List, ◌++◌, append_assoc, map, drop, get_or, length, Option, Some, None, Result, Ok, Err, refl, sym, ap, subst}
-use Rattle.std.proofs.Common.{IfErr}
+use Rattle.std.proofs.Common.{◌≡◌, ℕ, ◌+◌, ◌<◌, List, [], ◌∷◌, ◌++◌, append_assoc, append-nil, map, drop, get_or, length, Option, Some, None, Result}
+use Rattle.std.proofs.Common.{Ok, Err, IfErr, refl, sym, ap, subst}
 use Rattle.std.specs.Option.{ForSome}
 use Rattle.just_eval.specs.Prelude.{Expr, Gave, IfRefused, IsConstEval, Outcome, Refusal, Refused, Stopped, UnlessStopped, Value, and_then, elements, ended}
 use Rattle.just_eval.specs.Prelude.{refusal, without_value}
 use Rattle.just_value.specs.declared.error.Error.{Error}
 use Rattle.just_meaning.specs.Settings.{Evaluates}
+use Rattle.just_eval.specs.Prelude.{AllResolvedOn, IsNotInternal, StageState, const_value, setting_expressions, with_setting}
+use Rattle.just_host.specs.Settings.{Settings}
+use Rattle.just_syntax.specs.Plain.{Set}
+use Rattle.just_soundness.proofs.SettingsInternal.{settings_not}
 use Rattle.just_eval.proofs.Module.{front}
 use Rattle.just_soundness.proofs.Constants.{OfSome}
 
@@ -25,6 +29,17 @@ few_error None h = h
 pub few_ended : (r : Result Value Error) → IfRefused IsConstEval (ended (λ v. v) r) → IfErr r (λ e. ForSome (refusal e) IsConstEval)
 few_ended (Ok v) h = tt
 few_ended (Err e) h = for_some IsConstEval (refusal e) (few_error (refusal e) h)
+
+passed_on : (w : Outcome Settings) → IsNotInternal (and_then w Gave) → IsNotInternal w
+passed_on (Gave a) h = h
+passed_on (Refused r) h = h
+passed_on Stopped h = h
+
+-- one setting whose variables are bound or open meets no refusal that is Internal
+pub set_not : (s : StageState) (settings : Settings) (x : Set) → AllResolvedOn s (setting_expressions x.value)
+    → IsNotInternal (with_setting (const_value s) settings x.name x.value)
+set_not s settings x h =
+    passed_on _ (settings_not s settings (x ∷ []) (subst (AllResolvedOn s) (sym (append-nil (setting_expressions x.value))) h))
 
 -- concatenation of elements is associative
 pub elements_after : {B : Type 0} (v all : Value) (w : Outcome Value) (go : Value → Outcome B)

@@ -2,6 +2,7 @@ mod Module
 mod Stages
 mod Constants
 mod Assigned
+mod Survey
 mod There
 mod Here
 mod Lines

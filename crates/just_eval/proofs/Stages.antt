@@ -20,6 +20,10 @@ module _ {m : Constants} where
   stage_then (Settles a v k e r) q = Settles a v k e (stage_then r q)
   stage_then (Opens a c k e r) q = Opens a c k e (stage_then r q)
 
+  pub staged_then : {s mid : StageState} {left more : List Token} {o : Outcome StageState} → Staged m s left (Gave mid) → Staged m mid more o
+      → Staged m s (left ++ more) o
+  staged_then r q = (r.0 ++ q.0, stage_then r.1 q.1)
+
   -- a stage that ended is also a stage of more assignments
   stage_refused : {s : StageState} {left : List Token} {fs : List Found} {r : Refusal} (more : List Token) → Stage m s left fs (Refused r)
       → Stage m s (left ++ more) fs (Refused r)
@@ -45,7 +49,8 @@ module _ {m : Constants} where
   pub staged_stops : (s : StageState) (left : List Token) → Staged m s left Stopped
   staged_stops s left = ([], Stops)
 
-  staged_ends : {s : StageState} {left : List Token} (more : List Token) (e : Option Refusal) → Staged m s left (without_value e)
+  -- a stage that ended is also a stage of more assignments, with its outcome
+  pub staged_ends : {s : StageState} {left : List Token} (more : List Token) (e : Option Refusal) → Staged m s left (without_value e)
       → Staged m s (left ++ more) (without_value e)
   staged_ends more (Some r) q = (q.0, stage_refused more q.1)
   staged_ends more None q = (q.0, stage_stopped more q.1)
@@ -90,7 +95,7 @@ module _ {m : Constants} where
   module _ {X : Type 0} (seen : X → Token) (items : List X) (i : ℕ) (d : X) (fits : i < length items) where
     pub staged_next : {s mid : StageState} {o : Outcome StageState} → Staged m s (seen (get_or items i d) ∷ []) (Gave mid)
         → Staged m mid (map seen (drop (i + 1) items)) o → Staged m s (map seen (drop i items)) o
-    staged_next {s = s} {o = o} r q = subst (λ left. Staged m s left o) (sym (front seen items i d fits)) (r.0 ++ q.0, stage_then r.1 q.1)
+    staged_next {s = s} {o = o} r q = subst (λ left. Staged m s left o) (sym (front seen items i d fits)) (staged_then r q)
 
     pub staged_last : {s : StageState} (e : Option Refusal) → Staged m s (seen (get_or items i d) ∷ []) (without_value e)
         → Staged m s (map seen (drop i items)) (without_value e)

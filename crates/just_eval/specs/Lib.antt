@@ -2,4 +2,5 @@ pub mod View
 pub mod Check
 pub mod Commands
 pub mod Joined
+pub mod Survey
 pub mod Prelude

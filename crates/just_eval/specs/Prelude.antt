@@ -21,10 +21,12 @@ pub use Rattle.just_meaning.specs.Parameters.{judged, none_or_refused, parameter
 pub use Rattle.just_meaning.specs.Parameters.{valued, with_variable, words_of}
 pub use Rattle.just_meaning.specs.Resolved.{AllKnown, HasValue, IsResolvedConst}
 pub use Rattle.just_meaning.specs.ResolvedOn.{AllResolvedOn, IsResolvedOn, interpreter_expressions, set_expressions}
+pub use Rattle.just_meaning.specs.ResolvedOn.{setting_expressions}
 pub use Rattle.just_meaning.specs.Settings.{elements, interpreter, kept, settings, text_in, with_setting}
 pub use Rattle.just_meaning.specs.Stage.{Constants, StageState, Staged, at_start, const_meaning, const_value, with_open}
-pub use Rattle.just_meaning.specs.View.{IsResolvedWith, constants_of, functions_view, module_view, program_view}
-pub use Rattle.just_meaning.specs.View.{recipe_in, run_of}
+pub use Rattle.just_meaning.specs.View.{IsResolvedWith, constants_of, functions_view, is_referenced_in, module_view}
+pub use Rattle.just_meaning.specs.View.{program_view, recipe_in, run_of}
+pub use Rattle.just_syntax.specs.Keyed.{value_at}
 pub use Rattle.just_syntax.specs.Plain.{Assignment, Expr, Parameter, Recipe, Text, Token}
 pub use Rattle.just_syntax.specs.View.{assignment_view, expression_interpreter_view, fragment_view, interpreter_view}
 pub use Rattle.just_syntax.specs.View.{line_view, name_view, named_attribute_view, pairs_view, recipe_parameter_view}
@@ -41,6 +43,7 @@ pub use Rattle.just_eval.specs.Check.{GivesVerdict, IsJudged, verdict_view}
 pub use Rattle.just_eval.specs.Commands.{commands, commands_of, ends_with_backslash, is_continued, is_continued_by}
 pub use Rattle.just_eval.specs.Commands.{lines_expressions, unjoined, with_line, without_backslash}
 pub use Rattle.just_eval.specs.Joined.{joined_view, texts_view}
+pub use Rattle.just_eval.specs.Survey.{Survey, opened_for, refused_view, stage_outcome}
 pub use Rattle.just_eval.specs.View.{Assigned, IsAtStart, IsBound, IsConst, IsInRun, IsResolvedIn, IsSameButScope}
 pub use Rattle.just_eval.specs.View.{IsSameButScopeAndEnvironment, MayCall, MayCallIn, OpensOrEnds, Resolves, WasBound}
 pub use Rattle.just_eval.specs.View.{arguments_view, below_of, calls_left_in, calls_left_of, dynamic_meaning}

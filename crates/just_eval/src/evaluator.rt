@@ -17,6 +17,7 @@ mod lines;
 mod parameters;
 mod recipe_lines;
 mod sets;
+mod survey;
 
 use just_expression::evaluator::ExpressionEvaluator;
 use just_expression::internal::Reason;

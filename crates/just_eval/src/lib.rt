@@ -4,6 +4,7 @@
 #![tactic(auto)]
 
 mod argument;
+pub mod const_survey;
 pub mod evaluator;
 mod joined;
 pub mod laws;

@@ -48,6 +48,7 @@ pub use just_host::config::Config;
 pub use just_host::execution_context::{ExecutionContext, RECURSION_LIMIT};
 pub use just_host::justfile::Justfile;
 pub use just_host::search::Search;
+pub use just_host::setting_value::SettingValue;
 pub use just_host::settings::Settings;
 
 // The host, and what it is asked.
@@ -69,6 +70,7 @@ pub use just_host::text_question::TextQuestion;
 pub use just_builtins::function::{Function, functions, is_left_out};
 
 // Evaluation; whether its input is resolved, and if not, why.
+pub use crate::const_survey::{ConstSurvey, RefusedConstant};
 pub use crate::evaluator::Evaluator;
 pub use just_resolution::fault::Fault;
 pub use just_resolution::first_fault::first_fault;

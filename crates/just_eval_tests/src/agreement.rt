@@ -45,7 +45,7 @@ pub fn stage_and_run<'src, 'run, H: Host>(
         &module.evaluation_order,
         overrides,
         parent,
-        references,
+        Some(references),
         module.settings.lists,
     );
     let run = Evaluator::evaluate_assignments(

@@ -81,7 +81,7 @@ fn reported_in<'src>(
     scope: &Scope<'src, '_>,
     subject: Subject,
 ) -> String {
-    let outcome = evaluated(case, rt, alloc, scope);
+    let outcome = evaluated(case, alloc, scope);
     let reported = match &outcome {
         Ok(evaluator) => reported_by(evaluator, rt, alloc, case, lines, subject),
         Err(error) => said(rt, alloc, error),
@@ -93,7 +93,6 @@ fn reported_in<'src>(
 // Evaluates the referenced assignments of a case.
 fn evaluated<'src, 'run>(
     case: &'run Case<'src>,
-    rt: &impl Abort,
     alloc: Global,
     scope: &'run Scope<'src, 'run>,
 ) -> Result<Evaluator<'src, 'run>, CompileError<'src>>
@@ -105,7 +104,7 @@ fn evaluated<'src, 'run>(
         &case.evaluation_order,
         &case.overrides,
         scope,
-        case.references.as_ref().expect(rt, "no references"),
+        case.references.as_ref(),
         case.lists,
     )
 }

@@ -132,11 +132,8 @@ fn printed(rt: &impl Abort, alloc: Global, interpreter: &Interpreter<String>) ->
     text
 }
 
-/// Adds a command and its arguments, each in quotes.
-pub(crate) fn print(
-    text: &mut String,
-    interpreter: &Interpreter<String>,
-) -> Result<(), OutOfMemory> {
+// Adds a command and its arguments, each in quotes.
+fn print(text: &mut String, interpreter: &Interpreter<String>) -> Result<(), OutOfMemory> {
     let command = Element(&interpreter.command);
     write!(text, "{command}")?;
     for argument in &interpreter.arguments {

@@ -4,7 +4,6 @@ use crate::cases::{Subject, reported};
 use crate::compared::reports;
 use crate::settings::add;
 use just_case_reader::token::{name, token};
-use just_host::settings::Settings;
 use just_syntax::indentation::Indentation;
 use just_syntax::set::Set;
 use just_syntax::setting::Setting;
@@ -62,31 +61,6 @@ fn flag<'src>(rt: &impl Abort, name: &'src str) -> Setting<'src> {
     }
 }
 
-/// Whether each flag is on, in the order of `FLAGS`.
-pub(crate) fn flags_of(settings: &Settings) -> [bool; 19] {
-    [
-        settings.allow_duplicate_recipes,
-        settings.allow_duplicate_variables,
-        settings.default_list,
-        settings.default_script,
-        settings.dotenv_load,
-        settings.dotenv_override,
-        settings.dotenv_required,
-        settings.export,
-        settings.fallback,
-        settings.guards,
-        settings.ignore_comments,
-        settings.lazy,
-        settings.lists,
-        settings.no_cd,
-        settings.no_exit_message,
-        settings.positional_arguments,
-        settings.quiet,
-        settings.unstable,
-        settings.windows_powershell,
-    ]
-}
-
 // With no assignments.
 const NOTHING: &str = "only\nconst";
 
@@ -102,7 +76,7 @@ fn is_off_alone(rt: &impl Abort, alloc: Global, left_out: &'static str) {
     let mut wanted = String::new(alloc);
     for flag in FLAGS {
         if *flag != left_out {
-            write!(wanted, "{flag};").expect(rt, "no memory");
+            write!(wanted, "{flag} = true\n").expect(rt, "no memory");
         }
     }
     let reported = reported(rt, alloc, NOTHING, &[], Subject::FlagsBut(left_out));
@@ -129,7 +103,7 @@ pub(crate) fn flags_but<'src>(
 #[test]
 fn kept_settings(rt: HostRuntime) {
     let reported = reported(&rt, rt.alloc(), NOTHING, &[], Subject::SetTwice);
-    reports(&rt, "kept settings", reported, "indentation Spaces(2);");
+    reports(&rt, "kept settings", reported, "indentation = 2 spaces\n");
 }
 
 /// The minimum version, and indentation and quiet, each set twice.

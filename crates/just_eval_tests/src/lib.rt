@@ -21,3 +21,5 @@ mod recipes;
 mod settings;
 #[cfg(test)]
 mod sizes;
+#[cfg(test)]
+mod survey;

@@ -4,20 +4,15 @@ ghost use Rattle.just_eval_tests.specs.Prelude.{IsConst};
 
 use crate::cases::{Subject, reported};
 use crate::compared::reports;
-use crate::interpreters::{self, interpreter};
-use crate::kept::{FLAGS, flags_of};
+use crate::interpreters::interpreter;
 use just_eval::evaluator::Evaluator;
-use just_host::settings::Settings;
 use just_syntax::assignment::Assignment;
 use just_syntax::expression::Expression;
-use just_syntax::interpreter::Interpreter;
 use just_syntax::name::Name;
-use just_syntax::out_of_memory::OutOfMemory;
 use just_syntax::set::Set;
 use just_syntax::setting::Setting;
 use just_syntax::table::Table;
 use just_value::compile_error::CompileError;
-use just_value::value::Value;
 use std::alloc::Global;
 use std::process::Abort;
 
@@ -111,7 +106,7 @@ pub(crate) fn add<'src>(
     sets.insert(Set::new(name, value)).expect(rt, "no memory");
 }
 
-/// What settings evaluate to: each one that is set, after its name; or the refusal.
+/// What settings evaluate to: the line of each one that is set; or the refusal.
 pub(crate) fn reported_by<'src>(
     evaluator: &Evaluator<'src, '_>,
     rt: &impl Abort,
@@ -122,7 +117,7 @@ pub(crate) fn reported_by<'src>(
 {
     match evaluator.evaluate_sets(alloc, sets) {
         Ok(settings) => {
-            let reported = printed(rt, alloc, &settings);
+            let reported = format!(in alloc; "{settings}").expect(rt, "no memory");
             drop(settings);
             reported
         }
@@ -141,99 +136,39 @@ fn refusal_reported(rt: &impl Abort, alloc: Global, error: &CompileError) -> Str
     }
 }
 
-fn printed(rt: &impl Abort, alloc: Global, settings: &Settings) -> String {
-    let mut text = String::new(alloc);
-    print(&mut text, settings).expect(rt, "no memory");
-    text
-}
-
-// Each setting that is set, after its name.
-fn print(text: &mut String, settings: &Settings) -> Result<(), OutOfMemory> {
-    print_value(text, "dotenv_command", &settings.dotenv_command)?;
-    print_value(text, "dotenv_filename", &settings.dotenv_filename)?;
-    print_value(text, "dotenv_path", &settings.dotenv_path)?;
-    print_interpreter(text, "script_interpreter", &settings.script_interpreter)?;
-    print_interpreter(text, "shell", &settings.shell)?;
-    print_interpreter(text, "windows_shell", &settings.windows_shell)?;
-    print_text(text, "tempdir", &settings.tempdir)?;
-    print_text(text, "working_directory", &settings.working_directory)?;
-    print_kept(text, settings)
-}
-
-// The flags that are on, and the indentation.
-fn print_kept(text: &mut String, settings: &Settings) -> Result<(), OutOfMemory> {
-    for (flag, is_on) in FLAGS.iter().zip(flags_of(settings)) {
-        if is_on {
-            write!(text, "{flag};")?;
-        }
-    }
-    if let Some(indentation) = settings.indentation {
-        write!(text, "indentation {indentation:?};")?;
-    }
-    Ok(())
-}
-
-// A value, if it has an element.
-fn print_value(text: &mut String, name: &str, value: &Value) -> Result<(), OutOfMemory> {
-    if value.is_truthy() {
-        write!(text, "{name} {value};")?;
-    }
-    Ok(())
-}
-
-fn print_interpreter(
-    text: &mut String,
-    name: &str,
-    interpreter: &Option<Interpreter<String>>,
-) -> Result<(), OutOfMemory> {
-    if let Some(interpreter) = interpreter {
-        write!(text, "{name} ")?;
-        interpreters::print(text, interpreter)?;
-        text.push(';')?;
-    }
-    Ok(())
-}
-
-fn print_text(text: &mut String, name: &str, set: &Option<String>) -> Result<(), OutOfMemory> {
-    if let Some(set) = set {
-        write!(text, "{name} {set};")?;
-    }
-    Ok(())
-}
-
 const SETTINGS: &[(&str, &str)] = &[
     // Nothing is set.
     ("only\nconst", ""),
     // Values may be lists.
     (
         "only\nstr a\nstr b\nlist 2\nassign dotenv-command\nstr c\nassign dotenv-filename\nlist 0\nassign dotenv-path\nconst",
-        "dotenv_command [\"a\", \"b\"];dotenv_filename \"c\";",
+        "dotenv-command = [\"a\", \"b\"]\ndotenv-filename = \"c\"\n",
     ),
     // Commands and their arguments: the elements of all, in order.
     (
         "only\nstr a\nlist 1\nassign script-interpreter\nstr b\nstr -c\nlist 2\nassign shell\nlist 0\nstr d\nstr e\nlist 2\nlist 0\nlist 3\nassign windows-shell\nconst",
-        "script_interpreter \"a\";shell \"b\" \"-c\";windows_shell \"d\" \"e\";",
+        "script-interpreter = \"a\"\nshell = \"b\" \"-c\"\nwindows-shell = \"d\" \"e\"\n",
     ),
     // A command with a space in it, and an argument with one.
     (
         "only\nstr a b\nlist 1\nassign script-interpreter\nstr b\nstr -c d\nlist 2\nassign shell\nconst",
-        "script_interpreter \"a b\";shell \"b\" \"-c d\";",
+        "script-interpreter = \"a b\"\nshell = \"b\" \"-c d\"\n",
     ),
     // Texts.
     (
         "only\nstr a\nassign tempdir\nstr b\nstr c\nadd\nassign working-directory\nconst",
-        "tempdir a;working_directory bc;",
+        "tempdir = \"a\"\nworking-directory = \"bc\"\n",
     ),
-    ("only\nstr\nassign tempdir\nconst", "tempdir ;"),
+    ("only\nstr\nassign tempdir\nconst", "tempdir = \"\"\n"),
     // A settled variable.
     (
         "str sh\nassign s\nvar s\nstr -c\nlist 2\nassign shell\nonly s\nconst",
-        "shell \"sh\" \"-c\";",
+        "shell = \"sh\" \"-c\"\n",
     ),
     // An overridden one.
     (
         "cmd c\nassign s\noverride s sh\nvar s\nlist 1\nassign shell\nonly s\nconst",
-        "shell \"sh\";",
+        "shell = \"sh\"\n",
     ),
     // An open one.
     (
@@ -243,7 +178,7 @@ const SETTINGS: &[(&str, &str)] = &[
     // A branch that is not taken and reads it.
     (
         "cmd c\nassign t\nstr a\nstr a\neq\nstr y\nvar t\nif\nassign tempdir\nonly t\nconst",
-        "tempdir y;",
+        "tempdir = \"y\"\n",
     ),
     // A command and a call.
     (

@@ -71,10 +71,10 @@ fn are_settings(rt: &impl Abort, alloc: Global) {
     );
     let tempdir = thousand(rt, alloc, "str ", "/a", "\nassign tempdir\nconst");
     let case = format!(in alloc; "{command}{shell}{tempdir}").expect(rt, "no memory");
-    let command = thousand(rt, alloc, "dotenv_command [", "\"a\", ", "");
+    let command = thousand(rt, alloc, "dotenv-command = [", "\"a\", ", "");
     let command = command.trim_end_matches(", ");
-    let shell = thousand(rt, alloc, "];shell \"sh\"", " \"a\"", ";");
-    let tempdir = thousand(rt, alloc, "tempdir ", "/a", ";");
+    let shell = thousand(rt, alloc, "]\nshell = \"sh\"", " \"a\"", "\n");
+    let tempdir = thousand(rt, alloc, "tempdir = \"", "/a", "\"\n");
     let wanted = format!(in alloc; "{command}{shell}{tempdir}").expect(rt, "no memory");
     let reported = reported(rt, alloc, &case, &[], Subject::Settings);
     reports(rt, "settings", reported, &wanted);

@@ -75,15 +75,11 @@ run_of config dotenv justfile overrides parent search limit references =
       search = search;
     }) references
 
--- the inputs of a const stage, from the arguments of its call
+-- the inputs of a const stage, from the arguments of its call; the referenced numbers are those of the set, or all
 abbrev pub constants_of : {A S T : Type 0} → List Assignment → List Name → HashMap ℕ (String A) S
-    → HashSet ℕ T → Constants
+    → Option (Bor (HashSet ℕ T)) → Constants
 constants_of assignments order overrides references = record {
-  assignments = record {
-    all = map assignment_view assignments;
-    order = map name_view order;
-    referenced = λ n. list_any (nat_eq n) references.keys;
-  };
+  assignments = ordered_view assignments order references;
   overrides = text_numbered overrides;
 }
 

@@ -1,6 +1,6 @@
 // Whether assignments before any run are resolved.
 
-ghost use Rattle.std.specs.Prelude.{IfOk, IsTrue, Some, map, ◌↔◌};
+ghost use Rattle.std.specs.Prelude.{IfOk, IsTrue, map, ◌↔◌};
 ghost use Rattle.just_resolution.specs.Prelude.{AllNumbered, AreDistinct, IsResolvedConst, assignment_view};
 ghost use Rattle.just_resolution.specs.Prelude.{frames_view, ordered_view};
 
@@ -23,7 +23,8 @@ use std::collections::HashSet;
 /// - Each variable in an assignment has a number, even if the assignment is not taken. There is no condition on called
 ///   names.
 /// - Each name of the evaluation order is an assignment's. The variables that occur in a taken assignment, overridden
-///   or not, are taken earlier or bound in `scope`. The assignments taken are those of the order that are referenced.
+///   or not, are taken earlier or bound in `scope`. The assignments taken are those of the order that are referenced:
+///   those of the set, or all without one.
 ///
 /// [`resolved`] also requires that each called name takes as many arguments as the call has, that parameters have
 /// numbers of their own, which are not bound outside, that each variable in a body has a number, and that what reached
@@ -41,10 +42,10 @@ pub fn resolved_const<'src, 'run>(
     assignments: &Table<Assignment<'src>>,
     evaluation_order: &[Name<'src>],
     scope: &Scope<'src, 'run>,
-    variable_references: &HashSet<Number>,
+    variable_references: Option<&HashSet<Number>>,
 ) -> Result<bool, OutOfMemory>
     ensures exact { IfOk result (λ answer. IsTrue answer
-        ↔ IsResolvedConst (ordered_view assignments.now evaluation_order.now (Some variable_references.entry))
+        ↔ IsResolvedConst (ordered_view assignments.now evaluation_order.now variable_references.entry)
         (frames_view scope.now)) }
 {
     if !are_numbered(alloc, assignments)? {
@@ -57,7 +58,7 @@ pub fn resolved_const<'src, 'run>(
         assignments,
         evaluation_order,
         scope,
-        Some(variable_references),
+        variable_references,
     )?;
     Ok(misplaced.is_none())
 }

@@ -82,7 +82,7 @@ fn same_before<'a>(
     wanted: Option<bool>,
 ) {
     let order = &module.evaluation_order;
-    let given = resolved_const(alloc, &module.assignments, order, parent, referenced);
+    let given = resolved_const(alloc, &module.assignments, order, parent, Some(referenced));
     equal(rt, of, Some(given.expect(rt, "no memory")), wanted);
 }
 

@@ -1,6 +1,6 @@
 // Evaluation before any run: which assignments are settled, and what expressions evaluate to.
 
-ghost use Rattle.std.specs.Prelude.{IfErr, IfOk, List, [], string_bytes, ◌∷◌, ◌≡◌};
+ghost use Rattle.std.specs.Prelude.{IfErr, IfOk, List, OnErr, [], string_bytes, ◌∷◌, ◌≡◌};
 ghost use Rattle.std.specs.Option.{ForSome};
 ghost use Rattle.just_eval.specs.Prelude.{HasOwnToken, IsConst, IsConstEval, IsNotInternal, IsResolvedConst};
 ghost use Rattle.just_eval.specs.Prelude.{IsResolvedOn, OpensOrEnds, Staged, UnlessStopped, and_then, at_start};
@@ -13,6 +13,7 @@ use just_expression::text::one_text;
 use just_expression::variable;
 use just_host::host::Host;
 use just_host::no_host::NoHost;
+use just_resolution::references::is_referenced;
 use just_syntax::assignment::Assignment;
 use just_syntax::expression::Expression;
 use just_syntax::name::Name;
@@ -46,17 +47,17 @@ impl<'src, 'run> Evaluator<'src, 'run> {
         evaluation_order: &[Name<'src>],
         overrides: &HashMap<Number, String>,
         scope: &'run Scope<'src, 'run>,
-        variable_references: &HashSet<Number>,
+        variable_references: Option<&HashSet<Number>>,
         lists: bool,
     ) -> Result<Evaluator<'src, 'run>, CompileError<'src>>
         // The settled and the open numbers, or the refusal, are those of the const rules.
         ensures headline { let m = constants_of assignments.now evaluation_order.now overrides.now
-            variable_references.now in
+            variable_references.entry in
             Staged m (at_start lists (frames_view scope.entry.now)) m.assignments.order
             (const_ended stage_state_of result) }
         ensures before_runs { IfOk result IsConst }
         ensures never_internal { let m = constants_of assignments.now evaluation_order.now overrides.now
-            variable_references.now in
+            variable_references.entry in
             IsResolvedConst m.assignments (frames_view scope.entry.now)
             → IsNotInternal (const_ended stage_state_of result) }
 
@@ -78,25 +79,27 @@ impl<'src, 'run> Evaluator<'src, 'run> {
     }
 
     // Settles or opens the assignment with a name, if it is referenced.
-    fn evaluate_const_named(
+    pub(super) fn evaluate_const_named(
         &mut self,
         alloc: Global,
         assignments: &Table<Assignment<'src>>,
         overrides: &HashMap<Number, String>,
-        references: &HashSet<Number>,
+        references: Option<&HashSet<Number>>,
         name: &Name<'src>,
     ) -> Result<(), CompileError<'src>>
         requires start { IsConst self.old }
         ensures same { IsConst self.new }
-        ensures staged { (order : List Name) → Staged (constants_of assignments.now order overrides.now references.now)
-            (stage_state_of self.old) (name_view name.now ∷ []) (const_ended (λ _. stage_state_of self.new) result) }
+        ensures staged { (order : List Name)
+            → Staged (constants_of assignments.now order overrides.now references.entry) (stage_state_of self.old)
+            (name_view name.now ∷ []) (const_ended (λ _. stage_state_of self.new) result) }
+        ensures kept { OnErr result (stage_state_of self.new ≡ stage_state_of self.old) }
         ensures token { IfErr result HasOwnToken }
     {
         let Some(assignment) = assignments.get(name.lexeme()) else {
             let error = Reason::UnknownAssignment.error_at(alloc, name);
             return Err(error.unwrap_const());
         };
-        if !references.contains(&assignment.number) {
+        if !is_referenced(references, assignment.number) {
             return Ok(());
         }
         if self.is_open(assignment.number) {
@@ -118,6 +121,7 @@ impl<'src, 'run> Evaluator<'src, 'run> {
         ensures same { IsConst self.new }
         ensures ended { OpensOrEnds (refusal error.entry) (stage_state_of self.old) number
             (const_ended (λ _. stage_state_of self.new) result) }
+        ensures kept { OnErr result (stage_state_of self.new ≡ stage_state_of self.old) }
         ensures token { IfErr result HasOwnToken }
     {
         match error {

@@ -1,10 +1,11 @@
 // Evaluation of settings.
 
-ghost use Rattle.std.specs.Prelude.{IfErr, map, ◌≡◌};
+ghost use Rattle.std.specs.Prelude.{IfErr, OnErr, map, ◌≡◌};
 ghost use Rattle.just_eval.specs.Prelude.{AllResolvedOn, HasOwnToken, IsConst, IsNotInternal, UnlessStopped};
 ghost use Rattle.just_eval.specs.Prelude.{const_ended, const_value, expression_interpreter_view};
 ghost use Rattle.just_eval.specs.Prelude.{interpreter_expressions, interpreter_view, kept, name_view, set_expressions};
-ghost use Rattle.just_eval.specs.Prelude.{set_view, setting_view, settings_view, stage_state_of, with_setting};
+ghost use Rattle.just_eval.specs.Prelude.{set_view, setting_expressions, setting_view, settings_view, stage_state_of};
+ghost use Rattle.just_eval.specs.Prelude.{with_setting};
 ghost use Rattle.just_meaning.specs.Settings as meant;
 
 use super::Evaluator;
@@ -51,14 +52,46 @@ impl<'src, 'run> Evaluator<'src, 'run> {
         Ok(settings)
     }
 
-    // Evaluates one setting and stores it.
-    fn evaluate_set(
+    /// Evaluates one setting, and stores it in `settings`. It asks nothing. So a linter learns the value of each setting,
+    /// by `Settings::get`, or why it is refused:
+    ///
+    /// ```rust
+    /// match stage.evaluate_set(alloc, &mut settings, &set) {
+    ///     Ok(()) => print!(rt; "{settings}")?,
+    ///     Err(error) => println!(rt; "{error}")?,
+    /// }
+    /// ```
+    ///
+    /// # Errors
+    ///
+    /// Those of `evaluate_sets`. The settings and the evaluator are unchanged.
+    pub fn evaluate_set(
         &self,
         alloc: Global,
         settings: &mut Settings,
         set: &Set<'src>,
     ) -> Result<(), CompileError<'src>>
         requires before_runs { IsConst self.now }
+        ensures headline { UnlessStopped (const_ended (λ _. settings_view settings.new) result)
+            (with_setting (const_value (stage_state_of self.now)) (settings_view settings.old) (set_view set.now).name
+            (set_view set.now).value) }
+        ensures kept { OnErr result (settings_view settings.new ≡ settings_view settings.old) }
+        ensures never_internal { AllResolvedOn (stage_state_of self.now) (setting_expressions (set_view set.now).value)
+            → IsNotInternal (const_ended (λ _. settings_view settings.new) result) }
+        ensures token { IfErr result HasOwnToken }
+    {
+        self.store_set(alloc, settings, set)
+    }
+
+    // Evaluates one setting and stores it.
+    fn store_set(
+        &self,
+        alloc: Global,
+        settings: &mut Settings,
+        set: &Set<'src>,
+    ) -> Result<(), CompileError<'src>>
+        requires before_runs { IsConst self.now }
+        ensures kept { OnErr result (settings_view settings.new ≡ settings_view settings.old) }
         ensures set { UnlessStopped (const_ended (λ _. settings_view settings.new) result)
             (with_setting (const_value (stage_state_of self.now)) (settings_view settings.old) (set_view set.now).name
             (set_view set.now).value) }

@@ -1,4 +1,4 @@
-use Rattle.std.proofs.Common.{◌≡◌, true, List, [], is_some, map, option_map, subst, Some}
+use Rattle.std.proofs.Common.{◌≡◌, true, List, [], is_some, map, option_map, subst}
 use Rattle.just_resolution.specs.Prelude.{Finds, IsFaulty, IsSound, frames_view, function_view, module_fault_view, name_places, ordered_view}
 use Rattle.just_syntax.specs.declared.function_definition.FunctionDefinition.{FunctionDefinition}
 use Rattle.just_resolution.proofs.Deciding.{none_answers, order_decided}
@@ -14,7 +14,7 @@ returns-then-not-branch c =
 
 pub returns : goal.returns
 returns c =
-    let ordered = ordered_view c.args.assignments.now c.args.evaluation_order.now (Some c.args.variable_references) in
+    let ordered = ordered_view c.args.assignments.now c.args.evaluation_order.now c.args.variable_references in
     let outer = frames_view c.args.scope.now in
     let found = subst
     (λ (fs : List FunctionDefinition). Finds (IsSound (map function_view fs) ordered outer) (IsFaulty (map function_view fs) ordered outer)

@@ -14,7 +14,7 @@ loop-name-init c =
     let made = c.of_assignments-evaluator.ensures in
     record {
       before = record { start = made.start; context = made.context };
-      rest = λ o r. subst (λ s. Staged (constants_of c.args.assignments.now c.args.evaluation_order.now c.args.overrides.now c.args.variable_references.now) s
+      rest = λ o r. subst (λ s. Staged (constants_of c.args.assignments.now c.args.evaluation_order.now c.args.overrides.now c.args.variable_references) s
           (map name_view c.args.evaluation_order.now) o)
           (stage_state_start c.of_assignments-evaluator.result c.args.lists _ made.lists (made.frames ∙ c.in_ok-child.ensures) made.none_open) r;
     }
