@@ -1,12 +1,14 @@
 // Runs of modules, with their options.
 
-ghost use Rattle.std.specs.Prelude.{IfOk, None, [], string_bytes, ℕ, ◌<◌, ◌∷◌, ◌≡◌};
-ghost use Rattle.just_eval.specs.Prelude.{GoesByAnswers, IfRefused, IsFinal, IsNotInternal, IsResolvedModule, Ran};
-ghost use Rattle.just_eval.specs.Prelude.{dynamically, ended, frames_view, lexically};
-ghost use Rattle.just_eval.specs.Prelude.{fixed_view, pairs_view, text_numbered};
+ghost use Rattle.std.specs.Prelude.{IfOk, None, [], map, option_map, string_bytes, ℕ, ◌<◌, ◌∷◌, ◌≡◌};
+ghost use Rattle.just_eval.specs.Prelude.{GoesByAnswers, IfRefused, IsConst, IsFinal, IsNotInternal};
+ghost use Rattle.just_eval.specs.Prelude.{IsResolvedModule, Ran, Staged, Survey, assignment_view, at_start};
+ghost use Rattle.just_eval.specs.Prelude.{dynamically, ended, fixed_view, frames_view, lexically, pairs_view};
+ghost use Rattle.just_eval.specs.Prelude.{refused_view, stage_outcome, stage_state_of, text_numbered};
 ghost use Rattle.just_host.specs.Prelude.{called_in, config_view, search_view};
-ghost use Rattle.just_run.specs.Run.{run_view};
+ghost use Rattle.just_run.specs.Run.{constants_view, run_view, value_of_name};
 
+use just_eval::const_survey::ConstSurvey;
 use just_eval::evaluator::Evaluator;
 use just_host::config::Config;
 use just_host::execution_context::{ExecutionContext, RECURSION_LIMIT};
@@ -15,8 +17,10 @@ use just_host::justfile::Justfile;
 use just_host::search::Search;
 use just_syntax::number::Number;
 use just_syntax::out_of_memory::OutOfMemory;
+use just_syntax::variables::number_of;
 use just_value::error::Error;
 use just_value::scope::Scope;
+use just_value::value::Value;
 use std::alloc::Global;
 use std::collections::{BTreeMap, HashMap, HashSet};
 
@@ -107,6 +111,51 @@ impl<'src, 'run> Run<'src, 'run> {
             self.recursion_limit,
             self.references.as_ref(),
         )
+    }
+
+    /// What is known before the run: [`Evaluator::survey_const_assignments`] with these options, whose clauses it has.
+    /// It asks nothing. If it refuses nothing, a variable that it settles has the same value in the run, by the law
+    /// [`const_agrees`].
+    ///
+    /// [`const_agrees`]: just_eval::laws::const_agrees
+    ///
+    /// # Errors
+    ///
+    /// `OutOfMemory`, if an allocation fails, or if forms nest too deeply: nothing is returned.
+    pub fn survey(
+        &'run self,
+        alloc: Global,
+        outer: &'run Scope<'src, 'run>,
+    ) -> Result<ConstSurvey<'src, 'run>, OutOfMemory>
+        ensures headline { let m = constants_view self.entry.now in IfOk result (λ survey. Survey m
+            (at_start self.entry.now.module.now.settings.lists (frames_view outer.entry.now)) m.assignments.order
+            (refused_view survey.refused.items) (stage_state_of survey.evaluator)) }
+        ensures before_runs { IfOk result (λ survey. IsConst survey.evaluator) }
+        ensures stage { let m = constants_view self.entry.now in IfOk result (λ survey. Staged m
+            (at_start self.entry.now.module.now.settings.lists (frames_view outer.entry.now)) m.assignments.order
+            (stage_outcome (refused_view survey.refused.items) (stage_state_of survey.evaluator))) }
+    {
+        let references = self.references.as_ref();
+        Evaluator::survey_const_assignments(
+            alloc,
+            &self.module.assignments,
+            &self.module.evaluation_order,
+            &self.overrides,
+            outer,
+            references,
+            self.module.settings.lists,
+        )
+    }
+
+    /// The value of the variable with a name in a scope that a run returned, if it was evaluated.
+    pub fn value<'scope>(&self, scope: &'scope Scope<'src, '_>, name: &str) -> Option<&'scope Value>
+        ensures { option_map (λ v. v.now) result ≡ value_of_name (map assignment_view self.now.module.now.assignments)
+            (frames_view scope.now) name.now }
+    {
+        match number_of(&self.module.assignments, name) {
+            Some(number) => scope.value(number),
+            None => None,
+        }
     }
 
     /// The context of calls that come after a run, such as those of recipes: these options, and the scope.
