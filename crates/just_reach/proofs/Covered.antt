@@ -1,0 +1,193 @@
+-- Each event of an evaluation comes from a member that is reached: one recursion over the forms of expression, and one
+-- over the number of calls that may be pending.
+use Rattle.std.proofs.Common.{◌≡◌, inl, inr, ℕ, zero, suc, Bool, true, false, List, [], ◌∷◌, ◌++◌, if◌then◌else◌, Option, Some, None, refl, ap}
+use Rattle.std.proofs.Common.{subst, nat_eq, length}
+use Rattle.just_syntax.specs.Plain.{Text, Token, Expr, And, Assert, AssertOnly, Backtick, Comparison, Concatenation, Conditional, ConditionalOnly, FormatString}
+use Rattle.just_syntax.specs.Plain.{Function, Group, Join, JoinOnly, ListOf, ListConcatenation, Not, Or, StringLiteral, Exprs, Nil, Cons, Pieces, NoPiece}
+use Rattle.just_syntax.specs.Plain.{Piece, count}
+use Rattle.just_syntax.specs.Plain as plain
+use Rattle.just_syntax.specs.Lists.{IsIn}
+use Rattle.just_value.specs.Value.{Names, Value, is_truthy}
+use Rattle.just_value.specs.Frames.{value_in}
+use Rattle.just_host.specs.Interaction.{Asked, Checked, Event, Noted, Tree, ask, bind, done, gives}
+use Rattle.just_host.specs.Interaction as note
+use Rattle.just_host.specs.Question.{Answer, command_question}
+use Rattle.just_builtins.specs.Shape.{builtin_of, is_text}
+use Rattle.just_builtins.specs.declared.function.Function as built_in
+use Rattle.just_meaning.specs.Callee.{Callee, Defined, LeftOut, accepts, built_in_or_unknown, callee, undefined}
+use Rattle.just_meaning.specs.Callee as callee
+use Rattle.just_meaning.specs.Closings.{dynamic, inside, lexical}
+use Rattle.just_meaning.specs.Meaning.{AtLimit, Deeper, Program, Row, Situation, WithinLimit, answered, as_it_is, built_in_call, called}
+use Rattle.just_meaning.specs.Meaning.{command}
+use Rattle.just_meaning.specs.Meaning.{eval, eval_pieces, eval_row, is_regex, one_text, texts_of, variable}
+use Rattle.just_meaning.specs.Reaches.{function_at}
+use Rattle.just_reach.specs.Law.{ByBuiltIn, ByCommand, ComesFrom, IsAskedIn, IsScoped, Lexically, Dynamically}
+use Rattle.just_reach.specs.Member.{PlainMember, BuiltIn, Call, Command, Unknown, Variable, called_member}
+use Rattle.just_reach.specs.Reached.{OccursAt, OccursAtRow, OccursAtPieces}
+use Rattle.just_reach.proofs.Asking.{IsAskedBy, IsQuestion, built_in_asks}
+use Rattle.just_reach.proofs.Calls.{defined_is}
+use Rattle.just_reach.proofs.Within.{Within, within_bind, within_if, within_path, within_traces}
+
+-- ---- expressions
+
+-- what occurs in the body of a called function is reached
+abbrev pub IsClosed : List Function → (PlainMember → Type 0) → Type 0
+IsClosed functions reached = (t : Token) (f : Function) → reached (Call t) → function_at functions t.lexeme ≡ Some f → (x : PlainMember)
+    → OccursAt functions f.body x → reached x
+
+module _ (c : Program) (environment : List (Text × Text)) (reached : PlainMember → Type 0) where
+  abbrev Covers : {A : Type 0} → Tree A → Type 0
+  Covers t = Within (ComesFrom c environment reached) t
+
+  -- what occurs is reached
+  abbrev AllReached : (PlainMember → Type 0) → Type 0
+  AllReached occurs = (x : PlainMember) → occurs x → reached x
+
+  covers_bind : {A B : Type 0} (t : Tree A) (go : A → Tree B) → Covers t → ((a : A) → Covers (go a)) → Covers (bind t go)
+  covers_bind t go h k = within_bind (ComesFrom c environment reached) t go h k
+
+  covers_if : {A : Type 0} (b : Bool) (t u : Tree A) → Covers t → Covers u → Covers (if b then t else u)
+  covers_if b t u h k = within_if (ComesFrom c environment reached) b t u h k
+
+  -- the bodies of called functions are covered
+  abbrev RunsCovered : Deeper → Type 0
+  RunsCovered AtLimit = Unit {0}
+  RunsCovered (WithinLimit run) = (t : Token) (f : Function) (s : Situation) (vs : List Value) → reached (Call t) → function_at c.functions t.lexeme ≡ Some f
+      → s.environment ≡ environment → Covers (run f s vs)
+
+  -- a value is passed to a covered tree
+  abbrev IsRowCovered : Row → Type 0
+  IsRowCovered row = (look : ℕ → Value → Tree Value) → ((i : ℕ) (v : Value) → Covers (look i v)) → Covers (row look)
+
+  one_text_covered : (t : Token) (v : Value) → Covers (one_text t v)
+  one_text_covered t [] = tt
+  one_text_covered t (text ∷ []) = tt
+  one_text_covered t (text ∷ further ∷ rest) = tt
+
+  module _ (d : Deeper) (runs : RunsCovered d) (s : Situation) (same : s.environment ≡ environment) where
+    command_covered : (text : Text) (t : Token) → reached (Command t text) → Covers (command c.fixed s text t)
+    command_covered text t fit = ((Command t text, fit, refl), by c.fixed.config.dry_run refl)
+      where
+        by : (b : Bool) → c.fixed.config.dry_run ≡ b → Covers (if b then gives (((96 ∷ text) ++ 96 ∷ []) ∷ [])
+            else ask (command_question c.fixed s.environment s.shown text None) (λ a. done (answered t a)))
+        by true on = tt
+        by false off = λ a. (
+          (Command t text, fit, ByCommand t text s.shown off (ap (λ (e : List (Text × Text)). command_question c.fixed e s.shown text None) same)),
+          tt,
+        )
+
+    variable_covered : (t : Token) (number : Option ℕ) → reached (Variable t number) → Covers (variable t number s.names)
+    variable_covered t None fit = tt
+    variable_covered t (Some n) fit = ((Variable t (Some n), fit, refl), tt)
+
+    built_in_covered : (t : Token) (f : built_in.Function) (vs : List Value) → reached (BuiltIn t f) → Covers (built_in_call c s t f vs)
+    built_in_covered t f vs fit = within_traces (ComesFrom c environment reached) (built_in_call c s t f vs) (λ es o p x i.
+        by x (within_path (IsQuestion (IsAskedBy (builtin_of f))) p (built_in_asks c s t f vs) x i)
+        (λ q a is. record { events = es; outcome = o; path = p; answer = a; asked = subst (IsIn es) is i }))
+      where
+        by : (x : Event) → IsQuestion (IsAskedBy (builtin_of f)) x → ((q : _) (a : Answer) → x ≡ Asked q a → IsAskedIn (built_in_call c s t f vs) q)
+            → ComesFrom c environment reached x
+        by (Asked q a) asks from = (BuiltIn t f, fit, ByBuiltIn t f s vs same (from q a refl))
+        by (Noted n) asks from = absurd asks
+        by (Checked p v a) asks from = absurd asks
+
+    defined_covered : (t : Token) (f : Function) (n : ℕ) (row : Row) → reached (Call t) → function_at c.functions t.lexeme ≡ Some f → IsRowCovered row
+        → Covers (called c t (Defined f) d s n row)
+    defined_covered t f n row fit found rows = by d runs
+      where
+        by : (e : Deeper) → RunsCovered e → Covers (called c t (Defined f) e s n row)
+        by AtLimit covered = tt
+        by (WithinLimit run) covered = covers_if (nat_eq n (length f.parameters)) _ _
+            (covers_bind (row as_it_is) (run f s) (rows as_it_is (λ i v. tt)) (λ vs. covered t f s vs fit found same)) tt
+
+    call_covered : (t : Token) (n : ℕ) (row : Row) (k : Callee) → callee c.functions t.lexeme ≡ k → reached (called_member k t) → IsRowCovered row
+        → Covers (called c t k d s n row)
+    call_covered t n row (Defined f) is fit rows = defined_covered t f n row fit (defined_is c.functions t.lexeme f is) rows
+    call_covered t n row (callee.BuiltIn f) is fit rows = covers_if (accepts (callee.BuiltIn f) n) _ _
+        (covers_bind (row (texts_of f t)) (built_in_call c s t f)
+        (rows (texts_of f t) (λ i v. covers_if (is_text f i) (one_text t v) (gives v) (one_text_covered t v) tt)) (λ vs. built_in_covered t f vs fit)) tt
+    call_covered t n row LeftOut is fit rows = tt
+    call_covered t n row callee.Unknown is fit rows = tt
+
+    -- the note of a call
+    entered : (t : Token) (k : Callee) → reached (called_member k t) → ComesFrom c environment reached (Noted (note.Entered t))
+    entered t (Defined f) fit = (Call t, fit, refl)
+    entered t (callee.BuiltIn f) fit = (BuiltIn t f, fit, refl)
+    entered t LeftOut fit = (Unknown t, fit, refl)
+    entered t callee.Unknown fit = (Unknown t, fit, refl)
+
+    mutual
+      pub expression_covered : (e : Expr) → AllReached (OccursAt c.functions e) → Covers (eval c d s e)
+      expression_covered (And l r) fit =
+          covers_bind (eval c d s l) _ (expression_covered l (λ x y. fit x (inl y)))
+          (λ v. covers_if (is_truthy v) _ _ (expression_covered r (λ x y. fit x (inr y))) tt)
+      expression_covered (Assert e m t) fit =
+          covers_bind (eval c d s e) _ (expression_covered e (λ x y. fit x (inl y)))
+          (λ v. covers_if (is_truthy v) _ _ tt (covers_bind _ _ (covers_bind (eval c d s m) _ (expression_covered m (λ x y. fit x (inr y))) (λ w. tt))
+          (λ text. tt)))
+      expression_covered (AssertOnly e t) fit =
+          covers_bind (eval c d s e) _ (expression_covered e fit) (λ v. covers_if (is_truthy v) _ _ tt tt)
+      expression_covered (Backtick text t) fit = command_covered text t (fit (Command t text) refl)
+      expression_covered (plain.Call t es) fit =
+          let k = callee c.functions t.lexeme in
+          let here = fit (called_member k t) (inl refl) in
+          (entered t k here, call_covered t (count es) (eval_row c d s 0 es) k refl here (λ look h. row_covered 0 es look h (λ x y. fit x (inr y))))
+      expression_covered (Comparison l o r t) fit =
+          covers_if (is_regex o) _ _ tt (covers_bind (eval c d s l) _ (expression_covered l (λ x y. fit x (inl y)))
+          (λ v. covers_bind (eval c d s r) _ (expression_covered r (λ x y. fit x (inr y))) (λ w. tt)))
+      expression_covered (Concatenation l t r) fit =
+          covers_bind (eval c d s l) _ (expression_covered l (λ x y. fit x (inl y)))
+          (λ v. covers_bind (eval c d s r) _ (expression_covered r (λ x y. fit x (inr y))) (λ w. tt))
+      expression_covered (Conditional e a b) fit =
+          covers_bind (eval c d s e) _ (expression_covered e (λ x y. fit x (inl y)))
+          (λ v. covers_if (is_truthy v) _ _ (expression_covered a (λ x y. fit x (inr (inl y)))) (expression_covered b (λ x y. fit x (inr (inr y)))))
+      expression_covered (ConditionalOnly e a) fit =
+          covers_bind (eval c d s e) _ (expression_covered e (λ x y. fit x (inl y)))
+          (λ v. covers_if (is_truthy v) _ _ (expression_covered a (λ x y. fit x (inr y))) tt)
+      expression_covered (FormatString start pieces) fit = covers_bind (eval_pieces c d s pieces) _ (pieces_covered pieces fit) (λ text. tt)
+      expression_covered (Group e) fit = expression_covered e fit
+      expression_covered (Join l t r) fit =
+          covers_bind (eval c d s l) _ (expression_covered l (λ x y. fit x (inl y)))
+          (λ v. covers_bind (eval c d s r) _ (expression_covered r (λ x y. fit x (inr y))) (λ w. tt))
+      expression_covered (JoinOnly t r) fit = covers_bind (eval c d s r) _ (expression_covered r fit) (λ w. tt)
+      expression_covered (ListOf es t) fit = covers_bind (eval_row c d s 0 es as_it_is) _ (row_covered 0 es as_it_is (λ i v. tt) fit) (λ vs. tt)
+      expression_covered (ListConcatenation l t r) fit =
+          covers_bind (eval c d s l) _ (expression_covered l (λ x y. fit x (inl y)))
+          (λ v. covers_bind (eval c d s r) _ (expression_covered r (λ x y. fit x (inr y))) (λ w. tt))
+      expression_covered (Not e) fit = covers_bind (eval c d s e) _ (expression_covered e fit) (λ v. tt)
+      expression_covered (Or l r) fit =
+          covers_bind (eval c d s l) _ (expression_covered l (λ x y. fit x (inl y)))
+          (λ v. covers_if (is_truthy v) _ _ tt (expression_covered r (λ x y. fit x (inr y))))
+      expression_covered (StringLiteral literal) fit = tt
+      expression_covered (plain.Variable t number) fit = variable_covered t number (fit (Variable t number) refl)
+
+      row_covered : (i : ℕ) (es : Exprs) (look : ℕ → Value → Tree Value) → ((i : ℕ) (v : Value) → Covers (look i v)) → AllReached (OccursAtRow c.functions es)
+          → Covers (eval_row c d s i es look)
+      row_covered i Nil look h fit = tt
+      row_covered i (Cons e es) look h fit =
+          covers_bind _ _ (covers_bind (eval c d s e) (look i) (expression_covered e (λ x y. fit x (inl y))) (h i))
+          (λ v. covers_bind (eval_row c d s (suc i) es look) _ (row_covered (suc i) es look h (λ x y. fit x (inr y))) (λ vs. tt))
+
+      pieces_covered : (pieces : Pieces) → AllReached (OccursAtPieces c.functions pieces) → Covers (eval_pieces c d s pieces)
+      pieces_covered NoPiece fit = tt
+      pieces_covered (Piece e literal pieces) fit =
+          covers_bind (eval c d s e) _ (expression_covered e (λ x y. fit x (inl y)))
+          (λ v. covers_bind (eval_pieces c d s pieces) _ (pieces_covered pieces (λ x y. fit x (inr y))) (λ text. tt))
+
+  -- ---- bodies
+
+  module _ (closed : IsClosed c.functions reached) where
+    lexically_covered : (base : Names) (n : ℕ) → RunsCovered (lexical c base n)
+    lexically_covered base zero = tt
+    lexically_covered base (suc n) = λ t f s vs fit found same.
+        expression_covered (lexical c base n) (lexically_covered base n) (inside base s f vs) same f.body (closed t f fit found)
+
+    dynamically_covered : (n : ℕ) → RunsCovered (dynamic c n)
+    dynamically_covered zero = tt
+    dynamically_covered (suc n) = λ t f s vs fit found same.
+        expression_covered (dynamic c n) (dynamically_covered n) (inside (value_in s.below) s f vs) same f.body (closed t f fit found)
+
+    pub scoped_covered : (d : Deeper) → IsScoped c d → (s : Situation) → s.environment ≡ environment → (e : Expr) → AllReached (OccursAt c.functions e)
+        → Covers (eval c d s e)
+    scoped_covered d (Lexically base n) s same e fit = expression_covered (lexical c base n) (lexically_covered base n) s same e fit
+    scoped_covered d (Dynamically n) s same e fit = expression_covered (dynamic c n) (dynamically_covered n) s same e fit

@@ -1,0 +1,105 @@
+-- Evaluation reaches no more than what is listed: expressions, and runs over the assignments of a module.
+use Rattle.std.proofs.Common.{◌≡◌, ◌⊎◌, inl, inr, ⊎_elim, ◌-◌, Bool, true, false, cond, List, [], ◌∷◌, Option, Some, None, refl, subst, sym}
+use Rattle.std.specs.Str.{bytes_eq}
+use Rattle.just_syntax.specs.Plain.{Assignment, Expr, Text, Token}
+use Rattle.just_syntax.specs.Keyed.{value_at}
+use Rattle.just_syntax.specs.Lists.{IsIn}
+use Rattle.just_syntax.proofs.Lists.{in_append}
+use Rattle.just_value.specs.Frames.{Frames, value_in}
+use Rattle.just_value.specs.Outcome.{Gave, Outcome, Refused, Stopped}
+use Rattle.just_value.specs.Value.{Value}
+use Rattle.just_host.specs.Interaction.{Asked, Event, Path, freely}
+use Rattle.just_host.specs.Question.{Question}
+use Rattle.just_builtins.specs.Shape.{builtin_of}
+use Rattle.just_meaning.specs.Meaning.{Deeper, Program, Situation, eval}
+use Rattle.just_meaning.specs.Module.{Binds, Block, Breaks, Closing, Finished, Halts, IsTaken, Module, Passes, Run, Skips, Stops, Unknown, assigned}
+use Rattle.just_meaning.specs.Module.{dynamically, events_of, lexically, or_override, situation_at}
+use Rattle.just_reach.specs.Law.{ByBuiltIn, ByCommand, ComesFrom, Dynamically, IsScoped, Lexically, MayAsk, ReachesNoMore}
+use Rattle.just_reach.specs.Asking.{IsCommand, may_ask, may_run_command}
+use Rattle.just_reach.specs.Member.{PlainMember}
+use Rattle.just_reach.specs.Reached.{IsReached, IsReachedInRun}
+use Rattle.just_reach.proofs.Asking.{IsAskedBy, IsQuestion, built_in_asks}
+use Rattle.just_reach.proofs.Recipe.{line_reaches, parameters_reach}
+use Rattle.just_reach.proofs.Covered.{scoped_covered}
+use Rattle.just_reach.proofs.Reaching.{closed, closed_in_run}
+use Rattle.just_reach.proofs.Within.{Within, within_path}
+
+expression_reaches : (c : Program) (d : Deeper) → IsScoped c d → (s : Situation) (e : Expr) (es : List Event) (o : Outcome Value)
+    → Path freely (eval c d s e) es o → (x : Event) → IsIn es x → ComesFrom c s.environment (IsReached c.functions e) x
+expression_reaches c d scoped s e es o path x i =
+    within_path (ComesFrom c s.environment (IsReached c.functions e)) path
+    (scoped_covered c s.environment (IsReached c.functions e) (closed c.functions e) d scoped s refl e (λ y occurs. inl occurs)) x i
+
+-- ---- runs
+
+-- the assignment with a name is one of them
+assignment_in : (assignments : List Assignment) (name : Text) (a : Assignment) → value_at (λ b. b.name.lexeme) name assignments ≡ Some a → IsIn assignments a
+assignment_in [] name a found = absurd (cc)
+assignment_in (b ∷ bs) name a found = by (bytes_eq name b.name.lexeme) found (assignment_in bs name a)
+  where
+    by : (t : Bool) → cond t (Some b) (value_at (λ b. b.name.lexeme) name bs) ≡ Some a → (value_at (λ b. b.name.lexeme) name bs ≡ Some a → IsIn bs a)
+        → IsIn (b ∷ bs) a
+    by true found later = inl (cc)
+    by false found later = inr (later found)
+
+-- the scoping discipline is lexical or dynamic at each assignment
+abbrev IsScoping : Closing → Type 0
+IsScoping closing = (m : Module) (frames : Frames) → IsScoped m.program (closing m frames)
+
+is_scoping : (closing : Closing) → (closing ≡ lexically) ⊎ (closing ≡ dynamically) → IsScoping closing
+is_scoping closing (inl is) = subst IsScoping (sym is) (λ m frames. Lexically (value_in frames) (m.limit - 1))
+is_scoping closing (inr is) = subst IsScoping (sym is) (λ m frames. Dynamically (m.limit - 1))
+
+module _ (closing : Closing) (scoping : IsScoping closing) (m : Module) where
+  abbrev Reached : PlainMember → Type 0
+  Reached = IsReachedInRun m.program.functions m.assignments.all m.assignments.referenced
+
+  abbrev Comes : Event → Type 0
+  Comes = ComesFrom m.program [] Reached
+
+  value_covered : (frames : Frames) (a : Assignment) → IsIn m.assignments.all a → m.assignments.referenced a.number ≡ true
+      → Within Comes (assigned closing m frames a)
+  value_covered frames a among referenced = by (m.overrides a.number)
+    where
+      by : (o : Option Text) → Within Comes (or_override o (eval m.program (closing m frames) (situation_at m.program.fixed.settings.lists frames) a.value))
+      by (Some text) = tt
+      by None = scoped_covered m.program [] Reached (closed_in_run m.program.functions m.assignments.all m.assignments.referenced) (closing m frames)
+          (scoping m frames) (situation_at m.program.fixed.settings.lists frames) refl a.value
+          (λ y occurs. record { assignment = a; among = among; referenced = referenced; reached = inl occurs })
+
+  block_comes : (frames : Frames) (t : Token) (a : Assignment) → IsTaken m frames t a → (es : List Event) (o : Outcome Value)
+      → Path freely (assigned closing m frames a) es o → (x : Event) → IsIn es x → Comes x
+  block_comes frames t a taken es o path x i =
+      within_path Comes path (value_covered frames a (assignment_in m.assignments.all t.lexeme a taken.found) taken.referenced) x i
+
+  run_comes : {frames : Frames} {names : List Token} {bs : List Block} {o : Outcome Frames} → Run closing m frames names bs o → (x : Event)
+      → IsIn (events_of bs) x
+      → Comes x
+  run_comes Finished x i = absurd i
+  run_comes Stops x i = absurd i
+  run_comes (Unknown none) x i = absurd i
+  run_comes (Passes a found unreferenced rest) x i = run_comes rest x i
+  run_comes (Skips a b found referenced bound rest) x i = run_comes rest x i
+  run_comes (Binds {frames = frames} {t = t} {bs = bs} a es v taken path rest) x i =
+      ⊎_elim (λ k. block_comes frames t a taken es (Gave v) path x k) (λ k. run_comes rest x k) ((in_append es (events_of bs) x).0 i)
+  run_comes (Breaks {frames = frames} {t = t} a es r taken path) x i =
+      ⊎_elim (λ k. block_comes frames t a taken es (Refused r) path x k) (λ k. absurd k) ((in_append es [] x).0 i)
+  run_comes (Halts {frames = frames} {t = t} a es taken path) x i =
+      ⊎_elim (λ k. block_comes frames t a taken es Stopped path x k) (λ k. absurd k) ((in_append es [] x).0 i)
+
+-- ---- questions
+
+member_asks : (c : Program) (environment : List (Text × Text)) (q : Question) {m : PlainMember} → MayAsk c environment q m
+    → (may_ask m ≡ true) × (IsCommand q.blind → may_run_command m ≡ true)
+member_asks c environment q (ByCommand t text shown on is) = (refl, λ command. refl)
+member_asks c environment q (ByBuiltIn t f s vs same asked) =
+    within_path (IsQuestion (IsAskedBy (builtin_of f))) asked.path (built_in_asks c s t f vs) (Asked q asked.answer) asked.asked
+
+pub reaches_no_more : ReachesNoMore
+reaches_no_more = record {
+  expressions = expression_reaches;
+  lines = line_reaches;
+  parameters = parameters_reach;
+  questions = λ c environment q m h. member_asks c environment q h;
+  runs = λ closing either m frames names bs o run x i. run_comes closing (is_scoping closing either) m run x i;
+}

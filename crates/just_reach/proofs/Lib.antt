@@ -1,0 +1,13 @@
+pub mod Asking
+pub mod Calls
+pub mod Covered
+pub mod Law
+pub mod Listed
+pub mod Names
+pub mod Reaching
+pub mod Recipe
+pub mod Rows
+pub mod Tables
+pub mod Walk
+pub mod Within
+pub mod Work
