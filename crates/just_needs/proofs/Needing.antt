@@ -26,7 +26,7 @@ value_by : (a : Assignment) (n : ℕ) (e : Expr) (b : Bool) → nat_eq a.number 
 value_by a n e true is = ((λ h. ⊎_elim (λ same. (eqb-true a.number n is, same)) (λ bad. absurd bad) h), (λ h. inl h.1))
 value_by a n e false is = ((λ h. absurd h), (λ h. absurd (let on = eq-eqb a.number n h.0 in let bad : false ≡ true = sym is ∙ on in cc)))
 
-in_values : (all : List Assignment) (n : ℕ) (e : Expr) → IsIn (values_numbered all n) e
+pub in_values : (all : List Assignment) (n : ℕ) (e : Expr) → IsIn (values_numbered all n) e
     ↔ ((a : Assignment) × IsIn all a × (a.number ≡ n) × (a.value ≡ e))
 in_values [] n e = ((λ h. absurd h), (λ h. absurd h.1))
 in_values (a ∷ all) n e =
@@ -40,7 +40,7 @@ in_values (a ∷ all) n e =
     )
 
 -- what some expressions read
-in_all : (f : Expr → List PlainNode) (es : List Expr) (x : PlainNode) → IsIn (flat_map f es) x ↔ ((e : Expr) × IsIn es e × IsIn (f e) x)
+pub in_all : (f : Expr → List PlainNode) (es : List Expr) (x : PlainNode) → IsIn (flat_map f es) x ↔ ((e : Expr) × IsIn es e × IsIn (f e) x)
 in_all f [] x = ((λ h. absurd h), (λ h. absurd h.1))
 in_all f (e ∷ es) x =
     let rest = in_all f es x in
@@ -53,7 +53,7 @@ off_if : (b : Bool) → (IsTrue b → ⊥) → not b ≡ true
 off_if true h = absurd (h refl)
 off_if false h = refl
 
-not_both : (b : Bool) → not b ≡ true → IsTrue b → ⊥
+pub not_both : (b : Bool) → not b ≡ true → IsTrue b → ⊥
 not_both true off on = let bad : false ≡ true = off in cc
 not_both false off on = let bad : false ≡ true = on in cc
 

@@ -23,18 +23,22 @@ use just_value::scope::Scope;
 use std::alloc::Global;
 use std::collections::{BTreeMap, BTreeSet};
 
-// The functions of a module, its assignments by their numbers, and the numbers that are followed: those of assignments
-// that are not bound outside.
+/// The functions of a module, its assignments by their numbers, and the numbers that are followed: those of assignments
+/// that are not bound outside.
 #[derive(Drop)]
-pub(crate) struct Graph<'src, 'a> {
+pub struct Graph<'src, 'a> {
     functions: &'a Table<FunctionDefinition<'src>>,
     followed: NumberSet,
     numbered: BTreeMap<Number, Vec<Valued<'src, 'a>>>,
 }
 
 impl<'a, 'src> Graph<'src, 'a> {
-    // The graph of a module within a scope.
-    pub(crate) fn new(
+    /// The graph of a module within a scope.
+    ///
+    /// # Errors
+    ///
+    /// `OutOfMemory`, if an allocation fails: nothing is created.
+    pub fn new(
         alloc: Global,
         module: &'a Justfile<'src>,
         outer: &Scope<'src, '_>,
@@ -54,8 +58,12 @@ impl<'a, 'src> Graph<'src, 'a> {
         })
     }
 
-    // Adds what a node reads by itself.
-    pub(crate) fn add_read_by(
+    /// Adds what a node reads by itself, in the order of its text.
+    ///
+    /// # Errors
+    ///
+    /// `OutOfMemory`, if an allocation fails: some of what it reads may have been added.
+    pub fn add_read_by(
         &self,
         alloc: Global,
         nodes: &mut Vec<Node<'src>>,

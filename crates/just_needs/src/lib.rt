@@ -3,11 +3,11 @@
 // the evaluator.
 #![tactic(auto)]
 
-mod graph;
+pub mod graph;
 pub mod needed;
-mod node;
+pub mod node;
 mod numbered;
-mod reached;
+pub mod reached;
 pub mod references;
 #[cfg(test)]
 mod tests;

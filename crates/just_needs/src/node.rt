@@ -8,16 +8,16 @@ use just_syntax::out_of_memory::OutOfMemory;
 use std::alloc::Global;
 use std::collections::HashSet;
 
-// A variable, or a function of the file by its name.
+/// A variable, or a function of the file by its name.
 #[derive(Drop)]
-pub(crate) enum Node<'src> {
+pub enum Node<'src> {
     Function { name: &'src str },
     Variable { number: Number },
 }
 
 impl<'src> Node<'src> {
-    // A copy of the node.
-    fn duplicate(&self) -> Node<'src>
+    /// A copy of the node.
+    pub fn duplicate(&self) -> Node<'src>
         ensures { node_view result ≡ node_view self.now }
     {
         match self {

@@ -11,16 +11,16 @@ use just_syntax::out_of_memory::OutOfMemory;
 use std::alloc::Global;
 use std::collections::{BTreeSet, HashSet};
 
-// The variables and the functions that were reached.
+/// The variables and the functions that were reached.
 #[derive(Drop)]
-pub(crate) struct Reached<'src> {
+pub struct Reached<'src> {
     functions: BTreeSet<&'src str>,
     pub(crate) variables: HashSet<Number>,
 }
 
 impl<'src> Reached<'src> {
-    // With nothing reached. It does not allocate.
-    fn new(alloc: Global) -> Reached<'src>
+    /// With nothing reached. It does not allocate.
+    pub fn new(alloc: Global) -> Reached<'src>
         ensures { (x : PlainNode) → is_reached result x ≡ false }
     {
         Reached {
@@ -29,8 +29,12 @@ impl<'src> Reached<'src> {
         }
     }
 
-    // Adds a node, and returns whether it was new.
-    fn insert(&mut self, node: &Node<'src>) -> Result<bool, OutOfMemory>
+    /// Adds a node, and returns whether it was new.
+    ///
+    /// # Errors
+    ///
+    /// `OutOfMemory`, if an allocation fails: the nodes are unchanged.
+    pub fn insert(&mut self, node: &Node<'src>) -> Result<bool, OutOfMemory>
         ensures fresh { IfOk result (λ fresh. fresh ≡ not (is_reached self.old (node_view node.now))) }
         ensures reached { OnOk result ((x : PlainNode) → IsTrue (is_reached self.new x)
             ↔ ((node_view node.now ≡ x) ⊎ IsTrue (is_reached self.old x))) }

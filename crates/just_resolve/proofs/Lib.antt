@@ -1,0 +1,14 @@
+pub mod Appending
+pub mod Copies
+pub mod Indexing
+pub mod Lookups
+pub mod Measure
+pub mod Numbering
+pub mod Paths
+pub mod Postorder
+pub mod Renumbering
+pub mod Resolving
+pub mod Rings
+pub mod Stepping
+pub mod Steps
+pub mod Unordered

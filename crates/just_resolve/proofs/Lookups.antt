@@ -1,0 +1,68 @@
+-- Look-ups of names, one after another.
+use Rattle.std.proofs.Common.{◌≡◌, ℕ, Bool, true, false, cond, List, [], ◌∷◌, ◌++◌, Option, Some, None, Bor, is_some, map, refl, ap, sym, ◌∙◌}
+use Rattle.std.specs.Bool.{Decides}
+use Rattle.std.specs.BTreeMap.{is_at}
+use Rattle.std.specs.Cmp.Lexicographic.{slice_cmp}
+use Rattle.std.specs.Map.{lookup, values_of}
+use Rattle.std.specs.Option.{option_or}
+use Rattle.std.specs.Ordering.{nat_cmp}
+use Rattle.std.proofs.lemmas.Slice.Eq.{bytes_eq-Decides}
+use Rattle.just_value.specs.Frames.{Bound}
+use Rattle.std.specs.Str.{bytes_eq}
+use Rattle.just_resolve.specs.Prelude.{Frame, Text, Token, first_named, frame_names}
+
+-- the first of three
+pub or_assoc : {A : Type 0} (a b d : Option A) → option_or (option_or a b) d ≡ option_or a (option_or b d)
+or_assoc None b d = refl
+or_assoc (Some x) b d = refl
+
+pub or_none : {A : Type 0} (a : Option A) → option_or a None ≡ a
+or_none None = refl
+or_none (Some x) = refl
+
+-- the first of two lists of names
+pub first_named-append : (ps qs : List (Token × ℕ)) (t : Text) → first_named (ps ++ qs) t ≡ option_or (first_named ps t) (first_named qs t)
+first_named-append [] qs t = refl
+first_named-append (p ∷ ps) qs t = by (bytes_eq t p.0.lexeme) (first_named-append ps qs t)
+  where
+    by : (b : Bool) → first_named (ps ++ qs) t ≡ option_or (first_named ps t) (first_named qs t)
+        → cond b (Some p.1) (first_named (ps ++ qs) t) ≡ option_or (cond b (Some p.1) (first_named ps t)) (first_named qs t)
+    by true rest = refl
+    by false rest = rest
+
+-- a name that was looked up, then one that is looked up now, and then the others
+pub looked_on : (old new : Option ℕ) (p : Token × ℕ) (ps : List (Token × ℕ)) (t : Text) → new ≡ option_or old (first_named (p ∷ []) t)
+    → option_or new (first_named ps t) ≡ option_or old (first_named (p ∷ ps) t)
+looked_on old new p ps t is = ap (λ o. option_or o (first_named ps t)) is ∙ or_assoc old (first_named (p ∷ []) t) (first_named ps t)
+    ∙ ap (option_or old) (sym (first_named-append (p ∷ []) ps t))
+
+-- the same for several names that are looked up now
+pub looked_more : (old new : Option ℕ) (ps qs : List (Token × ℕ)) (t : Text) → new ≡ option_or old (first_named ps t)
+    → option_or new (first_named qs t) ≡ option_or old (first_named (ps ++ qs) t)
+looked_more old new ps qs t is =
+    ap (λ o. option_or o (first_named qs t)) is ∙ or_assoc old (first_named ps t) (first_named qs t) ∙ ap (option_or old) (sym (first_named-append ps qs t))
+
+-- a name that had no number has the one that was inserted
+pub added_name : (old new : Option ℕ) (n : ℕ) (name t : Text) → (name ≡ t → is_some old ≡ false) → new ≡ cond (bytes_eq name t) (Some n) old
+    → new ≡ option_or old (cond (bytes_eq t name) (Some n) None)
+added_name old new n name t none is = by (bytes_eq name t) (bytes_eq t name) refl refl (bytes_eq-Decides name t) (bytes_eq-Decides t name)
+  where
+    absent : (o : Option ℕ) → is_some o ≡ false → o ≡ None
+    absent None h = refl
+    absent (Some x) h = absurd (let bad : true ≡ false = h in cc)
+
+    by : (a b : Bool) → bytes_eq name t ≡ a → bytes_eq t name ≡ b → Decides (bytes_eq name t) (name ≡ t) → Decides (bytes_eq t name) (t ≡ name)
+        → new ≡ option_or old (cond b (Some n) None)
+    by true true e f d g = let gone = absent old (none (d.0 e)) in is ∙ ap (λ c. cond c (Some n) old) e ∙ ap (λ o. option_or o (Some n)) (sym gone)
+    by false false e f d g = is ∙ ap (λ c. cond c (Some n) old) e ∙ sym (or_none old)
+    by true false e f d g = absurd (let on : bytes_eq t name ≡ true = g.1 (sym (d.0 e)) in cc)
+    by false true e f d g = absurd (let on : bytes_eq name t ≡ true = d.1 (sym (g.0 f)) in cc)
+
+-- a frame's bindings, in order, are its names
+pub names_of_bindings : (frame : Frame) → map (λ (b : Bound). (b.name, b.number)) (values_of frame) ≡ frame_names frame
+names_of_bindings [] = refl
+names_of_bindings (e ∷ es) = ap (λ ps. (e.1.name, e.1.number) ∷ ps) (names_of_bindings es)
+
+-- an empty map
+pub nothing_named : (es : List (Bor Text × ℕ)) (t : Text) → es ≡ [] → lookup (is_at (λ k. slice_cmp nat_cmp t k.now)) es ≡ None
+nothing_named es t empty = ap (lookup (is_at (λ k. slice_cmp nat_cmp t k.now))) empty

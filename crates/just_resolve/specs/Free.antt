@@ -1,0 +1,25 @@
+-- Numbers that are not bound.
+use Rattle.std.specs.Prelude.{◌≡◌, ◌≤◌, ◌<◌, ℕ, suc, List, [], ◌∷◌}
+use Rattle.just_value.specs.Frames.{Frames, value_in}
+use Rattle.just_meaning.specs.Resolved.{HasValue}
+
+-- n is the first number from `start` on that no frame binds
+pub record IsNextFree (outer : Frames) (start n : ℕ) : Type 0 where
+  pub from : start ≤ n
+  pub free : HasValue (value_in outer) n → ⊥
+  pub others : (k : ℕ) → start ≤ k → k < n → HasValue (value_in outer) k
+
+-- these are the first numbers from `start` on that no frame binds, in ascending order
+abbrev pub AreFree : Frames → ℕ → List ℕ → Type 0
+AreFree outer start [] = Unit {0}
+AreFree outer start (n ∷ ns) = IsNextFree outer start n × AreFree outer (suc n) ns
+
+-- the number after the last of these or, if there is none, `start`
+abbrev pub after : ℕ → List ℕ → ℕ
+after start [] = start
+after start (n ∷ ns) = after (suc n) ns
+
+-- the same of numbers that were taken one after another, until the next one to be tried was `end`
+pub record AreTaken (outer : Frames) (start : ℕ) (ns : List ℕ) (end : ℕ) : Type 0 where
+  pub free : AreFree outer start ns
+  pub next : end ≡ after start ns

@@ -1,0 +1,10 @@
+pub mod Cycle
+pub mod Free
+pub mod Hopeless
+pub mod Numbered
+pub mod Order
+pub mod Prelude
+pub mod Renumbered
+pub mod Resolve
+pub mod View
+pub mod Walk

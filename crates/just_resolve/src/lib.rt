@@ -1,0 +1,17 @@
+// Resolution by names: it numbers the variables of a module, orders its assignments, and copies expressions with the
+// numbers of their names. It builds on the test of resolution and on the graph of what variables and functions read,
+// and never on the evaluator.
+#![tactic(auto)]
+
+mod cycle;
+mod free;
+pub mod laws;
+pub mod names;
+pub mod numbered;
+mod order;
+mod renumbered;
+pub mod resolve;
+pub mod resolve_error;
+#[cfg(test)]
+mod tests;
+mod walk;
