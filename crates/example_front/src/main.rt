@@ -41,35 +41,23 @@ fn evaluate<'src>(
     run.overrides = overrides;
     run.references = Some(references);
     match run.evaluate(alloc, &mut NoHost, outer) {
-        Ok(scope) => print_values(rt, &module.assignments, &scope, names),
+        Ok(scope) => print_values(rt, &run, &scope, names),
         Err(error) => print_error(rt, alloc, &error),
     }
 }
 
-fn print_values(
+fn print_values<'src>(
     rt: &impl Print,
-    assignments: &Table<Assignment>,
-    scope: &Scope,
+    run: &Run<'src, '_>,
+    scope: &Scope<'src, '_>,
     names: &[&str],
 ) -> Result<()> {
     for name in names {
-        if let Some(value) = value_of(assignments, scope, name) {
+        if let Some(value) = run.value(scope, name) {
             println!(rt; "{name} = {value}")?;
         }
     }
     Ok(())
-}
-
-// The value of the variable with a name, if it was evaluated.
-fn value_of<'run>(
-    assignments: &Table<Assignment>,
-    scope: &'run Scope,
-    name: &str,
-) -> Option<&'run Value> {
-    match number_of(assignments, name) {
-        Some(number) => scope.value(number),
-        None => None,
-    }
 }
 
 fn print_error(rt: &impl Print, alloc: Global, error: &Error) -> Result<()> {

@@ -1,19 +1,18 @@
 // A small linter of `example_justfile`. It prints each variable's constant value, or that it is open until a run; each
-// setting, or why it is refused; and the faults of the module after an edit that moves a variable.
+// refusal of a variable or a setting; the settings that are known; and the faults of the module after an edit that
+// moves a variable.
 #![tactic(auto)]
 
 ghost use Rattle.just_eval.specs.View.{IsConst};
 
-use anyhow::Result;
+use anyhow::{Result, bail};
 use example_justfile::SOURCE;
 use example_justfile::module::{module, sets};
 use just_eval::prelude::*;
 use just_faults::faults::faults;
 use just_report::report::report;
+use just_run::run::Run;
 use std::alloc::Global;
-use std::collections::HashMap;
-
-const NAMES: [&str; 4] = ["mode", "commit", "target", "banner"];
 
 fn lint<'src>(
     rt: &impl Print,
@@ -21,23 +20,29 @@ fn lint<'src>(
     outer: &Scope<'src, '_>,
     module: &Justfile<'src>,
 ) -> Result<()> {
-    let overrides = HashMap::new(alloc);
-    let wanted = references_of(alloc, &module.assignments, &NAMES)?;
-    match Evaluator::evaluate_const_assignments(
-        alloc,
-        &module.assignments,
-        &module.evaluation_order,
-        &overrides,
-        outer,
-        &wanted,
-        false,
-    ) {
-        Ok(stage) => {
-            print_variables(rt, module, &stage)?;
-            print_settings(rt, alloc, &stage)
-        }
-        Err(error) => Ok(println!(rt; "{error}")?),
+    let run = Run::new(alloc, module)?;
+    let survey = run.survey(alloc, outer)?;
+    print_survey(rt, alloc, module, &survey)
+}
+
+fn print_survey(
+    rt: &impl Print,
+    alloc: Global,
+    module: &Justfile,
+    survey: &ConstSurvey,
+) -> Result<()>
+    requires before_runs { IsConst survey.now.evaluator }
+{
+    print_variables(rt, module, &survey.evaluator)?;
+    print_refused(rt, alloc, &survey.refused)?;
+    print_settings(rt, alloc, &survey.evaluator)
+}
+
+fn print_refused(rt: &impl Print, alloc: Global, refused: &[RefusedConstant]) -> Result<()> {
+    for RefusedConstant { name: _, error } in refused {
+        print!(rt; "{}", report(alloc, error, &error.token(), SOURCE)?)?;
     }
+    Ok(())
 }
 
 fn print_variables(rt: &impl Print, module: &Justfile, stage: &Evaluator) -> Result<()> {
@@ -53,23 +58,34 @@ fn print_variables(rt: &impl Print, module: &Justfile, stage: &Evaluator) -> Res
 fn print_settings(rt: &impl Print, alloc: Global, stage: &Evaluator) -> Result<()>
     requires before_runs { IsConst stage.now }
 {
-    for set in sets(alloc)? {
-        let mut sets = Table::new(alloc);
-        sets.insert(set)?;
-        match stage.evaluate_sets(alloc, sets) {
-            Ok(settings) => println!(rt; "tempdir is {:?}", settings.tempdir)?,
-            Err(error) => print_refusal(rt, alloc, &error)?,
+    let sets = sets(alloc)?;
+    let mut settings = Settings::new(alloc);
+    evaluate(rt, alloc, stage, &sets, &mut settings)?;
+    Ok(print!(rt; "{settings}")?)
+}
+
+fn evaluate<'src>(
+    rt: &impl Print,
+    alloc: Global,
+    stage: &Evaluator<'src, '_>,
+    sets: &[Set<'src>],
+    settings: &mut Settings,
+) -> Result<()>
+    requires before_runs { IsConst stage.now }
+{
+    for set in sets {
+        if let Err(error) = stage.evaluate_set(alloc, settings, set) {
+            print_refusal(rt, alloc, &error)?;
         }
     }
     Ok(())
 }
 
 fn print_refusal(rt: &impl Print, alloc: Global, error: &CompileError) -> Result<()> {
-    match error.token() {
-        Some(token) => print!(rt; "{}", report(alloc, error, &token, SOURCE)?)?,
-        None => println!(rt; "error: {error}")?,
-    }
-    Ok(())
+    let Some(token) = error.token() else {
+        bail!("{error}");
+    };
+    Ok(print!(rt; "{}", report(alloc, error, &token, SOURCE)?)?)
 }
 
 fn print_faults<'src>(
