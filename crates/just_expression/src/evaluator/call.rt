@@ -3,7 +3,8 @@
 ghost use Rattle.std.specs.Prelude.{Some, length, option_copied, ◌≡◌};
 ghost use Rattle.just_expression.specs.Prelude.{Entered, HasTexts, IsExpected, RunsTo, built_in_call, called, callee};
 ghost use Rattle.just_expression.specs.Prelude.{context_of, deeper, dynamic, eval, function_named, function_view};
-ghost use Rattle.just_expression.specs.Prelude.{inside, name_view, note, program, row, situation, value_in};
+ghost use Rattle.just_expression.specs.Prelude.{inside, meaning, name_view, note, program, row, situation, value_in};
+ghost use Rattle.just_expression.specs.Prelude.{view};
 
 use super::ExpressionEvaluator;
 use crate::builtin;
@@ -29,6 +30,10 @@ const ENTRY: usize = 512;
 
 // What is left of `stack::BODY` for the body alone.
 const REST_OF_BODY: usize = stack::BODY - ENTRY;
+
+// What a call that is an argument uses around its parts beside `ENTRY`. It is less than `stack::CALL`, since the
+// argument's own frame is left out.
+const NESTED: usize = 672;
 
 impl<'src, 'run, 'here> ExpressionEvaluator<'src, 'run, 'here> {
     // The value of a call. The arguments are evaluated first, and then the callee.
@@ -57,7 +62,7 @@ impl<'src, 'run, 'here> ExpressionEvaluator<'src, 'run, 'here> {
         let callee = resolve_callee(alloc, context, name, self.calls_left, arguments.len())?;
         let mut values = Vec::with_capacity(alloc, arguments.len())?;
         for argument in arguments {
-            let value = self.evaluate_value(alloc, host, argument, budget)?;
+            let value = self.evaluate_argument(alloc, host, argument, budget)?;
             if !callee.takes(values.len(), &value) {
                 return builtin::refuse_list(name, value);
             }
@@ -70,6 +75,27 @@ impl<'src, 'run, 'here> ExpressionEvaluator<'src, 'run, 'here> {
             Callee::Defined(function, calls_left) => {
                 self.evaluate_defined_function(alloc, host, function, calls_left, values, budget)
             }
+        }
+    }
+
+    // The value of an argument. A call is evaluated at once, and this is inlined, so that calls which nest in arguments
+    // take one frame each.
+    #[cycle(evaluate)]
+    #[inline(always)]
+    fn evaluate_argument<H: Host>(
+        &self,
+        alloc: Global,
+        host: &mut H,
+        argument: &Expression<'src>,
+        budget: usize,
+    ) -> Result<Value, Error<'src>>
+        ensures { RunsTo self.now H.step host.old (meaning self.now (view argument.now)) result host.new }
+    {
+        match argument {
+            Expression::Call { arguments, name } if stack::FORM <= budget => {
+                self.evaluate_call(alloc, host, name, arguments, budget - NESTED)
+            }
+            _ => self.evaluate_value(alloc, host, argument, budget),
         }
     }
 

@@ -314,6 +314,9 @@ evaluate_value-returns-in-StringLiteral g t c = rw c.in-StringLiteral.is (runs_d
 pub evaluate_value-returns-in-Call : goal.evaluate_value-returns-in-Call
 evaluate_value-returns-in-Call g t c = rw (c.in-Call.is, call_is, ← c.deref-in-Call.ensures.value) c.evaluate_call.ensures
 
+pub evaluate_argument-returns-in-Call : goal.evaluate_argument-returns-in-Call
+evaluate_argument-returns-in-Call g t c = rw (c.in-Call.is, call_is, ← c.deref.ensures.value) c.evaluate_call.ensures
+
 pub evaluate_call-returns-in_default : goal.evaluate_call-returns-in_default
 evaluate_call-returns-in_default g t c = rw c.in_default.is (runs_shut refl)
 

@@ -12,6 +12,9 @@ decreases-evaluate_value g l = 3 * l.budget
 abbrev pub decreases-evaluate_defined_function : goal.decreases-evaluate_defined_function
 decreases-evaluate_defined_function g l = suc (3 * l.budget)
 
+abbrev pub decreases-evaluate_argument : goal.decreases-evaluate_argument
+decreases-evaluate_argument g l = suc (3 * l.budget)
+
 abbrev pub decreases-evaluate_operand : goal.decreases-evaluate_operand
 decreases-evaluate_operand g l = suc (3 * l.budget)
 
