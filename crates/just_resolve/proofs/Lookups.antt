@@ -1,15 +1,52 @@
 -- Look-ups of names, one after another.
-use Rattle.std.proofs.Common.{◌≡◌, ℕ, Bool, true, false, cond, List, [], ◌∷◌, ◌++◌, Option, Some, None, Bor, is_some, map, refl, ap, sym, ◌∙◌}
+use Rattle.std.proofs.Common.{◌≡◌, inl, inr, ℕ, Bool, true, false, cond, List, [], ◌∷◌, ◌++◌, Option, Some, None, Bor, is_some, map, refl, ap, sym, ◌∙◌, subst}
 use Rattle.std.specs.Bool.{Decides}
 use Rattle.std.specs.BTreeMap.{is_at}
 use Rattle.std.specs.Cmp.Lexicographic.{slice_cmp}
 use Rattle.std.specs.Map.{lookup, values_of}
 use Rattle.std.specs.Option.{option_or}
-use Rattle.std.specs.Ordering.{nat_cmp}
+use Rattle.std.specs.Ordering.{is_eq, nat_cmp}
+use Rattle.std.specs.declared.cmp.Ordering.TheVariants.{Less}
+use Rattle.std.proofs.lemmas.Map.Keys.{sorted_head, sorted_tail}
+use Rattle.std.proofs.lemmas.Map.Text.{is_eq-slice_cmp}
 use Rattle.std.proofs.lemmas.Slice.Eq.{bytes_eq-Decides}
 use Rattle.just_value.specs.Frames.{Bound}
 use Rattle.std.specs.Str.{bytes_eq}
-use Rattle.just_resolve.specs.Prelude.{Frame, Text, Token, first_named, frame_names}
+use Rattle.just_syntax.specs.Keyed.{IsInOrder, value_at}
+use Rattle.just_resolve.specs.Prelude.{Frame, IsIn, Text, Token, first_named, frame_names}
+use Rattle.just_resolve.proofs.Indexing.{all_in, in_map}
+
+-- what a look-up finds is in the list
+pub found_there : {V : Type 0} (key : V → Text) (name : Text) (all : List V) (v : V) → value_at key name all ≡ Some v → IsIn all v
+found_there key name [] v is = absurd (cc)
+found_there key name (x ∷ xs) v is = by (λ e. found_there key name xs v e) (bytes_eq name (key x)) is
+  where
+    by : (value_at key name xs ≡ Some v → IsIn xs v) → (t : Bool) → cond t (Some x) (value_at key name xs) ≡ Some v → IsIn (x ∷ xs) v
+    by later true e = inl (let same : x ≡ v = cc in same)
+    by later false e = inr (later e)
+
+-- a value of a table is found by its key
+pub found_in_order : {V : Type 0} (key : V → Text) (vs : List V) (v : V) → IsInOrder key vs → IsIn vs v → value_at key (key v) vs ≡ Some v
+found_in_order key [] v h there = absurd there
+found_in_order key (x ∷ xs) v h (inl same) =
+    subst (λ y. value_at key (key y) (x ∷ xs) ≡ Some y) same
+    (ap (λ t. cond t (Some x) (value_at key (key x) xs)) ((bytes_eq-Decides (key x) (key x)).1 refl))
+found_in_order key (x ∷ xs) v h (inr later) =
+    by (bytes_eq (key v) (key x)) refl (found_in_order key xs v (sorted_tail (slice_cmp nat_cmp) (key x) (map key xs) h) later)
+  where
+    less : slice_cmp nat_cmp (key x) (key v) ≡ Less
+    less = all_in (λ k. slice_cmp nat_cmp (key x) k ≡ Less) (map key xs) (key v) (sorted_head (slice_cmp nat_cmp) (key x) (map key xs) h)
+        ((in_map key xs (key v)).1 (v, later, refl))
+
+    other : key v ≡ key x → ⊥
+    other same =
+        let on : bytes_eq (key x) (key v) ≡ true = (bytes_eq-Decides (key x) (key v)).1 (sym same) in
+        let bad : false ≡ true = ap is_eq (sym less) ∙ is_eq-slice_cmp (key x) (key v) ∙ on in
+        cc
+
+    by : (t : Bool) → bytes_eq (key v) (key x) ≡ t → value_at key (key v) xs ≡ Some v → cond t (Some x) (value_at key (key v) xs) ≡ Some v
+    by true is rest = absurd (other ((bytes_eq-Decides (key v) (key x)).0 is))
+    by false is rest = rest
 
 -- the first of three
 pub or_assoc : {A : Type 0} (a b d : Option A) → option_or (option_or a b) d ≡ option_or a (option_or b d)

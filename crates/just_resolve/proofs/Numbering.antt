@@ -1,6 +1,6 @@
 -- Numbers that are taken one after another.
 use Rattle.std.proofs.Common.{◌≡◌, ◌≤◌, inl, inr, ℕ, suc, List, [], ◌∷◌, ◌++◌, refl, ap, sym, ◌∙◌, subst, arith}
-use Rattle.just_resolve.specs.Prelude.{AreDistinct, AreFree, AreTaken, Frames, IsIn, IsNextFree}
+use Rattle.just_resolve.specs.Prelude.{AreDistinct, AreFree, AreTaken, Frames, HasValue, IsIn, IsNextFree, value_in}
 use Rattle.just_resolve.specs.Free.{after}
 
 module _ (outer : Frames) where
@@ -36,6 +36,12 @@ module _ (outer : Frames) where
   pub free_distinct : (start : ℕ) (ns : List ℕ) → AreFree outer start ns → AreDistinct ns
   free_distinct start [] f = tt
   free_distinct start (n ∷ ns) f = ((λ h. let low = above (suc n) ns f.1 n h in absurd (omega arith)), free_distinct (suc n) ns f.1)
+
+  -- none of them is bound
+  pub free_unbound : (start : ℕ) (ns : List ℕ) (n : ℕ) → AreFree outer start ns → IsIn ns n → HasValue (value_in outer) n → ⊥
+  free_unbound start [] n f h bound = h
+  free_unbound start (k ∷ ns) n f (inl same) bound = f.0.free (subst (HasValue (value_in outer)) (sym same) bound)
+  free_unbound start (k ∷ ns) n f (inr later) bound = free_unbound (suc k) ns n f.1 later bound
 
 -- the first of some distinct numbers are distinct
 pub first_distinct : (xs ys : List ℕ) → AreDistinct (xs ++ ys) → AreDistinct xs

@@ -11,7 +11,7 @@ module _ (reads : PlainNode → List PlainNode) where
   ReadBy (Some y) x = IsIn (reads y) x
 
   -- each node is read by the last entered one before it
-  abbrev IsPath : Option PlainNode → List PlainStep → Type 0
+  abbrev pub IsPath : Option PlainNode → List PlainStep → Type 0
   IsPath before [] = Unit {0}
   IsPath before (Enter x ∷ ss) = ReadBy before x × IsPath before ss
   IsPath before (Leave x ∷ ss) = ReadBy before x × IsPath (Some x) ss
@@ -26,7 +26,7 @@ module _ (reads : PlainNode → List PlainNode) where
   path_append before (Enter x ∷ ss) ts h k = (h.0, path_append before ss ts h.1 k)
   path_append before (Leave x ∷ ss) ts h k = (h.0, path_append (Some x) ss ts h.1 k)
 
-  path_front : (before : Option PlainNode) (ss ts : List PlainStep) → IsPath before (ss ++ ts) → IsPath before ss
+  pub path_front : (before : Option PlainNode) (ss ts : List PlainStep) → IsPath before (ss ++ ts) → IsPath before ss
   path_front before [] ts h = tt
   path_front before (Enter x ∷ ss) ts h = (h.0, path_front before ss ts h.1)
   path_front before (Leave x ∷ ss) ts h = (h.0, path_front (Some x) ss ts h.1)
@@ -39,6 +39,17 @@ module _ (reads : PlainNode → List PlainNode) where
   path_enters : (x : PlainNode) (ys : List PlainNode) → ((y : PlainNode) → IsIn ys y → IsIn (reads x) y) → IsPath (Some x) (map Enter ys)
   path_enters x [] there = tt
   path_enters x (y ∷ ys) there = (there y (inl refl), path_enters x ys (λ z h. there z (inr h)))
+
+  -- steps that enter some nodes
+  pub path_starts : (ys : List PlainNode) → IsPath None (map Enter ys)
+  path_starts [] = tt
+  path_starts (y ∷ ys) = (tt, path_starts ys)
+
+  -- a node is entered
+  pub path_goes : (front : List PlainStep) (x : PlainNode) → IsPath None (front ++ Enter x ∷ []) → IsPath None (front ++ Leave x ∷ all_entered (reads x))
+  path_goes front x whole =
+      path_append None front (Leave x ∷ all_entered (reads x)) (path_front None front (Enter x ∷ []) whole)
+      ((path_after None front (Enter x ∷ []) whole).0, path_enters x (reverse (reads x)) (λ y h. (in_reverse (reads x) y).0 h))
 
   -- the nodes of a path to x
   turns : (x y : PlainNode) (ss : List PlainStep) → IsPath (Some y) (ss ++ Enter x ∷ []) → AreReadInTurn reads x y (path_in ss)
@@ -94,11 +105,8 @@ module _ (reads : PlainNode → List PlainNode) where
     pub way_enters : (x : PlainNode) (next : List PlainStep) → steps ≡ front ++ Enter x ∷ [] → next ≡ front ++ Leave x ∷ all_entered (reads x)
         → IsOnWay start new next
     way_enters x next is more =
-        let whole = subst (IsPath None) is w.path in
-        let steps_in : IsPath (last_of None front) (Leave x ∷ all_entered (reads x)) =
-        ((path_after None front (Enter x ∷ []) whole).0, path_enters x (reverse (reads x)) (λ y h. (in_reverse (reads x) y).0 h)) in record {
-          path = subst (IsPath None) (sym more) (path_append None front (Leave x ∷ all_entered (reads x))
-              (path_front None front (Enter x ∷ []) whole) steps_in);
+        record {
+          path = subst (IsPath None) (sym more) (path_goes front x (subst (IsPath None) is w.path));
           from_start = inr (inl (begun (⊎_elim
               (λ first. ⊎_elim (λ k. inl (k.0, let both : Enter x ≡ Enter (OfVariable start) = k.1 in let same : x ≡ OfVariable start = cc in same))
               (λ k. absurd (not_more k.0 k.1 (sym is ∙ first.0)))

@@ -39,7 +39,7 @@ pub record IsOrderedTo (starts : List ℕ) (entered : PlainNode → Bool) (steps
   pub begun : (n : ℕ) → IsIn starts n → IsTrue (entered (OfVariable n)) ⊎ IsIn steps (Enter (OfVariable n))
   pub known : (n : ℕ) → IsTrue (entered (OfVariable n)) ⊎ IsIn steps (Enter (OfVariable n)) → IsIn starts n
 
-none_on : (e : Bool) → e ≡ false → IsTrue e → ⊥
+pub none_on : (e : Bool) → e ≡ false → IsTrue e → ⊥
 none_on e off on = let bad : false ≡ true = sym off ∙ on in cc
 
 module _ (starts : List ℕ) where

@@ -1,27 +1,16 @@
 -- With a cycle no order resolves a module.
-use Rattle.std.proofs.Common.{◌≡◌, inl, inr, ⊎_elim, ℕ, Bool, true, false, cond, List, [], ◌∷◌, map, Option, Some, None, refl, ap, sym, ◌∙◌, subst}
+use Rattle.std.proofs.Common.{◌≡◌, inl, inr, ⊎_elim, ℕ, List, [], ◌∷◌, map, Option, Some, None, refl, ap, sym, ◌∙◌, subst}
 use Rattle.std.specs.List.{AllByRecursion}
-use Rattle.std.specs.Str.{bytes_eq}
-use Rattle.just_syntax.specs.Keyed.{value_at}
 use Rattle.just_meaning.specs.Reaches.{Reads}
 use Rattle.just_meaning.specs.Resolved.{AreInOrder, with_taken}
 use Rattle.just_meaning.specs.Assignments.{Assignments, assignment_at}
-use Rattle.just_resolve.specs.Prelude.{AreDistinct, Assignment, Frames, Function, IsIn, IsOrder, IsResolved, IsRing, ReadInTurn, Text, Token}
+use Rattle.just_resolve.specs.Prelude.{AreDistinct, Assignment, Frames, Function, IsIn, IsOrder, IsResolved, IsRing, ReadInTurn, Token}
 use Rattle.just_resolve.specs.Prelude.{ordered, parameter_numbers}
 use Rattle.just_resolve.specs.Hopeless.{AreFoundByName, AreUnbound}
 use Rattle.just_resolve.proofs.Indexing.{all_in, in_map}
+use Rattle.just_resolve.proofs.Lookups.{found_there}
 use Rattle.just_resolve.proofs.Numbering.{first_distinct}
 use Rattle.just_resolve.proofs.Rings.{one_assignment}
-
--- what a look-up finds is in the list
-found_in : (all : List Assignment) (name : Text) (a : Assignment) → value_at (λ (b : Assignment). b.name.lexeme) name all ≡ Some a → IsIn all a
-found_in [] name a is = absurd (cc)
-found_in (b ∷ all) name a is = by (λ e. found_in all name a e) (bytes_eq name b.name.lexeme) is
-  where
-    by : (value_at (λ (c : Assignment). c.name.lexeme) name all ≡ Some a → IsIn all a) → (t : Bool)
-        → cond t (Some b) (value_at (λ (c : Assignment). c.name.lexeme) name all) ≡ Some a → IsIn (b ∷ all) a
-    by later true e = inl (let same : b ≡ a = cc in same)
-    by later false e = inr (later e)
 
 module _ (functions : List Function) (all : List Assignment) (outer : Frames) (order : List Token) (members : List Assignment)
     (known : AllByRecursion (IsIn all) members) (distinct : AreDistinct (map (λ (a : Assignment). a.number) all)) (unbound : AreUnbound outer all)
@@ -45,7 +34,8 @@ module _ (functions : List Function) (all : List Assignment) (outer : Frames) (o
       → (o : Option Assignment) → assignment_at assignments t.lexeme ≡ o → AreApart (with_taken assignments o taken)
   apart_after taken t left apart h None is m there k = apart m there k
   apart_after taken t left apart h (Some a) is m there (inl same) =
-      let one : a ≡ m = one_assignment all a m distinct (found_in all t.lexeme a is) (all_in (IsIn all) members m known there) same in
+      let in_all = found_there (λ (b : Assignment). b.name.lexeme) t.lexeme all a is in
+      let one : a ≡ m = one_assignment all a m distinct in_all (all_in (IsIn all) members m known there) same in
       no_member taken t left apart h a is (subst (IsIn members) (sym one) there)
   apart_after taken t left apart h (Some a) is m there (inr later) = apart m there later
 

@@ -1,4 +1,5 @@
 pub mod Cycle
+pub mod Dependence
 pub mod Free
 pub mod Hopeless
 pub mod Numbered

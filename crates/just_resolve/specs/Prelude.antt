@@ -11,14 +11,19 @@ pub use Rattle.just_syntax.specs.View.{piece_views, token_view, view, views}
 pub use Rattle.just_value.specs.Frames.{Frame, Frames, value_in}
 pub use Rattle.just_value.specs.View.{bound_view, frame_view, frames_view}
 pub use Rattle.just_resolve.specs.Cycle.{IsCycle, IsRing, ReadInTurn}
+pub use Rattle.just_resolve.specs.Dependence.{AreSorted, DependsOn, DependsOnItself, IsSortedOrder, graph_of}
+pub use Rattle.just_resolve.specs.Dependence.{is_followed_in}
 pub use Rattle.just_resolve.specs.Free.{AreFree, AreTaken, IsNextFree}
-pub use Rattle.just_resolve.specs.Hopeless.{NoOrderResolvesACycle}
+pub use Rattle.just_resolve.specs.Hopeless.{AreFoundByName, NoOrderResolvesACycle}
 pub use Rattle.just_resolve.specs.Numbered.{bound_names, first_named, frame_names, numbered, numbered_pieces}
 pub use Rattle.just_resolve.specs.Numbered.{numbered_row, visible}
 pub use Rattle.just_resolve.specs.Order.{HasNames, IsNameOf, IsOrder, ordered}
 pub use Rattle.just_resolve.specs.Renumbered.{IsRenumbered, IsRenumberedAssignment, IsRenumberedFunction, Pairwise}
 pub use Rattle.just_resolve.specs.Renumbered.{with_number}
-pub use Rattle.just_resolve.specs.Resolve.{IsCircular, IsFaultAnyway, cycle_in, error_token, fault_in, no_memory}
+pub use Rattle.just_resolve.specs.Resolve.{AreFaultsInSomeOrder, AreNameFaults}
+pub use Rattle.just_resolve.specs.Resolve.{IsCircular, IsFaultAnyway, IsFaultInEachOrder, IsOfCycle, IsOfMention}
+pub use Rattle.just_resolve.specs.Resolve.{arrow_text, cycle_in, cycle_text, error_token, fault_in, no_memory}
+pub use Rattle.just_resolve.specs.Resolve.{resolve_error_text, ring_text}
 pub use Rattle.just_resolve.specs.View.{declared_view, entered_in, name_numbered, named, next_free, number_in}
 pub use Rattle.just_resolve.specs.View.{piece_view, step_view}
 pub use Rattle.just_resolve.specs.View.{steps_in, variable_named}

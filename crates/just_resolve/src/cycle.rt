@@ -1,8 +1,9 @@
 // Assignments that depend on themselves.
 
-ghost use Rattle.std.specs.Prelude.{IfOk, IfSome, IsTrue, map, ◌↔◌, ◌≡◌};
-ghost use Rattle.just_resolve.specs.Prelude.{AreDistinct, IsCycle, IsPathBack, OfVariable, assignment_view};
-ghost use Rattle.just_resolve.specs.Prelude.{functions_view, graph_view, name_view, node_view, read_by};
+ghost use Rattle.std.specs.Prelude.{IfOk, IfSome, IsNone, IsTrue, map, ◌↔◌, ◌≡◌};
+ghost use Rattle.just_resolve.specs.Prelude.{AreDistinct, DependsOn, DependsOnItself, IsCycle, IsPathBack, OfVariable};
+ghost use Rattle.just_resolve.specs.Prelude.{assignment_view, frames_view, functions_view, graph_view, name_view};
+ghost use Rattle.just_resolve.specs.Prelude.{node_view, read_by};
 
 use crate::order::names_of;
 use crate::walk::Walk;
@@ -17,7 +18,8 @@ use just_value::scope::Scope;
 use std::alloc::Global;
 
 // The names of assignments that form a cycle through the assignment with a name, which is the first. Each reads the
-// next one, by itself or through functions, and the last one reads the first.
+// next one, by itself or through functions, and the last one reads the first. It is `None` only if there is no such
+// assignment, or if the assignment does not depend on itself.
 pub(crate) fn cycle<'src>(
     alloc: Global,
     module: &Justfile<'src>,
@@ -25,8 +27,10 @@ pub(crate) fn cycle<'src>(
     name: &str,
 ) -> Result<Option<Vec<Name<'src>>>, OutOfMemory>
     requires { AreDistinct (map (λ a. a.number) (map assignment_view «module».now.assignments)) }
-    ensures { IfOk result (λ found. IfSome found (λ names. IsCycle (functions_view «module».now)
+    ensures some { IfOk result (λ found. IfSome found (λ names. IsCycle (functions_view «module».now)
         (map assignment_view «module».now.assignments) (map name_view names.items))) }
+    ensures none { IfOk result (λ found. IsNone found → DependsOnItself (functions_view «module».now)
+        (map assignment_view «module».now.assignments) (frames_view outer.now) name.now → ⊥) }
 {
     let Some(start) = number_of(&module.assignments, name) else {
         return Ok(None);
@@ -38,14 +42,15 @@ pub(crate) fn cycle<'src>(
     }
 }
 
-// The variables on a path from a variable back to itself.
+// The variables on a path from a variable back to itself; `None` if it does not depend on itself.
 fn path_back<'src>(
     alloc: Global,
     graph: &Graph<'src, '_>,
     start: Number,
 ) -> Result<Option<Vec<Number>>, OutOfMemory>
-    ensures { IfOk result (λ found. IfSome found (λ path. IsPathBack (read_by (graph_view graph.now)) start
+    ensures some { IfOk result (λ found. IfSome found (λ path. IsPathBack (read_by (graph_view graph.now)) start
         path.items)) }
+    ensures none { IfOk result (λ found. IsNone found → DependsOn (read_by (graph_view graph.now)) start start → ⊥) }
 {
     let mut walk = Walk::new(alloc, &[start])?;
     while let Some(step) = walk.pop() {

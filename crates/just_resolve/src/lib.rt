@@ -6,6 +6,7 @@
 mod cycle;
 mod free;
 pub mod laws;
+pub mod name_faults;
 pub mod names;
 pub mod numbered;
 mod order;

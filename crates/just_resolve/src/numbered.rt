@@ -9,10 +9,17 @@ use crate::names::Names;
 use just_syntax::expression::Expression;
 use just_syntax::name::Name;
 use just_syntax::out_of_memory::OutOfMemory;
+use just_syntax::stack;
 use just_syntax::string_literal::StringLiteral;
 use just_syntax::text::Text;
 use just_syntax::token::Token;
 use std::alloc::Global;
+
+// What copying uses of the stack per level, in bytes. It is measured as the numbers of `just_syntax::stack`.
+const COPIED: usize = 1_600;
+
+// The greatest depth of nesting of an expression that is copied, with half a MiB for the callers.
+const MOST_LEVELS: usize = stack::STACK_BUDGET / COPIED;
 
 /// A copy of an expression in which each variable has the number that its name has. The numbers that it had before do
 /// not matter. A name that has none leaves its variable without a number.
@@ -28,8 +35,8 @@ use std::alloc::Global;
 ///
 /// # Errors
 ///
-/// `OutOfMemory`, if an allocation fails: nothing is created.
-#[cycle(numbered)]
+/// `OutOfMemory`, if an allocation fails, or if the expression has more than 4,915 levels: the copy of a deeper one does
+/// not fit on a stack of 8 MiB. Nothing is created.
 pub fn numbered<'src>(
     alloc: Global,
     expression: &Expression<'src>,
@@ -37,9 +44,26 @@ pub fn numbered<'src>(
 ) -> Result<Expression<'src>, OutOfMemory>
     ensures { IfOk result (λ e. view e ≡ numbered (named names.now) (view expression.now)) }
 {
+    numbered_within(alloc, expression, names, MOST_LEVELS)
+}
+
+// The same, if the expression has at most as many levels.
+#[cycle(numbered)]
+fn numbered_within<'src>(
+    alloc: Global,
+    expression: &Expression<'src>,
+    names: &Names<'src>,
+    levels: usize,
+) -> Result<Expression<'src>, OutOfMemory>
+    ensures { IfOk result (λ e. view e ≡ numbered (named names.now) (view expression.now)) }
+{
+    if levels == 0 {
+        return Err(OutOfMemory);
+    }
+    let levels = levels - 1;
     match expression {
         Expression::And { lhs, rhs } => {
-            let (lhs, rhs) = boxed_pair(alloc, lhs, rhs, names)?;
+            let (lhs, rhs) = boxed_pair(alloc, lhs, rhs, names, levels)?;
             Ok(Expression::And { lhs, rhs })
         }
         Expression::Assert {
@@ -47,7 +71,13 @@ pub fn numbered<'src>(
             message,
             name,
         } => {
-            let (condition, message) = boxed_with(alloc, condition, message.as_deref(), names)?;
+            let (condition, message) = boxed_with(
+                alloc,
+                condition,
+                message.as_deref(),
+                names,
+                levels,
+            )?;
             Ok(Expression::Assert {
                 condition,
                 message,
@@ -55,14 +85,14 @@ pub fn numbered<'src>(
             })
         }
         Expression::Backtick { contents, token } => Expression::backtick(alloc, contents, *token),
-        Expression::Call { arguments, name } => call(alloc, name, arguments, names),
+        Expression::Call { arguments, name } => call(alloc, name, arguments, names, levels),
         Expression::Comparison {
             lhs,
             operator,
             rhs,
             token,
         } => {
-            let (lhs, rhs) = boxed_pair(alloc, lhs, rhs, names)?;
+            let (lhs, rhs) = boxed_pair(alloc, lhs, rhs, names, levels)?;
             Ok(Expression::Comparison {
                 lhs,
                 operator: *operator,
@@ -71,7 +101,7 @@ pub fn numbered<'src>(
             })
         }
         Expression::Concatenation { lhs, operator, rhs } => {
-            let (lhs, rhs) = boxed_pair(alloc, lhs, rhs, names)?;
+            let (lhs, rhs) = boxed_pair(alloc, lhs, rhs, names, levels)?;
             Ok(Expression::Concatenation {
                 lhs,
                 operator: *operator,
@@ -83,12 +113,13 @@ pub fn numbered<'src>(
             consequence,
             otherwise,
         } => {
-            let condition = boxed(alloc, condition, names)?;
+            let condition = boxed(alloc, condition, names, levels)?;
             let (consequence, otherwise) = boxed_with(
                 alloc,
                 consequence,
                 otherwise.as_deref(),
                 names,
+                levels,
             )?;
             Ok(Expression::Conditional {
                 condition,
@@ -97,22 +128,22 @@ pub fn numbered<'src>(
             })
         }
         Expression::FormatString { start, expressions } => {
-            format_string(alloc, start, expressions, names)
+            format_string(alloc, start, expressions, names, levels)
         }
         Expression::Group { contents } => Ok(Expression::Group {
-            contents: boxed(alloc, contents, names)?,
+            contents: boxed(alloc, contents, names, levels)?,
         }),
         Expression::Join { lhs, operator, rhs } => {
-            let (rhs, lhs) = boxed_with(alloc, rhs, lhs.as_deref(), names)?;
+            let (rhs, lhs) = boxed_with(alloc, rhs, lhs.as_deref(), names, levels)?;
             Ok(Expression::Join {
                 lhs,
                 operator: *operator,
                 rhs,
             })
         }
-        Expression::List { elements, token } => list(alloc, elements, token, names),
+        Expression::List { elements, token } => list(alloc, elements, token, names, levels),
         Expression::ListConcatenation { lhs, operator, rhs } => {
-            let (lhs, rhs) = boxed_pair(alloc, lhs, rhs, names)?;
+            let (lhs, rhs) = boxed_pair(alloc, lhs, rhs, names, levels)?;
             Ok(Expression::ListConcatenation {
                 lhs,
                 operator: *operator,
@@ -120,10 +151,10 @@ pub fn numbered<'src>(
             })
         }
         Expression::Not { operand } => Ok(Expression::Not {
-            operand: boxed(alloc, operand, names)?,
+            operand: boxed(alloc, operand, names, levels)?,
         }),
         Expression::Or { lhs, rhs } => {
-            let (lhs, rhs) = boxed_pair(alloc, lhs, rhs, names)?;
+            let (lhs, rhs) = boxed_pair(alloc, lhs, rhs, names, levels)?;
             Ok(Expression::Or { lhs, rhs })
         }
         Expression::StringLiteral { string_literal } => Ok(Expression::StringLiteral {
@@ -142,10 +173,11 @@ fn boxed<'src>(
     alloc: Global,
     expression: &Expression<'src>,
     names: &Names<'src>,
+    levels: usize,
 ) -> Result<Box<Expression<'src>>, OutOfMemory>
     ensures { IfOk result (λ b. view b.value ≡ numbered (named names.now) (view expression.now)) }
 {
-    let copy = numbered(alloc, expression, names)?;
+    let copy = numbered_within(alloc, expression, names, levels)?;
     box_of(alloc, copy)
 }
 
@@ -156,12 +188,13 @@ fn boxed_pair<'src>(
     first: &Expression<'src>,
     second: &Expression<'src>,
     names: &Names<'src>,
+    levels: usize,
 ) -> Result<(Box<Expression<'src>>, Box<Expression<'src>>), OutOfMemory>
     ensures first { IfOk result (λ b. view b.0.value ≡ numbered (named names.now) (view first.now)) }
     ensures second { IfOk result (λ b. view b.1.value ≡ numbered (named names.now) (view second.now)) }
 {
-    let first = boxed(alloc, first, names)?;
-    let second = boxed(alloc, second, names)?;
+    let first = boxed(alloc, first, names, levels)?;
+    let second = boxed(alloc, second, names, levels)?;
     Ok((first, second))
 }
 
@@ -172,15 +205,16 @@ fn boxed_with<'src>(
     part: &Expression<'src>,
     option: Option<&Expression<'src>>,
     names: &Names<'src>,
+    levels: usize,
 ) -> Result<(Box<Expression<'src>>, Option<Box<Expression<'src>>>), OutOfMemory>
     ensures part { IfOk result (λ b. view b.0.value ≡ numbered (named names.now) (view part.now)) }
     ensures option { IfOk result (λ b. option_map (λ o. view o.value) b.1
         ≡ option_map (λ e. numbered (named names.now) (view e.now)) option.entry) }
 {
-    let part = boxed(alloc, part, names)?;
+    let part = boxed(alloc, part, names, levels)?;
     match option {
         Some(option) => {
-            let option = boxed(alloc, option, names)?;
+            let option = boxed(alloc, option, names, levels)?;
             Ok((part, Some(option)))
         }
         None => Ok((part, None)),
@@ -194,11 +228,12 @@ fn call<'src>(
     name: &Name<'src>,
     arguments: &[Expression<'src>],
     names: &Names<'src>,
+    levels: usize,
 ) -> Result<Expression<'src>, OutOfMemory>
     ensures { IfOk result (λ e. view e
         ≡ plain.Call (name_view name.now) (numbered_row (named names.now) (views arguments.now))) }
 {
-    let copies = row(alloc, arguments, names)?;
+    let copies = row(alloc, arguments, names, levels)?;
     Ok(Expression::call(*name, copies))
 }
 
@@ -209,11 +244,12 @@ fn list<'src>(
     elements: &[Expression<'src>],
     token: &Token<'src>,
     names: &Names<'src>,
+    levels: usize,
 ) -> Result<Expression<'src>, OutOfMemory>
     ensures { IfOk result (λ e. view e
         ≡ plain.ListOf (numbered_row (named names.now) (views elements.now)) (token_view token.now)) }
 {
-    let copies = row(alloc, elements, names)?;
+    let copies = row(alloc, elements, names, levels)?;
     Ok(Expression::list(copies, *token))
 }
 
@@ -224,12 +260,13 @@ fn format_string<'src>(
     start: &StringLiteral<'src>,
     expressions: &[(Expression<'src>, StringLiteral<'src>)],
     names: &Names<'src>,
+    levels: usize,
 ) -> Result<Expression<'src>, OutOfMemory>
     ensures { IfOk result (λ e. view e ≡ plain.FormatString (literal_view start.now)
         (numbered_pieces (named names.now) (piece_views expressions.now))) }
 {
     let start = literal(alloc, start)?;
-    let copies = pieces(alloc, expressions, names)?;
+    let copies = pieces(alloc, expressions, names, levels)?;
     Ok(Expression::format_string(start, copies))
 }
 
@@ -239,13 +276,14 @@ fn row<'src>(
     alloc: Global,
     expressions: &[Expression<'src>],
     names: &Names<'src>,
+    levels: usize,
 ) -> Result<Vec<Expression<'src>>, OutOfMemory>
     ensures { IfOk result (λ copies. map view copies.items
         ≡ map (λ e. numbered (named names.now) (view e)) expressions.now) }
 {
     let mut copies = Vec::new(alloc);
     for expression in expressions {
-        let copy = numbered(alloc, expression, names)?;
+        let copy = numbered_within(alloc, expression, names, levels)?;
         push(&mut copies, copy)?;
     }
     Ok(copies)
@@ -257,6 +295,7 @@ fn pieces<'src>(
     alloc: Global,
     expressions: &[(Expression<'src>, StringLiteral<'src>)],
     names: &Names<'src>,
+    levels: usize,
 ) -> Result<Vec<(Expression<'src>, StringLiteral<'src>)>, OutOfMemory>
     ensures { IfOk result (λ copies. map piece_view copies.items
         ≡ map (λ p. (numbered (named names.now) (view p.0), literal_view p.1)) expressions.now) }
@@ -264,7 +303,7 @@ fn pieces<'src>(
     let mut copies = Vec::new(alloc);
     for (expression, text) in expressions {
         let text = literal(alloc, text)?;
-        let copy = numbered(alloc, expression, names)?;
+        let copy = numbered_within(alloc, expression, names, levels)?;
         push(&mut copies, (copy, text))?;
     }
     Ok(copies)

@@ -3,8 +3,9 @@
 ghost use Rattle.std.specs.Prelude.{IfOk, IfSome, IsSome, IsTrue, OnOk, Some, [], if◌then◌else◌, map, nat_eq, ℕ, ◌++◌};
 ghost use Rattle.std.specs.Prelude.{◌↔◌, ◌∷◌, ◌≡◌};
 ghost use Rattle.std.specs.List.{AllByRecursion};
-ghost use Rattle.just_resolve.specs.Prelude.{AreDistinct, HasNames, IsIn, IsNameOf, IsOrder};
-ghost use Rattle.just_resolve.specs.Prelude.{assignment_view, graph_view, name_numbered, name_view};
+ghost use Rattle.just_resolve.specs.Prelude.{AreDistinct, AreFoundByName, AreSorted, HasNames, IsIn, IsInOrder};
+ghost use Rattle.just_resolve.specs.Prelude.{IsNameOf, IsOrder, IsSortedOrder, assignment_view, frames_view};
+ghost use Rattle.just_resolve.specs.Prelude.{functions_view, graph_view, name_numbered, name_view, read_by};
 
 use crate::walk::{Walk, add_variable};
 use just_host::justfile::Justfile;
@@ -18,16 +19,19 @@ use just_value::scope::Scope;
 use std::alloc::Global;
 use std::collections::BTreeMap;
 
-// The names of a module's assignments, each after those that it reads, by itself or through functions, as far as no
-// assignment depends on itself. Otherwise they are in the order of the text.
+// The names of a module's assignments, each after those that it depends on, unless it depends on itself. Otherwise they
+// are in the order of the text.
 pub(crate) fn order<'src>(
     alloc: Global,
     module: &Justfile<'src>,
     outer: &Scope<'src, '_>,
 ) -> Result<Vec<Name<'src>>, OutOfMemory>
     requires { AreDistinct (map (λ a. a.number) (map assignment_view «module».now.assignments)) }
-    ensures { IfOk result (λ order. IsOrder (map assignment_view «module».now.assignments)
+    ensures order { IfOk result (λ order. IsOrder (map assignment_view «module».now.assignments)
         (map name_view order.items)) }
+    ensures sorted { IfOk result (λ order. IsSortedOrder (functions_view «module».now)
+        (map assignment_view «module».now.assignments) (frames_view outer.now) (map name_view order.items)) }
+    ensures found { OnOk result (AreFoundByName (map assignment_view «module».now.assignments)) }
 {
     let graph = Graph::new(alloc, module, outer)?;
     let starts = in_text_order(alloc, &module.assignments)?;
@@ -37,11 +41,12 @@ pub(crate) fn order<'src>(
 
 // The numbers of assignments in the order of the text: by their offsets, and then by their names.
 fn in_text_order(alloc: Global, assignments: &Table<Assignment>) -> Result<Vec<Number>, OutOfMemory>
-    ensures { IfOk result (λ numbers. (n : ℕ) → IsIn numbers.items n
+    ensures same { IfOk result (λ numbers. (n : ℕ) → IsIn numbers.items n
         ↔ IsIn (map (λ a. a.number) (map assignment_view assignments.now)) n) }
+    ensures in_order { OnOk result (IsInOrder (λ a. a.name.lexeme) (map assignment_view assignments.now)) }
 {
     let mut places = Vec::new(alloc);
-    for assignment in assignments {
+    for assignment in assignments.iter() {
         add_place(&mut places, assignment.name.token.offset, assignment.number)?;
     }
     places.sort_by_key(|place| place.0)?;
@@ -74,7 +79,8 @@ fn add_place(
 }
 
 // The variables that some variables reach, including themselves, in the order in which a walk from them leaves them.
-// What a node reads is looked for once, when it is entered.
+// Each comes after those that it depends on, unless it depends on itself. What a node reads is looked for once, when it
+// is entered.
 fn postorder<'src>(
     alloc: Global,
     graph: &Graph<'src, '_>,
@@ -83,6 +89,7 @@ fn postorder<'src>(
     requires { (n : ℕ) → IsTrue ((graph_view graph.now).is_followed n) → IsIn starts.now n }
     ensures once { IfOk result (λ left. AreDistinct left.items) }
     ensures same { IfOk result (λ left. (n : ℕ) → IsIn left.items n ↔ IsIn starts.now n) }
+    ensures sorted { IfOk result (λ left. AreSorted (read_by (graph_view graph.now)) [] left.items) }
 {
     let mut left = Vec::new(alloc);
     let mut walk = Walk::new(alloc, starts)?;

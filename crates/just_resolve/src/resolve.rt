@@ -1,9 +1,10 @@
 // Resolves a module by its names.
 
-ghost use Rattle.std.specs.Prelude.{IfErr, IfOk, IfSome, OnErr, OnOk, map, ◌≡◌};
-ghost use Rattle.just_resolve.specs.Prelude.{AreDistinct, IsCircular, IsCycle, IsFaultAnyway, IsOrder, IsRenumbered};
-ghost use Rattle.just_resolve.specs.Prelude.{IsResolved, assignment_view, cycle_in, fault_in, frames_view};
-ghost use Rattle.just_resolve.specs.Prelude.{functions_view, module_fault_view, name_view, ordered};
+ghost use Rattle.std.specs.Prelude.{IfErr, IfOk, IfSome, OnErr, OnOk, map, ◌≡◌, ◌⊎◌};
+ghost use Rattle.just_resolve.specs.Prelude.{AreDistinct, IsCircular, IsCycle, IsFaultAnyway, IsFaultInEachOrder};
+ghost use Rattle.just_resolve.specs.Prelude.{IsOfCycle, IsOfMention, IsOrder, IsRenumbered, IsResolved};
+ghost use Rattle.just_resolve.specs.Prelude.{assignment_view, cycle_in, fault_in, frames_view, functions_view};
+ghost use Rattle.just_resolve.specs.Prelude.{module_fault_view, name_view, ordered};
 
 use crate::cycle::cycle;
 use crate::order::order;
@@ -45,10 +46,13 @@ use std::mem;
 ///
 /// # Errors
 ///
-/// - `Circular` with the names of assignments that form a cycle, each of which reads the next one.
-/// - `Fault` with the first fault of the module with its new numbers and order: a variable whose name nothing has, a
-///   call of an unknown function, or one with a wrong number of arguments.
-/// - `OutOfMemory`, if an allocation fails, or if the numbers below 2⁶⁴ - 1 do not suffice.
+/// - `Fault` with the first fault of the module with its new numbers, which is the same in each order: a variable whose
+///   name nothing has (`UndefinedVariable`), a call of an unknown function (`UndefinedFunction`), or one with a wrong
+///   number of arguments (`ArgumentCountMismatch`).
+/// - `Circular` with the names of assignments that form a cycle, each of which reads the next one, if there is no such
+///   fault but an assignment depends on itself.
+/// - `OutOfMemory`, if an allocation fails, if the numbers below 2⁶⁴ - 1 do not suffice, or if an expression has more
+///   levels than [`numbered`] copies.
 ///
 /// The module is unchanged after each of them.
 pub fn resolve<'src>(
@@ -74,6 +78,9 @@ pub fn resolve<'src>(
         (functions_view «module».old) (map assignment_view «module».old.assignments))) }
     ensures fault { IfErr result (λ e. IfSome (fault_in e) (IsFaultAnyway (frames_view outer.now)
         (functions_view «module».old) (map assignment_view «module».old.assignments))) }
+    ensures each_order { IfErr result (λ e. IfSome (fault_in e) (IsFaultInEachOrder (frames_view outer.now)
+        (functions_view «module».old) (map assignment_view «module».old.assignments))) }
+    ensures mention { IfErr result (λ e. IfSome (fault_in e) IsOfMention) }
 {
     let mut made = renumbered(alloc, module, outer)?;
     resolve_as(alloc, module, &mut made, outer)
@@ -107,6 +114,9 @@ fn resolve_as<'src>(
         (functions_view «module».old) (map assignment_view «module».old.assignments))) }
     ensures fault { IfErr result (λ e. IfSome (fault_in e) (IsFaultAnyway (frames_view outer.now)
         (functions_view «module».old) (map assignment_view «module».old.assignments))) }
+    ensures each_order { IfErr result (λ e. IfSome (fault_in e) (IsFaultInEachOrder (frames_view outer.now)
+        (functions_view «module».old) (map assignment_view «module».old.assignments))) }
+    ensures mention { IfErr result (λ e. IfSome (fault_in e) IsOfMention) }
 {
     let mut order = order(alloc, made, outer)?;
     mem::swap(&mut made.evaluation_order, &mut order);
@@ -119,17 +129,21 @@ fn resolve_as<'src>(
     Ok(())
 }
 
-// The error for a fault of a module: the cycle that it is due to, if there is one.
+// The error for a fault of a module: the fault itself, if it is one of a variable or of a call, and otherwise the cycle
+// that it is due to.
 fn explained<'src>(
     alloc: Global,
     module: &Justfile<'src>,
     outer: &Scope<'src, '_>,
     fault: Fault<'src>,
 ) -> Result<ResolveError<'src>, OutOfMemory>
-    requires { AreDistinct (map (λ a. a.number) (map assignment_view «module».now.assignments)) }
+    requires distinct { AreDistinct (map (λ a. a.number) (map assignment_view «module».now.assignments)) }
+    requires due { IsOfMention (module_fault_view fault) ⊎ IsOfCycle (functions_view «module».now)
+        (map assignment_view «module».now.assignments) (frames_view outer.now) (module_fault_view fault) }
     ensures cycle { IfOk result (λ e. IfSome (cycle_in e) (IsCycle (functions_view «module».now)
         (map assignment_view «module».now.assignments))) }
     ensures fault { IfOk result (λ e. IfSome (fault_in e) (λ f. f ≡ module_fault_view fault.entry)) }
+    ensures mention { IfOk result (λ e. IfSome (fault_in e) IsOfMention) }
 {
     if let Fault::UntakenVariable {
         assignment,

@@ -1,5 +1,8 @@
 // Modules that are resolved, and those that cannot be.
 
+mod deep;
+mod name_faults;
+
 use crate::names::Names;
 use crate::numbered::numbered;
 use crate::resolve::resolve;

@@ -4,14 +4,14 @@ use Rattle.just_resolve.specs.Prelude.{literal_view, name_view, named, numbered_
 use Rattle.just_resolve.proofs.Copies.{numbered_call, numbered_format_string, numbered_list, pieces_copied, row_copied}
 use Rattle.just_resolve.proofs.numbered.+numbered.Goals as goal
 
-pub numbered-returns-in-FormatString : goal.numbered-returns-in-FormatString
-numbered-returns-in-FormatString t c = rw (c.in-FormatString.is, numbered_format_string, ← c.deref-in-FormatString.ensures.value) c.format_string.ensures
+pub numbered_within-returns-in-FormatString : goal.numbered_within-returns-in-FormatString
+numbered_within-returns-in-FormatString t c = rw (c.in-FormatString.is, numbered_format_string, ← c.deref-in-FormatString.ensures.value) c.format_string.ensures
 
-pub numbered-returns-in-Call : goal.numbered-returns-in-Call
-numbered-returns-in-Call t c = rw (c.in-Call.is, numbered_call, ← c.deref-in-Call.ensures.value) c.call.ensures
+pub numbered_within-returns-in-Call : goal.numbered_within-returns-in-Call
+numbered_within-returns-in-Call t c = rw (c.in-Call.is, numbered_call, ← c.deref-in-Call.ensures.value) c.call.ensures
 
-pub numbered-returns-in-List : goal.numbered-returns-in-List
-numbered-returns-in-List t c = rw (c.in-List.is, numbered_list, ← c.deref-in-List.ensures.value) c.list.ensures
+pub numbered_within-returns-in-List : goal.numbered_within-returns-in-List
+numbered_within-returns-in-List t c = rw (c.in-List.is, numbered_list, ← c.deref-in-List.ensures.value) c.list.ensures
 
 pub call-returns : goal.call-returns
 call-returns t c = c.call.ensures

@@ -3,10 +3,12 @@ use Rattle.std.specs.Global.{Global}
 use Rattle.just_syntax.specs.declared.assignment.Assignment as assignments
 use Rattle.just_syntax.specs.declared.function_definition.FunctionDefinition.{FunctionDefinition}
 use Rattle.just_syntax.specs.declared.name.Name.{Name}
-use Rattle.just_resolve.specs.Prelude.{IsOrder, IsResolved, assignment_view, fault_in, frames_view, function_view, functions_view, module_fault_view, name_view}
-use Rattle.just_resolve.specs.Prelude.{ordered}
+use Rattle.just_resolve.specs.Prelude.{IsOrder, IsResolved, IsSortedOrder, assignment_view, fault_in, frames_view, function_view, functions_view}
+use Rattle.just_resolve.specs.Prelude.{module_fault_view, name_view, ordered}
+use Rattle.just_resolve.proofs.Faulted.{fault_is}
+use Rattle.just_resolve.proofs.Reading.{bound_valued}
 use Rattle.just_resolve.proofs.Renumbering.{renumbered_distinct}
-use Rattle.just_resolve.proofs.Resolving.{fault_from}
+use Rattle.just_resolve.proofs.Resolving.{each_from, fault_from}
 use Rattle.just_resolve.proofs.resolve.resolve_as.Goals as goal
 
 pub order-requires : goal.order-requires
@@ -16,8 +18,17 @@ order-requires c =
 
 pub explained-requires : goal.explained-requires
 explained-requires c =
-    renumbered_distinct (frames_view c.args.outer.now) (functions_view c.args.«module».now) (functions_view c.args.made.now)
-    (map assignment_view c.args.«module».now.assignments) (map assignment_view c.args.made.now.assignments) c.requires
+    let outer = frames_view c.args.outer.now in
+    let functions = functions_view c.args.made.now in
+    let all = map assignment_view c.args.made.now.assignments in record {
+      distinct = renumbered_distinct outer (functions_view c.args.«module».now) functions (map assignment_view c.args.«module».now.assignments) all
+          c.requires;
+      due = fault_is outer (functions_view c.args.«module».now) functions (map assignment_view c.args.«module».now.assignments) all c.requires
+          (λ n h. bound_valued c.args.outer.now n h) (map name_view c.swap.new.x.items) (module_fault_view c.in-Some.fault) c.in_ok-order.ensures.found
+          (subst (λ (names : Vec Name Global). IsSortedOrder functions all outer (map name_view names.items)) (sym c.swap.ensures.x_after)
+          c.in_ok-order.ensures.sorted)
+          (rw c.in-Some.is at c.in_ok-fault.ensures.first);
+    }
 
 pub returns-in-Some-clause-fault : goal.returns-in-Some-clause-fault
 returns-in-Some-clause-fault c =
@@ -25,8 +36,15 @@ returns-in-Some-clause-fault c =
     fault_from (frames_view c.args.outer.now) (functions_view c.args.«module».now) (functions_view c.args.made.now)
     (map assignment_view c.args.«module».now.assignments) all c.requires (map name_view c.swap.new.x.items) (module_fault_view c.in-Some.fault)
     (fault_in c.in_ok-explained.field-0)
-    (subst (λ (names : Vec Name Global). IsOrder all (map name_view names.items)) (sym c.swap.ensures.x_after) c.in_ok-order.ensures)
+    (subst (λ (names : Vec Name Global). IsOrder all (map name_view names.items)) (sym c.swap.ensures.x_after) c.in_ok-order.ensures.order)
     (rw c.in-Some.is at c.in_ok-fault.ensures.first) c.in_ok-explained.ensures.fault
+
+pub returns-in-Some-clause-each_order : goal.returns-in-Some-clause-each_order
+returns-in-Some-clause-each_order c =
+    each_from (frames_view c.args.outer.now) (functions_view c.args.«module».now) (functions_view c.args.made.now)
+    (map assignment_view c.args.«module».now.assignments) (map assignment_view c.args.made.now.assignments) c.requires
+    (map name_view c.swap.new.x.items) (module_fault_view c.in-Some.fault) (fault_in c.in_ok-explained.field-0)
+    (rw c.in-Some.is at c.in_ok-fault.ensures.first) c.in_ok-explained.ensures.mention c.in_ok-explained.ensures.fault
 
 pub returns-clause-resolved : goal.returns-clause-resolved
 returns-clause-resolved c =
