@@ -8,9 +8,14 @@ use crate::cutting::check_cuts;
 use crate::difference::Difference;
 use crate::evaluated::answered;
 use crate::failing::check_failing;
+use crate::reaching::check_reach;
+use crate::reordered::Reordered;
+use crate::reordering::check_order;
+use crate::rerun::questions_of_run;
 use crate::stored_case::{StoredCase, cut};
 use crate::streams::check_streams;
 use crate::tally::Tally;
+use crate::within_reach::WithinReach;
 use just_syntax::out_of_memory::OutOfMemory;
 use std::alloc::{AllocError, Global};
 use std::rt::{Env, Files};
@@ -36,6 +41,8 @@ pub fn check_cases<R: AllocGlobal + Env + Eprint + Files + Print>(rt: &R) -> u8
 pub struct Tallies {
     cases: Tally,
     constants: BorneOut,
+    reaches: WithinReach,
+    orders: Reordered,
     failed_questions: Tally,
     cuts: Tally,
     failed_streams: Tally,
@@ -61,6 +68,8 @@ fn check_each<R: AllocGlobal + Env + Files + Print>(rt: &R) -> io::Result<Tallie
 fn print_tallies<R: Print>(rt: &R, tallies: &Tallies) -> io::Result<()> {
     tallies.cases.print(rt, "cases")?;
     tallies.constants.print(rt)?;
+    tallies.reaches.print(rt)?;
+    tallies.orders.print(rt)?;
     tallies
         .failed_questions
         .print(rt, "questions failed by a fault and as out of memory")?;
@@ -117,7 +126,7 @@ pub fn check_file(
     if difference.is_some() {
         return Ok(difference);
     }
-    let difference = check_constants(alloc, &mut tallies.constants, &stored)?;
+    let difference = check_run(alloc, tallies, &stored)?;
     if difference.is_some() {
         return Ok(difference);
     }
@@ -144,15 +153,33 @@ fn check_hostile_use(
     check_streams(alloc, &mut tallies.failed_streams, stored)
 }
 
-// How a case whose answer is right differs from its evaluation before any run.
-fn check_constants(
+// How a case whose answer is right, and ends with a run, differs from what the laws say of the run.
+fn check_run(
     alloc: Global,
-    tally: &mut BorneOut,
+    tallies: &mut Tallies,
     stored: &StoredCase,
 ) -> Result<Option<Difference>, OutOfMemory> {
     let Some(run) = Run::of_case(stored) else {
         return Ok(None);
     };
+    let difference = check_constants(alloc, &mut tallies.constants, &run)?;
+    if difference.is_some() {
+        return Ok(difference);
+    }
+    let questions = questions_of_run(alloc, stored.case)?;
+    let difference = check_reach(alloc, &mut tallies.reaches, stored.case, &questions)?;
+    if difference.is_some() {
+        return Ok(difference);
+    }
+    check_order(alloc, &mut tallies.orders, stored, &questions)
+}
+
+// How a run differs from the evaluation before it.
+fn check_constants(
+    alloc: Global,
+    tally: &mut BorneOut,
+    run: &Run,
+) -> Result<Option<Difference>, OutOfMemory> {
     let constants = run.constants(alloc)?;
     match run.contradiction(alloc, &constants)? {
         Some(contradiction) => Ok(Some(Difference::Constants(contradiction))),

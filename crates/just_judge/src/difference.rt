@@ -20,6 +20,10 @@ pub enum Difference {
     Answer,
     /// Its run contradicts what is constant before it.
     Constants(Contradiction),
+    /// Its run asks this many questions, and then one that is outside of its reach.
+    Reach { passed: usize },
+    /// In the order that names give, its run has other bindings or is refused.
+    Order,
     /// With this many questions passed on and each later one failed, the answer is not the expected one.
     Failing { passed: usize, how: How },
     /// Cut after this many bytes, it has an answer that is not expected of a cut case.
@@ -59,6 +63,11 @@ impl fmt::Display for Difference {
             ),
             Difference::Answer => write!(f, "another answer"),
             Difference::Constants(contradiction) => write!(f, "{contradiction}"),
+            Difference::Reach { passed } => write!(
+                f,
+                "asks outside of its reach after {passed} questions"
+            ),
+            Difference::Order => write!(f, "other bindings in the order that names give"),
             Difference::Failing { passed, how } => write!(
                 f,
                 "another answer where all but {passed} questions fail: {how:?}"

@@ -1,5 +1,5 @@
-// Runs the stored cases. Reports each case whose answer differs from its file, and each run that contradicts what is
-// constant before it.
+// Runs the stored cases. Reports each case whose answer differs from its file, each run that contradicts what is
+// constant before it or asks outside of its reach, and each that binds something else in the order by names.
 #![tactic(auto)]
 
 #[cfg(test)]
