@@ -6,9 +6,7 @@ use anyhow::Result;
 use example_justfile::SOURCE;
 use example_justfile::module::module;
 use just_eval::prelude::*;
-use just_needs::needed::needed;
-use just_report::report::report;
-use just_run::run::Run;
+use just_prelude::*;
 use std::alloc::Global;
 use std::collections::HashMap;
 

@@ -9,9 +9,7 @@ use anyhow::{Result, bail};
 use example_justfile::SOURCE;
 use example_justfile::module::{module, sets};
 use just_eval::prelude::*;
-use just_faults::faults::faults;
-use just_report::report::report;
-use just_run::run::Run;
+use just_prelude::*;
 use std::alloc::Global;
 
 fn lint<'src>(
@@ -22,17 +20,6 @@ fn lint<'src>(
 ) -> Result<()> {
     let run = Run::new(alloc, module)?;
     let survey = run.survey(alloc, outer)?;
-    print_survey(rt, alloc, module, &survey)
-}
-
-fn print_survey(
-    rt: &impl Print,
-    alloc: Global,
-    module: &Justfile,
-    survey: &ConstSurvey,
-) -> Result<()>
-    requires before_runs { IsConst survey.now.evaluator }
-{
     print_variables(rt, module, &survey.evaluator)?;
     print_refused(rt, alloc, &survey.refused)?;
     print_settings(rt, alloc, &survey.evaluator)

@@ -8,9 +8,7 @@ use anyhow::Result;
 use example_justfile::module::module;
 use example_justfile::recipe::{lines, parameters, recipe};
 use just_eval::prelude::*;
-use just_run::arguments::group_arguments;
-use just_run::recipe_call::RecipeCall;
-use just_run::run::Run;
+use just_prelude::*;
 use std::alloc::Global;
 
 #[derive(Drop)]
