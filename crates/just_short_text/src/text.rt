@@ -140,6 +140,19 @@ impl Text {
     }
 }
 
+/// A copy of a long text is allocated where the text was. `AllocError`, if that fails: nothing is created.
+impl Clone for Text {
+    ghost is_clone = { λ text copy. copy ≡ text };
+
+    fn clone(&self) -> Result<Text, AllocError> {
+        let stored = match &self.stored {
+            Stored::Short(text) => Stored::Short(text.clone()?),
+            Stored::Long(text) => Stored::Long(text.clone()?),
+        };
+        Ok(Text { stored })
+    }
+}
+
 impl DerefStr for Text {
     ghost deref_gives = { λ t bytes. bytes ≡ t };
 

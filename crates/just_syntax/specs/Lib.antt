@@ -4,6 +4,7 @@ pub mod ListOperator
 pub mod ParameterKind
 pub mod StringContext
 pub mod Enclosure
+pub mod SettingName
 pub mod Keyed
 pub mod Printed
 pub mod OutOfMemory

@@ -101,6 +101,10 @@ abbrev pub views : List Expression → Exprs
 views [] = plain.Nil
 views (e ∷ es) = plain.Cons (view e) (views es)
 
+-- an interpolation, with the text after it
+abbrev pub piece_view : Expression × Written → Expr × plain.Literal
+piece_view p = (view p.0, literal_view p.1)
+
 -- interpolations, each with the text after it
 abbrev pub piece_views : List (Expression × Written) → Pieces
 piece_views [] = plain.NoPiece

@@ -7,6 +7,7 @@ use crate::expression::Expression;
 use crate::keyed::Keyed;
 use crate::name::Name;
 use crate::number::Number;
+use std::alloc::AllocError;
 
 /// A variable, and the expression that gives its value.
 #[derive(Debug, Drop)]
@@ -39,6 +40,22 @@ impl<'src> Assignment<'src> {
             private: false,
             value,
         }
+    }
+}
+
+/// A copy. `AllocError`, if its expression cannot be copied: nothing is created.
+impl Clone for Assignment<'_> {
+    ghost is_clone = { λ assignment copy. assignment_view copy ≡ assignment_view assignment };
+
+    fn clone(&self) -> Result<Self, AllocError> {
+        Ok(Assignment {
+            eager: self.eager,
+            export: self.export,
+            name: self.name,
+            number: self.number,
+            private: self.private,
+            value: self.value.clone()?,
+        })
     }
 }
 

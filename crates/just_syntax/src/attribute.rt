@@ -1,6 +1,10 @@
 // Attributes.
 
+ghost use Rattle.std.specs.Prelude.{◌≡◌};
+ghost use Rattle.just_syntax.specs.Prelude.{attribute_view};
+
 use crate::expression::Expression;
+use std::alloc::AllocError;
 
 /// An attribute of a recipe or an assignment.
 #[derive(Debug, Drop)]
@@ -9,4 +13,16 @@ pub enum Attribute<'src> {
     Env(Expression<'src>, Expression<'src>),
     /// Any other attribute, which evaluation ignores.
     Other,
+}
+
+/// A copy. `AllocError`, if an expression cannot be copied: nothing is created.
+impl Clone for Attribute<'_> {
+    ghost is_clone = { λ attribute copy. attribute_view copy ≡ attribute_view attribute };
+
+    fn clone(&self) -> Result<Self, AllocError> {
+        match self {
+            Attribute::Env(key, value) => Ok(Attribute::Env(key.clone()?, value.clone()?)),
+            Attribute::Other => Ok(Attribute::Other),
+        }
+    }
 }

@@ -7,7 +7,7 @@ ghost use Rattle.just_syntax.specs.Prelude.{attribute_view, attributes_view, nam
 use crate::attribute::Attribute;
 use crate::name::Name;
 use crate::out_of_memory::OutOfMemory;
-use std::alloc::Global;
+use std::alloc::{AllocError, Global};
 use std::slice::Iter;
 
 /// Attributes and the names that they were written under, in the order of insertion.
@@ -45,5 +45,16 @@ impl<'src> AttributeSet<'src> {
         ensures { map named_attribute_view (iter_rest result) ≡ attributes_view self.now }
     {
         self.attributes.iter()
+    }
+}
+
+/// A copy. `AllocError`, if an allocation fails or an attribute cannot be copied: nothing is created.
+impl Clone for AttributeSet<'_> {
+    ghost is_clone = { λ set copy. attributes_view copy ≡ attributes_view set };
+
+    fn clone(&self) -> Result<Self, AllocError> {
+        Ok(AttributeSet {
+            attributes: self.attributes.clone()?,
+        })
     }
 }

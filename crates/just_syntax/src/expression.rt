@@ -1,6 +1,7 @@
 // Expressions.
 
 mod constructors;
+mod copy;
 
 use crate::conditional_operator::ConditionalOperator;
 use crate::name::Name;

@@ -7,6 +7,7 @@ use crate::expression::Expression;
 use crate::keyed::Keyed;
 use crate::name::Name;
 use crate::number::Number;
+use std::alloc::AllocError;
 
 /// A function defined in the file: its parameters, each with its number, and its body.
 #[derive(Debug, Drop)]
@@ -34,6 +35,20 @@ impl<'src> FunctionDefinition<'src> {
             name,
             parameters,
         }
+    }
+}
+
+/// A copy. `AllocError`, if its body or its parameters cannot be copied: nothing is created.
+impl Clone for FunctionDefinition<'_> {
+    ghost is_clone = { λ function copy. function_view copy ≡ function_view function };
+
+    fn clone(&self) -> Result<Self, AllocError> {
+        let parameters = self.parameters.clone()?;
+        Ok(FunctionDefinition {
+            body: self.body.clone()?,
+            name: self.name,
+            parameters,
+        })
     }
 }
 

@@ -1,8 +1,10 @@
 // Lines of recipes.
 
 ghost use Rattle.std.specs.Prelude.{◌≡◌};
+ghost use Rattle.just_syntax.specs.Prelude.{line_view};
 
 use crate::fragment::Fragment;
+use std::alloc::AllocError;
 
 /// A line of a recipe.
 #[derive(Debug, Drop)]
@@ -16,5 +18,16 @@ impl<'src> Line<'src> {
         ensures { result.fragments ≡ fragments.entry }
     {
         Line { fragments }
+    }
+}
+
+/// A copy. `AllocError`, if an allocation fails or a fragment cannot be copied: nothing is created.
+impl Clone for Line<'_> {
+    ghost is_clone = { λ line copy. line_view copy ≡ line_view line };
+
+    fn clone(&self) -> Result<Self, AllocError> {
+        Ok(Line {
+            fragments: self.fragments.clone()?,
+        })
     }
 }

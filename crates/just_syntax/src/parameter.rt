@@ -7,6 +7,7 @@ use crate::expression::Expression;
 use crate::name::Name;
 use crate::number::Number;
 use crate::parameter_kind::ParameterKind;
+use std::alloc::AllocError;
 
 /// A parameter of a recipe.
 #[derive(Debug, Drop)]
@@ -49,5 +50,24 @@ impl<'src> Parameter<'src> {
             number,
             value: None,
         }
+    }
+}
+
+/// A copy. `AllocError`, if an expression cannot be copied: nothing is created.
+impl Clone for Parameter<'_> {
+    ghost is_clone = { λ parameter copy. recipe_parameter_view copy ≡ recipe_parameter_view parameter };
+
+    fn clone(&self) -> Result<Self, AllocError> {
+        let default = self.default.clone()?;
+        Ok(Parameter {
+            default,
+            export: self.export,
+            flag: self.flag,
+            kind: self.kind,
+            multiple: self.multiple,
+            name: self.name,
+            number: self.number,
+            value: self.value.clone()?,
+        })
     }
 }

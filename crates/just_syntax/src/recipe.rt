@@ -5,7 +5,7 @@ ghost use Rattle.just_syntax.specs.Prelude.{name_view, recipe_view};
 
 use crate::attribute_set::AttributeSet;
 use crate::name::Name;
-use std::alloc::Global;
+use std::alloc::{AllocError, Global};
 
 /// A recipe, as far as evaluation needs it.
 #[derive(Debug, Drop)]
@@ -30,5 +30,17 @@ impl<'src> Recipe<'src> {
         ensures { result.now ≡ (recipe_view self.now).name.lexeme }
     {
         self.name.lexeme()
+    }
+}
+
+/// A copy. `AllocError`, if its attributes cannot be copied: nothing is created.
+impl Clone for Recipe<'_> {
+    ghost is_clone = { λ recipe copy. recipe_view copy ≡ recipe_view recipe };
+
+    fn clone(&self) -> Result<Self, AllocError> {
+        Ok(Recipe {
+            attributes: self.attributes.clone()?,
+            name: self.name,
+        })
     }
 }

@@ -1,10 +1,12 @@
 // `set` statements.
 
 ghost use Rattle.std.specs.Prelude.{◌≡◌};
+ghost use Rattle.just_syntax.specs.Prelude.{set_view};
 
 use crate::keyed::Keyed;
 use crate::name::Name;
 use crate::setting::Setting;
+use std::alloc::AllocError;
 
 /// A `set` statement: a setting by its name.
 #[derive(Debug, Drop)]
@@ -20,6 +22,18 @@ impl<'src> Set<'src> {
         ensures value { result.value ≡ value.entry }
     {
         Set { name, value }
+    }
+}
+
+/// A copy. `AllocError`, if its setting cannot be copied: nothing is created.
+impl Clone for Set<'_> {
+    ghost is_clone = { λ set copy. set_view copy ≡ set_view set };
+
+    fn clone(&self) -> Result<Self, AllocError> {
+        Ok(Set {
+            name: self.name,
+            value: self.value.clone()?,
+        })
     }
 }
 

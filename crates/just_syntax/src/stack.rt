@@ -21,6 +21,12 @@ pub const MOST_LEVELS: usize = 19_000;
 /// What printing uses per level.
 pub const PRINTED: usize = 416;
 
+/// What copying uses per level.
+pub const COPIED: usize = 1600;
+
+/// The greatest depth of nesting of an expression that is copied: 4,915 levels, with half a MiB for the callers.
+pub const MOST_COPIED_LEVELS: usize = STACK_BUDGET / COPIED;
+
 /// What the largest form uses around its parts. A form without parts uses no more than parentheses do.
 pub const FORM: usize = CALL;
 

@@ -5,7 +5,7 @@ ghost use Rattle.just_syntax.specs.Prelude.{literal_view};
 
 use crate::out_of_memory::OutOfMemory;
 use crate::text::Text;
-use std::alloc::Global;
+use std::alloc::{AllocError, Global};
 use std::fmt;
 
 /// A string literal: its text, how it was written, and whether its text was unindented.
@@ -38,6 +38,19 @@ impl<'src> StringLiteral<'src> {
             cooked: Text::from_str(alloc, text)?,
             lexeme,
             indented: false,
+        })
+    }
+}
+
+/// A copy. `AllocError`, if its text cannot be copied: nothing is created.
+impl Clone for StringLiteral<'_> {
+    ghost is_clone = { λ literal copy. literal_view copy ≡ literal_view literal };
+
+    fn clone(&self) -> Result<Self, AllocError> {
+        Ok(StringLiteral {
+            cooked: self.cooked.clone()?,
+            lexeme: self.lexeme,
+            indented: self.indented,
         })
     }
 }

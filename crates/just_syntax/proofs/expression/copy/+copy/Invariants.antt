@@ -1,0 +1,39 @@
+use Rattle.std.proofs.Common.{◌≡◌, ◌*◌, suc, map, take}
+use Rattle.just_syntax.specs.Prelude.{piece_view, view}
+use Rattle.just_syntax.proofs.expression.copy.+copy.Given as goal
+
+-- the levels that are left, and one for each call before the next part
+abbrev pub decreases-copy : goal.decreases-copy
+decreases-copy l = 3 * l.levels
+
+abbrev pub decreases-boxed : goal.decreases-boxed
+decreases-boxed l = suc (3 * l.levels)
+
+abbrev pub decreases-row : goal.decreases-row
+decreases-row l = suc (3 * l.levels)
+
+abbrev pub decreases-pieces : goal.decreases-pieces
+decreases-pieces l = suc (3 * l.levels)
+
+abbrev pub decreases-boxed_pair : goal.decreases-boxed_pair
+decreases-boxed_pair l = suc (suc (3 * l.levels))
+
+abbrev pub decreases-boxed_with : goal.decreases-boxed_with
+decreases-boxed_with l = suc (suc (3 * l.levels))
+
+abbrev pub decreases-call : goal.decreases-call
+decreases-call l = suc (suc (3 * l.levels))
+
+abbrev pub decreases-list : goal.decreases-list
+decreases-list l = suc (suc (3 * l.levels))
+
+abbrev pub decreases-format_string : goal.decreases-format_string
+decreases-format_string l = suc (suc (3 * l.levels))
+
+-- copies of the expressions so far were added
+abbrev pub invariant-row-loop-expression : goal.invariant-row-loop-expression
+invariant-row-loop-expression l = map view l.copies.items ≡ map view (take l.expression-index l.expression-items)
+
+-- the same for interpolations
+abbrev pub invariant-pieces-loop-expression : goal.invariant-pieces-loop-expression
+invariant-pieces-loop-expression l = map piece_view l.copies.items ≡ map piece_view (take l.expression-index l.expression-items)
