@@ -24,4 +24,4 @@ pub use Rattle.just_value.specs.Value.{EmptyTextIsTruthy, JoinsNoneAndOne, SameE
 pub use Rattle.just_value.specs.Value.{is_truthy, joined}
 pub use Rattle.just_value.specs.View.{bindings_left, bound_view, compile_refusal, compile_token, conjunction_of}
 pub use Rattle.just_value.specs.View.{const_eval_refusal, const_refusal, constant_view, enclosing_view, ended}
-pub use Rattle.just_value.specs.View.{frame_view, frames_view, items_of, positional_view, refusal}
+pub use Rattle.just_value.specs.View.{frame_view, frames_left, frames_view, items_of, positional_view, refusal}

@@ -11,6 +11,7 @@ use Rattle.just_value.specs.declared.binding.Binding.{Binding}
 use Rattle.just_value.specs.declared.bindings.Bindings.{Bindings}
 use Rattle.just_value.specs.declared.expression_context.ExpressionContext.{ExpressionContext}
 use Rattle.just_value.specs.declared.frame.Frame.{Frame}
+use Rattle.just_value.specs.declared.frames.Frames as declared_frames
 use Rattle.just_value.specs.declared.list.List as list
 use Rattle.just_value.specs.declared.positional.Positional as declared_positional
 use Rattle.just_value.specs.declared.scope.Scope.{Scope, Scope', Held-Scope-outer, None', Some'}
@@ -74,6 +75,28 @@ abbrev mutual
 abbrev pub enclosing_view : Option (Bor Scope) → Frames
 enclosing_view None = []
 enclosing_view (Some scope) = frames_view scope.now
+
+-- the frames that a scope holds, innermost first
+abbrev mutual
+  pub frames_in : Scope → List Frame
+  frames_in (Scope' frame outer) = frame ∷ outer_frames_in outer
+
+  pub outer_frames_in : Held-Scope-outer → List Frame
+  outer_frames_in None' = []
+  outer_frames_in (Some' pointer outer) = frames_in outer
+
+-- the frames that a scope holds, if there is one
+abbrev pub enclosing_frames : Option (Bor Scope) → List Frame
+enclosing_frames None = []
+enclosing_frames (Some scope) = frames_in scope.now
+
+-- the frames that are still to come
+abbrev pub frames_left : declared_frames.Frames → List Frame
+frames_left f = enclosing_frames f.left
+
+-- the first of them comes next
+abbrev pub frames_steps : declared_frames.Frames → Option (Bor Frame) → declared_frames.Frames → Type 0
+frames_steps s next t = TakesFirst deref (frames_left s) next (frames_left t)
 
 -- a key and a text, as the caller passes them
 abbrev pub constant_view : Bor Text × Bor Text → Text × Text

@@ -13,6 +13,7 @@ pub mod element;
 pub mod error;
 pub mod expression_context;
 pub mod frame;
+pub mod frames;
 pub mod laws;
 pub mod list;
 pub mod positional;

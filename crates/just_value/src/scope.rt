@@ -3,12 +3,13 @@
 ghost use Rattle.std.specs.Prelude.{IfOk, OnErr, OnOk, [], map, option_map, ◌∷◌, ◌≡◌};
 ghost use Rattle.std.specs.Map.{values_of};
 ghost use Rattle.just_value.specs.Prelude.{IsRising, bindings_left, bound_innermost, bound_view, constant_bound};
-ghost use Rattle.just_value.specs.Prelude.{constant_view, enclosing_view, frame_view, frames_view, innermost};
-ghost use Rattle.just_value.specs.Prelude.{outer_frames, own_frame, value_in, with_constants};
+ghost use Rattle.just_value.specs.Prelude.{constant_view, enclosing_view, frame_view, frames_left};
+ghost use Rattle.just_value.specs.Prelude.{frames_view, innermost, outer_frames, own_frame, value_in, with_constants};
 
 use crate::binding::Binding;
 use crate::bindings::Bindings;
 use crate::frame::Frame;
+use crate::frames::Frames;
 use crate::value::Value;
 use just_syntax::attribute_set::AttributeSet;
 use just_syntax::name::Name;
@@ -22,8 +23,8 @@ use std::fmt;
 /// An own frame, and the scope around it, if there is one.
 #[derive(Drop)]
 pub struct Scope<'src, 'run> {
-    frame: Frame<'src>,
-    outer: Option<&'run Scope<'src, 'run>>,
+    pub(crate) frame: Frame<'src>,
+    pub(crate) outer: Option<&'run Scope<'src, 'run>>,
 }
 
 impl<'src, 'run> Scope<'src, 'run> {
@@ -133,6 +134,21 @@ impl<'src, 'run> Scope<'src, 'run> {
         ensures { option_map (λ outer. frames_view outer.now) result ≡ outer_frames (frames_view self.now) }
     {
         self.outer
+    }
+
+    /// The frames: the own one, and then those of the enclosing scopes, innermost first. It allocates nothing.
+    ///
+    /// ```rust
+    /// for frame in scope.frames() {
+    ///     if frame.binding(number).is_some() {
+    ///         return true;
+    ///     }
+    /// }
+    /// ```
+    pub fn frames(&self) -> Frames<'_, 'src, 'run>
+        ensures { map frame_view (frames_left result) ≡ frames_view self.now }
+    {
+        Frames::new(self)
     }
 
     /// The frames of the enclosing scopes, innermost first. It allocates one reference for each.
