@@ -3,3 +3,4 @@ pub mod Left
 pub mod Checked
 pub mod Changes
 mod Entries
+mod Assigning

@@ -1,5 +1,7 @@
 -- Modules, and the location of the root module.
-use Rattle.std.specs.Prelude.{Bool, false, List, []}
+use Rattle.std.specs.Prelude.{Bool, false, List, [], ◌∷◌, ◌++◌, if◌then◌else◌}
+use Rattle.std.specs.Option.{is_some}
+use Rattle.just_syntax.specs.Keyed.{value_at, with_value}
 use Rattle.just_syntax.specs.Plain.{Text, Token, Assignment, Function}
 use Rattle.just_host.specs.Settings.{Settings, unset}
 
@@ -33,3 +35,19 @@ empty_root source directory = record {
   unexports = [];
   working_directory = directory;
 }
+
+-- whether the module has an assignment with this name
+abbrev pub assigns : Justfile → Text → Bool
+assigns j name = is_some (value_at (λ a. a.name.lexeme) name j.assignments)
+
+-- The module with an assignment, which replaces one with its name and takes its place in the order. A new one is
+-- evaluated last.
+abbrev pub with_assignment : Justfile → Assignment → Justfile
+with_assignment j a = record j {
+  assignments = with_value (λ a. a.name.lexeme) j.assignments a;
+  evaluation_order = if assigns j a.name.lexeme then j.evaluation_order else j.evaluation_order ++ a.name ∷ [];
+}
+
+-- the module with a function, which replaces one with its name
+abbrev pub with_function : Justfile → Function → Justfile
+with_function j f = record j { functions = with_value (λ f. f.name.lexeme) j.functions f }

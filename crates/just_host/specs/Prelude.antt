@@ -1,6 +1,6 @@
 -- The names that the contracts and proofs of this crate share, passed on from one place. Declares nothing.
 pub use Rattle.just_syntax.specs.Plain.{Text}
-pub use Rattle.just_syntax.specs.View.{pairs_view}
+pub use Rattle.just_syntax.specs.View.{assignment_view, function_view, pairs_view}
 pub use Rattle.just_value.specs.Outcome.{Gave, Outcome, Refused, Stopped, without_value}
 pub use Rattle.just_value.specs.Refusal.{Refusal}
 pub use Rattle.just_value.specs.View.{fault_view, frame_view, frames_view}
@@ -11,11 +11,11 @@ pub use Rattle.just_host.specs.Fault.{fault_text}
 pub use Rattle.just_host.specs.Fixed.{base_directory, working_directory}
 pub use Rattle.just_host.specs.Interaction.{Asked, AsksOnce, Chain, Checked, Checks, Ends, Event, Noted, Rules, Runs}
 pub use Rattle.just_host.specs.Interaction.{Step, Stops, Tree, bind, done, gives}
-pub use Rattle.just_host.specs.Justfile.{empty_root}
+pub use Rattle.just_host.specs.Justfile.{empty_root, with_assignment, with_function}
 pub use Rattle.just_host.specs.NoHost.{not_run}
 pub use Rattle.just_host.specs.Printed.{command_printed, directory_word, spaced, spaced_given, text_printed}
 pub use Rattle.just_host.specs.Question.{Answer, Failed, Question, TextOf, UnlessNoMemory, command_question}
-pub use Rattle.just_host.specs.Recorded.{kind_of, recorded, text_of}
+pub use Rattle.just_host.specs.Recorded.{directory_of, kind_of, recorded, text_of}
 pub use Rattle.just_host.specs.SettingValue.{entries, entry_view, interpreter_shown, is_set, setting_value_view}
 pub use Rattle.just_host.specs.SettingValue.{line_of, value_named}
 pub use Rattle.just_host.specs.Settings.{called_in, default_shell_arguments, shell_of, unset}

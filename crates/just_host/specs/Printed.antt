@@ -55,7 +55,7 @@ command_printed command arguments = codes "command " ++ (quoted command ++ space
 -- a recorded question: its kind, and what it asks for, texts in quotes
 abbrev pub kept_printed : Kept → Text
 kept_printed (KeptCommand command arguments environment) = command_printed command arguments
-kept_printed (KeptText kind about) = text_printed kind about
+kept_printed (KeptText kind about directory) = text_printed kind about
 kept_printed (KeptExistence path) = codes "exists " ++ quoted path
 kept_printed (KeptNumber q) = number_printed q
 

@@ -10,11 +10,11 @@ use Rattle.just_host.specs.declared.recorded.TextKind.{TextKind}
 use Rattle.just_host.specs.declared.recorded.TextKind.TheVariants as kinds
 use Rattle.just_host.specs.Interaction.{Step}
 
--- A command, its arguments if it takes any, and its environment; a question for a text, and its subject; whether
--- something exists at a path; a number.
+-- A command, its arguments if it takes any, and its environment; a question for a text, its subject, and the directory
+-- of a search; whether something exists at a path; a number.
 pub data Kept : Type 0 where
   KeptCommand : Text → Option (List Text) → List (Text × Text) → Kept
-  KeptText : TextKind → Text → Kept
+  KeptText : TextKind → Text → Text → Kept
   KeptExistence : Text → Kept
   KeptNumber : NumberQuestion → Kept
 
@@ -38,10 +38,15 @@ text_of (asked.Read path) = path
 text_of (asked.Which name directory) = name
 text_of _ = []
 
+-- the directory that a search for an executable begins in; empty for any other question
+abbrev pub directory_of : TextQuestion → Text
+directory_of (asked.Which name directory) = directory
+directory_of _ = []
+
 -- the record of a question
 abbrev pub recorded : Blind → Kept
 recorded (CommandOf c) = KeptCommand c.command c.arguments c.environment
-recorded (TextOf q) = KeptText (kind_of q) (text_of q)
+recorded (TextOf q) = KeptText (kind_of q) (text_of q) (directory_of q)
 recorded (ExistsAt path) = KeptExistence path
 recorded (NumberOf q) = KeptNumber q
 

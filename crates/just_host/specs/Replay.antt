@@ -63,4 +63,5 @@ IsAnswered None q answer missed missed' = UnlessNoMemory answer (no_answer q) ×
 -- Each question takes the next reply. Without one of its kind it has no answer, which the host remembers.
 abbrev pub AnswersNext : Replay → Blind → Answer → Replay → Type 0
 AnswersNext old q answer new =
-    IsAnswered (answer_next q old.replies) q answer old.has_missed new.has_missed × (new.replies ≡ after_next old.replies)
+    IsAnswered (answer_next q old.replies) q answer old.has_missed new.has_missed
+    × (new.replies ≡ after_next old.replies)

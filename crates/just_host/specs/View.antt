@@ -192,7 +192,7 @@ number_answer (Err e) = Failed NoMemory
 abbrev pub recorded_view : Recorded → Kept
 recorded_view (recorded.Command command arguments env) =
     KeptCommand command (option_map (λ words. map string_bytes words.items) arguments) (pairs_view env)
-recorded_view (recorded.Text kind text) = KeptText kind text
+recorded_view (recorded.Text kind text directory) = KeptText kind text directory
 recorded_view (recorded.Exists path) = KeptExistence path
 recorded_view (recorded.Number question) = KeptNumber question
 

@@ -1,7 +1,8 @@
 // Modules.
 
-ghost use Rattle.std.specs.Prelude.{IfOk, ◌≡◌};
-ghost use Rattle.just_host.specs.Prelude.{empty_root, justfile_view};
+ghost use Rattle.std.specs.Prelude.{IfOk, OnErr, OnOk, ◌≡◌};
+ghost use Rattle.just_host.specs.Prelude.{assignment_view, empty_root, function_view, justfile_view, with_assignment};
+ghost use Rattle.just_host.specs.Prelude.{with_function};
 
 use crate::settings::Settings;
 use just_syntax::assignment::Assignment;
@@ -31,7 +32,8 @@ pub struct Justfile<'src> {
 
 impl<'src> Justfile<'src> {
     /// An empty root module, which sets nothing: read from the file at the path `source`, and working in a directory.
-    /// An assignment added to its table is evaluated only if its name is added to the evaluation order too.
+    /// An assignment that is added to its table is evaluated only if its name is in the evaluation order too: `assign`
+    /// adds both.
     ///
     /// # Errors
     ///
@@ -54,6 +56,46 @@ impl<'src> Justfile<'src> {
             unexports: Vec::new(alloc),
             working_directory: String::from_str(alloc, working_directory)?,
         })
+    }
+
+    /// Adds an assignment, which is evaluated after all others. If the module has one with its name, the new one
+    /// replaces it and takes its place in the order.
+    ///
+    /// ```rust
+    /// module.assign(Assignment::new(name, Number::new(0), value))?;
+    /// ```
+    ///
+    /// # Errors
+    ///
+    /// `OutOfMemory`, if an allocation fails: the module is unchanged, and the assignment is dropped.
+    pub fn assign(&mut self, assignment: Assignment<'src>) -> Result<(), OutOfMemory>
+        ensures ok { OnOk result (justfile_view self.new
+            ≡ with_assignment (justfile_view self.old) (assignment_view assignment.entry)) }
+        ensures err { OnErr result (justfile_view self.new ≡ justfile_view self.old) }
+    {
+        let name = assignment.name;
+        if self.assignments.get(name.lexeme()).is_some() {
+            return self.assignments.insert(assignment);
+        }
+        self.evaluation_order.push(name)?;
+        let inserted = self.assignments.insert(assignment);
+        if inserted.is_err() {
+            self.evaluation_order.pop();
+        }
+        inserted
+    }
+
+    /// Adds a function. If the module has one with its name, the new one replaces it.
+    ///
+    /// # Errors
+    ///
+    /// `OutOfMemory`, if an allocation fails: the module is unchanged, and the function is dropped.
+    pub fn define(&mut self, function: FunctionDefinition<'src>) -> Result<(), OutOfMemory>
+        ensures ok { OnOk result (justfile_view self.new
+            ≡ with_function (justfile_view self.old) (function_view function.entry)) }
+        ensures err { OnErr result (justfile_view self.new ≡ justfile_view self.old) }
+    {
+        self.functions.insert(function)
     }
 
     /// Whether it is a module within another. Upstream's `Justfile::is_submodule`.

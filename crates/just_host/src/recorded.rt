@@ -1,8 +1,8 @@
 // Records of questions.
 
 ghost use Rattle.std.specs.Prelude.{IfOk, map, string_bytes, ◌≡◌};
-ghost use Rattle.just_host.specs.Prelude.{TextOf, kind_of, pairs_view, question_view, recorded, recorded_view, text_of};
-ghost use Rattle.just_host.specs.Prelude.{text_question_view};
+ghost use Rattle.just_host.specs.Prelude.{TextOf, directory_of, kind_of, pairs_view, question_view, recorded};
+ghost use Rattle.just_host.specs.Prelude.{recorded_view, text_of, text_question_view};
 
 use crate::command_question::CommandQuestion;
 use crate::directory_kind::DirectoryKind;
@@ -27,10 +27,12 @@ pub enum Recorded {
         arguments: Option<Vec<String>>,
         env: BTreeMap<String, String>,
     },
-    /// A question that a text answers, and its variable, path or name, which is empty if it has none.
+    /// A question that a text answers; its variable, path or name, which is empty if it has none; and for `Which` the
+    /// directory that the search begins in, which is empty for all others.
     Text {
         kind: TextKind,
         text: Text,
+        directory: Text,
     },
     /// Whether something exists at a path.
     Exists(Text),
@@ -78,6 +80,7 @@ impl Recorded {
         Ok(Recorded::Text {
             kind: kind_of(question),
             text: Text::from_str(alloc, text_of(question))?,
+            directory: Text::from_str(alloc, directory_of(question))?,
         })
     }
 }
@@ -100,7 +103,7 @@ impl fmt::Display for Recorded {
                 env: _,
             } => write_command(f, command, Some(arguments)),
             Recorded::Command { command, .. } => write_command(f, command, None),
-            Recorded::Text { kind, text } => write_text_question(f, *kind, text),
+            Recorded::Text { kind, text, .. } => write_text_question(f, *kind, text),
             Recorded::Exists(path) => {
                 let path = Element(path);
                 write_unstyled(f, format_args!("exists {path}"))
@@ -136,6 +139,19 @@ pub(crate) fn text_of(question: TextQuestion<'_>) -> &str
         | TextQuestion::Canonicalize(text)
         | TextQuestion::Read(text)
         | TextQuestion::Which { name: text, .. } => text,
+        _ => "",
+    }
+}
+
+// The directory that the search for an executable begins in, or the empty text if it is another question.
+fn directory_of(question: TextQuestion<'_>) -> &str
+    ensures { result.now ≡ directory_of (text_question_view question.entry) }
+{
+    match question {
+        TextQuestion::Which {
+            working_directory,
+            ..
+        } => working_directory,
         _ => "",
     }
 }
