@@ -1,3 +1,4 @@
 pub mod Callees
 pub mod Reached
 pub mod Distinct
+pub mod Overridden

@@ -1,6 +1,6 @@
 -- What a run over a module's assignments means.
-use Rattle.std.specs.Prelude.{◌≡◌, ℕ, Bool, true, false, ◌||◌, ◌-◌, List, [], ◌∷◌, ◌++◌, Option, Some, None}
-use Rattle.just_syntax.specs.Plain.{Text, Token, Assignment}
+use Rattle.std.specs.Prelude.{◌≡◌, ℕ, Bool, true, false, ◌||◌, ◌-◌, List, [], ◌∷◌, ◌++◌, map, Option, Some, None}
+use Rattle.just_syntax.specs.Plain.{Text, Token, Assignment, Expr, StringLiteral}
 use Rattle.just_value.specs.Value.{Value}
 use Rattle.just_value.specs.Frames.{Bound, Frames, innermost, value_in, bound_innermost}
 use Rattle.just_value.specs.Refusal.{Refusal, Internal}
@@ -52,6 +52,22 @@ bound_in m = bound_of m.program.fixed.settings.export
 -- what evaluation of the module's assignments reads is resolved
 abbrev pub IsResolvedModule : Module → Frames → Type 0
 IsResolvedModule m = IsResolved m.program.functions m.assignments
+
+-- an override, as a literal, in place of the expression
+abbrev pub overridden : Option Text → Expr → Expr
+overridden (Some text) e = StringLiteral (record { cooked = text; lexeme = []; indented = false })
+overridden None e = e
+
+abbrev pub with_override : (ℕ → Option Text) → Assignment → Assignment
+with_override overrides a = record a { value = overridden (overrides a.number) a.value }
+
+-- the assignments with the overrides in place of the expressions that they override
+abbrev pub with_overrides : (ℕ → Option Text) → Assignments → Assignments
+with_overrides overrides assignments = record assignments { all = map (with_override overrides) assignments.all }
+
+-- The same, but for the expressions of overridden assignments, which a run does not evaluate.
+abbrev pub IsResolvedRun : Module → Frames → Type 0
+IsResolvedRun m = IsResolved m.program.functions (with_overrides m.overrides m.assignments)
 
 -- an override is one element; without one the expression is evaluated
 abbrev pub or_override : Option Text → Tree Value → Tree Value

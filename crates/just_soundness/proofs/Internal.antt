@@ -21,7 +21,6 @@ use Rattle.just_meaning.specs.Module.{Module, Block, Run, Finished, Stops, Unkno
 use Rattle.just_meaning.specs.Module.{IsResolvedModule, bound_in}
 use Rattle.just_meaning.specs.Internal.{IsNotInternal}
 use Rattle.just_meaning.proofs.Callees.{callable}
-use Rattle.just_soundness.specs.Laws.{ResolvedIsNeverInternal}
 use Rattle.just_soundness.proofs.Ends.{AllEnd, HasCount, ends_path}
 use Rattle.just_soundness.proofs.Bound.{bound_value}
 use Rattle.just_soundness.proofs.ConstInternal.{IsOther}
@@ -171,6 +170,7 @@ module _ (m : Module) (outer : Frames) (resolved : IsResolvedModule m outer) whe
   run_not frame taken named h have (Halts a es k p) = tt
 
 -- a run of a resolved module is not refused as Internal
-pub resolved_is_never_internal : ResolvedIsNeverInternal
-resolved_is_never_internal m outer bs o resolved r =
+pub lexical_run_is_never_internal : (m : Module) (outer : Frames) (bs : List Block) (o : Outcome Frames) → IsResolvedModule m outer
+    → Run lexically m ([] ∷ outer) m.assignments.order bs o → IsNotInternal o
+lexical_run_is_never_internal m outer bs o resolved r =
     run_not m outer resolved [] [] resolved.named resolved.in_order (none_taken (HasValue (value_in ([] ∷ outer))) outer (λ n has. has)) r

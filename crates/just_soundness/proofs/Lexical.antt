@@ -20,9 +20,8 @@ use Rattle.just_meaning.specs.Resolved.{IsResolved, AreInOrder, parameter_number
 use Rattle.just_meaning.specs.Messages.{miscounted_text}
 use Rattle.just_meaning.specs.Meaning.{Program, Situation, Deeper, Row, as_it_is, called, eval, eval_row, named, variable}
 use Rattle.just_meaning.specs.Closings.{lexical, dynamic, inside}
-use Rattle.just_meaning.specs.Module.{Module, Block, Run, Finished, Stops, Unknown, Passes, Skips, Binds, Breaks, Halts, assigned, dynamically, lexically}
-use Rattle.just_meaning.specs.Module.{or_override, situation_at}
-use Rattle.just_soundness.specs.Laws.{PendingCallsDoNotMatter}
+use Rattle.just_meaning.specs.Module.{IsResolvedModule, Module, Block, Run, Finished, Stops, Unknown, Passes, Skips, Binds, Breaks, Halts}
+use Rattle.just_meaning.specs.Module.{assigned, dynamically, lexically, or_override, situation_at}
 use Rattle.just_soundness.proofs.Ends.{AllEnd, HasCount, row_counts, ends_same}
 use Rattle.just_soundness.proofs.Forms.{AreRowsRelated, equality, related_eval}
 use Rattle.just_soundness.proofs.Overlays.{parameters_other, parameters_same}
@@ -186,6 +185,8 @@ module _ (m : Module) where
   run_lexical {frames = frames} h (Halts a es t p) =
       Halts a es t (subst (λ u. Path freely u es Stopped) (assigned_same frames a (h.0 a t.found t.referenced)) p)
 
-pub pending_calls_do_not_matter : PendingCallsDoNotMatter
-pending_calls_do_not_matter m outer bs o resolved r =
+-- a run of a resolved module under dynamic scope is one under lexical scope
+pub dynamic_run_is_lexical : (m : Module) (outer : Frames) (bs : List Block) (o : Outcome Frames) → IsResolvedModule m outer
+    → Run dynamically m ([] ∷ outer) m.assignments.order bs o → Run lexically m ([] ∷ outer) m.assignments.order bs o
+dynamic_run_is_lexical m outer bs o resolved r =
     run_lexical m (are_apart m.program.functions m.assignments outer resolved [] m.assignments.order (λ n none. absurd none) resolved.in_order) r

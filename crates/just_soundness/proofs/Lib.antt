@@ -15,3 +15,4 @@ pub mod Here
 pub mod Recipe
 pub mod OneElement
 pub mod SettingsInternal
+pub mod Overridden

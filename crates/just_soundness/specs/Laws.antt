@@ -9,7 +9,7 @@ use Rattle.just_host.specs.Interaction.{Event, Asked, Checked, Noted, Path, free
 use Rattle.just_meaning.specs.Meaning.{Program, Situation, eval}
 use Rattle.just_meaning.specs.Closings.{lexical}
 use Rattle.just_meaning.specs.Internal.{IsNotInternal}
-use Rattle.just_meaning.specs.Module.{Module, Block, Run, dynamically, lexically, IsResolvedModule}
+use Rattle.just_meaning.specs.Module.{Module, Block, Run, dynamically, lexically, IsResolvedRun}
 
 -- ---- questions and answers, frames aside
 
@@ -52,15 +52,15 @@ FramesDoNotMatter = (c : Program) (base : Names) (calls : ℕ) (s : Situation) (
     → Path freely (eval c (lexical c base calls) (with_frames shown below s) e) fs p → o ≢ Stopped → p ≢ Stopped
     → AreAnsweredAlike es fs → (o ≡ p) × AreSame es fs
 
--- ---- runs of resolved modules
+-- ---- runs of resolved modules, whatever the expressions of overridden assignments read
 
 -- Soundness of lexical scoping: a run under dynamic scope is a run under lexical scope.
 abbrev pub PendingCallsDoNotMatter : Type 0
 PendingCallsDoNotMatter = (m : Module) (outer : Frames) (bs : List Block) (o : Outcome Frames)
-    → IsResolvedModule m outer → Run dynamically m ([] ∷ outer) m.assignments.order bs o
+    → IsResolvedRun m outer → Run dynamically m ([] ∷ outer) m.assignments.order bs o
     → Run lexically m ([] ∷ outer) m.assignments.order bs o
 
 -- Progress: a run meets none of the refusals that only an unresolved module meets.
 abbrev pub ResolvedIsNeverInternal : Type 0
 ResolvedIsNeverInternal = (m : Module) (outer : Frames) (bs : List Block) (o : Outcome Frames)
-    → IsResolvedModule m outer → Run lexically m ([] ∷ outer) m.assignments.order bs o → IsNotInternal o
+    → IsResolvedRun m outer → Run lexically m ([] ∷ outer) m.assignments.order bs o → IsNotInternal o

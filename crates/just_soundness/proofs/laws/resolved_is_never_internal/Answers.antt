@@ -1,4 +1,4 @@
-use Rattle.just_soundness.proofs.Internal.{resolved_is_never_internal}
+use Rattle.just_soundness.proofs.Overridden.{resolved_is_never_internal}
 use Rattle.just_soundness.proofs.laws.resolved_is_never_internal.Goals as goal
 
 pub returns : goal.returns
