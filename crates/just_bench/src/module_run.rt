@@ -1,10 +1,10 @@
 // Runs of a case's module, with any host and in any scope.
 
 ghost use Rattle.std.specs.Prelude.{IfOk, IsTrue, OnOk, [], map, option_map, ◌↔◌, ◌∷◌, ◌≡◌};
-ghost use Rattle.just_bench.specs.Prelude.{Extends, IsResolved, IsResolvedModule, Outcome, Ran, bound_view};
-ghost use Rattle.just_bench.specs.Prelude.{case_module, case_view, dynamically, ended, first_bound, first_given};
-ghost use Rattle.just_bench.specs.Prelude.{frames_view, in_order, lexically, name_view, own_frame, run_view};
-ghost use Rattle.just_bench.specs.Prelude.{without_attributes};
+ghost use Rattle.just_bench.specs.Prelude.{Extends, IsResolved, IsResolvedModule, IsResolvedRun, Outcome, Ran};
+ghost use Rattle.just_bench.specs.Prelude.{bound_view, case_module, case_view, dynamically, ended, first_bound};
+ghost use Rattle.just_bench.specs.Prelude.{first_given, frames_view, in_order, lexically, name_view, own_frame};
+ghost use Rattle.just_bench.specs.Prelude.{run_view, without_attributes};
 ghost use Rattle.std.specs.Map.{values_of};
 
 use crate::context::{case_config, case_module, case_search};
@@ -100,7 +100,7 @@ impl<'src> ModuleRun<'src> {
         parent: &'run Scope<'src, 'run>,
     ) -> Result<Scope<'src, 'run>, Error<'src>>
         ensures headline { let m = run_view self.entry.now in let outer = frames_view parent.entry.now in
-            IsResolvedModule m outer
+            IsResolvedRun m outer
             → Ran H.step host.old lexically m ([] ∷ outer) m.assignments.order (ended frames_view result) host.new }
         ensures dynamic { let m = run_view self.entry.now in
             Ran H.step host.old dynamically m ([] ∷ frames_view parent.entry.now) m.assignments.order

@@ -4,6 +4,7 @@ use Rattle.std.specs.List.{AllByRecursion}
 use Rattle.just_eval.specs.Prelude.{AllKnown, AllReadable, AllResolvedOn, Assigned, Assignment, Expr, Frames, GoesByAnswers, HasValue, IfRefused, IsAtStart}
 use Rattle.just_eval.specs.Prelude.{IsConst, IsConstEval, IsFinal, IsInRun, IsNotInternal, IsResolvedIn, Outcome, Refusal, Resolves, Runs, Situation}
 use Rattle.just_eval.specs.Prelude.{StageState, Step, Text, Tree, UnlessStopped, Value, below_of, calls_left_in, const_meaning, constant, constantly}
+use Rattle.just_eval.specs.Prelude.{IsResolvedOn, const_value}
 use Rattle.just_eval.specs.Prelude.{dynamic_meaning, dynamic_meanings, eval, exports_all, frames_view, freely, functions_view, lexical, lexical_meaning, line}
 use Rattle.just_eval.specs.Prelude.{line_expressions, name_view, or_override, program_of, program_view, rules_in, rules_of, situation_of, stage_state_of}
 use Rattle.just_eval.specs.Prelude.{string, value_in}
@@ -202,3 +203,19 @@ module _ (e : Evaluator) {A : Type 0} (make : (Expr → Tree Value) → Tree A) 
       unless_such IsOther o _ determined.determined
       (const_refused IsOther s.is_open _ (shut_other s.is_open) (made.const IsOther s.is_open (const_meaning s) (λ context v none. none)
       (each_resolved s es resolved)))
+
+-- by the const rules, from any evaluator
+module _ (s : StageState) (x : Expr) {S : Type 0} {step : Step S} {old new : S} {o : Outcome Value}
+    (r : Runs (constantly s.is_open) step old (const_meaning s x) o new) where
+  constant_determined : HasConstOutcome s.is_open (const_meaning s x) o old new
+  constant_determined = const_outcome s.is_open _ o (eval_alike s.is_open _ _ _ x) r
+
+  pub constant_is : UnlessStopped o (const_value s x)
+  constant_is = constant_determined.determined
+
+  pub constant_few : IfRefused IsConstEval o
+  constant_few = constant_determined.few
+
+  pub constant_resolved : IsResolvedOn s x → IsNotInternal o
+  constant_resolved resolved =
+      unless_such IsOther o _ constant_determined.determined (const_refused IsOther s.is_open _ (shut_other s.is_open) (resolved_const s x resolved))

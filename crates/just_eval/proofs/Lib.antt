@@ -18,3 +18,4 @@ mod Recipes
 mod Valued
 mod Judged
 mod Repeated
+mod Stepwise

@@ -2,19 +2,19 @@
 use Rattle.std.proofs.Common.{◌≡◌, ℕ, ◌+◌, ◌<◌, true, false, List, [], ◌∷◌, ◌++◌, Option, Some, None, Result, IsErrAnd, map, drop, get_or, length, append_assoc}
 use Rattle.std.proofs.Common.{add-one, drop-cons, refl, sym, ap, ◌∙◌, subst}
 use Rattle.std.proofs.lemmas.List.{append-nil}
-use Rattle.just_eval.specs.Prelude.{Assignment, Bound, Closing, Frames, Gave, Internal, IsResolvedModule, Module, Outcome, Ran, Refusal, Refused, RefusesWith}
+use Rattle.just_eval.specs.Prelude.{Assignment, Bound, Closing, Frames, Gave, Internal, IsResolvedRun, Module, Outcome, Ran, Refusal, Refused, RefusesWith}
 use Rattle.just_eval.specs.Prelude.{Runs, Step, Stopped, Token, Value, assigned, assignment_at, bound_innermost, dynamically, ended, freely, innermost}
 use Rattle.just_eval.specs.Prelude.{lexically, refusal, unknown_assignment_text, without_value}
 use Rattle.just_value.specs.declared.error.Error.{Error}
 use Rattle.just_host.specs.Interaction.{Chain}
 use Rattle.just_meaning.specs.Module.{Block, IsTaken, Run, Finished, Stops, Unknown, Passes, Skips, Binds, Breaks, Halts, events_of, bound_in}
-use Rattle.just_soundness.proofs.Lexical.{pending_calls_do_not_matter}
+use Rattle.just_soundness.proofs.Overridden.{pending_calls_do_not_matter}
 use Rattle.just_host.proofs.Paths.{chain_append}
 use Rattle.just_expression.proofs.Exits.{exit_is}
 
 module _ {closing : Closing} {m : Module} where
   -- continues a run from its frames
-  run_then : {frames mid : Frames} {left more : List Token} {bs cs : List Block} {o : Outcome Frames} → Run closing m frames left bs (Gave mid)
+  pub run_then : {frames mid : Frames} {left more : List Token} {bs cs : List Block} {o : Outcome Frames} → Run closing m frames left bs (Gave mid)
       → Run closing m mid more cs o → Run closing m frames (left ++ more) (bs ++ cs) o
   run_then Finished q = q
   run_then (Passes a f h r) q = Passes a f h (run_then r q)
@@ -22,7 +22,7 @@ module _ {closing : Closing} {m : Module} where
   run_then (Binds a es v t p r) q = Binds a es v t p (run_then r q)
 
   -- a run that ended is also a run of more assignments
-  run_refused : {frames : Frames} {left : List Token} {bs : List Block} {r : Refusal} (more : List Token) → Run closing m frames left bs (Refused r)
+  pub run_refused : {frames : Frames} {left : List Token} {bs : List Block} {r : Refusal} (more : List Token) → Run closing m frames left bs (Refused r)
       → Run closing m frames (left ++ more) bs (Refused r)
   run_refused more (Unknown f) = Unknown f
   run_refused more (Passes a f h r) = Passes a f h (run_refused more r)
@@ -138,6 +138,6 @@ module _ {S : Type 0} {step : Step S} {closing : Closing} {m : Module} where
         (sym (front seen items i d fits)) (ran_ends (map seen (drop (i + 1) items)) e r)
 
 -- a run of a resolved module under dynamic scope is one under lexical scope
-pub ran_lexical : {S : Type 0} {step : Step S} {old new : S} (m : Module) (outer : Frames) (o : Outcome Frames) → IsResolvedModule m outer
+pub ran_lexical : {S : Type 0} {step : Step S} {old new : S} (m : Module) (outer : Frames) (o : Outcome Frames) → IsResolvedRun m outer
     → Ran step old dynamically m ([] ∷ outer) m.assignments.order o new → Ran step old lexically m ([] ∷ outer) m.assignments.order o new
 ran_lexical m outer o resolved r = record { blocks = r.blocks; run = pending_calls_do_not_matter m outer r.blocks o resolved r.run; chain = r.chain }

@@ -1,7 +1,7 @@
 -- How const stages that go on after refusals are composed.
 use Rattle.std.proofs.Common.{◌≡◌, ℕ, ◌+◌, ◌<◌, List, [], ◌∷◌, ◌++◌, drop, get_or, length, map, Some, subst, sym}
 use Rattle.std.proofs.lemmas.List.{map-append}
-use Rattle.just_eval.specs.Prelude.{Constants, Gave, Refusal, StageState, Staged, Survey, Token, name_view, refused_view, stage_outcome}
+use Rattle.just_eval.specs.Prelude.{Constants, Refusal, StageState, Staged, Survey, Token, name_view, refused_view, stage_outcome}
 use Rattle.just_value.specs.View.{const_eval_refusal}
 use Rattle.just_eval.specs.declared.const_survey.RefusedConstant.{RefusedConstant}
 use Rattle.just_eval.specs.Survey.{Finished, Passes, Refuses}

@@ -1,5 +1,6 @@
 -- The commands that a recipe's lines make.
-use Rattle.std.specs.Prelude.{◌==◌, ◌-◌, Bool, true, false, List, [], ◌∷◌, ◌++◌, length, Option, Some, None, if◌then◌else◌}
+use Rattle.std.specs.Prelude.{◌==◌, ◌-◌, Bool, true, false, List, [], ◌∷◌, ◌++◌, length, Option, Some, None}
+use Rattle.std.specs.Prelude.{if◌then◌else◌}
 use Rattle.std.specs.List.{slice_get}
 use Rattle.just_syntax.specs.Plain.{Text, Expr, Fragment, TextFragment, Interpolation}
 use Rattle.just_value.specs.Value.{Value}

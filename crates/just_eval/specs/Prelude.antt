@@ -1,6 +1,6 @@
 -- The names that the contracts and proofs of this crate share, passed on from one place. Declares nothing.
 pub use Rattle.just_expression.specs.Call.{RefusesWith}
-pub use Rattle.just_expression.specs.View.{program, program_of, rules, rules_in, situation}
+pub use Rattle.just_expression.specs.View.{meaning, program, program_of, rules, rules_in, situation}
 pub use Rattle.just_host.specs.Interaction.{AsksOnce, GoesByAnswers, Rules, Runs, RunsChecked, Step, Tree, Verdict}
 pub use Rattle.just_host.specs.Interaction.{bind, freely, gives}
 pub use Rattle.just_host.specs.Question.{command_question}
@@ -14,7 +14,7 @@ pub use Rattle.just_meaning.specs.Line.{fragment as fragment_tree, fragment_text
 pub use Rattle.just_meaning.specs.Line.{line_expressions, string}
 pub use Rattle.just_meaning.specs.Meaning.{Situation, eval}
 pub use Rattle.just_meaning.specs.Messages.{unknown_assignment_text}
-pub use Rattle.just_meaning.specs.Module.{Closing, IsResolvedModule, Module, Ran, assigned, bound_of, dynamically}
+pub use Rattle.just_meaning.specs.Module.{Closing, IsResolvedRun, Module, Ran, assigned, bound_of, dynamically}
 pub use Rattle.just_meaning.specs.Module.{lexically, or_override}
 pub use Rattle.just_meaning.specs.Parameters.{Arguments, HaveOneElement, Meanings, bindings, checked, environment}
 pub use Rattle.just_meaning.specs.Parameters.{judged, none_or_refused, parameter_bound, parameters, repeated, seeing}
@@ -27,6 +27,7 @@ pub use Rattle.just_meaning.specs.Stage.{Constants, StageState, Staged, at_start
 pub use Rattle.just_meaning.specs.View.{IsResolvedWith, constants_of, functions_view, is_referenced_in, module_view}
 pub use Rattle.just_meaning.specs.View.{program_view, recipe_in, run_of}
 pub use Rattle.just_syntax.specs.Keyed.{value_at}
+pub use Rattle.just_syntax.specs.Lists.{IsIn}
 pub use Rattle.just_syntax.specs.Plain.{Assignment, Expr, Parameter, Recipe, Text, Token}
 pub use Rattle.just_syntax.specs.View.{assignment_view, expression_interpreter_view, fragment_view, interpreter_view}
 pub use Rattle.just_syntax.specs.View.{line_view, name_view, named_attribute_view, pairs_view, recipe_parameter_view}
@@ -43,9 +44,10 @@ pub use Rattle.just_eval.specs.Check.{GivesVerdict, IsJudged, verdict_view}
 pub use Rattle.just_eval.specs.Commands.{commands, commands_of, ends_with_backslash, is_continued, is_continued_by}
 pub use Rattle.just_eval.specs.Commands.{lines_expressions, unjoined, with_line, without_backslash}
 pub use Rattle.just_eval.specs.Joined.{joined_view, texts_view}
+pub use Rattle.just_eval.specs.Steps.{IsNext, Reached, frames_of, module_of, outer_of}
 pub use Rattle.just_eval.specs.Survey.{Survey, opened_for, refused_view, stage_outcome}
 pub use Rattle.just_eval.specs.View.{Assigned, IsAtStart, IsBound, IsConst, IsInRun, IsResolvedIn, IsSameButScope}
 pub use Rattle.just_eval.specs.View.{IsSameButScopeAndEnvironment, MayCall, MayCallIn, OpensOrEnds, Resolves, WasBound}
 pub use Rattle.just_eval.specs.View.{arguments_view, below_of, calls_left_in, calls_left_of, dynamic_meaning}
 pub use Rattle.just_eval.specs.View.{dynamic_meanings, exports_all, here, lexical_meaning, recipe_start, rules_of}
-pub use Rattle.just_eval.specs.View.{situation_of, stage_state_of}
+pub use Rattle.just_eval.specs.View.{situation_of, stage_state_of, with_limit}

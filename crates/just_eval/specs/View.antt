@@ -76,6 +76,18 @@ abbrev pub arguments_view : {A B C D : Type 0} → Scope × Vec (String A) B × 
 arguments_view given =
     record { frames = frames_view given.0; words = map string_bytes given.1.items; environment = pairs_view given.2 }
 
+-- the context with another recursion limit
+abbrev pub with_limit : ℕ → ExecutionContext → ExecutionContext
+with_limit limit c = record {
+  config = c.config;
+  dotenv = c.dotenv;
+  «module» = c.module;
+  overrides = c.overrides;
+  recursion_limit = limit;
+  scope = c.scope;
+  search = c.search;
+}
+
 -- how many calls may be pending
 abbrev pub calls_left_in : Option ExecutionContext → ℕ
 calls_left_in (Some c) = c.recursion_limit - 1

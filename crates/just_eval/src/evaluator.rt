@@ -1,15 +1,15 @@
 // Evaluates the assignments of a module.
 
-ghost use Rattle.std.specs.Prelude.{IfErr, OnErr, Some, [], false, is_some, map, ℕ, ◌<◌, ◌∷◌, ◌≡◌};
+ghost use Rattle.std.specs.Prelude.{IfErr, OnErr, Some, [], false, is_some, map, max, ℕ, ◌<◌, ◌∷◌, ◌≡◌};
 ghost use Rattle.std.specs.Option.{ForSome};
 ghost use Rattle.just_eval.specs.Prelude.{Assigned, GoesByAnswers, IfRefused, IsAtStart, IsConst, IsConstEval, IsFinal};
-ghost use Rattle.just_eval.specs.Prelude.{IsInRun, IsNotInternal, IsResolvedModule, IsResolvedOn, IsSameButScope};
+ghost use Rattle.just_eval.specs.Prelude.{IsInRun, IsNotInternal, IsResolvedRun, IsResolvedOn, IsSameButScope};
 ghost use Rattle.just_eval.specs.Prelude.{MayCall, MayCallIn, Ran, Resolves, Runs, UnlessStopped, assignment_view};
 ghost use Rattle.just_eval.specs.Prelude.{bound_of, bound_view, calls_left_of, const_value, dynamic_meaning};
 ghost use Rattle.just_eval.specs.Prelude.{dynamically, ended, exports_all, frames_view, freely, innermost};
 ghost use Rattle.just_eval.specs.Prelude.{lexical_meaning, lexically, module_view, name_view, or_override, program};
 ghost use Rattle.just_eval.specs.Prelude.{program_of, refusal, rules, rules_of, run_of, situation, situation_of};
-ghost use Rattle.just_eval.specs.Prelude.{stage_state_of, text_numbered, view};
+ghost use Rattle.just_eval.specs.Prelude.{stage_state_of, text_numbered, view, with_limit};
 
 mod commands;
 mod constants;
@@ -38,7 +38,7 @@ use just_value::scope::Scope;
 use just_value::value::Value;
 use std::alloc::Global;
 use std::collections::{BTreeMap, HashMap, HashSet};
-use std::fmt;
+use std::{fmt, mem};
 
 /// Evaluates the assignments of a module, one after another, in a scope of its own.
 ///
@@ -96,11 +96,11 @@ impl<'src, 'run> Evaluator<'src, 'run> {
         ensures headline { let m = run_of config.entry dotenv.entry «module».entry overrides.entry parent.entry
             search.entry recursion_limit variable_references.entry in
             let outer = frames_view parent.entry.now in
-            IsResolvedModule m outer
+            IsResolvedRun m outer
             → Ran H.step host.old lexically m ([] ∷ outer) m.assignments.order (ended frames_view result) host.new }
         ensures never_internal { let m = run_of config.entry dotenv.entry «module».entry overrides.entry parent.entry
             search.entry recursion_limit variable_references.entry in
-            IsResolvedModule m (frames_view parent.entry.now) → IsNotInternal (ended frames_view result) }
+            IsResolvedRun m (frames_view parent.entry.now) → IsNotInternal (ended frames_view result) }
 
         // On any module they are those of dynamic scope: a body reads from its caller what is neither its own nor the
         // module's.
@@ -150,16 +150,61 @@ impl<'src, 'run> Evaluator<'src, 'run> {
         let lists = context.module.settings.lists;
         let mut evaluator = Evaluator::of_assignments(alloc, Some(*context), lists, scope);
         for name in names {
-            let Some(assignment) = context.module.assignments.get(name.lexeme()) else {
-                return Err(Reason::UnknownAssignment.error_at(alloc, name));
-            };
-            if !is_referenced(references, assignment.number) {
-                continue;
-            }
-            evaluator.evaluate_assignment(alloc, host, context.overrides, assignment)?;
+            evaluator.evaluate_named(alloc, host, context, references, name)?;
         }
         let Evaluator { scope, .. } = evaluator;
         Ok(scope)
+    }
+
+    // Evaluates the assignment with this name in a scope, by an evaluator of its own. A recursion limit of 0 acts as 1.
+    pub(crate) fn evaluate_step<H: Host>(
+        scope: &mut Scope<'src, 'run>,
+        alloc: Global,
+        host: &mut H,
+        context: &ExecutionContext<'src, 'run>,
+        references: Option<&HashSet<Number>>,
+        name: &Name<'src>,
+    ) -> Result<(), Error<'src>>
+        ensures kept { OnErr result (frames_view scope.new ≡ frames_view scope.old) }
+        ensures ran { Ran H.step host.old dynamically (module_view context.now references.entry) (frames_view scope.old)
+            (name_view name.now ∷ []) (ended (λ _. frames_view scope.new) result) host.new }
+    {
+        let context = with_some_limit(context);
+        let own = mem::replace(scope, context.scope.child(alloc)?);
+        let has_lists = context.module.settings.lists;
+        let mut evaluator = Evaluator::of_assignments(alloc, Some(context), has_lists, own);
+        let result = evaluator.evaluate_named(alloc, host, &context, references, name);
+        let Evaluator { scope: own, .. } = evaluator;
+        *scope = own;
+        result
+    }
+
+    // Evaluates the assignment with this name, if it is referenced and its number is not bound.
+    #[inline(always)]
+    fn evaluate_named<H: Host>(
+        &mut self,
+        alloc: Global,
+        host: &mut H,
+        context: &ExecutionContext<'src, 'run>,
+        references: Option<&HashSet<Number>>,
+        name: &Name<'src>,
+    ) -> Result<(), Error<'src>>
+        requires start { IsAtStart self.old }
+        requires here { self.old.context ≡ Some context.now }
+        requires lists { self.old.lists ≡ context.now.«module».now.settings.lists }
+        ensures same { IsSameButScope self.old self.new × IsAtStart self.new }
+        ensures kept { OnErr result (frames_view self.new.scope ≡ frames_view self.old.scope) }
+        ensures ran { Ran H.step host.old dynamically (module_view context.now references.entry)
+            (frames_view self.old.scope) (name_view name.now ∷ []) (ended (λ _. frames_view self.new.scope) result)
+            host.new }
+    {
+        let Some(assignment) = context.module.assignments.get(name.lexeme()) else {
+            return Err(Reason::UnknownAssignment.error_at(alloc, name));
+        };
+        if !is_referenced(references, assignment.number) {
+            return Ok(());
+        }
+        self.evaluate_assignment(alloc, host, context.overrides, assignment)
     }
 
     // An evaluator of assignments in a scope, for no recipe: in a run with its context, before any run without one. No
@@ -368,6 +413,18 @@ impl<'src, 'run> Evaluator<'src, 'run> {
             Some(context) => context.module.settings.export,
             None => false,
         }
+    }
+}
+
+// The context with a recursion limit of at least 1.
+fn with_some_limit<'src, 'run>(
+    context: &ExecutionContext<'src, 'run>,
+) -> ExecutionContext<'src, 'run>
+    ensures { result ≡ with_limit (max context.now.recursion_limit 1) context.now }
+{
+    ExecutionContext {
+        recursion_limit: context.recursion_limit.max(1),
+        ..*context
     }
 }
 

@@ -10,6 +10,7 @@ mod joined;
 pub mod laws;
 mod line;
 pub mod prelude;
+pub mod steps;
 
 pub use just_resolution::fault::Fault;
 pub use just_resolution::first_fault::first_fault;

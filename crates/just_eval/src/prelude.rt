@@ -72,6 +72,7 @@ pub use just_builtins::function::{Function, functions, is_left_out};
 // Evaluation; whether its input is resolved, and if not, why.
 pub use crate::const_survey::{ConstSurvey, RefusedConstant};
 pub use crate::evaluator::Evaluator;
+pub use crate::steps::Steps;
 pub use just_resolution::fault::Fault;
 pub use just_resolution::first_fault::first_fault;
 pub use just_resolution::resolved::resolved;

@@ -6,5 +6,3 @@ pub mod argument_error;
 pub mod arguments;
 pub mod recipe_call;
 pub mod run;
-#[cfg(test)]
-mod tests;

@@ -2,7 +2,7 @@
 
 ghost use Rattle.std.specs.Prelude.{IfOk, None, [], map, option_map, string_bytes, ℕ, ◌<◌, ◌∷◌, ◌≡◌};
 ghost use Rattle.just_eval.specs.Prelude.{GoesByAnswers, IfRefused, IsConst, IsFinal, IsNotInternal};
-ghost use Rattle.just_eval.specs.Prelude.{IsResolvedModule, Ran, Staged, Survey, assignment_view, at_start};
+ghost use Rattle.just_eval.specs.Prelude.{IsResolvedRun, Ran, Staged, Survey, assignment_view, at_start};
 ghost use Rattle.just_eval.specs.Prelude.{dynamically, ended, fixed_view, frames_view, lexically, pairs_view};
 ghost use Rattle.just_eval.specs.Prelude.{refused_view, stage_outcome, stage_state_of, text_numbered};
 ghost use Rattle.just_host.specs.Prelude.{called_in, config_view, search_view};
@@ -89,9 +89,9 @@ impl<'src, 'run> Run<'src, 'run> {
     ) -> Result<Scope<'src, 'run>, Error<'src>>
         requires may_call { 0 < self.now.recursion_limit }
         ensures headline { let m = run_view self.entry.now in let frames = frames_view outer.entry.now in
-            IsResolvedModule m frames
+            IsResolvedRun m frames
             → Ran H.step host.old lexically m ([] ∷ frames) m.assignments.order (ended frames_view result) host.new }
-        ensures never_internal { IsResolvedModule (run_view self.entry.now) (frames_view outer.entry.now)
+        ensures never_internal { IsResolvedRun (run_view self.entry.now) (frames_view outer.entry.now)
             → IsNotInternal (ended frames_view result) }
         ensures dynamic { let m = run_view self.entry.now in
             Ran H.step host.old dynamically m ([] ∷ frames_view outer.entry.now) m.assignments.order

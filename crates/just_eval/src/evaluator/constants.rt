@@ -1,13 +1,16 @@
 // Evaluation before any run: which assignments are settled, and what expressions evaluate to.
 
 ghost use Rattle.std.specs.Prelude.{IfErr, IfOk, List, OnErr, [], string_bytes, ◌∷◌, ◌≡◌};
+ghost use Rattle.std.specs.BTreeMap.{IsEmpty};
 ghost use Rattle.std.specs.Option.{ForSome};
-ghost use Rattle.just_eval.specs.Prelude.{HasOwnToken, IsConst, IsConstEval, IsNotInternal, IsResolvedConst};
+ghost use Rattle.just_eval.specs.Prelude.{Expr, HasOwnToken, IsConst, IsConstEval, IsNotInternal, IsResolvedConst};
 ghost use Rattle.just_eval.specs.Prelude.{IsResolvedOn, OpensOrEnds, Staged, UnlessStopped, and_then, at_start};
-ghost use Rattle.just_eval.specs.Prelude.{const_ended, const_value, constants_of, ended, frames_view, name_view};
-ghost use Rattle.just_eval.specs.Prelude.{refusal, stage_state_of, string_context_view, text_in, view};
+ghost use Rattle.just_eval.specs.Prelude.{const_ended, const_meaning, const_value, constantly, constants_of, ended};
+ghost use Rattle.just_eval.specs.Prelude.{frames_view, meaning, name_view, refusal, rules, stage_state_of};
+ghost use Rattle.just_eval.specs.Prelude.{string_context_view, text_in, view};
 
 use super::Evaluator;
+use just_expression::evaluator::ExpressionEvaluator;
 use just_expression::internal::Reason;
 use just_expression::text::one_text;
 use just_expression::variable;
@@ -133,8 +136,8 @@ impl<'src, 'run> Evaluator<'src, 'run> {
         }
     }
 
-    /// The value of an expression before any run. The evaluator comes from `evaluate_const_assignments`. It asks
-    /// nothing. Upstream's `Evaluator::evaluate_value_const`.
+    /// The value of an expression by the const rules, under what is settled and what is open. It asks nothing. On an
+    /// evaluator of a run its bindings are settled, and nothing is open. Upstream's `Evaluator::evaluate_value_const`.
     ///
     /// # Errors
     ///
@@ -147,21 +150,64 @@ impl<'src, 'run> Evaluator<'src, 'run> {
         alloc: Global,
         expression: &Expression<'src>,
     ) -> Result<Value, CompileError<'src>>
-        requires before_runs { IsConst self.now }
         ensures headline { UnlessStopped (const_ended (λ v. v) result)
             (const_value (stage_state_of self.now) (view expression.now)) }
         ensures never_internal { IsResolvedOn (stage_state_of self.now) (view expression.now)
             → IsNotInternal (const_ended (λ v. v) result) }
         ensures token { IfErr result HasOwnToken }
     {
-        match self.evaluate_value(alloc, &mut NoHost, expression) {
+        match self.constant_value(alloc, expression) {
             Ok(value) => Ok(value),
             Err(error) => Err(error.unwrap_const()),
         }
     }
 
-    /// The text of an expression before any run, where a single text is required. It asks nothing. Upstream's
-    /// `Evaluator::evaluate_string_const`.
+    // The value of an expression by the const rules.
+    fn constant_value(
+        &self,
+        alloc: Global,
+        expression: &Expression<'src>,
+    ) -> Result<Value, Error<'src>>
+        ensures constants { UnlessStopped (ended (λ v. v) result)
+            (const_value (stage_state_of self.now) (view expression.now)) }
+        ensures few { IfErr result (λ e. ForSome (refusal e) IsConstEval) }
+        ensures resolved_constants { IsResolvedOn (stage_state_of self.now) (view expression.now)
+            → IsNotInternal (ended (λ v. v) result) }
+    {
+        let env = BTreeMap::new(alloc);
+        let budget = NoHost.stack_budget();
+        Evaluator::constant_evaluator(&*self, &env).evaluate_value(
+            alloc,
+            &mut NoHost,
+            expression,
+            budget,
+        )
+    }
+
+    // An evaluator of expressions by the const rules, with an empty environment.
+    fn constant_evaluator<'here>(
+        &'here self,
+        env: &'here BTreeMap<String, String>,
+    ) -> ExpressionEvaluator<'src, 'run, 'here>
+        requires empty { IsEmpty env.now }
+        ensures rules { rules result ≡ constantly (stage_state_of self.now).is_open }
+        ensures meaning { (e : Expr) → meaning result e ≡ const_meaning (stage_state_of self.now) e }
+    {
+        ExpressionEvaluator {
+            context: None,
+            calls_left: 0,
+            env,
+            is_dependency: false,
+            lists: self.lists,
+            non_const_assignments: &self.non_const_assignments,
+            recipe: None,
+            scope: &self.scope,
+            below: &self.scope,
+        }
+    }
+
+    /// The text of an expression by the const rules, where a single text is required, as `evaluate_value_const` has its
+    /// value. It asks nothing. Upstream's `Evaluator::evaluate_string_const`.
     ///
     /// # Errors
     ///
@@ -173,7 +219,6 @@ impl<'src, 'run> Evaluator<'src, 'run> {
         expression: &Expression<'src>,
         context: StringContext<'src>,
     ) -> Result<String, CompileError<'src>>
-        requires before_runs { IsConst self.now }
         ensures headline { UnlessStopped (const_ended string_bytes result)
             (and_then (const_value (stage_state_of self.now) (view expression.now))
             (text_in (string_context_view context.entry))) }

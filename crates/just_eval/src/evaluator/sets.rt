@@ -1,7 +1,7 @@
 // Evaluation of settings.
 
 ghost use Rattle.std.specs.Prelude.{IfErr, OnErr, map, ◌≡◌};
-ghost use Rattle.just_eval.specs.Prelude.{AllResolvedOn, HasOwnToken, IsConst, IsNotInternal, UnlessStopped};
+ghost use Rattle.just_eval.specs.Prelude.{AllResolvedOn, HasOwnToken, IsNotInternal, UnlessStopped};
 ghost use Rattle.just_eval.specs.Prelude.{const_ended, const_value, expression_interpreter_view};
 ghost use Rattle.just_eval.specs.Prelude.{interpreter_expressions, interpreter_view, kept, name_view, set_expressions};
 ghost use Rattle.just_eval.specs.Prelude.{set_view, setting_expressions, setting_view, settings_view, stage_state_of};
@@ -24,8 +24,8 @@ use just_value::value::Value;
 use std::alloc::Global;
 
 impl<'src, 'run> Evaluator<'src, 'run> {
-    /// The settings that a module sets, evaluated in the byte order of their names. It asks nothing. Any other setting
-    /// is as in `Settings::new`. The sets are consumed. Upstream's `Evaluator::evaluate_sets`.
+    /// The settings that a module sets, evaluated by the const rules in the byte order of their names. It asks nothing.
+    /// Any other setting is as in `Settings::new`. The sets are consumed. Upstream's `Evaluator::evaluate_sets`.
     ///
     /// # Errors
     ///
@@ -38,7 +38,6 @@ impl<'src, 'run> Evaluator<'src, 'run> {
         alloc: Global,
         sets: Table<Set<'src>>,
     ) -> Result<Settings, CompileError<'src>>
-        requires before_runs { IsConst self.now }
         ensures headline { UnlessStopped (const_ended settings_view result)
             (meant.settings (const_value (stage_state_of self.now)) (map set_view sets.entry)) }
         ensures never_internal { AllResolvedOn (stage_state_of self.now) (set_expressions (map set_view sets.entry))
@@ -52,8 +51,8 @@ impl<'src, 'run> Evaluator<'src, 'run> {
         Ok(settings)
     }
 
-    /// Evaluates one setting, and stores it in `settings`. It asks nothing. So a linter learns the value of each setting,
-    /// by `Settings::get`, or why it is refused:
+    /// Evaluates one setting by the const rules, under what is settled and what is open, and stores it in `settings`.
+    /// It asks nothing. So a linter learns the value of each setting, by `Settings::get`, or why it is refused:
     ///
     /// ```rust
     /// match stage.evaluate_set(alloc, &mut settings, &set) {
@@ -71,7 +70,6 @@ impl<'src, 'run> Evaluator<'src, 'run> {
         settings: &mut Settings,
         set: &Set<'src>,
     ) -> Result<(), CompileError<'src>>
-        requires before_runs { IsConst self.now }
         ensures headline { UnlessStopped (const_ended (λ _. settings_view settings.new) result)
             (with_setting (const_value (stage_state_of self.now)) (settings_view settings.old) (set_view set.now).name
             (set_view set.now).value) }
@@ -90,7 +88,6 @@ impl<'src, 'run> Evaluator<'src, 'run> {
         settings: &mut Settings,
         set: &Set<'src>,
     ) -> Result<(), CompileError<'src>>
-        requires before_runs { IsConst self.now }
         ensures kept { OnErr result (settings_view settings.new ≡ settings_view settings.old) }
         ensures set { UnlessStopped (const_ended (λ _. settings_view settings.new) result)
             (with_setting (const_value (stage_state_of self.now)) (settings_view settings.old) (set_view set.now).name
@@ -130,8 +127,8 @@ impl<'src, 'run> Evaluator<'src, 'run> {
         Ok(())
     }
 
-    /// A command and its first arguments, before any run: the elements of all its expressions in order, the first of
-    /// which is the command. It asks nothing. Upstream's `Evaluator::evaluate_interpreter`.
+    /// A command and its first arguments, by the const rules: the elements of all its expressions in order, the first
+    /// of which is the command. It asks nothing. Upstream's `Evaluator::evaluate_interpreter`.
     ///
     /// # Errors
     ///
@@ -144,7 +141,6 @@ impl<'src, 'run> Evaluator<'src, 'run> {
         interpreter: &Interpreter<Expression<'src>>,
         setting: Name<'src>,
     ) -> Result<Interpreter<String>, CompileError<'src>>
-        requires before_runs { IsConst self.now }
         ensures headline { UnlessStopped (const_ended interpreter_view result)
             (meant.interpreter (const_value (stage_state_of self.now)) (name_view setting.entry)
             (expression_interpreter_view interpreter.now)) }

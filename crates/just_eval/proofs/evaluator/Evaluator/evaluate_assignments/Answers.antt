@@ -1,6 +1,6 @@
 use Rattle.just_eval.specs.Prelude.{frames_view}
 use Rattle.just_soundness.proofs.Final.{run_is_final}
-use Rattle.just_soundness.proofs.Internal.{resolved_is_never_internal}
+use Rattle.just_soundness.proofs.Overridden.{resolved_is_never_internal}
 use Rattle.just_eval.proofs.Module.{ran_lexical}
 use Rattle.just_eval.proofs.evaluator.Evaluator.evaluate_assignments.Goals as goal
 

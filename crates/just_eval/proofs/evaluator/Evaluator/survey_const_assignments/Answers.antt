@@ -1,4 +1,4 @@
-use Rattle.std.proofs.Common.{◌≡◌, ◌∙◌, [], ◌++◌, ap, append_assoc, append-nil, map, subst, sym}
+use Rattle.std.proofs.Common.{◌∙◌, [], ◌++◌, ap, append_assoc, append-nil, map, subst, sym}
 use Rattle.std.proofs.lemmas.List.{drop_all}
 use Rattle.just_eval.specs.Prelude.{Survey, at_start, constants_of, frames_view, name_view, refused_view, stage_state_of}
 use Rattle.just_eval.specs.Survey.{Finished}

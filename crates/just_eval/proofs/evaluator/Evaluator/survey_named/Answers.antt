@@ -1,5 +1,5 @@
-use Rattle.std.proofs.Common.{◌≡◌, ◌∙◌, [], ◌∷◌, ◌++◌, ap, append-nil, map, subst, sym, Some}
-use Rattle.just_eval.specs.Prelude.{Refused, Staged, compile_refusal, constants_of, name_view, refused_view, stage_state_of, Survey, without_value}
+use Rattle.std.proofs.Common.{[], ◌∷◌, append-nil, subst, sym}
+use Rattle.just_eval.specs.Prelude.{Refused, Staged, compile_refusal, constants_of, name_view, stage_state_of, Survey, without_value}
 use Rattle.just_value.specs.View.{const_eval_refusal}
 use Rattle.just_eval.specs.Survey.{Finished, Passes, Refuses}
 use Rattle.just_eval.proofs.Survey.{more_refused}

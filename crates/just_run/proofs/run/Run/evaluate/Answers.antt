@@ -1,5 +1,5 @@
 use Rattle.std.proofs.Common.{[], ◌∷◌, subst}
-use Rattle.just_eval.specs.Prelude.{IsNotInternal, IsResolvedModule, Ran, dynamically, ended, frames_view, lexically}
+use Rattle.just_eval.specs.Prelude.{IsNotInternal, IsResolvedRun, Ran, dynamically, ended, frames_view, lexically}
 use Rattle.just_run.specs.Run.{run_of_referenced}
 use Rattle.just_run.proofs.Referenced.{referenced_same}
 use Rattle.just_run.proofs.run.Run.evaluate.Goals as goal
@@ -9,7 +9,7 @@ returns-clause-headline g c =
     let frames = frames_view c.args.outer.now in
     let r = c.args.self.now in
     let same = referenced_same c.as_ref.result r.references c.as_ref.ensures.value in
-    subst (λ referenced. IsResolvedModule (run_of_referenced r referenced) frames
+    subst (λ referenced. IsResolvedRun (run_of_referenced r referenced) frames
     → Ran g.H.Host.step c.args.host.now lexically (run_of_referenced r referenced) ([] ∷ frames) (run_of_referenced r referenced).assignments.order
     (ended frames_view c.evaluate_assignments.result) c.evaluate_assignments.new.host)
     same c.evaluate_assignments.ensures.headline
@@ -18,7 +18,7 @@ pub returns-clause-never_internal : goal.returns-clause-never_internal
 returns-clause-never_internal g c =
     let r = c.args.self.now in
     let same = referenced_same c.as_ref.result r.references c.as_ref.ensures.value in
-    subst (λ referenced. IsResolvedModule (run_of_referenced r referenced) (frames_view c.args.outer.now)
+    subst (λ referenced. IsResolvedRun (run_of_referenced r referenced) (frames_view c.args.outer.now)
     → IsNotInternal (ended frames_view c.evaluate_assignments.result)) same c.evaluate_assignments.ensures.never_internal
 
 pub returns-clause-dynamic : goal.returns-clause-dynamic
