@@ -1,16 +1,18 @@
 -- The nodes of a graph.
-use Rattle.std.proofs.Common.{◌≡◌, ◌⊎◌, inl, inr, ⊎_elim, ℕ, Bool, true, false, cond, List, [], ◌∷◌, ◌++◌, map, Some, Vec, refl, ap, sym}
+use Rattle.std.proofs.Common.{◌≡◌, ◌⊎◌, inl, inr, ⊎_elim, ℕ, Bool, true, false, cond, is_some, List, [], ◌∷◌, ◌++◌, map, Option, Some, None, Vec, refl, ap, sym}
 use Rattle.std.specs.BTreeMap.{is_at}
+use Rattle.std.specs.HashMap.{HashMap}
 use Rattle.std.specs.List.{flat_map}
 use Rattle.std.specs.Map.{lookup}
 use Rattle.std.specs.Ordering.{nat_cmp}
 use Rattle.std.specs.Str.{bytes_eq}
+use Rattle.std.specs.declared.string.String.{String}
 use Rattle.std.proofs.lemmas.Slice.Eq.{bytes_eq-Decides}
 use Rattle.just_syntax.proofs.Lists.{in_first, in_second}
 use Rattle.just_syntax.proofs.Members.{number_decides}
 use Rattle.just_needs.specs.declared.numbered.Valued.{Valued}
 use Rattle.just_needs.specs.Prelude.{Function, IsIn, OfFunction, OfVariable, PlainNode, Text, function_at, function_view, graph_view, looked_up, nodes_in}
-use Rattle.just_needs.specs.Prelude.{read_by, read_by_body}
+use Rattle.just_needs.specs.Prelude.{read_by, read_by_body, read_in, text_numbered, unless_overridden, Expr}
 use Rattle.just_needs.specs.declared.graph.Graph.{Graph}
 use Rattle.just_needs.proofs.Walk.{AreAll}
 
@@ -56,3 +58,23 @@ are_all g (OfVariable n) =
 are_all g (OfFunction t) =
     ⊎_elim (λ h. inl (in_second (variables g) (functions g) (OfFunction t) h)) (λ none. inr none)
     (function_known (graph_view g).is_followed (map function_view g.functions.now) t)
+
+-- the same if some of it is overridden
+unless_known : {A : Type 0} (f : Expr → List PlainNode) (o : Option Text) (es : List Expr) → A ⊎ (flat_map f es ≡ [])
+    → A ⊎ (flat_map f (unless_overridden o es) ≡ [])
+unless_known f None es known = known
+unless_known f (Some text) es known = inr refl
+
+pub are_all_in : {A S : Type 0} (overrides : HashMap ℕ (String A) S) (g : Graph) → AreAll (read_in overrides g) (all_nodes g)
+are_all_in overrides g (OfVariable n) =
+    unless_known (nodes_in (graph_view g).is_followed) (text_numbered overrides n) ((graph_view g).values n) (are_all g (OfVariable n))
+are_all_in overrides g (OfFunction t) = are_all g (OfFunction t)
+
+-- what is not overridden reads the same
+pub read_unless : (o : Option Text) (f : Expr → List PlainNode) (es : List Expr) → o ≡ None → flat_map f (unless_overridden o es) ≡ flat_map f es
+read_unless None f es none = refl
+read_unless (Some text) f es none = let bad : Some text ≡ None = none in absurd (cc)
+
+pub none_read : (o : Option Text) (f : Expr → List PlainNode) (es : List Expr) → is_some o ≡ true → flat_map f (unless_overridden o es) ≡ []
+none_read None f es some = let bad : false ≡ true = some in absurd (cc)
+none_read (Some text) f es some = refl

@@ -10,7 +10,7 @@ use Rattle.just_syntax.specs.Variables.{has_number, number_named}
 use Rattle.just_syntax.specs.declared.function_definition.FunctionDefinition.{FunctionDefinition}
 use Rattle.just_needs.specs.Prelude.{Assignment, CallOf, Expr, Frames, Function, IsFollowed, IsIn, IsNeeded, IsReached, Occurs, OfFunction, OfVariable}
 use Rattle.just_needs.specs.Prelude.{PlainGraph, PlainNode, Text, function_at, function_view, graph_view, is_member, nodes_in, owns, read_by}
-use Rattle.just_needs.specs.Prelude.{read_by_body, values_in, values_numbered}
+use Rattle.just_needs.specs.Prelude.{overridden_graph, read_by_body, unless_overridden, values_in, values_numbered}
 use Rattle.just_needs.specs.declared.graph.Graph.{Graph}
 use Rattle.just_needs.specs.Graph as graphs
 use Rattle.just_needs.specs.Graph.{Starts}
@@ -39,6 +39,11 @@ in_values (a ∷ all) n e =
           (λ later. both.1 (inr (rest.1 (h.0, later, h.2, h.3)))) h.1),
     )
 
+-- what is evaluated for a number: nothing if it is overridden
+in_evaluated : (o : Option Text) (es : List Expr) (e : Expr) → IsIn (unless_overridden o es) e ↔ ((o ≡ None) × IsIn es e)
+in_evaluated None es e = ((λ h. (refl, h)), (λ h. h.1))
+in_evaluated (Some text) es e = ((λ h. absurd h), (λ h. let bad : Some text ≡ None = h.0 in absurd (cc)))
+
 -- what some expressions read
 pub in_all : (f : Expr → List PlainNode) (es : List Expr) (x : PlainNode) → IsIn (flat_map f es) x ↔ ((e : Expr) × IsIn es e × IsIn (f e) x)
 in_all f [] x = ((λ h. absurd h), (λ h. absurd h.1))
@@ -57,15 +62,16 @@ pub not_both : (b : Bool) → not b ≡ true → IsTrue b → ⊥
 not_both true off on = let bad : false ≡ true = off in cc
 not_both false off on = let bad : false ≡ true = on in cc
 
-module _ (g : PlainGraph) (all : List Assignment) (outer : Frames) (names : List Text) (starts : List PlainNode)
-    (values : (n : ℕ) → g.values n ≡ values_numbered all n) (followed : (n : ℕ) → IsTrue (g.is_followed n) ↔ IsFollowed all outer n)
+module _ (g : PlainGraph) (all : List Assignment) (outer : Frames) (overrides : ℕ → Option Text) (names : List Text) (starts : List PlainNode)
+    (values : (n : ℕ) → g.values n ≡ unless_overridden (overrides n) (values_numbered all n))
+    (followed : (n : ℕ) → IsTrue (g.is_followed n) ↔ IsFollowed all outer n)
     (asked : (n : ℕ) → IsIn starts (OfVariable n) ↔ ((name : Text) × IsIn names name × (number_named all name ≡ Some n)))
     (no_function : (t : Text) → IsIn starts (OfFunction t) → ⊥) where
   abbrev functions : List Function
   functions = g.functions
 
   abbrev Needs : ℕ → Type 0
-  Needs = IsNeeded functions all outer names
+  Needs = IsNeeded functions all outer overrides names
 
   abbrev Goes : PlainNode → Type 0
   Goes = IsReached (read_by g) starts
@@ -74,15 +80,16 @@ module _ (g : PlainGraph) (all : List Assignment) (outer : Frames) (names : List
 
   -- what a reached node is: a needed variable, or a function that a needed variable reaches
   abbrev IsWanted : PlainNode → Type 0
-  IsWanted (OfFunction name) = (a : Assignment) × IsIn all a × Needs a.number × Reaches functions a.value name
+  IsWanted (OfFunction name) = (a : Assignment) × IsIn all a × (overrides a.number ≡ None) × Needs a.number × Reaches functions a.value name
   IsWanted (OfVariable n) = Needs n
 
   read_by_value : (n : ℕ) (x : PlainNode) → IsIn (read_by g (OfVariable n)) x
-      → (a : Assignment) × IsIn all a × (a.number ≡ n) × IsIn (nodes_in g.is_followed a.value) x
+      → (a : Assignment) × IsIn all a × (overrides a.number ≡ None) × (a.number ≡ n) × IsIn (nodes_in g.is_followed a.value) x
   read_by_value n x h =
       let e = (in_all (nodes_in g.is_followed) (g.values n) x).0 h in
-      let a = (in_values all n e.0).0 (subst (λ es. IsIn es e.0) (values n) e.1) in
-      (a.0, a.1, a.2, subst (λ d. IsIn (nodes_in g.is_followed d) x) (sym a.3) e.2)
+      let v = (in_evaluated (overrides n) (values_numbered all n) e.0).0 (subst (λ es. IsIn es e.0) (values n) e.1) in
+      let a = (in_values all n e.0).0 v.1 in
+      (a.0, a.1, ap overrides a.2 ∙ v.0, a.2, subst (λ d. IsIn (nodes_in g.is_followed d) x) (sym a.3) e.2)
 
   read_by_function : (t : Text) (x : PlainNode) (o : Option Function) → function_at functions t ≡ o → IsIn (read_by_body g.is_followed o) x
       → (f : Function) × (function_at functions t ≡ Some f) × IsIn (nodes_in (λ n. g.is_followed n && not (owns f n)) f.body) x
@@ -93,28 +100,28 @@ module _ (g : PlainGraph) (all : List Assignment) (outer : Frames) (names : List
   on (OfFunction t) (OfFunction u) w h =
       let r = read_by_function t (OfFunction u) (function_at functions t) refl h in
       let call = (function_in (λ n. g.is_followed n && not (owns r.0 n)) r.0.body u).0 r.2 in
-      (w.0, w.1, w.2, reaches_on functions r.0 call.0 w.3 r.1 call.1)
+      (w.0, w.1, w.2, w.3, reaches_on functions r.0 call.0 w.4 r.1 call.1)
   on (OfFunction t) (OfVariable n) w h =
       let r = read_by_function t (OfVariable n) (function_at functions t) refl h in
       let read = (variable_in (λ k. g.is_followed k && not (owns r.0 k)) r.0.body n).0 r.2 in
       let both = and_parts (g.is_followed n) (not (owns r.0 n)) read.1 in
-      needs.ReadBy w.0 w.1 w.2
+      needs.ReadBy w.0 w.1 w.2 w.3
       (inr (record {
         name = t;
         function = r.0;
-        reached = w.3;
+        reached = w.4;
         found = r.1;
         occurs = read.0;
         beyond = λ own. not_both (owns r.0 n) both.1 ((listed (map (λ p. p.1) r.0.parameters) n).1 own);
       })) ((followed n).0 both.0)
   on (OfVariable k) (OfFunction u) w h =
       let r = read_by_value k (OfFunction u) h in
-      let call = (function_in g.is_followed r.0.value u).0 r.3 in
-      (r.0, r.1, subst Needs (sym r.2) w, Here call.0 call.1)
+      let call = (function_in g.is_followed r.0.value u).0 r.4 in
+      (r.0, r.1, r.2, subst Needs (sym r.3) w, Here call.0 call.1)
   on (OfVariable k) (OfVariable n) w h =
       let r = read_by_value k (OfVariable n) h in
-      let read = (variable_in g.is_followed r.0.value n).0 r.3 in
-      needs.ReadBy r.0 r.1 (subst Needs (sym r.2) w) (inl read.0) ((followed n).0 read.1)
+      let read = (variable_in g.is_followed r.0.value n).0 r.4 in
+      needs.ReadBy r.0 r.1 r.2 (subst Needs (sym r.3) w) (inl read.0) ((followed n).0 read.1)
 
   begun : (x : PlainNode) → IsIn starts x → IsWanted x
   begun (OfFunction t) h = absurd (no_function t h)
@@ -126,9 +133,12 @@ module _ (g : PlainGraph) (all : List Assignment) (outer : Frames) (names : List
 
   -- ---- what is needed is reached
 
-  value_reads : (a : Assignment) (x : PlainNode) → IsIn all a → IsIn (nodes_in g.is_followed a.value) x → IsIn (read_by g (OfVariable a.number)) x
-  value_reads a x there h = (in_all (nodes_in g.is_followed) (g.values a.number) x).1
-      (a.value, subst (λ es. IsIn es a.value) (sym (values a.number)) ((in_values all a.number a.value).1 (a, there, refl, refl)), h)
+  value_reads : (a : Assignment) (x : PlainNode) → IsIn all a → overrides a.number ≡ None → IsIn (nodes_in g.is_followed a.value) x
+      → IsIn (read_by g (OfVariable a.number)) x
+  value_reads a x there none h =
+      let here = (in_values all a.number a.value).1 (a, there, refl, refl) in
+      let evaluated = (in_evaluated (overrides a.number) (values_numbered all a.number) a.value).1 (none, here) in
+      (in_all (nodes_in g.is_followed) (g.values a.number) x).1 (a.value, subst (λ es. IsIn es a.value) (sym (values a.number)) evaluated, h)
 
   body_reads : (t : Text) (f : Function) (x : PlainNode) → function_at functions t ≡ Some f
       → IsIn (nodes_in (λ n. g.is_followed n && not (owns f n)) f.body) x → IsIn (read_by g (OfFunction t)) x
@@ -143,13 +153,13 @@ module _ (g : PlainGraph) (all : List Assignment) (outer : Frames) (names : List
 
   needed_reached : {n : ℕ} → Needs n → Goes (OfVariable n)
   needed_reached {n} (Asked name there is) = Starts ((asked n).1 (name, there, is))
-  needed_reached {n} (needs.ReadBy a there need (inl occurs) follows) =
+  needed_reached {n} (needs.ReadBy a there none need (inl occurs) follows) =
       graphs.ReadBy (OfVariable a.number) (needed_reached need)
-      (value_reads a (OfVariable n) there ((variable_in g.is_followed a.value n).1 (occurs, (followed n).1 follows)))
-  needed_reached {n} (needs.ReadBy a there need (inr b) follows) =
+      (value_reads a (OfVariable n) there none ((variable_in g.is_followed a.value n).1 (occurs, (followed n).1 follows)))
+  needed_reached {n} (needs.ReadBy a there none need (inr b) follows) =
       graphs.ReadBy (OfFunction b.name)
       (function_reached b.reached (λ t k occurs. graphs.ReadBy (OfVariable a.number) (needed_reached need)
-      (value_reads a (OfFunction t) there ((function_in g.is_followed a.value t).1 (k, occurs)))))
+      (value_reads a (OfFunction t) there none ((function_in g.is_followed a.value t).1 (k, occurs)))))
       (body_reads b.name b.function (OfVariable n) b.found ((variable_in (λ k. g.is_followed k && not (owns b.function k)) b.function.body n).1 (
         b.occurs,
         and_from (g.is_followed n) (not (owns b.function n)) ((followed n).1 follows)
@@ -192,21 +202,22 @@ no_function_in [] t h = h
 no_function_in (k ∷ keys) t h = ⊎_elim (λ bad. let e : OfVariable k ≡ OfFunction t = bad in cc) (λ j. no_function_in keys t j) h
 
 -- what is reached from the variables with some names
-pub needed_exactly : (g : Graph) (fs : List FunctionDefinition) (all : List Assignment) (outer : Frames) (names : List Text) (keys : List ℕ)
-    (starts : List PlainNode) (reached : PlainNode → Bool) → g.functions.now ≡ fs → ((n : ℕ) → values_in g.numbered n ≡ values_numbered all n)
+pub needed_exactly : (g : Graph) (fs : List FunctionDefinition) (all : List Assignment) (outer : Frames) (overrides : ℕ → Option Text) (names : List Text)
+    (keys : List ℕ) (starts : List PlainNode) (reached : PlainNode → Bool) → g.functions.now ≡ fs → ((n : ℕ) → values_in g.numbered n ≡ values_numbered all n)
     → ((n : ℕ) → IsTrue (is_member g.followed n) ↔ IsFollowed all outer n) → ((n : ℕ) → list_any (nat_eq n) keys ≡ list_any (has_number all n) names)
-    → starts ≡ map OfVariable keys → ((x : PlainNode) → IsTrue (reached x) ↔ IsReached (read_by (graph_view g)) starts x) → (n : ℕ)
-    → IsTrue (reached (OfVariable n)) ↔ IsNeeded (map function_view fs) all outer names n
-needed_exactly g fs all outer names keys starts reached functions values followed refers are reaches n =
+    → starts ≡ map OfVariable keys → ((x : PlainNode) → IsTrue (reached x) ↔ IsReached (read_by (overridden_graph overrides (graph_view g))) starts x) → (n : ℕ)
+    → IsTrue (reached (OfVariable n)) ↔ IsNeeded (map function_view fs) all outer overrides names n
+needed_exactly g fs all outer overrides names keys starts reached functions values followed refers are reaches n =
     let asked : (k : ℕ) → IsIn starts (OfVariable k) ↔ ((name : Text) × IsIn names name × (number_named all name ≡ Some k)) =
     λ k. (
       (λ h. (named_if all names k).0
           (sym (refers k) ∙ (listed keys k).1 ((in_variables keys k).0 (subst (λ xs. IsIn xs (OfVariable k)) are h)))),
       (λ h. subst (λ xs. IsIn xs (OfVariable k)) (sym are) ((in_variables keys k).1 ((listed keys k).0 (refers k ∙ (named_if all names k).1 h)))),
     ) in
-    let both = exactly (graph_view g) all outer names starts values followed asked
+    let both = exactly (overridden_graph overrides (graph_view g)) all outer overrides names starts (λ k. ap (unless_overridden (overrides k)) (values k))
+    followed asked
     (λ t h. no_function_in keys t (subst (λ xs. IsIn xs (OfFunction t)) are h)) n in
     let reach = reaches (OfVariable n) in (
-      (λ h. subst (λ (gs : List FunctionDefinition). IsNeeded (map function_view gs) all outer names n) functions (both.0 (reach.0 h))),
-      (λ h. reach.1 (both.1 (subst (λ (gs : List FunctionDefinition). IsNeeded (map function_view gs) all outer names n) (sym functions) h))),
+      (λ h. subst (λ (gs : List FunctionDefinition). IsNeeded (map function_view gs) all outer overrides names n) functions (both.0 (reach.0 h))),
+      (λ h. reach.1 (both.1 (subst (λ (gs : List FunctionDefinition). IsNeeded (map function_view gs) all outer overrides names n) (sym functions) h))),
     )

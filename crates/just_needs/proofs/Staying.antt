@@ -1,9 +1,11 @@
--- A resolved module stays resolved if only what is needed is evaluated.
+-- A resolved module stays resolved if only what is needed is evaluated, and what is overridden is not.
 use Rattle.std.proofs.Common.{◌≡◌, ◌↔◌, ◌⊎◌, inl, inr, ℕ, Bool, true, false, cond, List, [], ◌∷◌, map, Option, Some, None, IsTrue, refl, ap, sym, ◌∙◌}
 use Rattle.std.proofs.Common.{subst, if◌then◌else◌}
 use Rattle.std.specs.Str.{bytes_eq}
 use Rattle.just_syntax.specs.Plain.{Token}
 use Rattle.just_meaning.specs.Assignments.{Assignments, assignment_at}
+use Rattle.just_meaning.proofs.Overridden.{found_after, found_before, known_values, named_after, read_before, same_numbers, taken_after}
+use Rattle.just_meaning.specs.Module.{with_overrides}
 use Rattle.just_meaning.specs.Reaches.{Reads}
 use Rattle.just_meaning.specs.Resolved.{AreInOrder, HasValue, IsResolved, with_taken}
 use Rattle.just_value.specs.Value.{Value}
@@ -26,8 +28,8 @@ number_in [] a h = absurd h
 number_in (v ∷ all) a (inl same) = inl (ap (λ (w : Assignment). w.number) same)
 number_in (v ∷ all) a (inr later) = inr (number_in all a later)
 
-module _ (functions : List Function) (all : List Assignment) (order : List Token) (outer : Frames) (names : List Text) (has : ℕ → Bool)
-    (exact : (n : ℕ) → IsTrue (has n) ↔ IsNeeded functions all outer names n) where
+module _ (functions : List Function) (all : List Assignment) (order : List Token) (outer : Frames) (overrides : ℕ → Option Text)
+    (names : List Text) (has : ℕ → Bool) (exact : (n : ℕ) → IsTrue (has n) ↔ IsNeeded functions all outer overrides names n) where
   -- all assignments, and the needed ones
   abbrev whole : Assignments
   whole = record { all = all; order = order; referenced = λ n. true }
@@ -60,30 +62,35 @@ module _ (functions : List Function) (all : List Assignment) (order : List Token
 
   -- what a needed assignment reads is taken earlier or bound outside
   readable : (taken now : List ℕ) (a : Assignment) (n : ℕ) (o : Option Value) → value_in outer n ≡ o → IsIn all a → IsTrue (has a.number)
-      → Reads functions a.value n → ((k : ℕ) → IsIn taken k → IsIn numbers k) → AreKept taken now
+      → overrides a.number ≡ None → Reads functions a.value n → ((k : ℕ) → IsIn taken k → IsIn numbers k) → AreKept taken now
       → IsIn taken n ⊎ HasValue (value_in outer) n → IsIn now n ⊎ HasValue (value_in outer) n
-  readable taken now a n (Some v) is there needed reads numbered kept h = inr (v, is)
-  readable taken now a n None is there needed reads numbered kept (inl before) =
-      inl (kept n before ((exact n).1 (ReadBy a there ((exact a.number).0 needed) reads (numbered n before, is))))
-  readable taken now a n None is there needed reads numbered kept (inr bound) = absurd (let bad : None ≡ Some bound.0 = sym is ∙ bound.1 in cc)
+  readable taken now a n (Some v) is there needed none reads numbered kept h = inr (v, is)
+  readable taken now a n None is there needed none reads numbered kept (inl before) =
+      inl (kept n before ((exact n).1 (ReadBy a there none ((exact a.number).0 needed) reads (numbered n before, is))))
+  readable taken now a n None is there needed none reads numbered kept (inr bound) = absurd (let bad : None ≡ Some bound.0 = sym is ∙ bound.1 in cc)
 
   in_order : (taken now : List ℕ) (left : List Token) → ((k : ℕ) → IsIn taken k → IsIn numbers k) → AreKept taken now
-      → AreInOrder functions whole outer taken left → AreInOrder functions narrow outer now left
+      → AreInOrder functions whole outer taken left → AreInOrder functions (with_overrides overrides narrow) outer now left
   in_order taken now [] numbered kept h = tt
   in_order taken now (t ∷ left) numbered kept h = (
-    (λ a found needed n reads.
-        readable taken now a n (value_in outer n) refl (found_in all t.lexeme a found) needed reads numbered kept (h.0 a found refl n reads)),
-    in_order (with_taken whole (assignment_at whole t.lexeme) taken) (with_taken narrow (assignment_at narrow t.lexeme) now) left
+    (λ b found needed n reads.
+        let a = found_before overrides (assignment_at narrow t.lexeme) b (sym (found_after overrides all t.lexeme) ∙ found) in
+        let here = read_before overrides functions (overrides a.0.number) a.0.value n
+        (subst (λ (c : Assignment). Reads functions c.value n) (sym a.2) reads) in
+        readable taken now a.0 n (value_in outer n) refl (found_in all t.lexeme a.0 a.1) (ap (λ (c : Assignment). has c.number) a.2 ∙ needed) here.0 here.1
+        numbered kept (h.0 a.0 a.1 refl n here.1)),
+    subst (λ taken. AreInOrder functions (with_overrides overrides narrow) outer taken left) (sym (taken_after overrides narrow t now))
+        (in_order (with_taken whole (assignment_at whole t.lexeme) taken) (with_taken narrow (assignment_at narrow t.lexeme) now) left
         (numbered_on (assignment_at whole t.lexeme) taken (λ a found. found_in all t.lexeme a found) numbered)
-        (kept_on (assignment_at whole t.lexeme) taken now kept) h.1,
+        (kept_on (assignment_at whole t.lexeme) taken now kept) h.1),
   )
 
-  pub stays : IsResolved functions whole outer → IsResolved functions narrow outer
+  pub stays : IsResolved functions whole outer → IsResolved functions (with_overrides overrides narrow) outer
   stays r = record {
-    distinct = r.distinct;
+    distinct = rw (same_numbers overrides all) r.distinct;
     unbound = r.unbound;
-    values = r.values;
+    values = known_values overrides functions all r.values;
     bodies = r.bodies;
-    named = r.named;
+    named = named_after overrides narrow order r.named;
     in_order = in_order [] [] order (λ k h. absurd h) (λ k h on. absurd h) r.in_order;
   }

@@ -49,6 +49,15 @@ abbrev pub read_by : PlainGraph → PlainNode → List PlainNode
 read_by g (OfFunction name) = read_by_body g.is_followed (function_at g.functions name)
 read_by g (OfVariable n) = flat_map (nodes_in g.is_followed) (g.values n)
 
+-- some expressions, or none if a text overrides them
+abbrev pub unless_overridden : Option Text → List Expr → List Expr
+unless_overridden (Some text) es = []
+unless_overridden None es = es
+
+-- the graph in which an overridden variable reads nothing
+abbrev pub overridden_graph : (ℕ → Option Text) → PlainGraph → PlainGraph
+overridden_graph overrides g = record g { values = λ n. unless_overridden (overrides n) (g.values n) }
+
 -- some nodes, what they read, what that reads, and so on
 pub data IsReached (reads : PlainNode → List PlainNode) (starts : List PlainNode) : PlainNode → Type 0 where
   Starts : {x : PlainNode} → IsIn starts x → IsReached reads starts x

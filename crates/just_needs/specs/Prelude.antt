@@ -8,11 +8,13 @@ pub use Rattle.just_syntax.specs.Lists.{IsIn}
 pub use Rattle.just_syntax.specs.NumberSet.{is_member}
 pub use Rattle.just_syntax.specs.Plain.{Assignment, Expr, Function, Text}
 pub use Rattle.just_syntax.specs.Variables.{first_unknown}
-pub use Rattle.just_syntax.specs.View.{assignment_view, function_view, name_view, parameter_view, unknown_name, view}
+pub use Rattle.just_syntax.specs.View.{assignment_view, function_view, name_view, parameter_view}
+pub use Rattle.just_syntax.specs.View.{text_numbered, unknown_name, view}
 pub use Rattle.just_value.specs.Frames.{Frames, value_in}
 pub use Rattle.just_value.specs.View.{frames_view}
 pub use Rattle.just_needs.specs.Graph.{IsReached, OfFunction, OfVariable, PlainGraph, PlainNode, node_at, nodes_at}
-pub use Rattle.just_needs.specs.Graph.{nodes_in, owns, read_by, read_by_body, values_numbered, variable_at}
+pub use Rattle.just_needs.specs.Graph.{nodes_in, overridden_graph, owns, read_by, read_by_body, unless_overridden}
+pub use Rattle.just_needs.specs.Graph.{values_numbered, variable_at}
 pub use Rattle.just_needs.specs.Needed.{IsFollowed, IsNeeded, StaysResolved}
 pub use Rattle.just_needs.specs.View.{found_values, graph_view, has, is_reached, looked_up, node_view, nodes_view}
-pub use Rattle.just_needs.specs.View.{values_in}
+pub use Rattle.just_needs.specs.View.{read_in, values_in}

@@ -1,20 +1,22 @@
 -- Nodes, graphs and sets as plain data.
 use Rattle.std.specs.Prelude.{Vec, ℕ, Bool, List, [], Option, Some, None, map, nat_eq}
 use Rattle.std.specs.BTreeMap.{BTreeMap, is_at}
+use Rattle.std.specs.HashMap.{HashMap}
 use Rattle.std.specs.HashSet.{HashSet}
 use Rattle.std.specs.List.{list_any}
 use Rattle.std.specs.Map.{lookup}
 use Rattle.std.specs.Ordering.{nat_cmp}
+use Rattle.std.specs.declared.string.String.{String}
 use Rattle.just_syntax.specs.NumberSet.{is_member}
 use Rattle.just_syntax.specs.Plain.{Expr}
-use Rattle.just_syntax.specs.View.{function_view, view}
+use Rattle.just_syntax.specs.View.{function_view, text_numbered, view}
 use Rattle.just_needs.specs.declared.numbered.Valued.{Valued}
 use Rattle.just_resolution.specs.Seen.{is_name_in}
 use Rattle.just_needs.specs.declared.graph.Graph.{Graph}
 use Rattle.just_needs.specs.declared.node.Node.{Node}
 use Rattle.just_needs.specs.declared.node.Node.TheVariants as nodes
 use Rattle.just_needs.specs.declared.reached.Reached.{Reached}
-use Rattle.just_needs.specs.Graph.{PlainGraph, PlainNode, OfFunction, OfVariable}
+use Rattle.just_needs.specs.Graph.{PlainGraph, PlainNode, OfFunction, OfVariable, overridden_graph, read_by}
 
 -- whether a number is in a set
 abbrev pub has : {S : Type 0} → HashSet ℕ S → ℕ → Bool
@@ -46,6 +48,10 @@ graph_view g = record {
   values = values_in g.numbered;
   is_followed = is_member g.followed;
 }
+
+-- what a node of the graph reads by itself; an overridden variable reads nothing
+abbrev pub read_in : {A S : Type 0} → HashMap ℕ (String A) S → Graph → PlainNode → List PlainNode
+read_in overrides g = read_by (overridden_graph (text_numbered overrides) (graph_view g))
 
 abbrev pub is_reached : Reached → PlainNode → Bool
 is_reached r (OfFunction name) = is_name_in r.functions name

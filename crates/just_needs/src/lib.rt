@@ -9,5 +9,3 @@ pub mod node;
 mod numbered;
 pub mod reached;
 pub mod references;
-#[cfg(test)]
-mod tests;

@@ -1,15 +1,14 @@
 // What some nodes reach.
 
-ghost use Rattle.std.specs.Prelude.{IfOk, IsTrue, OnOk, false, not, ◌↔◌, ◌≡◌, ◌⊎◌};
-ghost use Rattle.just_needs.specs.Prelude.{IsReached, PlainNode, graph_view, is_reached, node_view, nodes_view};
-ghost use Rattle.just_needs.specs.Prelude.{read_by};
+ghost use Rattle.std.specs.Prelude.{IfOk, IsTrue, OnOk, false, not, ◌++◌, ◌↔◌, ◌≡◌, ◌⊎◌};
+ghost use Rattle.just_needs.specs.Prelude.{IsReached, PlainNode, is_reached, node_view, nodes_view, read_in};
 
 use crate::graph::Graph;
 use crate::node::Node;
 use just_syntax::number::Number;
 use just_syntax::out_of_memory::OutOfMemory;
 use std::alloc::Global;
-use std::collections::{BTreeSet, HashSet};
+use std::collections::{BTreeSet, HashMap, HashSet};
 
 /// The variables and the functions that were reached.
 #[derive(Drop)]
@@ -47,17 +46,18 @@ impl<'src> Reached<'src> {
     }
 }
 
-// What these nodes reach, including themselves.
+// What these nodes reach, including themselves. An overridden variable reaches nothing else.
 //
 // What a node reads is looked for once, when it is first reached. So each value and each body is scanned at most once,
 // and cyclic readings terminate.
 pub(crate) fn reached_from<'src>(
     alloc: Global,
     graph: &Graph<'src, '_>,
+    overrides: &HashMap<Number, String>,
     mut pending: Vec<Node<'src>>,
 ) -> Result<Reached<'src>, OutOfMemory>
     ensures { IfOk result (λ reached. (x : PlainNode) → IsTrue (is_reached reached x)
-        ↔ IsReached (read_by (graph_view graph.now)) (nodes_view pending.entry.items) x) }
+        ↔ IsReached (read_in overrides.now graph.now) (nodes_view pending.entry.items) x) }
 {
     let mut reached = Reached::new(alloc);
     while let Some(node) = pending.pop() {
@@ -65,7 +65,26 @@ pub(crate) fn reached_from<'src>(
         if !is_new {
             continue;
         }
-        graph.add_read_by(alloc, &mut pending, &node)?;
+        add_read_by(alloc, graph, overrides, &mut pending, &node)?;
     }
     Ok(reached)
+}
+
+// Adds what a node reads by itself. An overridden variable reads nothing.
+fn add_read_by<'src>(
+    alloc: Global,
+    graph: &Graph<'src, '_>,
+    overrides: &HashMap<Number, String>,
+    nodes: &mut Vec<Node<'src>>,
+    node: &Node<'src>,
+) -> Result<(), OutOfMemory>
+    ensures { OnOk result (nodes_view nodes.new.items ≡ nodes_view nodes.old.items
+        ++ read_in overrides.now graph.now (node_view node.now)) }
+{
+    if let Node::Variable { number } = node {
+        if overrides.contains_key(number) {
+            return Ok(());
+        }
+    }
+    graph.add_read_by(alloc, nodes, node)
 }
