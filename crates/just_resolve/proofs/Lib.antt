@@ -19,3 +19,4 @@ pub mod Stepping
 pub mod Successes
 pub mod Steps
 pub mod Unordered
+pub mod Unused

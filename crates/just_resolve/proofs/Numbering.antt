@@ -27,7 +27,7 @@ module _ (outer : Frames) where
       → AreTaken outer start (xs ++ n ∷ []) end
   taken_more start mid n end xs a free is = taken_append start mid end xs (n ∷ []) a (record { free = (free, tt); next = is })
 
-  above : (start : ℕ) (ns : List ℕ) → AreFree outer start ns → (k : ℕ) → IsIn ns k → start ≤ k
+  pub above : (start : ℕ) (ns : List ℕ) → AreFree outer start ns → (k : ℕ) → IsIn ns k → start ≤ k
   above start [] f k h = absurd h
   above start (n ∷ ns) f k (inl same) = let low = f.0.from in omega arith
   above start (n ∷ ns) f k (inr later) = let low = f.0.from in let rest = above (suc n) ns f.1 k later in omega arith

@@ -1,7 +1,9 @@
 -- Numbers that are not bound.
 use Rattle.std.specs.Prelude.{◌≡◌, ◌≤◌, ◌<◌, ℕ, suc, List, [], ◌∷◌}
+use Rattle.std.specs.List.{AllByRecursion}
+use Rattle.just_syntax.specs.Lists.{IsIn}
 use Rattle.just_value.specs.Frames.{Frames, value_in}
-use Rattle.just_meaning.specs.Resolved.{HasValue}
+use Rattle.just_meaning.specs.Resolved.{AreDistinct, HasValue}
 
 -- n is the first number from `start` on that no frame binds
 pub record IsNextFree (outer : Frames) (start n : ℕ) : Type 0 where
@@ -23,3 +25,13 @@ after start (n ∷ ns) = after (suc n) ns
 pub record AreTaken (outer : Frames) (start : ℕ) (ns : List ℕ) (end : ℕ) : Type 0 where
   pub free : AreFree outer start ns
   pub next : end ≡ after start ns
+
+-- these numbers are less than n
+abbrev pub AreBelow : ℕ → List ℕ → Type 0
+AreBelow n ms = AllByRecursion (λ m. m < n) ms
+
+-- these numbers are distinct, none of them is used, and no frame binds any
+pub record AreNew (used : List ℕ) (outer : Frames) (ns : List ℕ) : Type 0 where
+  pub distinct : AreDistinct ns
+  pub unused : (n : ℕ) → IsIn ns n → IsIn used n → ⊥
+  pub unbound : (n : ℕ) → IsIn ns n → HasValue (value_in outer) n → ⊥

@@ -5,11 +5,9 @@ use Rattle.std.specs.BTreeMap.{BTreeMap, get_by}
 use Rattle.std.specs.Cmp.Lexicographic.{slice_cmp}
 use Rattle.std.specs.Option.{option_map, option_or}
 use Rattle.std.specs.Ordering.{nat_cmp}
-use Rattle.just_syntax.specs.Plain.{Assignment, Expr, Literal, Text, Token}
-use Rattle.just_syntax.specs.View.{assignment_view, literal_view, name_view, view}
-use Rattle.just_syntax.specs.declared.expression.Expression.{Expression}
+use Rattle.just_syntax.specs.Plain.{Assignment, Text, Token}
+use Rattle.just_syntax.specs.View.{assignment_view, name_view}
 use Rattle.just_syntax.specs.declared.name.Name.{Name}
-use Rattle.just_syntax.specs.declared.string_literal.StringLiteral.{StringLiteral}
 use Rattle.just_resolve.specs.declared.free.Free.{Free}
 use Rattle.just_resolve.specs.declared.names.Names.{Names}
 use Rattle.just_resolve.specs.declared.renumbered.Declared.{Declared}
@@ -38,10 +36,6 @@ named names name = option_or (number_in names.parameters name) (variable_named n
 -- the name of a number
 abbrev pub name_numbered : BTreeMap ℕ Name → ℕ → Option Token
 name_numbered all n = option_map name_view (get_by (nat_cmp n) all)
-
--- an interpolation and the text after it
-abbrev pub piece_view : Expression × StringLiteral → Expr × Literal
-piece_view p = (view p.0, literal_view p.1)
 
 -- whether a node was entered
 abbrev pub entered_in : declared_walk.Walk → PlainNode → Bool

@@ -5,6 +5,7 @@
 
 mod cycle;
 mod free;
+pub mod free_numbers;
 pub mod laws;
 pub mod name_faults;
 pub mod names;
@@ -13,6 +14,4 @@ mod order;
 mod renumbered;
 pub mod resolve;
 pub mod resolve_error;
-#[cfg(test)]
-mod tests;
 mod walk;

@@ -35,8 +35,8 @@ const MOST_LEVELS: usize = stack::STACK_BUDGET / COPIED;
 ///
 /// # Errors
 ///
-/// `OutOfMemory`, if an allocation fails, or if the expression has more than 4,915 levels: the copy of a deeper one does
-/// not fit on a stack of 8 MiB. Nothing is created.
+/// `OutOfMemory`, if an allocation fails, or if the expression has more than 4,915 levels: the copy of a deeper one
+/// does not fit on a stack of 8 MiB. Nothing is created.
 pub fn numbered<'src>(
     alloc: Global,
     expression: &Expression<'src>,

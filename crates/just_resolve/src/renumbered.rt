@@ -123,7 +123,7 @@ fn variables<'src>(
 }
 
 // Adds a name with its number.
-fn add_pair<'src>(
+pub(crate) fn add_pair<'src>(
     pairs: &mut Vec<(Name<'src>, Number)>,
     name: &Name<'src>,
     number: Number,

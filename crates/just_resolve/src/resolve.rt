@@ -23,7 +23,7 @@ use std::mem;
 ///
 /// ```rust
 /// let mut module = Justfile::new(alloc, "justfile", "/project")?;
-/// module.assignments.insert(Assignment::new(name, Number::new(0), value))?;
+/// module.assign(Assignment::new(name, Number::new(0), value))?;
 /// resolve(alloc, &mut module, &outer)?;
 /// ```
 ///
@@ -32,9 +32,9 @@ use std::mem;
 /// - In the body of a function a variable has the number of the first parameter with its name. Otherwise it has the
 ///   number of the assignment with its name or, if there is none, of the innermost binding of `outer` with its name. If
 ///   a frame has several, that is the one with the least number.
-/// - Each assignment comes after those that it reads, by itself or through functions. The order is that of a depth-first
-///   walk that begins at each assignment in the order of the text. For example `a := c + b`, `b := ''`, `c := ''` are
-///   ordered `c`, `b`, `a`.
+/// - Each assignment comes after those that it reads, by itself or through functions. The order is that of a
+///   depth-first walk that begins at each assignment in the order of the text. For example `a := c + b`, `b := ''`,
+///   `c := ''` are ordered `c`, `b`, `a`.
 ///
 /// The settings of the module, and everything else, stay as they are. The expressions of its recipes and settings are
 /// not a part of it: [`numbered`] copies them with the numbers of their names.

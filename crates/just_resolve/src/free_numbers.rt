@@ -1,0 +1,51 @@
+// Numbers for names that a module does not have.
+
+ghost use Rattle.std.specs.Prelude.{IfOk, map, ◌++◌, ◌≡◌};
+ghost use Rattle.just_resolve.specs.Prelude.{AreNew, assignment_view, frames_view, functions_view, name_view};
+ghost use Rattle.just_resolve.specs.Prelude.{numbered_assignments, numbered_parameters, parameter_view};
+
+use crate::free::Free;
+use crate::renumbered::add_pair;
+use just_host::justfile::Justfile;
+use just_resolution::numbers::{add_parameter_numbers, assignment_numbers};
+use just_syntax::name::Name;
+use just_syntax::number::Number;
+use just_syntax::out_of_memory::OutOfMemory;
+use just_value::scope::Scope;
+use std::alloc::Global;
+
+/// Numbers for names that a module does not have, such as the parameters of a recipe: each name with its number, in the
+/// order of the names. No two have one number, no assignment and no parameter of a function has one of these, and
+/// `outer` binds none of them.
+///
+/// ```rust
+/// let numbers = free_numbers(alloc, &module, &outer, &[name, output])?;
+/// names.set_parameters(&numbers)?;
+/// let parameter = Parameter::new(name, numbers[0].1, ParameterKind::Singular);
+/// ```
+///
+/// # Errors
+///
+/// `OutOfMemory`, if an allocation fails, or if there is no such number, because the greatest ones are taken: nothing
+/// is created.
+pub fn free_numbers<'src>(
+    alloc: Global,
+    module: &Justfile<'src>,
+    outer: &Scope<'src, '_>,
+    names: &[Name<'src>],
+) -> Result<Vec<(Name<'src>, Number)>, OutOfMemory>
+    ensures names { IfOk result (λ all. map (λ p. p.0) (map parameter_view all.items) ≡ map name_view names.now) }
+    ensures new { let used = numbered_assignments (map assignment_view «module».now.assignments)
+        ++ numbered_parameters (functions_view «module».now) in
+        IfOk result (λ all. AreNew (map (λ p. p.1) used) (frames_view outer.now)
+        (map (λ p. p.1) (map parameter_view all.items))) }
+{
+    let mut used = assignment_numbers(alloc, &module.assignments)?;
+    add_parameter_numbers(&mut used, &module.functions)?;
+    let mut free = Free::beyond(&used)?;
+    let mut all = Vec::with_capacity(alloc, names.len())?;
+    for name in names {
+        add_pair(&mut all, name, free.take(outer)?)?;
+    }
+    Ok(all)
+}
