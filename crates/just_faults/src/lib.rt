@@ -7,5 +7,3 @@ mod numbering;
 mod occurring;
 mod order;
 mod pushing;
-#[cfg(test)]
-mod tests;

@@ -3,6 +3,7 @@
 #![tactic(auto)]
 
 // Modules whose variables have names alone.
+pub use just_resolve::free_numbers::free_numbers;
 pub use just_resolve::name_faults::name_faults;
 pub use just_resolve::names::Names;
 pub use just_resolve::numbered::numbered;

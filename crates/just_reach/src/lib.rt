@@ -7,5 +7,3 @@ pub mod laws;
 pub mod member;
 mod occurring;
 pub mod reach;
-#[cfg(test)]
-mod tests;

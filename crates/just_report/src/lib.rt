@@ -6,5 +6,3 @@ mod columns;
 mod pointer;
 pub mod report;
 mod shown;
-#[cfg(test)]
-mod tests;

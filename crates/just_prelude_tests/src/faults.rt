@@ -1,7 +1,7 @@
 // Faults of small modules, below a scope that binds the number 0.
 
-use crate::faults::faults;
 use Part::{Call, Read, Unnumbered};
+use just_faults::faults::faults;
 use just_host::justfile::Justfile;
 use just_resolution::fault::Fault;
 use just_syntax::assignment::Assignment;

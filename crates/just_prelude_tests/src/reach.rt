@@ -1,8 +1,8 @@
 // What expressions and runs reach.
 
-use crate::member::Member;
-use crate::reach::{reach, reach_of_run};
 use just_host::justfile::Justfile;
+use just_reach::member::Member;
+use just_reach::reach::{reach, reach_of_run};
 use just_syntax::assignment::Assignment;
 use just_syntax::conditional_operator::ConditionalOperator;
 use just_syntax::expression::Expression;

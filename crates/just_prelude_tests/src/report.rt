@@ -1,6 +1,6 @@
 // Reports on tokens of several sources.
 
-use crate::report::report;
+use just_report::report::report;
 use just_syntax::out_of_memory::OutOfMemory;
 use just_syntax::token::Token;
 use std::alloc::Global;
