@@ -32,23 +32,53 @@ pub(crate) fn by_names<'case>(
     arena: &'case Bump,
     text: &'case [u8],
 ) -> Result<Option<ByNames<'case>>, OutOfMemory> {
-    let (Some(mut case), Some(copy)) = (
-        described(alloc, arena, text)?,
-        described(alloc, arena, text)?,
-    ) else {
+    let Some(module) = resolved_module(alloc, arena, text)? else {
         return Ok(None);
     };
-    let mut module = module_of(alloc, copy)?;
-    if !try_resolve(alloc, &mut module)? {
-        return Ok(None);
+    match described(alloc, arena, text)? {
+        Some(case) => Ok(Some(with_module(alloc, case, module)?)),
+        None => Ok(None),
     }
-    let own = evaluated_names(alloc, &case)?;
-    renumber(alloc, &mut case, &own, &module.assignments)?;
+}
+
+// The module of the case that a text describes, resolved by its names, if that is possible.
+fn resolved_module<'case>(
+    alloc: Global,
+    arena: &'case Bump,
+    text: &'case [u8],
+) -> Result<Option<Justfile<'case>>, OutOfMemory> {
+    let Some(case) = described(alloc, arena, text)? else {
+        return Ok(None);
+    };
+    let mut module = module_of(alloc, case)?;
+    let is_resolved = try_resolve(alloc, &mut module)?;
+    Ok(if is_resolved { Some(module) } else { None })
+}
+
+// The case with the numbers and the order of its resolved module.
+fn with_module<'case>(
+    alloc: Global,
+    mut case: Case<'case>,
+    mut module: Justfile<'case>,
+) -> Result<ByNames<'case>, OutOfMemory> {
+    let is_reordered = exchange(alloc, &mut case, &mut module)?;
+    Ok(ByNames { case, is_reordered })
+}
+
+// Gives a case the numbers and the order of its resolved module, and returns whether the order of what is evaluated is
+// another one.
+fn exchange<'case>(
+    alloc: Global,
+    case: &mut Case<'case>,
+    module: &mut Justfile<'case>,
+) -> Result<bool, OutOfMemory> {
+    let own = evaluated_names(alloc, case)?;
+    renumber(alloc, case, &own, &module.assignments)?;
     mem::swap(&mut case.assignments, &mut module.assignments);
     mem::swap(&mut case.evaluation_order, &mut module.evaluation_order);
     mem::swap(&mut case.functions, &mut module.functions);
-    let is_reordered = evaluated_names(alloc, &case)?.as_slice() != own.as_slice();
-    Ok(Some(ByNames { case, is_reordered }))
+    let new = evaluated_names(alloc, case)?;
+    Ok(new.as_slice() != own.as_slice())
 }
 
 // Resolves a module by its names, and returns whether it was possible.
