@@ -40,8 +40,8 @@ fn explain<'src>(
     module: &Justfile<'src>,
     assignment: &Assignment<'src>,
 ) -> Result<()> {
-    let references = needed(alloc, module, outer, &[assignment.name.lexeme()])?;
     let mut run = Run::new(alloc, module)?;
+    let references = needed(alloc, module, outer, &run.overrides, &[assignment.name.lexeme()])?;
     run.references = Some(references);
     let mut host = Recorder::new(alloc, CommandHost::new(Shown));
     match run.evaluate(alloc, &mut host, outer) {

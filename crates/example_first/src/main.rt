@@ -52,12 +52,9 @@ fn letter<'src>(alloc: Global) -> Result<Assignment<'src>, OutOfMemory> {
 }
 
 fn add_assignments<'src>(alloc: Global, module: &mut Justfile<'src>) -> Result<(), OutOfMemory> {
-    for name in ["mode", "greeting", "letter"] {
-        module.evaluation_order.push(Name::new(name, None))?;
-    }
-    module.assignments.insert(mode(alloc)?)?;
-    module.assignments.insert(greeting(alloc)?)?;
-    module.assignments.insert(letter(alloc)?)
+    module.assign(mode(alloc)?)?;
+    module.assign(greeting(alloc)?)?;
+    module.assign(letter(alloc)?)
 }
 
 fn module<'src>(alloc: Global) -> Result<Justfile<'src>, OutOfMemory> {

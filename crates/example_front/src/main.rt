@@ -34,7 +34,7 @@ fn evaluate<'src>(
     overrides: HashMap<Number, String>,
     names: &[&str],
 ) -> Result<()> {
-    let references = needed(alloc, module, outer, names)?;
+    let references = needed(alloc, module, outer, &overrides, names)?;
     let mut run = Run::new(alloc, module)?;
     run.overrides = overrides;
     run.references = Some(references);

@@ -17,7 +17,7 @@ use std::alloc::Global;
 pub fn module<'src>(alloc: Global) -> Result<Justfile<'src>, OutOfMemory> {
     let mut module = Justfile::new(alloc, "/work/justfile", "/work")?;
     add_variables(alloc, &mut module)?;
-    module.functions.insert(described(alloc)?)?;
+    module.define(described(alloc)?)?;
     Ok(module)
 }
 
@@ -34,9 +34,7 @@ fn add<'src>(
     number: u64,
     value: Expression<'src>,
 ) -> Result<(), OutOfMemory> {
-    let assignment = Assignment::new(name, Number::new(number), value);
-    module.assignments.insert(assignment)?;
-    Ok(module.evaluation_order.push(name)?)
+    module.assign(Assignment::new(name, Number::new(number), value))
 }
 
 // 'debug'

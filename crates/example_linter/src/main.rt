@@ -3,8 +3,6 @@
 // moves a variable.
 #![tactic(auto)]
 
-ghost use Rattle.just_eval.specs.View.{IsConst};
-
 use anyhow::{Result, bail};
 use example_justfile::SOURCE;
 use example_justfile::module::{module, sets};
@@ -42,9 +40,7 @@ fn print_variables(rt: &impl Print, module: &Justfile, stage: &Evaluator) -> Res
     Ok(())
 }
 
-fn print_settings(rt: &impl Print, alloc: Global, stage: &Evaluator) -> Result<()>
-    requires before_runs { IsConst stage.now }
-{
+fn print_settings(rt: &impl Print, alloc: Global, stage: &Evaluator) -> Result<()> {
     let sets = sets(alloc)?;
     let mut settings = Settings::new(alloc);
     evaluate(rt, alloc, stage, &sets, &mut settings)?;
@@ -57,9 +53,7 @@ fn evaluate<'src>(
     stage: &Evaluator<'src, '_>,
     sets: &[Set<'src>],
     settings: &mut Settings,
-) -> Result<()>
-    requires before_runs { IsConst stage.now }
-{
+) -> Result<()> {
     for set in sets {
         if let Err(error) = stage.evaluate_set(alloc, settings, set) {
             print_refusal(rt, alloc, &error)?;
