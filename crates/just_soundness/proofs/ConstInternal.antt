@@ -52,7 +52,8 @@ module _ (m : Constants) (outer : Frames) (resolved : IsResolvedConst m.assignme
   numbered t a = found_is (λ (a : Assignment). a.name.lexeme) t.lexeme (λ xs. AllNumbered (map (λ a. a.value) xs)) (λ a. IsNumbered a.value) (λ a xs h. h.0)
       (λ a xs h. h.1) m.assignments.all a resolved.values
 
-  assigned_not : (lists : Bool) (frame : Frame) (is_open : ℕ → Bool) (taken : List ℕ) (t : Token) (a : Assignment) → assignment_at m.assignments t.lexeme
+  -- an assignment whose variables are taken or bound outside meets no refusal that is Internal
+  pub assigned_not : (lists : Bool) (frame : Frame) (is_open : ℕ → Bool) (taken : List ℕ) (t : Token) (a : Assignment) → assignment_at m.assignments t.lexeme
       ≡ Some a → AllHaveOrAreOpen outer frame is_open taken →
       ((n : ℕ) → Reads [] a.value n → IsIn taken n ⊎ HasValue (value_in outer) n)
       → IfRefused IsOther (const_assigned m (record { lists = lists; frames = frame ∷ outer; is_open = is_open }) a)
