@@ -24,6 +24,8 @@ mod resolution;
 #[cfg(test)]
 mod scope;
 #[cfg(test)]
+mod setting_names;
+#[cfg(test)]
 mod sizes;
 #[cfg(test)]
 mod syntax;
