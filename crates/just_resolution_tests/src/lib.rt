@@ -10,6 +10,8 @@ mod const_errors;
 #[cfg(test)]
 mod constructors;
 #[cfg(test)]
+mod copies;
+#[cfg(test)]
 mod debug;
 #[cfg(test)]
 mod errors;
