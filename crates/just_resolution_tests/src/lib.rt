@@ -18,6 +18,8 @@ mod errors;
 #[cfg(test)]
 mod faults;
 #[cfg(test)]
+mod frames;
+#[cfg(test)]
 mod modules;
 #[cfg(test)]
 mod parts;
