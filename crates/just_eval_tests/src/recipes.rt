@@ -13,6 +13,7 @@ mod parameter_rows;
 mod parameters;
 mod resolved;
 mod sizes;
+mod steps;
 mod texts;
 
 /// The recipe that everything is evaluated for.

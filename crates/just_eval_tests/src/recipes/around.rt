@@ -72,6 +72,18 @@ impl<'src> Around<'src> {
         around
     }
 
+    /// Overrides the variable with this number.
+    pub(crate) fn override_with(
+        &mut self,
+        rt: &impl Abort,
+        alloc: Global,
+        number: Number,
+        text: &str,
+    ) {
+        let inserted: Result<_, _> = self.overrides.insert(number, owned(rt, alloc, text));
+        inserted.expect(rt, "no memory");
+    }
+
     /// Exports each variable of the module.
     pub(crate) fn export_all(&mut self) {
         self.module.settings.export = true;
