@@ -1,6 +1,7 @@
 // Modules that are resolved, and those that cannot be.
 
 mod deep;
+mod free_numbers;
 mod name_faults;
 
 use just_host::justfile::Justfile;
