@@ -19,11 +19,11 @@ type Row = (
     &'static str,
 );
 
-const ONE: (ParameterKind, bool) = (ParameterKind::Singular, false);
+pub(crate) const ONE: (ParameterKind, bool) = (ParameterKind::Singular, false);
 
 const ONE_OR_DEFAULT: (ParameterKind, bool) = (ParameterKind::Singular, true);
 
-const SOME: (ParameterKind, bool) = (ParameterKind::Plus, false);
+pub(crate) const SOME: (ParameterKind, bool) = (ParameterKind::Plus, false);
 
 const SOME_OR_DEFAULT: (ParameterKind, bool) = (ParameterKind::Plus, true);
 
@@ -91,7 +91,7 @@ fn grouped(rt: HostRuntime) {
     }
 }
 
-fn parameters_of<'src>(
+pub(crate) fn parameters_of<'src>(
     rt: &impl Abort,
     alloc: Global,
     kinds: &[(ParameterKind, bool)],

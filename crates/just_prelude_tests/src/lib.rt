@@ -14,3 +14,5 @@ mod reach;
 mod report;
 #[cfg(test)]
 mod resolve;
+#[cfg(test)]
+mod sizes;

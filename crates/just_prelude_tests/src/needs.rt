@@ -121,7 +121,7 @@ fn shown(rt: &impl Abort, alloc: Global, set: &HashSet<Number>) -> String {
     numbers.join(alloc, " ").expect(rt, "no memory")
 }
 
-fn module_of<'src>(
+pub(crate) fn module_of<'src>(
     rt: &impl Abort,
     alloc: Global,
     assignments: &'src str,

@@ -298,7 +298,11 @@ fn add_function<'src>(
     module.functions.insert(function).expect(rt, "no memory");
 }
 
-fn expression_of<'src>(rt: &impl Abort, alloc: Global, words: &'src str) -> Expression<'src> {
+pub(crate) fn expression_of<'src>(
+    rt: &impl Abort,
+    alloc: Global,
+    words: &'src str,
+) -> Expression<'src> {
     let mut elements = Vec::new(alloc);
     for word in words.split_whitespace() {
         push(rt, &mut elements, element(rt, alloc, word));

@@ -1,7 +1,7 @@
 // Modules that are resolved, and those that cannot be.
 
 mod deep;
-mod free_numbers;
+pub(crate) mod free_numbers;
 mod name_faults;
 
 use just_host::justfile::Justfile;
@@ -269,7 +269,7 @@ fn read_numbers(rt: &impl Abort, alloc: Global, expression: &Expression) -> Stri
 }
 
 // A module whose numbers are all 7.
-fn module_of<'src>(
+pub(crate) fn module_of<'src>(
     rt: &impl Abort,
     alloc: Global,
     assignments: &'src str,
@@ -363,7 +363,7 @@ fn read<'src>(rt: &impl Abort, alloc: Global, word: &'src str) -> Expression<'sr
     }
 }
 
-fn push<T: Drop>(rt: &impl Abort, items: &mut Vec<T>, item: T) {
+pub(crate) fn push<T: Drop>(rt: &impl Abort, items: &mut Vec<T>, item: T) {
     items.push(item).expect(rt, "no memory");
 }
 
