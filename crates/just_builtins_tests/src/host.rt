@@ -1,6 +1,7 @@
 // Directories, faults and hosts.
 
 mod echo_host;
+mod replayed;
 mod shells;
 mod watched;
 mod written;
