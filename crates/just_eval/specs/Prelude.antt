@@ -45,7 +45,7 @@ pub use Rattle.just_eval.specs.Commands.{commands, commands_of, ends_with_backsl
 pub use Rattle.just_eval.specs.Commands.{lines_expressions, unjoined, with_line, without_backslash}
 pub use Rattle.just_eval.specs.Joined.{joined_view, texts_view}
 pub use Rattle.just_eval.specs.Steps.{IsNext, Reached, frames_of, module_of, outer_of}
-pub use Rattle.just_eval.specs.Survey.{Survey, opened_for, refused_view, stage_outcome}
+pub use Rattle.just_eval.specs.Survey.{AreNotInternal, Survey, opened_for, refused_view, stage_outcome}
 pub use Rattle.just_eval.specs.View.{Assigned, IsAtStart, IsBound, IsConst, IsInRun, IsResolvedIn, IsSameButScope}
 pub use Rattle.just_eval.specs.View.{IsSameButScopeAndEnvironment, MayCall, MayCallIn, OpensOrEnds, Resolves, WasBound}
 pub use Rattle.just_eval.specs.View.{arguments_view, below_of, calls_left_in, calls_left_of, dynamic_meaning}

@@ -1,11 +1,13 @@
 -- A const stage that goes on after refusals.
 use Rattle.std.specs.Prelude.{List, [], ◌∷◌, Option, Some, None, map}
+use Rattle.std.specs.List.{AllByRecursion}
 use Rattle.just_syntax.specs.Plain.{Assignment, Token}
 use Rattle.just_syntax.specs.View.{name_view}
 use Rattle.just_value.specs.Outcome.{Outcome, Gave, Refused}
 use Rattle.just_value.specs.Refusal.{Refusal}
 use Rattle.just_value.specs.View.{const_eval_refusal}
 use Rattle.just_meaning.specs.Assignments.{assignment_at}
+use Rattle.just_meaning.specs.Internal.{IsInternal}
 use Rattle.just_meaning.specs.Stage.{Constants, StageState, Staged, with_open}
 use Rattle.just_eval.specs.declared.const_survey.RefusedConstant.{RefusedConstant}
 
@@ -31,3 +33,7 @@ pub data Survey (m : Constants) : StageState → List Token → List (Token × R
 abbrev pub stage_outcome : List (Token × Refusal) → StageState → Outcome StageState
 stage_outcome [] s = Gave s
 stage_outcome ((t, r) ∷ rs) s = Refused r
+
+-- none of the refusals is one that only an unresolved module meets
+abbrev pub AreNotInternal : List (Token × Refusal) → Type 0
+AreNotInternal rs = AllByRecursion (λ r. IsInternal r.1 → ⊥) rs

@@ -1,8 +1,9 @@
 // Runs of modules, with their options.
 
 ghost use Rattle.std.specs.Prelude.{IfOk, None, [], map, option_map, string_bytes, ℕ, ◌<◌, ◌∷◌, ◌≡◌};
-ghost use Rattle.just_eval.specs.Prelude.{GoesByAnswers, IfRefused, IsConst, IsFinal, IsNotInternal};
-ghost use Rattle.just_eval.specs.Prelude.{IsResolvedRun, Ran, Staged, Survey, assignment_view, at_start};
+ghost use Rattle.just_eval.specs.Prelude.{AreNotInternal, GoesByAnswers, IfRefused, IsConst, IsFinal};
+ghost use Rattle.just_eval.specs.Prelude.{IsNotInternal, IsResolvedConst, IsResolvedRun, Ran, Staged, Survey};
+ghost use Rattle.just_eval.specs.Prelude.{assignment_view, at_start};
 ghost use Rattle.just_eval.specs.Prelude.{dynamically, ended, fixed_view, frames_view, lexically, pairs_view};
 ghost use Rattle.just_eval.specs.Prelude.{refused_view, stage_outcome, stage_state_of, text_numbered};
 ghost use Rattle.just_host.specs.Prelude.{called_in, config_view, search_view};
@@ -134,6 +135,9 @@ impl<'src, 'run> Run<'src, 'run> {
         ensures stage { let m = constants_view self.entry.now in IfOk result (λ survey. Staged m
             (at_start self.entry.now.module.now.settings.lists (frames_view outer.entry.now)) m.assignments.order
             (stage_outcome (refused_view survey.refused.items) (stage_state_of survey.evaluator))) }
+        ensures never_internal { let m = constants_view self.entry.now in IfOk result (λ survey.
+            IsResolvedConst m.assignments (frames_view outer.entry.now)
+            → AreNotInternal (refused_view survey.refused.items)) }
     {
         let references = self.references.as_ref();
         Evaluator::survey_const_assignments(

@@ -1,7 +1,8 @@
 // Evaluation before any run that goes on after refusals.
 
 ghost use Rattle.std.specs.Prelude.{IfOk, List, OnOk, [], map, ◌++◌, ◌∷◌, ◌≡◌};
-ghost use Rattle.just_eval.specs.Prelude.{IsConst, Staged, Survey, assignment_view, at_start, constants_of};
+ghost use Rattle.just_eval.specs.Prelude.{AreNotInternal, IsConst, IsResolvedConst, Staged, Survey};
+ghost use Rattle.just_eval.specs.Prelude.{assignment_view, at_start, constants_of};
 ghost use Rattle.just_eval.specs.Prelude.{frames_view, name_view, opened_for, refused_view, stage_outcome};
 ghost use Rattle.just_eval.specs.Prelude.{stage_state_of, value_at};
 
@@ -47,6 +48,12 @@ impl<'src, 'run> Evaluator<'src, 'run> {
             variable_references.entry in
             IfOk result (λ survey. Staged m (at_start lists (frames_view scope.entry.now)) m.assignments.order
             (stage_outcome (refused_view survey.refused.items) (stage_state_of survey.evaluator))) }
+
+        // If the stage is resolved, no refusal is `Internal`.
+        ensures never_internal { let m = constants_of assignments.now evaluation_order.now overrides.now
+            variable_references.entry in
+            IfOk result (λ survey. IsResolvedConst m.assignments (frames_view scope.entry.now)
+            → AreNotInternal (refused_view survey.refused.items)) }
     {
         let child = scope.child_with_capacity(alloc, evaluation_order.len())?;
         let mut evaluator = Evaluator::of_assignments(alloc, None, lists, child);

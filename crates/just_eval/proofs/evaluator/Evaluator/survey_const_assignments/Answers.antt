@@ -3,7 +3,7 @@ use Rattle.std.proofs.lemmas.List.{drop_all}
 use Rattle.just_eval.specs.Prelude.{Survey, at_start, constants_of, frames_view, name_view, refused_view, stage_state_of}
 use Rattle.just_eval.specs.Survey.{Finished}
 use Rattle.just_eval.proofs.Assigned.{stage_state_start}
-use Rattle.just_eval.proofs.Survey.{survey_next, survey_stage}
+use Rattle.just_eval.proofs.Survey.{survey_never_internal, survey_next, survey_stage}
 use Rattle.just_eval.proofs.evaluator.Evaluator.survey_const_assignments.Goals as goal
 
 pub loop-name-init : goal.loop-name-init
@@ -38,3 +38,8 @@ returns-clause-headline c =
 
 pub returns-clause-stage : goal.returns-clause-stage
 returns-clause-stage c = survey_stage (returns-clause-headline c)
+
+pub returns-clause-never_internal : goal.returns-clause-never_internal
+returns-clause-never_internal c = λ resolved.
+    survey_never_internal _ _ resolved c.args.lists (refused_view c.loop-name.refused.items) (stage_state_of c.loop-name.evaluator)
+    (returns-clause-headline c)
