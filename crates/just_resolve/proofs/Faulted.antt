@@ -21,6 +21,7 @@ use Rattle.just_resolve.specs.Prelude.{IsIn, IsOfCycle, IsOfMention, IsRenumbere
 use Rattle.just_resolve.specs.Prelude.{numbered_assignments, ordered, parameter_numbers, read_by, value_in}
 use Rattle.just_resolve.proofs.Depending.{depends}
 use Rattle.just_resolve.proofs.Indexing.{in_map}
+use Rattle.just_resolve.proofs.Mentions.{mention_is}
 use Rattle.just_resolve.proofs.Numbering.{free_distinct, free_unbound}
 use Rattle.just_resolve.proofs.Reading.{reads_given}
 
@@ -68,17 +69,6 @@ not_valued None h = refl
 not_valued (Some v) h = absurd (h (v, refl))
 
 -- ---- faults of variables and calls
-
-call_is : (a u : Bool) (t : Token) (n : ℕ) (f : ModuleFault)
-    → (if a then None else Some (if u then UndefinedFunction t else ArgumentCountMismatch t n)) ≡ Some f → IsOfMention f
-call_is true u t n f is = absurd (let bad : None ≡ Some f = is in cc)
-call_is false true t n f is = subst IsOfMention (let same : UndefinedFunction t ≡ f = cc in same) tt
-call_is false false t n f is = subst IsOfMention (let same : ArgumentCountMismatch t n ≡ f = cc in same) tt
-
-mention_is : (functions : List Function) (t : Token) (m : Mention) (f : ModuleFault) → mention_fault functions t m ≡ Some f → IsOfMention f
-mention_is functions t (VariableOf None) f is = subst IsOfMention (let same : UndefinedVariable t ≡ f = cc in same) tt
-mention_is functions t (VariableOf (Some n)) f is = absurd (let bad : None ≡ Some f = is in cc)
-mention_is functions t (CallOf name n) f is = call_is (accepts (callee functions name) n) (is_unknown (callee functions name)) t n f is
 
 module _ (functions : List Function) (assignments : Assignments) (outer : Frames) (f : ModuleFault) where
   abbrev IsFaultAt : CheckedPlace → Type 0

@@ -5,6 +5,7 @@ pub mod Faulted
 pub mod Indexing
 pub mod Lookups
 pub mod Measure
+pub mod Mentions
 pub mod Numbering
 pub mod Paths
 pub mod Postorder

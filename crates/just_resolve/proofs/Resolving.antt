@@ -6,15 +6,24 @@ use Rattle.just_resolution.specs.declared.fault.Fault.{Fault}
 use Rattle.just_resolution.specs.declared.fault.Fault.TheVariants as faults
 use Rattle.just_syntax.specs.declared.name.Name.{Name}
 use Rattle.just_resolve.specs.Prelude.{Assignment, DependsOnItself, Frames, Function, IsCircular, IsCycle, IsFaultAnyway, IsFaultInEachOrder, IsOfCycle}
-use Rattle.just_resolve.specs.Prelude.{IsOfMention, IsOrder, IsRenumbered, Token, module_fault_view, name_view, ordered}
-use Rattle.just_resolve.proofs.Reordering.{first_in_each}
+use Rattle.just_resolve.specs.Prelude.{IsOfMention, IsOrder, IsRenumbered, IsUntaken, Token, module_fault_view, name_view, ordered}
+use Rattle.just_resolve.proofs.Reordering.{first_in_each, known_before}
 
 module _ (outer : Frames) (functions functions' : List Function) (assignments assignments' : List Assignment)
     (renumbered : IsRenumbered outer functions assignments functions' assignments') where
-  -- a cycle of the renumbered module
-  pub circular_from : (o : Option (List Token)) → IfSome o (IsCycle functions' assignments') → IfSome o (IsCircular outer functions assignments)
-  circular_from None h = tt
-  circular_from (Some names) h = record { functions' = functions'; assignments' = assignments'; renumbered = renumbered; cycle = h }
+  -- a cycle of the renumbered module, whose first fault is one of the order
+  pub circular_from : (order : List Token) (fault : ModuleFault) (o : Option (List Token)) → IsFirstFault functions' (ordered assignments' order) outer fault
+      → IfSome o (IsCycle functions' assignments') → IfSome o (λ names. IsUntaken fault) → IfSome o (IsCircular outer functions assignments)
+  circular_from order fault None first cycle untaken = tt
+  circular_from order fault (Some names) first cycle untaken =
+      let known = known_before functions' assignments' outer order fault untaken first in record {
+        functions' = functions';
+        assignments' = assignments';
+        renumbered = renumbered;
+        cycle = cycle;
+        values = known.0;
+        bodies = known.1;
+      }
 
   -- its first fault
   pub fault_from : (order : List Token) (fault : ModuleFault) (o : Option ModuleFault) → IsOrder assignments' order

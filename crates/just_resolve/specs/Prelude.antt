@@ -22,6 +22,7 @@ pub use Rattle.just_resolve.specs.Renumbered.{IsRenumbered, IsRenumberedAssignme
 pub use Rattle.just_resolve.specs.Renumbered.{with_number}
 pub use Rattle.just_resolve.specs.Resolve.{AreFaultsInSomeOrder, AreNameFaults}
 pub use Rattle.just_resolve.specs.Resolve.{IsCircular, IsFaultAnyway, IsFaultInEachOrder, IsOfCycle, IsOfMention}
+pub use Rattle.just_resolve.specs.Resolve.{IsUntaken}
 pub use Rattle.just_resolve.specs.Resolve.{arrow_text, cycle_in, cycle_text, error_token, fault_in, no_memory}
 pub use Rattle.just_resolve.specs.Resolve.{resolve_error_text, ring_text}
 pub use Rattle.just_resolve.specs.View.{declared_view, entered_in, name_numbered, named, next_free, number_in}

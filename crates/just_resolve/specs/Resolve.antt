@@ -5,6 +5,7 @@ use Rattle.just_syntax.specs.OutOfMemory.{no_memory_text}
 use Rattle.just_syntax.specs.Plain.{Assignment, Function, Text, Token}
 use Rattle.just_syntax.specs.View.{name_view}
 use Rattle.just_value.specs.Frames.{Frames}
+use Rattle.just_meaning.specs.Resolved.{AllKnown}
 use Rattle.just_resolution.specs.Fault.{ArgumentCountMismatch, IsFirstFault, ModuleFault, UndefinedFunction}
 use Rattle.just_resolution.specs.Fault.{UndefinedVariable, UntakenVariable, fault_token, module_fault_text}
 use Rattle.just_resolution.specs.Seen.{module_fault_view}
@@ -16,13 +17,16 @@ use Rattle.just_resolve.specs.Renumbered.{IsRenumbered}
 use Rattle.just_resolve.specs.declared.resolve_error.ResolveError.{ResolveError}
 use Rattle.just_resolve.specs.declared.resolve_error.ResolveError.TheVariants as errors
 
--- with the new numbers, the names are those of assignments that form a cycle
+-- With the new numbers, the names are those of assignments that form a cycle. No fault of a variable or of a call comes
+-- before it: each variable has a number, and each call has as many arguments as its name takes.
 pub record IsCircular (outer : Frames) (functions : List Function) (assignments : List Assignment)
     (names : List Token) : Type 0 where
   pub functions' : List Function
   pub assignments' : List Assignment
   pub renumbered : IsRenumbered outer functions assignments functions' assignments'
   pub cycle : IsCycle functions' assignments' names
+  pub values : AllKnown functions' (map (λ a. a.value) assignments')
+  pub bodies : AllKnown functions' (map (λ f. f.body) functions')
 
 -- with the new numbers and in some order, it is the first fault
 pub record IsFaultAnyway (outer : Frames) (functions : List Function) (assignments : List Assignment)
@@ -40,6 +44,11 @@ IsOfMention (ArgumentCountMismatch function n) = Unit {0}
 IsOfMention (UndefinedFunction function) = Unit {0}
 IsOfMention (UndefinedVariable variable) = Unit {0}
 IsOfMention fault = ⊥
+
+-- the fault is that an assignment reads a variable that is not evaluated before it
+abbrev pub IsUntaken : ModuleFault → Type 0
+IsUntaken (UntakenVariable assignment variable) = Unit {0}
+IsUntaken fault = ⊥
 
 -- an assignment that depends on itself reads a variable that is not evaluated before it
 abbrev pub IsOfCycle : List Function → List Assignment → Frames → ModuleFault → Type 0

@@ -2,7 +2,7 @@
 
 ghost use Rattle.std.specs.Prelude.{IfErr, IfOk, IfSome, OnErr, OnOk, map, ◌≡◌, ◌⊎◌};
 ghost use Rattle.just_resolve.specs.Prelude.{AreDistinct, IsCircular, IsCycle, IsFaultAnyway, IsFaultInEachOrder};
-ghost use Rattle.just_resolve.specs.Prelude.{IsOfCycle, IsOfMention, IsOrder, IsRenumbered, IsResolved};
+ghost use Rattle.just_resolve.specs.Prelude.{IsOfCycle, IsOfMention, IsOrder, IsRenumbered, IsResolved, IsUntaken};
 ghost use Rattle.just_resolve.specs.Prelude.{assignment_view, cycle_in, fault_in, frames_view, functions_view};
 ghost use Rattle.just_resolve.specs.Prelude.{module_fault_view, name_view, ordered};
 
@@ -144,6 +144,7 @@ fn explained<'src>(
         (map assignment_view «module».now.assignments))) }
     ensures fault { IfOk result (λ e. IfSome (fault_in e) (λ f. f ≡ module_fault_view fault.entry)) }
     ensures mention { IfOk result (λ e. IfSome (fault_in e) IsOfMention) }
+    ensures untaken { IfOk result (λ e. IfSome (cycle_in e) (λ _. IsUntaken (module_fault_view fault.entry))) }
 {
     if let Fault::UntakenVariable {
         assignment,

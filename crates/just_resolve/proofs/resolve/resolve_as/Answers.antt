@@ -3,12 +3,12 @@ use Rattle.std.specs.Global.{Global}
 use Rattle.just_syntax.specs.declared.assignment.Assignment as assignments
 use Rattle.just_syntax.specs.declared.function_definition.FunctionDefinition.{FunctionDefinition}
 use Rattle.just_syntax.specs.declared.name.Name.{Name}
-use Rattle.just_resolve.specs.Prelude.{IsOrder, IsResolved, IsSortedOrder, assignment_view, fault_in, frames_view, function_view, functions_view}
+use Rattle.just_resolve.specs.Prelude.{IsOrder, IsResolved, IsSortedOrder, assignment_view, cycle_in, fault_in, frames_view, function_view, functions_view}
 use Rattle.just_resolve.specs.Prelude.{module_fault_view, name_view, ordered}
 use Rattle.just_resolve.proofs.Faulted.{fault_is}
 use Rattle.just_resolve.proofs.Reading.{bound_valued}
 use Rattle.just_resolve.proofs.Renumbering.{renumbered_distinct}
-use Rattle.just_resolve.proofs.Resolving.{each_from, fault_from}
+use Rattle.just_resolve.proofs.Resolving.{circular_from, each_from, fault_from}
 use Rattle.just_resolve.proofs.resolve.resolve_as.Goals as goal
 
 pub order-requires : goal.order-requires
@@ -29,6 +29,13 @@ explained-requires c =
           c.in_ok-order.ensures.sorted)
           (rw c.in-Some.is at c.in_ok-fault.ensures.first);
     }
+
+pub returns-in-Some-clause-circular : goal.returns-in-Some-clause-circular
+returns-in-Some-clause-circular c =
+    circular_from (frames_view c.args.outer.now) (functions_view c.args.«module».now) (functions_view c.args.made.now)
+    (map assignment_view c.args.«module».now.assignments) (map assignment_view c.args.made.now.assignments) c.requires
+    (map name_view c.swap.new.x.items) (module_fault_view c.in-Some.fault) (cycle_in c.in_ok-explained.field-0)
+    (rw c.in-Some.is at c.in_ok-fault.ensures.first) c.in_ok-explained.ensures.cycle c.in_ok-explained.ensures.untaken
 
 pub returns-in-Some-clause-fault : goal.returns-in-Some-clause-fault
 returns-in-Some-clause-fault c =
