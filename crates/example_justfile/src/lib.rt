@@ -4,6 +4,7 @@
 pub mod module;
 mod place;
 pub mod recipe;
+mod rows;
 mod syntax;
 
 /// The text of the justfile.

@@ -1,5 +1,6 @@
 // The module: its variables and its function, numbered and in order, and its settings.
 
+use crate::rows::{after, pair, with_row};
 use crate::syntax::{join, name, token, variable};
 use just_host::justfile::Justfile;
 use just_syntax::assignment::Assignment;
@@ -16,25 +17,29 @@ use std::alloc::Global;
 /// The module. Its variables have the numbers 0 to 3, and the parameter of its function has 4.
 pub fn module<'src>(alloc: Global) -> Result<Justfile<'src>, OutOfMemory> {
     let mut module = Justfile::new(alloc, "/work/justfile", "/work")?;
-    add_variables(alloc, &mut module)?;
-    module.define(described(alloc)?)?;
-    Ok(module)
+    let filled = fill(alloc, &mut module);
+    after(filled, module)
+}
+
+fn fill<'src>(alloc: Global, module: &mut Justfile<'src>) -> Result<(), OutOfMemory> {
+    add_variables(alloc, module)?;
+    module.define(described(alloc)?)
 }
 
 fn add_variables<'src>(alloc: Global, module: &mut Justfile<'src>) -> Result<(), OutOfMemory> {
-    add(module, name("mode", 0, 0), 0, mode(alloc)?)?;
-    add(module, name("commit", 1, 0), 1, commit(alloc)?)?;
-    add(module, name("target", 2, 0), 2, target(alloc)?)?;
-    add(module, name("banner", 3, 0), 3, banner(alloc)?)
+    add(module, name("mode", 0, 0), 0, mode(alloc))?;
+    add(module, name("commit", 1, 0), 1, commit(alloc))?;
+    add(module, name("target", 2, 0), 2, target(alloc))?;
+    add(module, name("banner", 3, 0), 3, banner(alloc))
 }
 
 fn add<'src>(
     module: &mut Justfile<'src>,
     name: Name<'src>,
     number: u64,
-    value: Expression<'src>,
+    value: Result<Expression<'src>, OutOfMemory>,
 ) -> Result<(), OutOfMemory> {
-    module.assign(Assignment::new(name, Number::new(number), value))
+    module.assign(Assignment::new(name, Number::new(number), value?))
 }
 
 // 'debug'
@@ -56,8 +61,7 @@ fn target<'src>(alloc: Global) -> Result<Expression<'src>, OutOfMemory> {
 
 // described(commit)
 fn banner<'src>(alloc: Global) -> Result<Expression<'src>, OutOfMemory> {
-    let mut arguments = Vec::new(alloc);
-    arguments.push(variable("commit", 1, 3, 20))?;
+    let arguments = vec![in alloc; variable("commit", 1, 3, 20)]?;
     Ok(Expression::call(name("described", 3, 10), arguments))
 }
 
@@ -78,10 +82,7 @@ fn app_at<'src>(alloc: Global) -> Result<Expression<'src>, OutOfMemory> {
 
 /// The settings: `tempdir`, which is settled before a run, and `shell`, which is not.
 pub fn sets<'src>(alloc: Global) -> Result<Vec<Set<'src>>, OutOfMemory> {
-    let mut sets = Vec::new(alloc);
-    sets.push(tempdir(alloc)?)?;
-    sets.push(shell(alloc)?)?;
-    Ok(sets)
+    pair(alloc, tempdir(alloc), shell(alloc))
 }
 
 // set tempdir := mode / 'tmp'
@@ -93,9 +94,12 @@ fn tempdir<'src>(alloc: Global) -> Result<Set<'src>, OutOfMemory> {
 
 // set shell := ['sh', commit]
 fn shell<'src>(alloc: Global) -> Result<Set<'src>, OutOfMemory> {
-    let mut arguments = Vec::new(alloc);
-    arguments.push(variable("commit", 1, 8, 20))?;
-    let sh = Expression::literal(alloc, "sh", "'sh'")?;
-    let value = Setting::Shell(Interpreter::new(sh, arguments));
+    let value = Setting::Shell(shell_command(alloc)?);
     Ok(Set::new(name("shell", 8, 4), value))
+}
+
+fn shell_command<'src>(alloc: Global) -> Result<Interpreter<Expression<'src>>, OutOfMemory> {
+    let commit = variable("commit", 1, 8, 20);
+    let (sh, arguments) = with_row(alloc, Expression::literal(alloc, "sh", "'sh'"), commit)?;
+    Ok(Interpreter::new(sh, arguments))
 }

@@ -1,5 +1,6 @@
 // The recipe: its attribute, its parameters and its lines.
 
+use crate::rows::triple;
 use crate::syntax::{join, name, token, variable};
 use just_syntax::attribute::Attribute;
 use just_syntax::expression::Expression;
@@ -28,11 +29,9 @@ fn env<'src>(alloc: Global) -> Result<Attribute<'src>, OutOfMemory> {
 /// The parameters, with the numbers 5 to 7.
 pub fn parameters<'src>(alloc: Global) -> Result<Vec<Parameter<'src>>, OutOfMemory> {
     let (singular, star) = (ParameterKind::Singular, ParameterKind::Star);
-    let mut parameters = Vec::new(alloc);
-    parameters.push(Parameter::new(name("name", 11, 6), Number::new(5), singular))?;
-    parameters.push(output(alloc)?)?;
-    parameters.push(Parameter::new(name("flags", 11, 35), Number::new(7), star))?;
-    Ok(parameters)
+    let name_parameter = Parameter::new(name("name", 11, 6), Number::new(5), singular);
+    let flags = Parameter::new(name("flags", 11, 35), Number::new(7), star);
+    triple(alloc, Ok(name_parameter), output(alloc), Ok(flags))
 }
 
 // output=(target / name)
@@ -47,38 +46,32 @@ fn output<'src>(alloc: Global) -> Result<Parameter<'src>, OutOfMemory> {
 
 /// The lines, of which the second continues the first.
 pub fn lines<'src>(alloc: Global) -> Result<Vec<Line<'src>>, OutOfMemory> {
-    let mut lines = Vec::new(alloc);
-    lines.push(compiler(alloc)?)?;
-    lines.push(files(alloc)?)?;
-    lines.push(echo(alloc)?)?;
-    Ok(lines)
+    triple(alloc, compiler(alloc), files(alloc), echo(alloc))
 }
 
 // cc {{flags}} \
 fn compiler<'src>(alloc: Global) -> Result<Line<'src>, OutOfMemory> {
-    let mut fragments = Vec::new(alloc);
-    fragments.push(text("cc ", 12, 4))?;
-    fragments.push(interpolation(variable("flags", 7, 12, 9)))?;
-    fragments.push(text(" \\", 12, 16))?;
+    let flags = interpolation(variable("flags", 7, 12, 9));
+    let fragments = vec![in alloc; text("cc ", 12, 4), flags, text(" \\", 12, 16)]?;
     Ok(Line::new(fragments))
 }
 
 //    -o {{output}} {{name}}.c
 fn files<'src>(alloc: Global) -> Result<Line<'src>, OutOfMemory> {
-    let mut fragments = Vec::new(alloc);
-    fragments.push(text("   -o ", 13, 4))?;
-    fragments.push(interpolation(variable("output", 6, 13, 12)))?;
-    fragments.push(text(" ", 13, 20))?;
-    fragments.push(interpolation(variable("name", 5, 13, 23)))?;
-    fragments.push(text(".c", 13, 29))?;
+    let fragments = vec![in alloc;
+        text("   -o ", 13, 4),
+        interpolation(variable("output", 6, 13, 12)),
+        text(" ", 13, 20),
+        interpolation(variable("name", 5, 13, 23)),
+        text(".c", 13, 29),
+    ]?;
     Ok(Line::new(fragments))
 }
 
 // echo {{banner}}
 fn echo<'src>(alloc: Global) -> Result<Line<'src>, OutOfMemory> {
-    let mut fragments = Vec::new(alloc);
-    fragments.push(text("echo ", 14, 4))?;
-    fragments.push(interpolation(variable("banner", 3, 14, 11)))?;
+    let banner = interpolation(variable("banner", 3, 14, 11));
+    let fragments = vec![in alloc; text("echo ", 14, 4), banner]?;
     Ok(Line::new(fragments))
 }
 
