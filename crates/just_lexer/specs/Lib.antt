@@ -1,0 +1,13 @@
+pub mod Front
+pub mod Inside
+pub mod Quote
+pub mod Span
+pub mod Expression
+pub mod State
+pub mod Line
+pub mod Lexes
+pub mod Advances
+pub mod View
+pub mod Fault
+pub mod Laws
+pub mod Said
