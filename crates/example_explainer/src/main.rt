@@ -41,7 +41,13 @@ fn explain<'src>(
     assignment: &Assignment<'src>,
 ) -> Result<()> {
     let mut run = Run::new(alloc, module)?;
-    let references = needed(alloc, module, outer, &run.overrides, &[assignment.name.lexeme()])?;
+    let references = needed(
+        alloc,
+        module,
+        outer,
+        &run.overrides,
+        &[assignment.name.lexeme()],
+    )?;
     run.references = Some(references);
     let mut host = Recorder::new(alloc, CommandHost::new(Shown));
     match run.evaluate(alloc, &mut host, outer) {
