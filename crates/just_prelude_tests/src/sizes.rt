@@ -82,9 +82,10 @@ fn a_thousand_numbered_variables(rt: HostRuntime) {
         let other = i + 1000;
         write!(renumbered, "{i} {other} ").expect(&rt, "no memory");
     }
+    let written = thousand(&rt, alloc, "", " ");
     let outer = Scope::root(alloc, &[]).expect(&rt, "no memory");
     let module = needs::module_of(&rt, alloc, "", "");
-    renumber_thousand(&rt, alloc, &module, &outer, &renumbered);
+    renumber_thousand(&rt, alloc, &module, &outer, &renumbered, &written);
     drop(module);
     drop(outer);
 }
@@ -95,12 +96,12 @@ fn renumber_thousand<'src>(
     module: &Justfile<'src>,
     outer: &Scope<'src, '_>,
     renumbered: &'src str,
+    written: &'src str,
 ) {
     let mut names = Names::of(alloc, module, outer).expect(rt, "no memory");
     let set = names.set_parameters(&pairs(rt, alloc, renumbered));
     set.expect(rt, "no memory");
-    let written = thousand(rt, alloc, "", " ");
-    let original = expression_of(rt, alloc, &written);
+    let original = expression_of(rt, alloc, written);
     let copy = numbered(alloc, &original, &names).expect(rt, "no memory");
     is_from(rt, alloc, &original, 1000);
     is_from(rt, alloc, &copy, 2000);
