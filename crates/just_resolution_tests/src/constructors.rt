@@ -20,7 +20,7 @@ use just_syntax::token::Token;
 use std::alloc::Global;
 use std::process::Abort;
 
-fn variable(lexeme: &str) -> Expression<'_> {
+pub(crate) fn variable(lexeme: &str) -> Expression<'_> {
     Expression::variable(name(lexeme), Number::new(0))
 }
 
@@ -51,7 +51,7 @@ fn tokens_at_places(rt: HostRuntime) {
 
 // Forms of expressions. A form with an optional part occurs with it and without it.
 #[derive(Clone, Copy)]
-enum Form {
+pub(crate) enum Form {
     And,
     Assert,
     AssertWithMessage,
@@ -70,7 +70,7 @@ enum Form {
 
 // Forms, the token that each is built with, if it has one, and how it is written. Its parts are the variables `a`, `b`
 // and `c`.
-const FORMS: &[(Form, &str, &str)] = &[
+pub(crate) const FORMS: &[(Form, &str, &str)] = &[
     (Form::And, "", "a && b"),
     (Form::Or, "", "a || b"),
     (Form::Not, "", "!a"),
@@ -91,7 +91,11 @@ const FORMS: &[(Form, &str, &str)] = &[
 ];
 
 // An expression of this form.
-fn made<'src>(alloc: Global, form: Form, at: Token<'src>) -> Result<Expression<'src>, OutOfMemory> {
+pub(crate) fn made<'src>(
+    alloc: Global,
+    form: Form,
+    at: Token<'src>,
+) -> Result<Expression<'src>, OutOfMemory> {
     match form {
         Form::And => Expression::and(alloc, variable("a"), variable("b")),
         Form::Assert => Expression::assert(alloc, Name { token: at }, variable("a"), None),
@@ -140,7 +144,7 @@ fn rows_of_expressions(rt: HostRuntime) {
 }
 
 // A variable and a literal.
-fn pair<'src>(rt: &impl Abort, alloc: Global) -> Vec<Expression<'src>> {
+pub(crate) fn pair<'src>(rt: &impl Abort, alloc: Global) -> Vec<Expression<'src>> {
     let literal = Expression::literal(alloc, "x", "'x'").expect(rt, "no memory");
     vec![in alloc; variable("a"), literal].expect(rt, "no memory")
 }

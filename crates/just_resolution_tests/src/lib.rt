@@ -10,11 +10,15 @@ mod const_errors;
 #[cfg(test)]
 mod constructors;
 #[cfg(test)]
+mod copies;
+#[cfg(test)]
 mod debug;
 #[cfg(test)]
 mod errors;
 #[cfg(test)]
 mod faults;
+#[cfg(test)]
+mod frames;
 #[cfg(test)]
 mod modules;
 #[cfg(test)]
@@ -23,6 +27,8 @@ mod parts;
 mod resolution;
 #[cfg(test)]
 mod scope;
+#[cfg(test)]
+mod setting_names;
 #[cfg(test)]
 mod sizes;
 #[cfg(test)]

@@ -156,7 +156,7 @@ pub(crate) fn holds(scope: &Scope, rt: &impl Abort, alloc: Global, number: u64, 
 }
 
 // Adds the name and the joined value of each binding.
-fn walk(mut bindings: Bindings, rt: &impl Abort, alloc: Global, reported: &mut String) {
+pub(crate) fn walk(mut bindings: Bindings, rt: &impl Abort, alloc: Global, reported: &mut String) {
     while let Some(binding) = bindings.next() {
         report_binding(binding, rt, alloc, reported);
     }
