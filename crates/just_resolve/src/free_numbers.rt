@@ -26,8 +26,8 @@ use std::alloc::Global;
 ///
 /// # Errors
 ///
-/// `OutOfMemory`, if an allocation fails, if the number 2⁶⁴ - 1 is taken, or if too few numbers are left after the
-/// greatest one that is taken: nothing is created.
+/// `OutOfMemory`, if an allocation fails, if an assignment or a parameter has the number 2⁶⁴ - 1, or if too few numbers
+/// are left after the greatest one that they have: nothing is created.
 pub fn free_numbers<'src>(
     alloc: Global,
     module: &Justfile<'src>,
