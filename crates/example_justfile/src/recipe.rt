@@ -38,9 +38,10 @@ pub fn parameters<'src>(alloc: Global) -> Result<Vec<Parameter<'src>>, OutOfMemo
 fn output<'src>(alloc: Global) -> Result<Parameter<'src>, OutOfMemory> {
     let target = variable("target", 2, 11, 19);
     let beside = join(alloc, target, variable("name", 5, 11, 28), 11, 26)?;
+    let default = Expression::group(alloc, beside)?;
     let number = Number::new(6);
     let mut output = Parameter::new(name("output", 11, 11), number, ParameterKind::Singular);
-    output.default = Some(Expression::group(alloc, beside)?);
+    output.default = Some(default);
     Ok(output)
 }
 
