@@ -79,11 +79,31 @@ fn reached_by_an_expression(rt: HostRuntime) {
     let alloc = rt.alloc();
     for (functions, words, wanted) in ROWS {
         let module = module_of(&rt, alloc, "", functions);
-        let expression = expression_of(&rt, alloc, words);
-        let members = reach(alloc, &module.functions, &expression).expect(&rt, "no memory");
-        let given = shown(&rt, alloc, &members);
+        let given = reached_by_words(&rt, alloc, &module, words);
+        drop(module);
         assert_eq!(rt; given.as_str(), *wanted, "{words} with {functions}");
     }
+}
+
+fn reached_by_words<'src>(
+    rt: &impl Abort,
+    alloc: Global,
+    module: &Justfile<'src>,
+    words: &'src str,
+) -> String {
+    let expression = expression_of(rt, alloc, words);
+    reached_by(rt, alloc, module, &expression)
+}
+
+// What an expression reaches.
+fn reached_by<'src>(
+    rt: &impl Abort,
+    alloc: Global,
+    module: &Justfile<'src>,
+    expression: &Expression<'src>,
+) -> String {
+    let members = reach(alloc, &module.functions, expression).expect(rt, "no memory");
+    shown(rt, alloc, &members)
 }
 
 // Assignments, functions, the numbers that are referenced, or none for all, and what a run reaches. An assignment is
@@ -156,37 +176,58 @@ fn reached<'src>(
     shown(rt, alloc, &members)
 }
 
-// if `test` == "" { `yes` } else { `no` }
 #[test]
 fn both_branches_are_reached(rt: HostRuntime) {
     let alloc = rt.alloc();
-    let functions = Justfile::new(alloc, "justfile", "/")
-        .expect(&rt, "no memory")
-        .functions;
-    let condition = Expression::comparison(
-        alloc,
-        command(&rt, alloc, "test", 0),
-        ConditionalOperator::Equality,
-        Expression::literal(alloc, "", "\"\"").expect(&rt, "no memory"),
-        Token::new("==", None),
-    )
-    .expect(&rt, "no memory");
-    let choice = Expression::conditional(
-        alloc,
-        condition,
-        command(&rt, alloc, "yes", 1),
-        Some(command(&rt, alloc, "no", 2)),
-    )
-    .expect(&rt, "no memory");
-    let members = reach(alloc, &functions, &choice).expect(&rt, "no memory");
-    let given = shown(&rt, alloc, &members);
+    let module = Justfile::new(alloc, "justfile", "/").expect(&rt, "no memory");
+    let choice = choice(&rt, alloc);
+    let given = reached_by(&rt, alloc, &module, &choice);
+    drop(choice);
+    drop(module);
     assert_eq!(rt;
         given.as_str(),
         "command `test`, command `yes`, command `no`"
     );
+}
+
+#[test]
+fn members_have_places(rt: HostRuntime) {
+    let alloc = rt.alloc();
+    let module = Justfile::new(alloc, "justfile", "/").expect(&rt, "no memory");
+    let choice = choice(&rt, alloc);
+    stand_on_lines(&rt, alloc, &module, &choice);
+    drop(choice);
+    drop(module);
+}
+
+// Each member stands on the line of its number.
+fn stand_on_lines<'src>(
+    rt: &impl Abort,
+    alloc: Global,
+    module: &Justfile<'src>,
+    expression: &Expression<'src>,
+) {
+    let members = reach(alloc, &module.functions, expression).expect(rt, "no memory");
+    assert_eq!(rt; members.len(), 3);
     for (line, member) in members.iter().enumerate() {
         assert_eq!(rt; member.token().line, line);
     }
+}
+
+// if `test` == "" { `yes` } else { `no` }
+fn choice<'src>(rt: &impl Abort, alloc: Global) -> Expression<'src> {
+    let condition = is_empty(rt, alloc, command(rt, alloc, "test", 0));
+    let (yes, no) = (command(rt, alloc, "yes", 1), command(rt, alloc, "no", 2));
+    Expression::conditional(alloc, condition, yes, Some(no)).expect(rt, "no memory")
+}
+
+fn is_empty<'src>(rt: &impl Abort, alloc: Global, value: Expression<'src>) -> Expression<'src> {
+    let empty = Expression::literal(alloc, "", "\"\"").expect(rt, "no memory");
+    let operator = ConditionalOperator::Equality;
+    Expression::comparison(alloc, value, operator, empty, Token::new("==", None)).expect(
+        rt,
+        "no memory",
+    )
 }
 
 // A member, whether it may ask the host, and whether it may have the host run a command.
@@ -215,12 +256,24 @@ fn members_that_ask(rt: HostRuntime) {
     let alloc = rt.alloc();
     let module = module_of(&rt, alloc, "", "f : $date");
     for (word, asks, runs) in KINDS {
-        let element = element(&rt, alloc, word);
-        let members = reach(alloc, &module.functions, &element).expect(&rt, "no memory");
-        let member = members.first().expect(&rt, "a member");
-        assert_eq!(rt; member.may_ask(), *asks, "{word}");
-        assert_eq!(rt; member.may_run_command(), *runs, "{word}");
+        let (may_ask, may_run) = what_it_may(&rt, alloc, &module, word);
+        assert_eq!(rt; may_ask, *asks, "{word}");
+        assert_eq!(rt; may_run, *runs, "{word}");
     }
+    drop(module);
+}
+
+// Whether the first member may ask the host, and whether it may have the host run a command.
+fn what_it_may<'src>(
+    rt: &impl Abort,
+    alloc: Global,
+    module: &Justfile<'src>,
+    word: &'src str,
+) -> (bool, bool) {
+    let element = element(rt, alloc, word);
+    let members = reach(alloc, &module.functions, &element).expect(rt, "no memory");
+    let member = members.first().expect(rt, "a member");
+    (member.may_ask(), member.may_run_command())
 }
 
 // A command on a line.
