@@ -22,6 +22,8 @@ mod frames;
 #[cfg(test)]
 mod modules;
 #[cfg(test)]
+mod orders;
+#[cfg(test)]
 mod parts;
 #[cfg(test)]
 mod resolution;
