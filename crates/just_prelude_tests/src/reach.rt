@@ -79,20 +79,12 @@ fn reached_by_an_expression(rt: HostRuntime) {
     let alloc = rt.alloc();
     for (functions, words, wanted) in ROWS {
         let module = module_of(&rt, alloc, "", functions);
-        let given = reached_by_words(&rt, alloc, &module, words);
+        let expression = expression_of(&rt, alloc, words);
+        let given = reached_by(&rt, alloc, &module, &expression);
+        drop(expression);
         drop(module);
         assert_eq!(rt; given.as_str(), *wanted, "{words} with {functions}");
     }
-}
-
-fn reached_by_words<'src>(
-    rt: &impl Abort,
-    alloc: Global,
-    module: &Justfile<'src>,
-    words: &'src str,
-) -> String {
-    let expression = expression_of(rt, alloc, words);
-    reached_by(rt, alloc, module, &expression)
 }
 
 // What an expression reaches.
@@ -179,25 +171,16 @@ fn reached<'src>(
 #[test]
 fn both_branches_are_reached(rt: HostRuntime) {
     let alloc = rt.alloc();
-    let module = Justfile::new(alloc, "justfile", "/").expect(&rt, "no memory");
+    let module = module_of(&rt, alloc, "", "");
     let choice = choice(&rt, alloc);
     let given = reached_by(&rt, alloc, &module, &choice);
+    stand_on_lines(&rt, alloc, &module, &choice);
     drop(choice);
     drop(module);
     assert_eq!(rt;
         given.as_str(),
         "command `test`, command `yes`, command `no`"
     );
-}
-
-#[test]
-fn members_have_places(rt: HostRuntime) {
-    let alloc = rt.alloc();
-    let module = Justfile::new(alloc, "justfile", "/").expect(&rt, "no memory");
-    let choice = choice(&rt, alloc);
-    stand_on_lines(&rt, alloc, &module, &choice);
-    drop(choice);
-    drop(module);
 }
 
 // Each member stands on the line of its number.
@@ -216,18 +199,13 @@ fn stand_on_lines<'src>(
 
 // if `test` == "" { `yes` } else { `no` }
 fn choice<'src>(rt: &impl Abort, alloc: Global) -> Expression<'src> {
-    let condition = is_empty(rt, alloc, command(rt, alloc, "test", 0));
+    let test = command(rt, alloc, "test", 0);
+    let empty = Expression::literal(alloc, "", "\"\"").expect(rt, "no memory");
+    let (equals, token) = (ConditionalOperator::Equality, Token::new("==", None));
+    let condition = Expression::comparison(alloc, test, equals, empty, token);
+    let condition = condition.expect(rt, "no memory");
     let (yes, no) = (command(rt, alloc, "yes", 1), command(rt, alloc, "no", 2));
     Expression::conditional(alloc, condition, yes, Some(no)).expect(rt, "no memory")
-}
-
-fn is_empty<'src>(rt: &impl Abort, alloc: Global, value: Expression<'src>) -> Expression<'src> {
-    let empty = Expression::literal(alloc, "", "\"\"").expect(rt, "no memory");
-    let operator = ConditionalOperator::Equality;
-    Expression::comparison(alloc, value, operator, empty, Token::new("==", None)).expect(
-        rt,
-        "no memory",
-    )
 }
 
 // A member, whether it may ask the host, and whether it may have the host run a command.
@@ -256,7 +234,7 @@ fn members_that_ask(rt: HostRuntime) {
     let alloc = rt.alloc();
     let module = module_of(&rt, alloc, "", "f : $date");
     for (word, asks, runs) in KINDS {
-        let (may_ask, may_run) = what_it_may(&rt, alloc, &module, word);
+        let (may_ask, may_run) = may_ask_and_run(&rt, alloc, &module, word);
         assert_eq!(rt; may_ask, *asks, "{word}");
         assert_eq!(rt; may_run, *runs, "{word}");
     }
@@ -264,7 +242,7 @@ fn members_that_ask(rt: HostRuntime) {
 }
 
 // Whether the first member may ask the host, and whether it may have the host run a command.
-fn what_it_may<'src>(
+fn may_ask_and_run<'src>(
     rt: &impl Abort,
     alloc: Global,
     module: &Justfile<'src>,
