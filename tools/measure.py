@@ -112,6 +112,16 @@ def order_of_names(n):
     return lines, "".join(f'a{i} = "x"\n' for i in range(n))
 
 
+def order_in_no_order(n):
+    """n assignments, and an order that shuffles them."""
+    lines = []
+    for i in range(n):
+        lines += ["str x", f"assign a{i}"]
+    order = sorted(range(n), key=lambda i: i * 2_654_435_761 % 2**32)
+    lines += ["order " + " ".join(f"a{i}" for i in order), "run"]
+    return lines, "".join(f'a{i} = "x"\n' for i in range(n))
+
+
 def always_lines(n):
     """n lines for one command, the last counts, and one question."""
     return ["cmd c", "assign a"] + ["always y"] * n + ["run"], '? command "c"\na = "y"\n'
@@ -171,6 +181,7 @@ FAMILIES = [
     (overrides, 3_000),
     (dotenv_lines, 4_000),
     (order_of_names, 4_000),
+    (order_in_no_order, 4_000),
     (always_lines, 8_000),
     (recursion, 112),
     (functions_in_a_row, 112),

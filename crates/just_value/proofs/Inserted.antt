@@ -7,7 +7,7 @@ use Rattle.std.specs.List.Sorted.{IsStrictlySortedBy}
 use Rattle.std.specs.BTreeMap.{insert_entry}
 use Rattle.std.proofs.lemmas.Cmp.{nat_cmp_total, ranked}
 
-turned : (a b : ℕ) (o : Ordering) → nat_cmp a b ≡ o → nat_cmp b a ≡ ordering_reverse o
+pub turned : (a b : ℕ) (o : Ordering) → nat_cmp a b ≡ o → nat_cmp b a ≡ ordering_reverse o
 turned a b o e = nat_cmp_total.antisymm b a ∙ ap ordering_reverse e
 
 module _ {X Y : Type 0} (number : X → ℕ) (f : X → Y) (y : X) where
@@ -42,7 +42,7 @@ module _ {X Y : Type 0} (number : X → ℕ) (f : X → Y) (y : X) where
       (λ k d lo hi. above (suc k) d (omega arith) (omega arith)))
       ∙ sym (step x xs Less (below 0 x (omega arith) (omega arith)))
 
-all_above : (a b : ℕ) (ns : List ℕ) → nat_cmp a b ≡ Less → AllByRecursion (λ n. nat_cmp b n ≡ Less) ns → AllByRecursion (λ n. nat_cmp a n ≡ Less) ns
+pub all_above : (a b : ℕ) (ns : List ℕ) → nat_cmp a b ≡ Less → AllByRecursion (λ n. nat_cmp b n ≡ Less) ns → AllByRecursion (λ n. nat_cmp a n ≡ Less) ns
 all_above a b [] lt h = tt
 all_above a b (n ∷ ns) lt h = (nat_cmp_total.trans a b n lt h.0, all_above a b ns lt h.1)
 

@@ -7,6 +7,7 @@ mod Inserted
 mod Named
 mod Numbering
 mod Pairs
+mod Placed
 pub mod Places
 mod PositionalLaws
 pub mod Texts

@@ -9,6 +9,8 @@ pub mod Outcome
 pub mod Applied
 pub mod Rising
 pub mod Said
+pub mod Placed
+pub mod Left
 pub mod Places
 pub mod Numbering
 pub mod Positional

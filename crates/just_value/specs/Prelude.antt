@@ -12,6 +12,7 @@ pub use Rattle.just_value.specs.Items.{Ends, GivesItems}
 pub use Rattle.just_value.specs.Listed.{before, listed, listed_from, outputs}
 pub use Rattle.just_value.specs.Numbering.{last_of}
 pub use Rattle.just_value.specs.Outcome.{UnlessStopped}
+pub use Rattle.just_value.specs.Placed.{ArePlaced, elements}
 pub use Rattle.just_value.specs.Places.{IsPlace}
 pub use Rattle.just_value.specs.Positional.{KeepsWords, MeansTheCut, Positional, SameExactlyIfCutAlike, after_last}
 pub use Rattle.just_value.specs.Positional.{cut_after_last, cut_at_first, cut_words, directory_and_tail, is_dots}
@@ -22,6 +23,6 @@ pub use Rattle.just_value.specs.Said.{error_token}
 pub use Rattle.just_value.specs.Shown.{IsPlain, escaped, quoted, quoted_after, shown}
 pub use Rattle.just_value.specs.Value.{EmptyTextIsTruthy, JoinsNoneAndOne, SameExactlyIfEqual, from_condition}
 pub use Rattle.just_value.specs.Value.{is_truthy, joined}
-pub use Rattle.just_value.specs.View.{bindings_left, bound_view, compile_refusal, compile_token, conjunction_of}
+pub use Rattle.just_value.specs.View.{ShowsFrame, bindings_left, bound_view, compile_refusal, compile_token, conjunction_of}
 pub use Rattle.just_value.specs.View.{const_eval_refusal, const_refusal, constant_view, enclosing_view, ended}
 pub use Rattle.just_value.specs.View.{frame_view, frames_left, frames_view, items_of, positional_view, refusal}

@@ -4,9 +4,8 @@ use Rattle.std.specs.Borrow.{Bor}
 use Rattle.std.specs.Str.{bytes_eq}
 use Rattle.just_syntax.specs.Plain.{Text, Token}
 use Rattle.just_syntax.specs.View.{token_view, name_view, string_context_view, attributes_view}
-use Rattle.std.specs.Map.{lookup}
+use Rattle.std.specs.Map.{lookup, values_of}
 use Rattle.std.specs.Map.Iter.{TakesFirst, deref}
-use Rattle.std.specs.VecDeque.Iter.{deque_iter_rest}
 use Rattle.just_value.specs.declared.binding.Binding.{Binding}
 use Rattle.just_value.specs.declared.bindings.Bindings.{Bindings}
 use Rattle.just_value.specs.declared.expression_context.ExpressionContext.{ExpressionContext}
@@ -31,6 +30,7 @@ use Rattle.just_value.specs.Frames as plain
 use Rattle.just_value.specs.Frames.{Bound, Frames}
 use Rattle.just_value.specs.ConstEval.{const_eval_token}
 use Rattle.just_value.specs.ConstRefusal as constant
+use Rattle.just_value.specs.Placed.{ArePlaced, elements}
 use Rattle.just_value.specs.Positional.{Positional}
 use Rattle.just_value.specs.Refusal.{Fault, Code, Message, NoMemory, Refusal, Assert, Backtick, Check, Const}
 use Rattle.just_value.specs.Refusal.{EmptyInterpreter, EmptyListArgument, FunctionCall, Internal, LeftOut, LeftOutRegex}
@@ -54,9 +54,13 @@ bound_view b = record {
 abbrev pub frame_view : Frame → plain.Frame
 frame_view f = map (λ b. (b.number, bound_view b)) f
 
+-- bindings and places show a frame: at the places, in this order, are its bindings
+abbrev pub ShowsFrame : plain.Frame → List Binding → List (ℕ × ℕ) → Type 0
+ShowsFrame frame bindings places = ArePlaced bindings places × (frame_view (elements bindings (values_of places)) ≡ frame)
+
 -- the bindings that are still to come
 abbrev pub bindings_left : Bindings → List Binding
-bindings_left b = deque_iter_rest b.left
+bindings_left b = b
 
 -- the first of them comes next
 abbrev pub bindings_steps : Bindings → Option (Bor Binding) → Bindings → Type 0

@@ -1,25 +1,43 @@
 // Iteration over the bindings of a frame.
 
 use crate::binding::Binding;
-use std::collections::vec_deque::Iter;
+use just_syntax::number::Number;
+use std::collections::btree_map::Values;
+use std::marker::Model;
+use std::slice::Iter;
 
 /// Iterates over the bindings of a frame, in ascending order of number.
 #[derive(Debug, Drop)]
 pub struct Bindings<'frame, 'src> {
-    left: Iter<'frame, Binding<'src>>,
+    pub(crate) bindings: &'frame [Binding<'src>],
+    pub(crate) left: Left<'frame, 'src>,
 }
 
-impl<'frame, 'src> Bindings<'frame, 'src> {
-    ghost use Rattle.std.specs.Prelude.{◌≡◌};
-    ghost use Rattle.std.specs.VecDeque.Iter.{deque_iter_rest};
-    ghost use Rattle.just_value.specs.View.{bindings_left};
+// What is still to come.
+#[derive(Debug, Drop)]
+pub(crate) enum Left<'frame, 'src> {
+    // These bindings.
+    InOrder(Iter<'frame, Binding<'src>>),
+    // The bindings at these indices.
+    ByPlace(Values<'frame, Number, usize>),
+}
 
-    // The bindings that are still to come.
-    pub(crate) fn new(left: Iter<'frame, Binding<'src>>) -> Bindings<'frame, 'src>
-        ensures { bindings_left result ≡ deque_iter_rest left.entry }
-    {
-        Bindings { left }
-    }
+impl<'frame, 'src> Model for Bindings<'frame, 'src> {
+    ghost use Rattle.std.specs.Prelude.{List};
+    ghost use Rattle.std.specs.Coded.{codes};
+    ghost use Rattle.just_value.specs.declared.binding.Binding.{Binding};
+    ghost use Rattle.just_syntax.specs.contracts.expression.Expression as expression;
+    ghost use denote.Signature.{static_lft};
+
+    ghost Value = { List Binding };
+
+    ghost coded = { Prim.hlevel (codes, (expression.the_row static_lft).coded) };
+
+    ghost use Rattle.just_value.specs.Left.{AreWithin, bindings_in};
+
+    ghost view = { λ b. bindings_in b.bindings.now b.left };
+
+    ghost invariant = { λ b. AreWithin b.bindings.now b.left };
 }
 
 impl<'frame, 'src> Iterator for Bindings<'frame, 'src> {
@@ -34,6 +52,12 @@ impl<'frame, 'src> Iterator for Bindings<'frame, 'src> {
     ghost remaining = { λ s. at_most (length (bindings_left s)) };
 
     fn next(&mut self) -> Option<&'frame Binding<'src>> {
-        self.left.next()
+        match &mut self.left {
+            Left::InOrder(left) => left.next(),
+            Left::ByPlace(places) => match places.next() {
+                Some(at) => Some(&self.bindings[*at]),
+                None => None,
+            },
+        }
     }
 }

@@ -1,6 +1,6 @@
 // Scopes: an own frame, and the enclosing frames.
 
-ghost use Rattle.std.specs.Prelude.{IfOk, OnErr, OnOk, [], map, option_map, ◌∷◌, ◌≡◌};
+ghost use Rattle.std.specs.Prelude.{IfOk, OnErr, OnOk, [], length, map, option_map, ◌<◌, ◌∷◌, ◌≡◌, ◌^◌};
 ghost use Rattle.std.specs.Map.{values_of};
 ghost use Rattle.just_value.specs.Prelude.{IsRising, bindings_left, bound_innermost, bound_view, constant_bound};
 ghost use Rattle.just_value.specs.Prelude.{constant_view, enclosing_view, frame_view, frames_left};
@@ -117,6 +117,7 @@ impl<'src, 'run> Scope<'src, 'run> {
     pub fn bindings(&self) -> Bindings<'_, 'src>
         ensures once { map bound_view (bindings_left result) ≡ values_of (own_frame (frames_view self.now)) }
         ensures rising { IsRising (map bound_view (bindings_left result)) }
+        ensures count { length (bindings_left result) < 2 ^ 64 }
     {
         self.frame.bindings()
     }
