@@ -142,8 +142,8 @@ none fault at ts r e rest derived ended = not_read fault at e rest (sym r ∙ re
 
 pub no_expression : (ts : Tokens) (error : ParseError) → IsRefused (run ts (machine.Expression 0) []) error → IsNoExpression ts error
 no_expression ts (Unexpected fault token) ([], is, first) =
-    (ts, [], sym (append-nil ts), first, λ us nothing. rw (nothing, append-nil ts) (none fault [] ts is))
+    (ts, [], sym (append-nil ts), first, λ us nothing. rw (nothing, append-nil ts) (none fault [] ts is), is)
 no_expression ts (Unexpected fault token) (t ∷ later, is, first) =
     let soon = early ts (machine.Expression 0) [] fault t later is in
-    (soon.0, t ∷ later, soon.1, first, λ us begins. rw begins.1 (none fault (t ∷ begins.0) (soon.0 ++ t ∷ begins.0) (soon.2 begins.0)))
+    (soon.0, t ∷ later, soon.1, first, λ us begins. rw begins.1 (none fault (t ∷ begins.0) (soon.0 ++ t ∷ begins.0) (soon.2 begins.0)), is)
 no_expression ts OutOfMemory so = tt

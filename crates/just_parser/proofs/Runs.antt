@@ -1,4 +1,4 @@
--- What a run comes to, a step at a time.
+-- The result of a run, a step at a time.
 use Rattle.std.specs.Prelude.{◌≡◌, List, [], ◌∷◌, ◌++◌}
 use Rattle.std.proofs.Common.{ap}
 use Rattle.just_syntax.specs.Plain.{Expr}

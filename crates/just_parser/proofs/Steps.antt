@@ -1,4 +1,4 @@
--- What a step of the machine comes to.
+-- A step of the machine, and the course after it.
 use Rattle.std.specs.Prelude.{suc, drop, true, ◌+◌, ◌*◌, ◌<◌, ◌≤◌, length, ◌≡◌, List, [], ◌∷◌, ◌++◌, map, reverse, Result, Ok, Err, IfErr, IfOk, IsOk}
 use Rattle.std.specs.Prelude.{IsOkAnd, OnOk}
 use Rattle.std.proofs.Common.{◌∙◌, ap, arith, refl, subst, sym}

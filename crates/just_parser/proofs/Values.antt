@@ -60,7 +60,7 @@ nothing_is t no_backtick no_bang no_list no_format no_name no_group no_string =
       is_not_of_kind kinds.StringToken t no_string,
     ) refl
 
--- ---- what reading comes to there
+-- ---- what is read there
 
 module _ (kind : TokenKind) (token : Token) (ts : Tokens) (frames : List Frame) where
   at : (same : TokenKind) → kind ≡ same → run (lexeme kind token ∷ ts) machine.Value frames ≡ run (lexeme same token ∷ ts) machine.Value frames

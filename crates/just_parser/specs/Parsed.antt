@@ -133,7 +133,7 @@ waiting m = reverse (map frame_view m.frames.items)
 
 -- ---- how a machine goes on
 
--- what reading comes to, and a bound of the steps to there
+-- the result of reading, and a bound of the steps to there
 pub record Course : Type 0 where
   pub result : machine.Result
   pub bound : ℕ
@@ -186,7 +186,7 @@ IsNoOperator least below old new =
     × ((e : Expr) (frames : List Frame) → run (left old) (machine.Done e) (machine.Operators least below ∷ frames)
     ≡ run (left old) (machine.Done e) frames)
 
--- reading is refused so; nothing is said for want of memory
+-- reading is refused so; of `OutOfMemory` nothing is said
 abbrev pub IsRefused : machine.Result → ParseError → Type 0
 IsRefused result (Unexpected fault token) =
     (at : Tokens) × (result ≡ machine.Refused fault at) × (option_map token_view token ≡ first_of at)
@@ -206,9 +206,11 @@ abbrev pub StartsWith : Tokens → Tokens → Type 0
 StartsWith [] us = us ≡ []
 StartsWith (t ∷ ts) us = (more : Tokens) × (us ≡ t ∷ more)
 
--- the tokens up to this one are no expression, whatever comes after it; nothing is said for want of memory
+-- reading is refused so, and the tokens up to the refused one are no expression, whatever comes after it; of
+-- `OutOfMemory` nothing is said
 abbrev pub IsNoExpression : Tokens → ParseError → Type 0
 IsNoExpression ts (Unexpected fault token) =
     (front : Tokens) × (at : Tokens) × (ts ≡ front ++ at) × (option_map token_view token ≡ first_of at)
     × ((us : Tokens) → StartsWith at us → BeginsNone (front ++ us))
+    × (run ts (machine.Expression 0) [] ≡ machine.Refused fault at)
 IsNoExpression ts OutOfMemory = Unit {0}

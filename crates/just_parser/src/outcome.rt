@@ -6,7 +6,7 @@ use crate::parse_error::ParseError;
 use just_syntax::out_of_memory::OutOfMemory;
 use just_syntax::stack;
 
-/// A part, or the refusal for want of memory.
+/// A part, or `OutOfMemory`.
 pub(crate) fn allocated<'src, T: Drop>(part: Result<T, OutOfMemory>) -> Result<T, ParseError<'src>>
     ensures ok { IfOk result (λ made. part ≡ Ok made) }
     ensures refused { IfErr result (λ refusal. refusal ≡ ParseError.OutOfMemory) }

@@ -1,11 +1,13 @@
 // Expressions of tokens.
 
-ghost use Rattle.std.specs.Prelude.{IfErr, IfOk, map, ◌≡◌};
+ghost use Rattle.std.specs.Prelude.{IfErr, IfOk, [], map, ◌≡◌};
 ghost use Rattle.just_syntax.specs.Plain.{Expr};
 ghost use Rattle.just_syntax.specs.View.{view};
 ghost use Rattle.just_lexer.specs.View.{lexeme_view};
 ghost use Rattle.just_parser.specs.Grammar.{reads};
 ghost use Rattle.just_parser.specs.Laws.{IsEnded};
+ghost use Rattle.just_parser.specs.Machine as machine;
+ghost use Rattle.just_parser.specs.Machine.{run};
 ghost use Rattle.just_parser.specs.Parsed.{IsNoExpression};
 ghost use Rattle.just_parser.specs.Tokens.{Tokens, is_significant, significant};
 
@@ -62,7 +64,11 @@ pub fn parse_expression<'tokens, 'src>(
     alloc: Global,
     tokens: &'tokens [Lexeme<'src>],
 ) -> Result<(Expression<'src>, &'tokens [Lexeme<'src>]), ParseError<'src>>
-    // The grammar derives it from these tokens,
+    // It is what the definition reads,
+    ensures exact { IfOk result (λ p. run (map lexeme_view tokens.now) (machine.Expression 0) []
+        ≡ machine.Read (view p.0) (map lexeme_view p.1.now)) }
+
+    // the grammar derives it from these tokens,
     ensures derived { IfOk result
         (λ p. reads (view p.0) 0 (map lexeme_view tokens.now) (map lexeme_view p.1.now)) }
 
@@ -70,7 +76,7 @@ pub fn parse_expression<'tokens, 'src>(
     ensures only { IfOk result (λ p. (e : Expr) (rest : Tokens) → reads e 0 (map lexeme_view tokens.now) rest
         → IsEnded rest → (view p.0 ≡ e) × (map lexeme_view p.1.now ≡ rest)) }
 
-    // The tokens up to a refused one are no expression, whatever comes after it.
+    // A refusal is that of the definition, and the tokens up to it are no expression, whatever comes after it.
     ensures refused { IfErr result (IsNoExpression (map lexeme_view tokens.now)) }
 {
     let mut machine = Machine {

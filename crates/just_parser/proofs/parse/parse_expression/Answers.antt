@@ -15,6 +15,9 @@ read c =
     let alone = ap (λ fs. reverse (map frame_view fs)) c.new.ensures.items in
     rw alone at (c.in-Ok.ensures.ok alone)
 
+pub returns-in-Ok-clause-exact : goal.returns-in-Ok-clause-exact
+returns-in-Ok-clause-exact c = rw c.rest.ensures (sym (read c))
+
 pub returns-in-Ok-clause-derived : goal.returns-in-Ok-clause-derived
 returns-in-Ok-clause-derived c =
     rw c.rest.ensures (derives_what_is_read (view c.in-Ok.expression) (map lexeme_view c.args.tokens.now) (left c.expression.new.self) (sym (read c)))

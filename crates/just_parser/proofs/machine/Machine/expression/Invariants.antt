@@ -3,7 +3,7 @@ use Rattle.just_parser.specs.Machine as machine
 use Rattle.just_parser.specs.Parsed.{goes, state_view}
 use Rattle.just_parser.proofs.machine.Machine.expression.Given as goal
 
--- what is left to read comes to the same
+-- what is left to read has the same result
 abbrev pub invariant-loop-state : goal.invariant-loop-state
 invariant-loop-state l = (goes l.self (state_view l.state) []).result ≡ (goes l.fn.self (machine.Expression 0) []).result
 
