@@ -1,7 +1,8 @@
-pub mod Tokens
-pub mod Operator
-pub mod Literal
-pub mod Grammar
-pub mod Machine
+pub mod Phrase
+pub mod Plain
+pub mod View
+pub mod Start
+pub mod Settings
+pub mod Recipes
+pub mod Items
 pub mod Parsed
-pub mod Laws

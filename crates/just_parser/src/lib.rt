@@ -1,21 +1,27 @@
-// From the tokens of a justfile to its syntax. It depends on `just_lexer`, whose tokens it reads.
+// From the text of a justfile to its items. It depends on `just_lexer` and `just_expression_parser`.
 #![tactic(auto)]
 
-mod braces;
-mod cursor;
-mod escapes;
-mod frame;
-mod interpolation;
-pub mod laws;
-mod literal;
-mod machine;
-mod marks;
-mod operator;
+mod assignment;
+mod body;
+mod dependencies;
+pub mod dependency;
+mod function;
+pub mod item;
+mod items;
+mod names;
 mod outcome;
-mod parse;
+mod parameters;
 pub mod parse_error;
-mod style;
+mod parser;
+mod parsing;
+mod recipe;
+pub mod recipe_definition;
+mod set;
+mod setting;
+mod setting_form;
+mod start;
 #[cfg(test)]
 mod tests;
+mod value;
 
-pub use parse::{parse_expression, significant};
+pub use parsing::parse;

@@ -1,21 +1,8 @@
-// What becomes of parts. The functions are generic, so that a failing part needs no code that drops an expression.
+// What becomes of parts. The functions are generic, so that a failing part needs no code that drops an item.
 
-ghost use Rattle.std.specs.Prelude.{Err, IfErr, IfOk, IsOk, IsOkAnd, IsSomeAnd, Ok, OnOk, [], ◌++◌, ◌∷◌, ◌≡◌, ◌⊎◌};
+ghost use Rattle.std.specs.Prelude.{Err, IfErr, IfNone, IfOk, IfSome, IsOk, OnOk, None, Ok, Some, [], ◌++◌, ◌∷◌, ◌≡◌};
 
 use crate::parse_error::ParseError;
-use just_syntax::out_of_memory::OutOfMemory;
-use just_syntax::stack;
-
-/// A part, or `OutOfMemory`.
-pub(crate) fn allocated<'src, T: Drop>(part: Result<T, OutOfMemory>) -> Result<T, ParseError<'src>>
-    ensures ok { IfOk result (λ made. part ≡ Ok made) }
-    ensures refused { IfErr result (λ refusal. refusal ≡ ParseError.OutOfMemory) }
-{
-    match part {
-        Ok(part) => Ok(part),
-        Err(_) => Err(ParseError::OutOfMemory),
-    }
-}
 
 /// A part, if what follows it is in order.
 pub(crate) fn followed<'src, T: Drop>(
@@ -31,55 +18,27 @@ pub(crate) fn followed<'src, T: Drop>(
     }
 }
 
-/// How many forms and operators may wait. Two of them are at most five levels of an expression: a form in the left
-/// operands of an operator of each level. So it has no more levels than the reader of cases makes, which can be
-/// dropped.
-const MOST_WAITING: usize = stack::MOST_LEVELS / 3;
+/// A part, if there is one.
+pub(crate) fn found<'src, T: Drop>(
+    part: Option<T>,
+    otherwise: ParseError<'src>,
+) -> Result<T, ParseError<'src>>
+    ensures ok { IfOk result (λ some. part ≡ Some some) }
+    ensures refused { IfErr result (λ refusal. (refusal ≡ otherwise.entry) × (part ≡ None)) }
+{
+    match part {
+        Some(part) => Ok(part),
+        None => Err(otherwise),
+    }
+}
 
-/// Adds an item at the end of those that wait.
+/// Adds an item at the end.
 pub(crate) fn pushed<'src, T: Drop>(items: &mut Vec<T>, item: T) -> Result<(), ParseError<'src>>
     ensures ok { OnOk result (items.new.items ≡ items.old.items ++ item ∷ []) }
     ensures refused { IfErr result (λ refusal. refusal ≡ ParseError.OutOfMemory) }
 {
-    if items.len() >= MOST_WAITING {
-        return Err(ParseError::OutOfMemory);
-    }
     match items.push(item) {
         Ok(()) => Ok(()),
         Err(_) => Err(ParseError::OutOfMemory),
-    }
-}
-
-/// The items with one more.
-pub(crate) fn with_item<'src, T: Drop>(
-    mut items: Vec<T>,
-    item: T,
-) -> Result<Vec<T>, ParseError<'src>>
-    ensures ok { IfOk result (λ more. more.items ≡ items.items ++ item ∷ []) }
-    ensures refused { IfErr result (λ refusal. refusal ≡ ParseError.OutOfMemory) }
-{
-    match items.push(item) {
-        Ok(()) => Ok(items),
-        Err(_) => Err(ParseError::OutOfMemory),
-    }
-}
-
-/// The start of a format string, and its pieces with one more, if that has its text.
-pub(crate) fn with_piece<'src, S: Drop, A: Drop, B: Drop>(
-    start: S,
-    pieces: Vec<(A, B)>,
-    value: A,
-    text: Result<B, ParseError<'src>>,
-) -> Result<(S, Vec<(A, B)>), ParseError<'src>>
-    ensures ok { IfOk result (λ made. (made.0 ≡ start)
-        × IsOkAnd text.entry (λ t. made.1.items ≡ pieces.items ++ (value, t) ∷ [])) }
-    ensures refused { IfErr result (λ refusal. (refusal ≡ ParseError.OutOfMemory) ⊎ (text.entry ≡ Err refusal)) }
-{
-    match text {
-        Ok(text) => match with_item(pieces, (value, text)) {
-            Ok(pieces) => Ok((start, pieces)),
-            Err(refusal) => Err(refusal),
-        },
-        Err(refusal) => Err(refusal),
     }
 }

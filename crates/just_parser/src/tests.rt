@@ -1,106 +1,234 @@
-// Texts and what they are read as.
+// Texts and their items.
 
-use crate::{parse_expression, significant};
-use just_lexer::lex;
+use crate::dependency::Dependency;
+use crate::item::Item;
+use crate::parse;
+use crate::recipe_definition::RecipeDefinition;
+use just_syntax::fragment::Fragment;
 use just_syntax::out_of_memory::OutOfMemory;
+use just_syntax::parameter_kind::ParameterKind;
 use std::alloc::Global;
 
-// Texts that are printed as they are read.
-const SAME: &[&str] = &[
-    "a",
-    "'a'",
-    "\"a\\n\"",
-    "`ls`",
-    "a && b || c",
-    "a || b && c",
-    "a + b / c ++ d",
-    "!a == b",
-    "!!a",
-    "(a || b) && c",
-    "/ a + b",
-    "a =~ b",
-    "a !~ b != c",
-    "f()",
-    "f(a, b)",
-    "f(g(a), [b])",
-    "[a, b]",
-    "[]",
-    "if a == b { c } else { d }",
-    "if a { c }",
-    "if a { b } else { if c { d } else { e } }",
-    "a + if a { c } else { d } == b",
-    "assert(a)",
-    "assert(a, b)",
-    "assert",
-    "f'a'",
-    "f'a{{b}}c{{d + e}}f'",
-];
-
-// Texts and how they are printed.
-const OTHERWISE: &[(&str, &str)] = &[
+// Texts and their items, one after another.
+const ITEMS: &[(&str, &str)] = &[
+    ("", ""),
+    ("\n\n# nothing\n", ""),
+    ("a := 'b'\n", "a := 'b'; "),
+    ("a := b + c", "a := b + c; "),
+    ("a := 'b'\n\nc := a # d\n", "a := 'b'; c := a; "),
+    ("export a := 'b'\n", "export a := 'b'; "),
+    ("eager a := 'b'\n", "eager a := 'b'; "),
+    ("export := 'b'\n", "export := 'b'; "),
+    ("a := (\n  b\n)\n", "a := (b); "),
+    ("alias a := b\n", "alias a := b; "),
+    ("unexport A\n", "unexport A; "),
+    ("f() := 'a'\n", "f() := 'a'; "),
+    ("f(a) := a + 'b'\n", "f(a, ) := a + 'b'; "),
+    ("f(a, b,) := a\n", "f(a, b, ) := a; "),
+    ("set export\n", "set export; "),
+    ("set export := false\n", "set export; "),
+    ("set shell := ['sh', '-c']\n", "set shell; "),
+    ("set tempdir := 'a' / 'b'\n", "set tempdir; "),
+    ("set minimum-version := '1.2'\n", "set minimum-version; "),
+    ("set indentation := '  '\n", "set indentation; "),
+    ("set := 'a'\n", "set := 'a'; "),
+    ("a:\n", "a:; "),
+    ("a b:", "a b:; "),
+    ("@a:\n  b\n", "@a: / b; "),
+    ("export a:\n", "export a:; "),
+    ("a b='c' $d=(e + f) *g:\n", "a b='c' $d=(e + f) *g:; "),
+    ("a +b=c:\n", "a +b=c:; "),
     (
-        "if a { b } else if c { d } else { e }",
-        "if a { b } else { if c { d } else { e } }",
+        "a: b (c 'd' e + f) && g\n",
+        "a: b() c('d', e + f, ) && g(); ",
     ),
-    ("[a, b,]", "[a, b]"),
-    ("f(a,)", "f(a)"),
-    ("a+b", "a + b"),
-    ("(\n  a # name\n)", "(a)"),
+    (
+        "a:\n\n  b {{c}} d\n\n  {{e}}\n\nf := 'g'\n",
+        "a: / b {c} d / / {e}; f := 'g'; ",
+    ),
+    ("a:\n  # b\n  c {{{{d\ne:\n", "a: / # b / c {{{{d; e:; "),
+    ("a:\n  b\n    c", "a: / b /   c; "),
 ];
 
 // Texts and what is wrong with them.
 const REFUSED: &[(&str, &str)] = &[
-    ("", "expected an expression, found the end"),
-    ("a +", "expected an expression, found the end"),
-    ("a + + b", "expected an expression, found `+`"),
-    ("(a b)", "expected ')', found `b`"),
-    ("[a b]", "expected ']', found `b`"),
-    ("[a,,b]", "expected an expression, found `,`"),
-    ("f(,)", "expected an expression, found `,`"),
-    ("f(a b)", "expected ')', found `b`"),
-    ("if", "expected an expression, found the end"),
-    ("if a", "expected '{', found the end"),
-    ("if a { b c }", "expected '}', found `c`"),
-    ("if a { b } else c", "expected '{', found `c`"),
-    ("a + if", "expected an expression, found the end"),
-    ("!if a { b }", "expected an expression, found `if`"),
-    ("assert(a b)", "expected ')', found `b`"),
-    ("assert(a, b, c)", "expected ')', found `,`"),
-    ("\"\\q\"", "invalid escape, found `\"\\q\"`"),
-    ("f\"\\q{{a}}\"", "invalid escape, found `f\"\\q{{`"),
-    ("=", "expected an expression, found `=`"),
+    ("a", "expected ':', found the end"),
+    ("[a]", "expected an item, found `[`"),
+    ("a +b c:\n", "expected ':', found `c`"),
+    ("a: (b\n", "unclosed delimiter `(`"),
+    ("a: b &&\n", "expected identifier, found `\n`"),
+    ("a: b + c\n", "expected end of line, found `+`"),
+    ("a:\n  {{b c}}\n", "expected '}}', found `c`"),
+    ("a b=+c:\n", "expected an expression, found `+`"),
+    ("a := ", "expected an expression, found the end"),
+    ("a := b c", "expected end of line, found `c`"),
+    ("a = b", "expected ':', found `=`"),
+    ("export a", "expected ':', found the end"),
+    ("alias a := b + c\n", "expected end of line, found `+`"),
+    ("f(a b) := a\n", "expected ')', found `b`"),
+    ("f(,) := a\n", "expected identifier, found `,`"),
+    ("f(a) = a\n", "expected ':=', found `=`"),
+    ("set exports\n", "unknown setting, found `exports`"),
+    (
+        "set export := 'true'\n",
+        "expected `true` or `false`, found `'true'`",
+    ),
+    (
+        "set shell := 'sh'\n",
+        "expected a list of a command and its arguments, found `'sh'`",
+    ),
+    (
+        "set shell := []\n",
+        "expected a list of a command and its arguments, found `[`",
+    ),
+    ("set shell\n", "expected ':=', found `\n`"),
+    (
+        "set minimum-version := f'1'\n",
+        "expected string, found `f'1'`",
+    ),
+    (
+        "set indentation := 'a'\n",
+        "expected a string of a tab or of spaces, found `'a'`",
+    ),
+    (
+        "import 'a'\n",
+        "imports and modules are not read, found `import`",
+    ),
+    ("mod a\n", "imports and modules are not read, found `mod`"),
+    ("a := 'b", "unterminated string"),
 ];
 
-// What comes of a text: the expression that it is, and how many tokens are left; or what is wrong with it.
+// An item, as it is written.
+fn written(alloc: Global, item: &Item) -> Result<String, OutOfMemory> {
+    Ok(match item {
+        Item::Alias { name, target } => format!(in alloc; "alias {name} := {target}; ")?,
+        Item::Assignment(assignment) => {
+            let keyword = if assignment.eager {
+                "eager "
+            } else if assignment.export {
+                "export "
+            } else {
+                ""
+            };
+            let (name, value) = (&assignment.name, &assignment.value);
+            format!(in alloc; "{keyword}{name} := {value}; ")?
+        }
+        Item::Function(function) => {
+            let (name, body) = (&function.name, &function.body);
+            let mut text = format!(in alloc; "{name}(")?;
+            for (parameter, _) in &function.parameters {
+                text.push_str(parameter.lexeme())?;
+                text.push_str(", ")?;
+            }
+            text.push_str(&format!(in alloc; ") := {body}; ")?)?;
+            text
+        }
+        Item::Recipe(recipe) => recipe_written(alloc, recipe)?,
+        Item::Set(set) => format!(in alloc; "set {}; ", set.name)?,
+        Item::Unexport { name } => format!(in alloc; "unexport {name}; ")?,
+    })
+}
+
+// A recipe, as it is written.
+fn recipe_written(alloc: Global, recipe: &RecipeDefinition) -> Result<String, OutOfMemory> {
+    let mut text = String::new(alloc);
+    if recipe.quiet {
+        text.push('@')?;
+    }
+    text.push_str(recipe.recipe.name())?;
+    for parameter in &recipe.parameters {
+        text.push_str(match parameter.kind {
+            ParameterKind::Singular => " ",
+            ParameterKind::Plus => " +",
+            ParameterKind::Star => " *",
+        })?;
+        if parameter.export {
+            text.push('$')?;
+        }
+        text.push_str(parameter.name.lexeme())?;
+        if let Some(default) = &parameter.default {
+            text.push_str(&format!(in alloc; "={default}")?)?;
+        }
+    }
+    text.push(':')?;
+    add_dependencies(alloc, &mut text, &recipe.dependencies)?;
+    if !recipe.subsequents.is_empty() {
+        text.push_str(" &&")?;
+        add_dependencies(alloc, &mut text, &recipe.subsequents)?;
+    }
+    for line in &recipe.body {
+        text.push_str(if line.fragments.is_empty() {
+            " /"
+        } else {
+            " / "
+        })?;
+        for fragment in &line.fragments {
+            match fragment {
+                Fragment::Text { token } => text.push_str(token.lexeme)?,
+                Fragment::Interpolation { expression } => {
+                    text.push_str(&format!(in alloc; "{{{expression}}}")?)?;
+                }
+            }
+        }
+    }
+    text.push_str("; ")?;
+    Ok(text)
+}
+
+// Adds dependencies with their arguments.
+fn add_dependencies(
+    alloc: Global,
+    text: &mut String,
+    all: &[Dependency],
+) -> Result<(), OutOfMemory> {
+    for dependency in all {
+        text.push(' ')?;
+        text.push_str(dependency.recipe.lexeme())?;
+        text.push('(')?;
+        for argument in &dependency.arguments {
+            text.push_str(&format!(in alloc; "{argument}, ")?)?;
+        }
+        text.push(')')?;
+    }
+    Ok(())
+}
+
+// Adds items, as they are written.
+fn add_items(alloc: Global, items: &[Item], all: &mut String) -> Result<(), OutOfMemory> {
+    for item in items {
+        all.push_str(&written(alloc, item)?)?;
+    }
+    Ok(())
+}
+
+// Adds what comes of a text: its items, or what is wrong with it.
+fn add_read(alloc: Global, all: &mut String, text: &str) -> Result<(), OutOfMemory> {
+    match parse(alloc, "justfile", text) {
+        Ok(items) => {
+            let added = add_items(alloc, &items, all);
+            drop(items);
+            added
+        }
+        Err(error) => {
+            all.push_str(&format!(in alloc; "{error}")?)?;
+            Ok(())
+        }
+    }
+}
+
+// What comes of a text.
 fn read(alloc: Global, text: &str) -> Result<String, OutOfMemory> {
-    let Ok(lexemes) = lex(alloc, "justfile", text) else {
-        return Ok(String::from_str(alloc, "no tokens")?);
-    };
-    let tokens = significant(alloc, &lexemes)?;
-    match parse_expression(alloc, &tokens) {
-        Ok((expression, rest)) => Ok(format!(in alloc; "{expression} {}", rest.len())?),
-        Err(error) => Ok(format!(in alloc; "{error}")?),
-    }
+    let mut all = String::new(alloc);
+    add_read(alloc, &mut all, text)?;
+    Ok(all)
 }
 
 #[test]
-fn printed_as_read(rt: HostRuntime) {
+fn items_of_texts(rt: HostRuntime) {
     let alloc = rt.alloc();
-    for text in SAME {
-        let printed = read(alloc, text).expect(&rt, "no memory");
-        // the end of the file is left
-        let expected = format!(in alloc; "{text} 1").expect(&rt, "no memory");
-        assert_eq!(&rt; printed, expected);
-    }
-}
-
-#[test]
-fn printed_otherwise(rt: HostRuntime) {
-    let alloc = rt.alloc();
-    for (text, expected) in OTHERWISE {
-        let printed = read(alloc, text).expect(&rt, "no memory");
-        let expected = format!(in alloc; "{expected} 1").expect(&rt, "no memory");
-        assert_eq!(&rt; printed, expected);
+    for (text, expected) in ITEMS {
+        let items = read(alloc, text).expect(&rt, "no memory");
+        assert_eq!(&rt; items.as_str(), *expected);
     }
 }
 
@@ -111,36 +239,4 @@ fn refused_at_a_token(rt: HostRuntime) {
         let said = read(alloc, text).expect(&rt, "no memory");
         assert_eq!(&rt; said.as_str(), *why);
     }
-}
-
-// Tokens that follow an expression are left.
-#[test]
-fn read_as_far_as_it_goes(rt: HostRuntime) {
-    let alloc = rt.alloc();
-    let said = read(alloc, "a b c").expect(&rt, "no memory");
-    assert_eq!(&rt; said.as_str(), "a 3");
-}
-
-// Parentheses around a name.
-fn nested(alloc: Global, levels: usize) -> Result<String, OutOfMemory> {
-    let mut text = String::new(alloc);
-    for _ in 0..levels {
-        text.push('(')?;
-    }
-    text.push('a')?;
-    for _ in 0..levels {
-        text.push(')')?;
-    }
-    Ok(text)
-}
-
-#[test]
-fn nests_up_to_a_limit(rt: HostRuntime) {
-    let alloc = rt.alloc();
-    let most = nested(alloc, 3_166).expect(&rt, "no memory");
-    let said = read(alloc, &most).expect(&rt, "no memory");
-    assert_eq!(&rt; said.len(), most.len() + 2);
-    let more = nested(alloc, 3_167).expect(&rt, "no memory");
-    let said = read(alloc, &more).expect(&rt, "no memory");
-    assert_eq!(&rt; said.as_str(), "out of memory");
 }

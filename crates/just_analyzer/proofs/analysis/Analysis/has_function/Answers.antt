@@ -1,0 +1,8 @@
+use Rattle.just_syntax.specs.View.{function_view}
+use Rattle.just_analyzer.proofs.Parts.{has_seen}
+use Rattle.just_analyzer.proofs.analysis.Analysis.has_function.Goals as goal
+
+pub returns : goal.returns
+returns c =
+    has_seen function_view (λ x. x.name.lexeme) c.args.name.token.lexeme.now c.args.self.now.justfile.functions c.has.result
+    (rw c.lexeme.ensures at c.has.ensures)

@@ -1,0 +1,37 @@
+-- What the declared types are, and what an error says.
+use Rattle.std.specs.Prelude.{◌≡◌, map, Option, Some, None}
+use Rattle.just_syntax.specs.Plain.{Token}
+use Rattle.just_syntax.specs.View.{name_view, set_view}
+use Rattle.just_host.specs.View.{justfile_view}
+use Rattle.just_parser.specs.View.{recipe_definition_view}
+use Rattle.just_analyzer.specs.Analysis as plain
+use Rattle.just_analyzer.specs.Analysis.{Faulty, Outcome}
+use Rattle.just_analyzer.specs.declared.added.Allowed.{Allowed}
+use Rattle.just_analyzer.specs.declared.alias.Alias.{Alias}
+use Rattle.just_analyzer.specs.declared.analysis.Analysis.{Analysis}
+use Rattle.just_analyzer.specs.declared.analysis_error.AnalysisError.{AnalysisError}
+use Rattle.just_analyzer.specs.declared.analysis_error.AnalysisError.TheVariants.{Fault, OutOfMemory}
+
+abbrev pub alias_view : Alias → plain.Alias
+alias_view alias = record { name = name_view alias.name; target = name_view alias.target }
+
+abbrev pub analysis_view : Analysis → plain.Analysis
+analysis_view a = record {
+  aliases = map alias_view a.aliases;
+  justfile = justfile_view a.justfile;
+  recipes = map recipe_definition_view a.recipes;
+  sets = map set_view a.sets;
+}
+
+abbrev pub allowed_view : Allowed → plain.Allowed
+allowed_view allowed = record { recipes = allowed.recipes; variables = allowed.variables }
+
+-- the token of an error, if it has one
+abbrev pub error_token : AnalysisError → Option Token
+error_token (Fault kind name) = Some (name_view name)
+error_token OutOfMemory = None
+
+-- an item does not fit, by its name; of `OutOfMemory` nothing is said
+abbrev pub IsFault : Outcome → AnalysisError → Type 0
+IsFault outcome (Fault kind name) = outcome ≡ Faulty kind (name_view name)
+IsFault outcome OutOfMemory = Unit {0}

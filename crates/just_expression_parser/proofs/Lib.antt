@@ -1,0 +1,15 @@
+pub mod Codes
+pub mod Runs
+pub mod Actions
+pub mod Starts
+pub mod Steps
+pub mod Values
+pub mod Interpolations
+pub mod Stripped
+pub mod Braced
+pub mod Unescaped
+pub mod Written
+pub mod Derived
+pub mod Sound
+pub mod Parsing
+pub mod Early

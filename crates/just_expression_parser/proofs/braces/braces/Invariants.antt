@@ -1,0 +1,15 @@
+use Rattle.std.proofs.Common.{◌≡◌, ◌++◌, length, string_bytes}
+use denote.Text.{Utf8}
+use denote.Shadow.{shadow}
+use Rattle.just_expression_parser.specs.Literal as spec
+use Rattle.just_expression_parser.proofs.braces.braces.Given as goal
+
+-- what was written, followed by what the remaining text becomes, is the whole
+abbrev pub invariant-loop-before : goal.invariant-loop-before
+invariant-loop-before l = record {
+  utf8 : shadow (Utf8 l.rest);
+  value : string_bytes l.all ++ spec.braces 0 l.rest ≡ spec.braces 0 l.text;
+}
+
+abbrev pub decreases-loop-before : goal.decreases-loop-before
+decreases-loop-before l = length l.rest

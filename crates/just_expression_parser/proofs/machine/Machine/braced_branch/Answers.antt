@@ -1,0 +1,26 @@
+use Rattle.std.proofs.Common.{[], refl, sym, ◌∷◌, arith}
+use Rattle.just_lexer.specs.declared.kind.TokenKind.TheVariants as kinds
+use Rattle.just_syntax.specs.View.{view}
+use Rattle.just_expression_parser.proofs.Actions.{expected_after}
+use Rattle.just_expression_parser.proofs.Steps.{goes_on, on_ok, refused_on, taken_mark}
+use Rattle.just_expression_parser.specs.Machine as machine
+use Rattle.just_expression_parser.specs.Parsed.{left, waiting}
+use Rattle.just_expression_parser.specs.declared.machine.Machine.{Machine}
+use Rattle.just_expression_parser.proofs.machine.Machine.braced_branch.Goals as goal
+
+-- after the brace, the branch
+pub returns-in-Ok : goal.returns-in-Ok
+returns-in-Ok c =
+    let old = c.args.self.now in
+    let new : Machine = record { alloc = old.alloc; cursor = c.expect.new.self; frames = old.frames } in
+    let less = taken_mark kinds.BraceL (left old) (left new) (on_ok c.expect.result c.in-Ok.ensures.ok.1 c.expect.ensures.ok) in
+    let read = expected_after (left old) (left new) (machine.Condition) (waiting old) (view c.args.condition) kinds.BraceL
+    (machine.Expression 0) (machine.Consequence (view c.args.condition) ∷ []) (λ t. refl) (on_ok c.expect.result c.in-Ok.ensures.ok.1 c.expect.ensures.ok) in
+    goes_on _ _ c.wait.result c.wait.new.self (sym read) (omega (arith, less)) (rw c.in-Ok.ensures.ok.0 at c.wait.ensures)
+
+pub returns-in-Err : goal.returns-in-Err
+returns-in-Err c = (
+  tt,
+  refused_on c.expect.result c.in-Err.refusal (left c.args.self.now) (machine.Condition) (waiting c.args.self.now) (view c.args.condition) kinds.BraceL
+      (machine.Expression 0) (machine.Consequence (view c.args.condition) ∷ []) c.in-Err.ensures.refused c.expect.ensures.err (λ t. refl) refl,
+)

@@ -1,0 +1,21 @@
+// From the tokens of a justfile to its syntax. It depends on `just_lexer`, whose tokens it reads.
+#![tactic(auto)]
+
+mod braces;
+pub mod cursor;
+mod escapes;
+mod frame;
+mod interpolation;
+pub mod laws;
+mod literal;
+mod machine;
+mod marks;
+mod operator;
+mod outcome;
+mod parse;
+pub mod parse_error;
+mod style;
+#[cfg(test)]
+mod tests;
+
+pub use parse::{parse_expression, parse_value, significant};

@@ -1,5 +1,0 @@
-use Rattle.just_parser.proofs.Sound.{derives_what_is_read}
-use Rattle.just_parser.proofs.laws.derives_what_is_read.Goals as goal
-
-pub returns : goal.returns
-returns c = derives_what_is_read

@@ -1,0 +1,178 @@
+-- The items of a justfile: which tokens are which item, a rule an item.
+use Rattle.std.specs.Prelude.{ℕ, Bool, true, false, List, [], ◌∷◌, Option, Some, None, option_map, codes, if◌then◌else◌}
+use Rattle.just_syntax.specs.Plain as syntax
+use Rattle.just_syntax.specs.Plain.{Assignment, Expr, Function, Interpreter, Literal, Set, Setting, Text, Token}
+use Rattle.just_syntax.specs.SettingName.{expression_named, flag_named, interpreter_named}
+use Rattle.just_lexer.specs.declared.kind.TokenKind.TheVariants as kinds
+use Rattle.just_expression_parser.specs.Parsed.{is_at_word}
+use Rattle.just_expression_parser.specs.Tokens.{Tokens, is_at}
+use Rattle.just_expression_parser.specs.declared.parse_error.Fault.TheVariants as faults
+use Rattle.just_parser.specs.Phrase.{Phrase, Read, Refused, ◌>>=◌, ◌>>◌, after, comma_unless, expected, expression}
+use Rattle.just_parser.specs.Phrase.{give, give_if, in_line, many, one, refuse, value}
+use Rattle.just_parser.specs.Plain.{Alias, Assigns, Defines, Item, Recipes, Sets, Unexports}
+use Rattle.just_parser.specs.Recipes.{recipe}
+use Rattle.just_parser.specs.Settings.{form_of, indentation_of, interpreter_of, literal_of}
+use Rattle.just_parser.specs.Start.{start_of_item}
+use Rattle.just_parser.specs.declared.parse_error.Fault.{Fault}
+use Rattle.just_parser.specs.declared.parse_error.Fault.TheVariants.{ExpectedBoolean, ExpectedCommand}
+use Rattle.just_parser.specs.declared.parse_error.Fault.TheVariants.{ExpectedIndentation, ExpectedItem, Syntax}
+use Rattle.just_parser.specs.declared.parse_error.Fault.TheVariants.{UnknownSetting}
+use Rattle.just_parser.specs.declared.parse_error.Fault.TheVariants.{Unsupported}
+use Rattle.just_parser.specs.declared.setting_form.SettingForm.{SettingForm}
+use Rattle.just_parser.specs.declared.setting_form.SettingForm.TheVariants as forms
+use Rattle.just_parser.specs.declared.start.Start.{Start}
+use Rattle.just_parser.specs.declared.start.Start.TheVariants as starts
+
+-- ---- variables and functions
+
+-- `NAME := expression`; no name has a number yet
+unfoldable pub assignment : Bool → Bool → Phrase Assignment
+assignment eager export = do
+  name ← one kinds.Identifier
+  one kinds.ColonEquals
+  value ← in_line expression
+  give (record { eager = eager; export = export; name = name; number = 0; private = false; value = value })
+
+-- a parameter of a function, with the comma after it, if it is not the last one
+unfoldable pub parameter : Phrase (List (Token × ℕ))
+parameter = do
+  name ← one kinds.Identifier
+  comma_unless kinds.ParenR
+  give ((name, 0) ∷ [])
+
+-- `NAME(PARAMETER, ..) := expression`
+unfoldable pub function : Phrase Function
+function = do
+  name ← one kinds.Identifier
+  one kinds.ParenL
+  parameters ← many (is_at 0 kinds.ParenR) parameter
+  one kinds.ParenR
+  one kinds.ColonEquals
+  body ← in_line expression
+  give (record { body = body; name = name; parameters = parameters })
+
+-- ---- settings
+
+-- what was found, if it is there; else the first of these tokens is refused
+abbrev pub found_at : {A : Type 0} → Fault → Tokens → Option A → Phrase A
+found_at fault ts None rest = Refused fault ts
+found_at fault ts (Some a) rest = Read a rest
+
+-- a value of some form; else its first token is refused
+unfoldable pub value_as : {A : Type 0} → Fault → (Expr → Option A) → Phrase A
+value_as fault form ts = after (value ts) (λ e. found_at fault ts (form e))
+
+-- `true` or `false`
+unfoldable pub boolean : Phrase Bool
+boolean ts =
+    if is_at_word (codes "true") ts then after (one kinds.Identifier ts) (λ word. give true) else
+    if is_at_word (codes "false") ts then after (one kinds.Identifier ts) (λ word. give false) else
+    Refused ExpectedBoolean ts
+
+-- `:= true` or `:= false`; without a value, a setting is on
+unfoldable pub flag : Phrase Bool
+flag ts = if is_at 0 kinds.ColonEquals ts then after (one kinds.ColonEquals ts) (λ mark. boolean) else Read true ts
+
+-- `:=` and something
+abbrev pub given : {A : Type 0} → Phrase A → Phrase A
+given phrase = one kinds.ColonEquals >> phrase
+
+-- the indentation of recipes, by the token of its string
+unfoldable pub indentation : Phrase Setting
+indentation [] = Refused (Syntax faults.ExpectedExpression) []
+indentation (t ∷ ts) =
+    after (value_as ExpectedIndentation indentation_of (t ∷ ts)) (λ i. give (syntax.Indentation t.token i))
+
+-- the value of the setting of this name
+unfoldable pub setting : SettingForm → Text → Phrase Setting
+setting forms.Expression name = do
+  e ← given expression
+  give_if UnknownSetting (expression_named name e)
+setting forms.Flag name = do
+  on ← flag
+  give_if UnknownSetting (flag_named name on)
+setting forms.Indentation name = given indentation
+setting forms.Interpreter name = do
+  i ← given (value_as ExpectedCommand interpreter_of)
+  give_if UnknownSetting (interpreter_named name i)
+setting forms.Version name = do
+  literal ← given (value_as (expected kinds.StringToken) literal_of)
+  give (syntax.MinimumVersion literal)
+
+-- the name of a setting, with the form of value that it takes; else it is refused
+unfoldable pub setting_name : Phrase (Token × SettingForm)
+setting_name ts =
+    after (one kinds.Identifier ts)
+    (λ name. found_at UnknownSetting ts (option_map (λ form. (name, form)) (form_of name.lexeme)))
+
+-- `set NAME`, or `set NAME := value`
+unfoldable pub set : Phrase Set
+set = do
+  one kinds.Identifier
+  named ← setting_name
+  value ← in_line (setting named.1 named.0.lexeme)
+  give (record { name = named.0; value = value })
+
+-- ---- all items
+
+-- `alias NAME := TARGET`
+unfoldable pub alias : Phrase Item
+alias = do
+  one kinds.Identifier
+  name ← one kinds.Identifier
+  one kinds.ColonEquals
+  target ← in_line (one kinds.Identifier)
+  give (Alias name target)
+
+-- `unexport NAME`
+unfoldable pub unexport : Phrase Item
+unexport = do
+  one kinds.Identifier
+  name ← in_line (one kinds.Identifier)
+  give (Unexports name)
+
+-- an assignment, with these keywords before it
+abbrev pub assigns : Bool → Bool → Phrase Item
+assigns eager export = do
+  a ← assignment eager export
+  give (Assigns a)
+
+-- a keyword, and something
+abbrev pub after_keyword : {A : Type 0} → Phrase A → Phrase A
+after_keyword phrase = one kinds.Identifier >> phrase
+
+-- an item that begins so
+unfoldable pub item_of : Start → Phrase Item
+item_of starts.Alias = alias
+item_of starts.Assignment = assigns false false
+item_of starts.Eager = after_keyword (assigns true false)
+item_of starts.Export = after_keyword (assigns false true)
+item_of starts.Function = do
+  f ← function
+  give (Defines f)
+item_of starts.Other = refuse ExpectedItem
+item_of starts.Recipe = do
+  r ← recipe
+  give (Recipes r)
+item_of starts.Set = do
+  s ← set
+  give (Sets s)
+item_of starts.Unexport = unexport
+item_of starts.Unsupported = refuse Unsupported
+
+-- an item
+unfoldable pub item : Phrase Item
+item ts = item_of (start_of_item ts) ts
+
+-- an item, or an empty line
+unfoldable pub line : Phrase (List Item)
+line ts =
+    if is_at 0 kinds.Eol ts then after (one kinds.Eol ts) (λ end. give [])
+    else after (item ts) (λ i. give (i ∷ []))
+
+-- the items of a file, up to its end
+unfoldable pub items : Phrase (List Item)
+items = do
+  all ← many (is_at 0 kinds.Eof) line
+  one kinds.Eof
+  give all

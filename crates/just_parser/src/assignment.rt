@@ -1,0 +1,54 @@
+// Variables.
+
+ghost use Rattle.std.specs.Prelude.{IfErr, IfOk, ◌≡◌};
+ghost use Rattle.just_syntax.specs.View.{assignment_view, view};
+ghost use Rattle.just_parser.specs.Items.{assignment};
+ghost use Rattle.just_parser.specs.Parsed.{IsRefused, left};
+ghost use Rattle.just_parser.specs.Phrase.{Read, expression, in_line};
+
+use crate::outcome::followed;
+use crate::parse_error::ParseError;
+use crate::parser::Parser;
+use just_lexer::kind::TokenKind;
+use just_syntax::assignment::Assignment;
+use just_syntax::expression::Expression;
+use just_syntax::number::Number;
+
+impl<'src> Parser<'_, 'src> {
+    /// `NAME := expression`, after its keywords. The variable has the number 0.
+    #[tactic(auto, unfolding(crate::specs::Items::assignment))]
+    pub(crate) fn assignment(
+        &mut self,
+        eager: bool,
+        export: bool,
+    ) -> Result<Assignment<'src>, ParseError<'src>>
+        ensures ok { IfOk result
+            (λ a. assignment eager export (left self.old) ≡ Read (assignment_view a) (left self.new)) }
+        ensures refused { IfErr result (IsRefused (assignment eager export (left self.old))) }
+    {
+        let name = self.name()?;
+        self.one(TokenKind::ColonEquals)?;
+        match self.expression_in_line() {
+            Ok(value) => Ok(Assignment {
+                eager,
+                export,
+                name,
+                number: Number::new(0),
+                private: false,
+                value,
+            }),
+            Err(refusal) => Err(refusal),
+        }
+    }
+
+    /// An expression, and the end of its line.
+    pub(crate) fn expression_in_line(&mut self) -> Result<Expression<'src>, ParseError<'src>>
+        ensures ok { IfOk result (λ e. in_line expression (left self.old) ≡ Read (view e) (left self.new)) }
+        ensures refused { IfErr result (IsRefused (in_line expression (left self.old))) }
+    {
+        match self.expression() {
+            Ok(expression) => followed(expression, self.line_end()),
+            Err(refusal) => Err(refusal),
+        }
+    }
+}

@@ -1,0 +1,130 @@
+// Items, one after another.
+
+ghost use Rattle.std.specs.Prelude.{IfErr, IfOk, OnOk, map, ◌≡◌};
+ghost use Rattle.just_expression_parser.specs.Tokens.{is_at};
+ghost use Rattle.just_lexer.specs.declared.kind.TokenKind.TheVariants as kinds;
+ghost use Rattle.just_parser.specs.Items.{after_keyword, assigns, item, item_of, items, line};
+ghost use Rattle.just_parser.specs.Parsed.{IsRefused, left};
+ghost use Rattle.just_parser.specs.Phrase.{Read, many, one, prepended};
+ghost use Rattle.just_syntax.specs.Plain.{Token};
+ghost use Rattle.just_parser.specs.View.{item_view};
+
+use crate::item::Item;
+use crate::outcome::{followed, pushed};
+use crate::parse_error::{Fault, ParseError};
+use crate::parser::Parser;
+use crate::start::{Start, start_of_item};
+use just_lexer::kind::TokenKind;
+
+impl<'src> Parser<'_, 'src> {
+    /// The items of a file, up to its end.
+    #[tactic(auto, unfolding(crate::specs::Items::items))]
+    pub(crate) fn items(&mut self) -> Result<Vec<Item<'src>>, ParseError<'src>>
+        ensures ok { IfOk result (λ all. items (left self.old) ≡ Read (map item_view all.items) (left self.new)) }
+        ensures refused { IfErr result (IsRefused (items (left self.old))) }
+    {
+        let mut all = Vec::new(self.alloc);
+        let filled = self.lines(&mut all);
+        match followed(all, filled) {
+            Ok(all) => followed(all, self.file_end()),
+            Err(refusal) => Err(refusal),
+        }
+    }
+
+    // The end of the file.
+    fn file_end(&mut self) -> Result<(), ParseError<'src>>
+        ensures ok { OnOk result ((end : Token) × (one kinds.Eof (left self.old) ≡ Read end (left self.new))) }
+        ensures refused { IfErr result (IsRefused (one kinds.Eof (left self.old))) }
+    {
+        match self.one(TokenKind::Eof) {
+            Ok(_) => Ok(()),
+            Err(refusal) => Err(refusal),
+        }
+    }
+
+    // Items and empty lines, up to the end of the file.
+    fn lines(&mut self, into: &mut Vec<Item<'src>>) -> Result<(), ParseError<'src>>
+        ensures ok { OnOk result (prepended (map item_view into.old.items)
+            (many (is_at 0 kinds.Eof) line (left self.old)) ≡ Read (map item_view into.new.items) (left self.new)) }
+        ensures refused { IfErr result (IsRefused (many (is_at 0 kinds.Eof) line (left self.old))) }
+    {
+        for _ in 0..self.cursor.rest().len() {
+            if self.cursor.is_at(0, TokenKind::Eof) {
+                return Ok(());
+            }
+            self.line(into)?;
+        }
+        Ok(())
+    }
+
+    // An item, or an empty line.
+    #[tactic(auto, unfolding(crate::specs::Items::line))]
+    fn line(&mut self, into: &mut Vec<Item<'src>>) -> Result<(), ParseError<'src>>
+        ensures ok { OnOk result (prepended (map item_view into.old.items) (line (left self.old))
+            ≡ Read (map item_view into.new.items) (left self.new)) }
+        ensures refused { IfErr result (IsRefused (line (left self.old))) }
+    {
+        if self.cursor.is_at(0, TokenKind::Eol) {
+            self.one(TokenKind::Eol)?;
+            return Ok(());
+        }
+        match self.item() {
+            Ok(item) => pushed(into, item),
+            Err(refusal) => Err(refusal),
+        }
+    }
+
+    // An item.
+    #[tactic(auto, unfolding(crate::specs::Items::item, crate::specs::Items::item_of))]
+    fn item(&mut self) -> Result<Item<'src>, ParseError<'src>>
+        ensures ok { IfOk result (λ i. item (left self.old) ≡ Read (item_view i) (left self.new)) }
+        ensures refused { IfErr result (IsRefused (item (left self.old))) }
+    {
+        match start_of_item(&self.cursor) {
+            Start::Alias => self.alias(),
+            Start::Assignment => self.assigned(false, false),
+            Start::Eager => self.assigned_after_keyword(true, false),
+            Start::Export => self.assigned_after_keyword(false, true),
+            Start::Function => match self.function() {
+                Ok(function) => Ok(Item::Function(function)),
+                Err(refusal) => Err(refusal),
+            },
+            Start::Other => Err(self.unexpected(Fault::ExpectedItem)),
+            Start::Recipe => match self.recipe() {
+                Ok(recipe) => Ok(Item::Recipe(recipe)),
+                Err(refusal) => Err(refusal),
+            },
+            Start::Set => match self.set() {
+                Ok(set) => Ok(Item::Set(set)),
+                Err(refusal) => Err(refusal),
+            },
+            Start::Unexport => self.unexport(),
+            Start::Unsupported => Err(self.unexpected(Fault::Unsupported)),
+        }
+    }
+
+    // A keyword and an assignment.
+    fn assigned_after_keyword(
+        &mut self,
+        eager: bool,
+        export: bool,
+    ) -> Result<Item<'src>, ParseError<'src>>
+        ensures ok { IfOk result (λ i. after_keyword (assigns eager export) (left self.old)
+            ≡ Read (item_view i) (left self.new)) }
+        ensures refused { IfErr result (IsRefused (after_keyword (assigns eager export) (left self.old))) }
+    {
+        self.name()?;
+        self.assigned(eager, export)
+    }
+
+    // An assignment, as an item.
+    fn assigned(&mut self, eager: bool, export: bool) -> Result<Item<'src>, ParseError<'src>>
+        ensures ok { IfOk result (λ i. assigns eager export (left self.old) ≡ Read (item_view i) (left self.new)) }
+        ensures refused { IfErr result (IsRefused (assigns eager export (left self.old))) }
+    {
+        match self.assignment(eager, export) {
+            Ok(assignment) => Ok(Item::Assignment(assignment)),
+            Err(refusal) => Err(refusal),
+        }
+    }
+}

@@ -1,0 +1,62 @@
+// `set` statements.
+
+ghost use Rattle.std.specs.Prelude.{IfErr, IfOk, ◌≡◌};
+ghost use Rattle.just_syntax.specs.View.{name_view, set_view, setting_view};
+ghost use Rattle.just_parser.specs.Items.{set, setting, setting_name};
+ghost use Rattle.just_parser.specs.Parsed.{IsRefused, left};
+ghost use Rattle.just_parser.specs.Phrase.{Read, in_line};
+
+use crate::outcome::followed;
+use crate::parse_error::{Fault, ParseError};
+use crate::parser::Parser;
+use crate::setting_form::{SettingForm, form_of};
+use just_syntax::name::Name;
+use just_syntax::set::Set;
+use just_syntax::setting::Setting;
+
+impl<'src> Parser<'_, 'src> {
+    /// `set NAME`, or `set NAME := value`.
+    #[tactic(auto, unfolding(crate::specs::Items::set))]
+    pub(crate) fn set(&mut self) -> Result<Set<'src>, ParseError<'src>>
+        ensures ok { IfOk result (λ s. set (left self.old) ≡ Read (set_view s) (left self.new)) }
+        ensures refused { IfErr result (IsRefused (set (left self.old))) }
+    {
+        self.name()?;
+        let (name, form) = self.setting_name()?;
+        match self.setting_in_line(form, name) {
+            Ok(value) => Ok(Set { name, value }),
+            Err(refusal) => Err(refusal),
+        }
+    }
+
+    // The name of a setting, with the form of value that it takes.
+    #[tactic(auto, unfolding(crate::specs::Items::setting_name))]
+    fn setting_name(&mut self) -> Result<(Name<'src>, SettingForm), ParseError<'src>>
+        ensures ok { IfOk result (λ p. setting_name (left self.old) ≡ Read (name_view p.0, p.1) (left self.new)) }
+        ensures refused { IfErr result (IsRefused (setting_name (left self.old))) }
+    {
+        let otherwise = self.unexpected(Fault::UnknownSetting);
+        let name = self.name()?;
+        match form_of(name.lexeme()) {
+            Some(form) => Ok((name, form)),
+            None => Err(otherwise),
+        }
+    }
+
+    // The value of the setting of a name, and the end of its line.
+    fn setting_in_line(
+        &mut self,
+        form: SettingForm,
+        name: Name<'src>,
+    ) -> Result<Setting<'src>, ParseError<'src>>
+        ensures ok { IfOk result (λ s. in_line (setting form name.entry.token.lexeme.now) (left self.old)
+            ≡ Read (setting_view s) (left self.new)) }
+        ensures refused { IfErr result
+            (IsRefused (in_line (setting form name.entry.token.lexeme.now) (left self.old))) }
+    {
+        match self.setting(form, name.lexeme()) {
+            Ok(value) => followed(value, self.line_end()),
+            Err(refusal) => Err(refusal),
+        }
+    }
+}
