@@ -7,8 +7,8 @@ use Rattle.just_lexer.specs.declared.kind.TokenKind.TheVariants as kinds
 use Rattle.just_expression_parser.specs.Parsed.{is_at_word}
 use Rattle.just_expression_parser.specs.Tokens.{Tokens, is_at}
 use Rattle.just_expression_parser.specs.declared.parse_error.Fault.TheVariants as faults
-use Rattle.just_parser.specs.Phrase.{Phrase, Read, Refused, ◌>>=◌, ◌>>◌, after, comma_unless, expected, expression}
-use Rattle.just_parser.specs.Phrase.{give, give_if, in_line, many, one, refuse, value}
+use Rattle.just_parser.specs.Phrase.{Phrase, Read, Refused, ◌>>=◌, ◌>>◌, accepted, after, comma_unless, expected}
+use Rattle.just_parser.specs.Phrase.{expression, give, give_if, in_line, many, one, refuse, value}
 use Rattle.just_parser.specs.Plain.{Alias, Assigns, Defines, Item, Recipes, Sets, Unexports}
 use Rattle.just_parser.specs.Recipes.{recipe}
 use Rattle.just_parser.specs.Settings.{form_of, indentation_of, interpreter_of, literal_of}
@@ -170,9 +170,10 @@ line ts =
     if is_at 0 kinds.Eol ts then after (one kinds.Eol ts) (λ end. give [])
     else after (item ts) (λ i. give (i ∷ []))
 
--- the items of a file, up to its end
+-- the items of a file, up to its end; a byte order mark may come first
 unfoldable pub items : Phrase (List Item)
 items = do
+  accepted kinds.ByteOrderMark
   all ← many (is_at 0 kinds.Eof) line
   one kinds.Eof
   give all

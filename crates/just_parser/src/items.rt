@@ -17,12 +17,13 @@ use crate::start::{Start, start_of_item};
 use just_lexer::kind::TokenKind;
 
 impl<'src> Parser<'_, 'src> {
-    /// The items of a file, up to its end.
+    /// The items of a file, up to its end. A byte order mark may come first.
     #[tactic(auto, unfolding(crate::specs::Items::items))]
     pub(crate) fn items(&mut self) -> Result<Vec<Item<'src>>, ParseError<'src>>
         ensures ok { IfOk result (λ all. items (left self.old) ≡ Read (map item_view all.items) (left self.new)) }
         ensures refused { IfErr result (IsRefused (items (left self.old))) }
     {
+        self.accepted(TokenKind::ByteOrderMark)?;
         let mut all = Vec::new(self.alloc);
         let filled = self.lines(&mut all);
         match followed(all, filled) {

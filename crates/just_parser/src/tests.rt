@@ -14,6 +14,7 @@ const ITEMS: &[(&str, &str)] = &[
     ("", ""),
     ("\n\n# nothing\n", ""),
     ("a := 'b'\n", "a := 'b'; "),
+    ("\u{feff}a := 'b'\r\n", "a := 'b'; "),
     ("a := b + c", "a := b + c; "),
     ("a := 'b'\n\nc := a # d\n", "a := 'b'; c := a; "),
     ("export a := 'b'\n", "export a := 'b'; "),
