@@ -1,9 +1,13 @@
 // From the tokens of a justfile to its syntax. It depends on `just_lexer`, whose tokens it reads.
 #![tactic(auto)]
 
+mod assertion;
 mod braces;
+mod conditional;
 pub mod cursor;
+mod elements;
 mod escapes;
+mod format_string;
 mod frame;
 mod interpolation;
 pub mod laws;

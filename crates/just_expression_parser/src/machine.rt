@@ -1,33 +1,28 @@
 // Reads expressions. The forms that are read in part wait in a list, so that reading takes no stack.
 
-ghost use Rattle.std.specs.Prelude.{Err, IfErr, IfNone, IfOk, IfSome, IsOkAnd, List, [], codes, false, map, option_map};
-ghost use Rattle.std.specs.Prelude.{◌++◌, ◌∷◌, ◌<◌, ◌≡◌, ◌≤◌, ◌⊎◌};
-ghost use Rattle.just_syntax.specs.Plain.{Expr};
-ghost use Rattle.just_syntax.specs.View.{conditional, literal_view, name_view, piece_view, token_view, view};
+ghost use Rattle.std.specs.Prelude.{Err, IfErr, IfNone, IfOk, IfSome, IsOkAnd, [], codes, false};
+ghost use Rattle.std.specs.Prelude.{◌∷◌, ◌<◌, ◌≡◌, ◌≤◌, ◌⊎◌};
+ghost use Rattle.just_syntax.specs.View.{name_view, token_view, view};
 ghost use Rattle.just_lexer.specs.declared.kind.TokenKind.TheVariants as kinds;
 ghost use Rattle.just_expression_parser.specs.Machine as machine;
 ghost use Rattle.just_expression_parser.specs.Operator.{applied};
 ghost use Rattle.just_expression_parser.specs.Parsed.{GoesOn, IsNoOperator, IsNotAt, IsPending, is_at_word};
-ghost use Rattle.just_expression_parser.specs.Parsed.{IsRefusalOf};
-ghost use Rattle.just_expression_parser.specs.Parsed.{IsRefused, TakesOperator, form_view};
-ghost use Rattle.just_expression_parser.specs.Parsed.{frame_view, goes, goes_at, left, state_view, style_view, waiting};
-ghost use Rattle.just_expression_parser.specs.Parsed.{waits};
+ghost use Rattle.just_expression_parser.specs.Parsed.{IsRefusalOf, IsRefused, TakesOperator};
+ghost use Rattle.just_expression_parser.specs.Parsed.{frame_view, goes, goes_at, left, state_view, waiting, waits};
 ghost use Rattle.just_expression_parser.specs.Tokens.{lexeme};
 ghost use Rattle.just_expression_parser.specs.declared.parse_error.Fault.TheVariants.{ExpectedExpression};
 
+use crate::conditional::conditional;
 use crate::cursor::Cursor;
 use crate::frame::{Elements, Frame, State};
-use crate::interpolation::last_text;
-use crate::literal::{backtick, middle_of_format, start_of_format, string};
+use crate::literal::{backtick, string};
 use crate::operator::{OR, Operator, SUM, VALUE, operator_at};
-use crate::outcome::{allocated, followed, pushed, with_item, with_piece};
+use crate::outcome::{allocated, followed, pushed};
 use crate::parse_error::{Fault, ParseError};
-use crate::style::Style;
 use just_lexer::kind::TokenKind;
 use just_syntax::expression::Expression;
 use just_syntax::name::Name;
 use just_syntax::out_of_memory::OutOfMemory;
-use just_syntax::string_literal::StringLiteral;
 use just_syntax::token::Token;
 use std::alloc::Global;
 
@@ -127,8 +122,8 @@ impl<'src> Machine<'_, 'src> {
         }
     }
 
-    // Waits in a frame for what is read next.
-    fn wait(
+    /// Waits in a frame for what is read next.
+    pub(crate) fn wait(
         &mut self,
         frame: Frame<'src>,
         state: State<'src>,
@@ -138,8 +133,8 @@ impl<'src> Machine<'_, 'src> {
         followed(state, pushed(&mut self.frames, frame))
     }
 
-    // Waits in two frames, of which the second is the inner one, for what is read next.
-    fn wait_twice(
+    /// Waits in two frames, of which the second is the inner one, for what is read next.
+    pub(crate) fn wait_twice(
         &mut self,
         outer: Frame<'src>,
         inner: Frame<'src>,
@@ -256,231 +251,6 @@ impl<'src> Machine<'_, 'src> {
         }
     }
 
-    // The text of a format string up to its first interpolation, after its token.
-    fn format_string(&mut self, token: Token<'src>) -> Result<State<'src>, ParseError<'src>>
-        ensures { GoesOn (goes_at (lexeme kinds.FormatStringStart (token_view token.entry)) self.old machine.Value)
-            result self.new }
-    {
-        match start_of_format(self.alloc, token) {
-            Ok(start) => self.wait(
-                Frame::Interpolation {
-                    start,
-                    pieces: Vec::new(self.alloc),
-                    style: Style::of_format(token.lexeme),
-                },
-                State::Expression(OR),
-            ),
-            Err(refusal) => Err(refusal),
-        }
-    }
-
-    // An element, or the end of the elements.
-    fn elements(
-        &mut self,
-        form: Elements<'src>,
-        elements: Vec<Expression<'src>>,
-    ) -> Result<State<'src>, ParseError<'src>>
-        ensures { GoesOn (goes self.old (machine.Elements (form_view form.entry) (map view elements.entry.items)) [])
-            result self.new }
-    {
-        match self.cursor.take(form.close()) {
-            Some(_) => Ok(State::Done(form.with(elements))),
-            None => self.wait(Frame::Elements { form, elements }, State::Expression(OR)),
-        }
-    }
-
-    // After an element, a comma or the end of the elements.
-    fn after_element(
-        &mut self,
-        form: Elements<'src>,
-        elements: Vec<Expression<'src>>,
-        element: Expression<'src>,
-    ) -> Result<State<'src>, ParseError<'src>>
-        ensures { GoesOn (goes self.old (machine.Done (view element.entry))
-            (machine.Element (form_view form.entry) (map view elements.entry.items) ∷ [])) result self.new }
-    {
-        match with_item(elements, element) {
-            Ok(elements) => self.more_elements(form, elements),
-            Err(refusal) => Err(refusal),
-        }
-    }
-
-    // After elements, a comma or their end.
-    fn more_elements(
-        &mut self,
-        form: Elements<'src>,
-        elements: Vec<Expression<'src>>,
-    ) -> Result<State<'src>, ParseError<'src>>
-        ensures { (es : List Expr) (e : Expr) → map view elements.entry.items ≡ es ++ e ∷ []
-            → GoesOn (goes self.old (machine.Done e) (machine.Element (form_view form.entry) es ∷ [])) result self.new }
-    {
-        match self.cursor.take(form.close()) {
-            Some(_) => Ok(State::Done(form.with(elements))),
-            None => match followed(elements, self.cursor.expect_comma(form.close())) {
-                Ok(elements) => Ok(State::Elements { form, elements }),
-                Err(refusal) => Err(refusal),
-            },
-        }
-    }
-
-    // After the contents, the closing parenthesis.
-    fn after_contents(
-        &mut self,
-        contents: Expression<'src>,
-    ) -> Result<State<'src>, ParseError<'src>>
-        ensures { GoesOn (goes self.old (machine.Done (view contents.entry)) (machine.Group ∷ [])) result self.new }
-    {
-        match followed(contents, self.cursor.expect(TokenKind::ParenR)) {
-            Ok(contents) => done(allocated(Expression::group(self.alloc, contents))),
-            Err(refusal) => Err(refusal),
-        }
-    }
-
-    // After a condition, the brace of its branch.
-    fn braced_branch(
-        &mut self,
-        condition: Expression<'src>,
-    ) -> Result<State<'src>, ParseError<'src>>
-        ensures { GoesOn (goes self.old (machine.Done (view condition.entry)) (machine.Condition ∷ [])) result
-            self.new }
-    {
-        match followed(condition, self.cursor.expect(TokenKind::BraceL)) {
-            Ok(condition) => self.wait(Frame::Consequence { condition }, State::Expression(OR)),
-            Err(refusal) => Err(refusal),
-        }
-    }
-
-    // After a branch, its brace.
-    fn after_consequence(
-        &mut self,
-        condition: Expression<'src>,
-        consequence: Expression<'src>,
-    ) -> Result<State<'src>, ParseError<'src>>
-        ensures { GoesOn (goes self.old (machine.Done (view consequence.entry))
-            (machine.Consequence (view condition.entry) ∷ [])) result self.new }
-    {
-        match followed(
-            (condition, consequence),
-            self.cursor.expect(TokenKind::BraceR),
-        ) {
-            Ok((condition, consequence)) => Ok(State::Otherwise {
-                condition,
-                consequence,
-            }),
-            Err(refusal) => Err(refusal),
-        }
-    }
-
-    // `else`, if there is another branch.
-    fn otherwise(
-        &mut self,
-        condition: Expression<'src>,
-        consequence: Expression<'src>,
-    ) -> Result<State<'src>, ParseError<'src>>
-        ensures { GoesOn (goes self.old (machine.Else (view condition.entry) (view consequence.entry)) []) result
-            self.new }
-    {
-        if self.cursor.take_word("else") {
-            Ok(State::Branch {
-                condition,
-                consequence,
-            })
-        } else {
-            conditional(self.alloc, condition, consequence, None)
-        }
-    }
-
-    // The other branch, after `else`.
-    fn branch(
-        &mut self,
-        condition: Expression<'src>,
-        consequence: Expression<'src>,
-    ) -> Result<State<'src>, ParseError<'src>>
-        ensures { GoesOn (goes self.old (machine.Branch (view condition.entry) (view consequence.entry)) []) result
-            self.new }
-    {
-        if self.cursor.take_word("if") {
-            let frame = Frame::ElseIf {
-                condition,
-                consequence,
-            };
-            return self.wait_twice(frame, Frame::Condition, State::Expression(OR));
-        }
-        match followed(
-            (condition, consequence),
-            self.cursor.expect(TokenKind::BraceL),
-        ) {
-            Ok((condition, consequence)) => self.wait(
-                Frame::Otherwise {
-                    condition,
-                    consequence,
-                },
-                State::Expression(OR),
-            ),
-            Err(refusal) => Err(refusal),
-        }
-    }
-
-    // After the other branch, its brace.
-    fn after_branch(
-        &mut self,
-        condition: Expression<'src>,
-        consequence: Expression<'src>,
-        otherwise: Expression<'src>,
-    ) -> Result<State<'src>, ParseError<'src>>
-        ensures { GoesOn (goes self.old (machine.Done (view otherwise.entry))
-            (machine.Otherwise (view condition.entry) (view consequence.entry) ∷ [])) result self.new }
-    {
-        let parts = (condition, consequence, otherwise);
-        match followed(parts, self.cursor.expect(TokenKind::BraceR)) {
-            Ok((condition, consequence, otherwise)) => {
-                conditional(self.alloc, condition, consequence, Some(otherwise))
-            }
-            Err(refusal) => Err(refusal),
-        }
-    }
-
-    // After the condition of an assertion, a comma and a message, or the parenthesis.
-    fn after_condition(
-        &mut self,
-        name: Name<'src>,
-        condition: Expression<'src>,
-    ) -> Result<State<'src>, ParseError<'src>>
-        ensures { GoesOn (goes self.old (machine.Done (view condition.entry))
-            (machine.Assertion (name_view name.entry) ∷ [])) result self.new }
-    {
-        match self.cursor.take(TokenKind::Comma) {
-            Some(_) => self.wait(Frame::Message { condition, name }, State::Expression(OR)),
-            None => match followed(condition, self.cursor.expect(TokenKind::ParenR)) {
-                Ok(condition) => {
-                    done(allocated(Expression::assert(self.alloc, name, condition, None)))
-                }
-                Err(refusal) => Err(refusal),
-            },
-        }
-    }
-
-    // After the message of an assertion, the parenthesis.
-    fn after_message(
-        &mut self,
-        name: Name<'src>,
-        condition: Expression<'src>,
-        message: Expression<'src>,
-    ) -> Result<State<'src>, ParseError<'src>>
-        ensures { GoesOn (goes self.old (machine.Done (view message.entry))
-            (machine.Message (view condition.entry) (name_view name.entry) ∷ [])) result self.new }
-    {
-        match followed((condition, message), self.cursor.expect(TokenKind::ParenR)) {
-            Ok((condition, message)) => done(allocated(Expression::assert(
-                self.alloc,
-                name,
-                condition,
-                Some(message),
-            ))),
-            Err(refusal) => Err(refusal),
-        }
-    }
-
     // After an operand, an operator between these levels, if there is one.
     fn operators(
         &mut self,
@@ -531,61 +301,10 @@ impl<'src> Machine<'_, 'src> {
             None => None,
         }
     }
-
-    // After an interpolation, the text up to the next one, or up to the end.
-    fn after_interpolation(
-        &mut self,
-        start: StringLiteral<'src>,
-        pieces: Vec<(Expression<'src>, StringLiteral<'src>)>,
-        style: Style,
-        value: Expression<'src>,
-    ) -> Result<State<'src>, ParseError<'src>>
-        ensures { GoesOn (goes self.old (machine.Done (view value.entry))
-            (machine.Interpolation (literal_view start.entry) (map piece_view pieces.entry.items) (style_view style) ∷
-            [])) result self.new }
-    {
-        match self.cursor.take(TokenKind::FormatStringContinue) {
-            Some(token) => {
-                let text = middle_of_format(self.alloc, style, token);
-                match with_piece(start, pieces, value, text) {
-                    Ok((start, pieces)) => self.wait(
-                        Frame::Interpolation {
-                            start,
-                            pieces,
-                            style,
-                        },
-                        State::Expression(OR),
-                    ),
-                    Err(refusal) => Err(refusal),
-                }
-            }
-            None => self.after_last_interpolation(start, pieces, style, value),
-        }
-    }
-
-    // After the last interpolation, the text up to the end.
-    fn after_last_interpolation(
-        &mut self,
-        start: StringLiteral<'src>,
-        pieces: Vec<(Expression<'src>, StringLiteral<'src>)>,
-        style: Style,
-        value: Expression<'src>,
-    ) -> Result<State<'src>, ParseError<'src>>
-        ensures { IsNotAt kinds.FormatStringContinue (left self.old) → GoesOn
-            (goes self.old (machine.Done (view value.entry))
-            (machine.Interpolation (literal_view start.entry) (map piece_view pieces.entry.items) (style_view style) ∷
-            [])) result self.new }
-    {
-        let text = last_text(self.alloc, &mut self.cursor, style);
-        match with_piece(start, pieces, value, text) {
-            Ok((start, pieces)) => Ok(State::Done(Expression::format_string(start, pieces))),
-            Err(refusal) => Err(refusal),
-        }
-    }
 }
 
-// The expression is read, if it is there.
-fn done<'src>(
+/// The expression is read, if it is there.
+pub(crate) fn done<'src>(
     expression: Result<Expression<'src>, ParseError<'src>>,
 ) -> Result<State<'src>, ParseError<'src>>
     ensures ok { IfOk result (λ s. IsOkAnd expression.entry (λ e. s ≡ State.Done e)) }
@@ -595,20 +314,6 @@ fn done<'src>(
         Ok(expression) => Ok(State::Done(expression)),
         Err(refusal) => Err(refusal),
     }
-}
-
-// A conditional is read.
-fn conditional<'src>(
-    alloc: Global,
-    condition: Expression<'src>,
-    consequence: Expression<'src>,
-    otherwise: Option<Expression<'src>>,
-) -> Result<State<'src>, ParseError<'src>>
-    ensures ok { IfOk result (λ s. state_view s ≡ machine.Done (conditional (view condition.entry)
-        (view consequence.entry) (option_map view otherwise.entry))) }
-    ensures refused { IfErr result (λ refusal. refusal ≡ ParseError.OutOfMemory) }
-{
-    done(allocated(Expression::conditional(alloc, condition, consequence, otherwise)))
 }
 
 // Two expressions with an operator between them.

@@ -35,7 +35,7 @@ parameter kind = do
     value = None;
   } ∷ [])
 
--- no parameter begins without `+` and `*`
+-- no parameter begins that takes one argument
 abbrev pub is_after_parameters : Tokens → Bool
 is_after_parameters ts = not (is_at 0 kinds.Identifier ts || is_at 0 kinds.Dollar ts)
 
