@@ -53,7 +53,7 @@ another : {A : Type 0} (n : ℕ) (ends : Tokens → Bool) (phrase : Phrase (List
 unfolding repeated
 another n ends phrase ts is = rw is refl
 
--- the phrase is there once more
+-- the phrase is there again
 pub turned : {A : Type 0} (n i : ℕ) (ends : Tokens → Bool) (phrase : Phrase (List A)) (front all : List A) (ts rest : Tokens)
     → i < n → ends ts ≡ false → prepended front (phrase ts) ≡ Read all rest
     → prepended all (repeated (n - (i + 1)) ends phrase rest) ≡ prepended front (repeated (n - i) ends phrase ts)
