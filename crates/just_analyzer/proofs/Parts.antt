@@ -1,13 +1,17 @@
 -- Parts, and one more.
-use Rattle.std.specs.Prelude.{◌≡◌, ◌||◌, ◌&&◌, not, Bool, false, List, [], ◌∷◌, ◌++◌, map, Option, Some, None, option_map, reverse}
-use Rattle.std.specs.List.{list_any}
+use Rattle.std.specs.Prelude.{◌≡◌, ◌&&◌, not, Bool, false, List, map, Option, Some, None, option_map}
 use Rattle.std.specs.Option.{is_some}
 use Rattle.std.proofs.Common.{◌∙◌, ap, refl, sym}
 use Rattle.just_syntax.proofs.Tables.{seen_at}
 use Rattle.just_syntax.specs.Keyed.{value_at, with_value}
 use Rattle.just_syntax.specs.Plain.{Set, Text}
 use Rattle.just_parser.specs.Plain.{RecipeDefinition}
-use Rattle.just_analyzer.specs.Analysis.{Alias, Analysis, Faulty, Grown, Outcome, has_alias, has_recipe, has_set, next}
+use Rattle.just_analyzer.specs.Outcome.{Outcome, Grown, next}
+use Rattle.just_analyzer.specs.Parameters.{configured}
+use Rattle.just_analyzer.specs.View.{IsFault}
+use Rattle.just_analyzer.specs.declared.analysis_error.AnalysisError.{AnalysisError}
+use Rattle.just_analyzer.specs.declared.analysis_error.AnalysisError.TheVariants.{Fault, OutOfMemory}
+use Rattle.just_analyzer.specs.Analysis.{Alias, Analysis, and_recipe, has_alias, has_recipe, has_set}
 use Rattle.just_analyzer.specs.Analysis.{with_alias, with_recipe, with_set}
 
 some_mapped : {X Y : Type 0} (f : X → Y) (o : Option X) → is_some (option_map f o) ≡ is_some o
@@ -19,11 +23,6 @@ pub has_seen : {X Y : Type 0} (f : X → Y) (key : Y → Text) (name : Text) (xs
     → b ≡ is_some (value_at (λ x. key (f x)) name xs) → b ≡ is_some (value_at key name (map f xs))
 has_seen f key name xs b is = is ∙ sym (some_mapped f (value_at (λ x. key (f x)) name xs)) ∙ ap is_some (sym (seen_at f key name xs))
 
--- what is among plain values
-pub any_seen : {X Y : Type 0} (p : Y → Bool) (f : X → Y) (xs : List X) → list_any p (map f xs) ≡ list_any (λ x. p (f x)) xs
-any_seen p f [] = refl
-any_seen p f (x ∷ xs) = ap (λ b. p (f x) || b) (any_seen p f xs)
-
 -- ---- one part more
 
 pub alias_added : (a : Analysis) (alias : Alias) (all : List Alias) → has_alias a alias.name ≡ false → has_recipe a alias.name ≡ false
@@ -31,11 +30,23 @@ pub alias_added : (a : Analysis) (alias : Alias) (all : List Alias) → has_alia
 unfolding with_alias
 alias_added a alias all no_alias no_recipe is = rw (no_alias, no_recipe) (ap (λ xs. Grown (record a { aliases = xs })) (sym is))
 
-pub recipe_added : (may_replace : Bool) (a : Analysis) (r : RecipeDefinition) (all : List RecipeDefinition) → has_alias a r.recipe.name ≡ false
-    → (not may_replace && has_recipe a r.recipe.name) ≡ false → all ≡ with_value (λ other. other.recipe.name.lexeme) a.recipes r
-    → with_recipe may_replace a r ≡ Grown (record a { recipes = all })
+-- a recipe that fits is what its attributes say
+pub recipe_goes : (may_replace : Bool) (a : Analysis) (r : RecipeDefinition) → has_alias a r.recipe.name ≡ false
+    → (not may_replace && has_recipe a r.recipe.name) ≡ false → with_recipe may_replace a r ≡ next (configured r) (and_recipe a)
 unfolding with_recipe
-recipe_added may_replace a r all no_alias no_recipe is = rw (no_alias, no_recipe) (ap (λ xs. Grown (record a { recipes = xs })) (sym is))
+recipe_goes may_replace a r no_alias no_recipe = rw (no_alias, no_recipe) refl
+
+pub recipe_added : (a : Analysis) (r made : RecipeDefinition) (all : List RecipeDefinition) (whole : Outcome Analysis)
+    → whole ≡ next (configured r) (and_recipe a) → configured r ≡ Grown made
+    → all ≡ with_value (λ other. other.recipe.name.lexeme) a.recipes made → whole ≡ Grown (record a { recipes = all })
+recipe_added a r made all whole goes is inserted =
+    goes ∙ ap (λ o. next o (and_recipe a)) is ∙ ap (λ xs. Grown (record a { recipes = xs })) (sym inserted)
+
+-- what follows something that does not fit does not fit
+pub next_fault : {A B : Type 0} (outcome : Outcome A) (more : A → Outcome B) (whole : Outcome B) (error : AnalysisError)
+    → whole ≡ next outcome more → IsFault outcome error → IsFault whole error
+next_fault outcome more whole (Fault kind name) goes fault = goes ∙ ap (λ o. next o more) fault
+next_fault outcome more whole OutOfMemory goes fault = tt
 
 pub set_added : (a : Analysis) (s : Set) (all : List Set) → has_set a s.name ≡ false → all ≡ with_value (λ t. t.name.lexeme) a.sets s
     → with_set a s ≡ Grown (record a { sets = all })

@@ -8,7 +8,8 @@ use Rattle.just_syntax.specs.Plain.{Setting, Text, Token}
 use Rattle.just_host.specs.Justfile.{Justfile, empty_root, with_assignment, with_function}
 use Rattle.just_parser.specs.Plain as items
 use Rattle.just_parser.specs.Plain.{Item, RecipeDefinition}
-use Rattle.just_analyzer.specs.declared.analysis_error.Fault.{Fault}
+use Rattle.just_analyzer.specs.Outcome.{Outcome, Faulty, Grown, next}
+use Rattle.just_analyzer.specs.Parameters.{configured}
 use Rattle.just_analyzer.specs.declared.analysis_error.Fault.TheVariants.{DuplicateFunction, DuplicateRecipe}
 use Rattle.just_analyzer.specs.declared.analysis_error.Fault.TheVariants.{DuplicateSet}
 use Rattle.just_analyzer.specs.declared.analysis_error.Fault.TheVariants.{DuplicateVariable}
@@ -56,11 +57,6 @@ allowed_by all =
 
 -- ---- one item more
 
--- how analysis goes on: with these parts, or not, since an item does not fit, by its name
-pub data Outcome : Type 0 where
-  Grown : Analysis → Outcome
-  Faulty : Fault → Token → Outcome
-
 -- something of a name is there
 abbrev pub has : {A : Type 0} → (A → Text) → List A → Token → Bool
 has key all name = is_some (value_at key name.lexeme all)
@@ -81,43 +77,47 @@ abbrev pub has_variable : Analysis → Token → Bool
 has_variable a = has (λ s. s.name.lexeme) a.justfile.assignments
 
 -- an alias has a name of its own
-unfoldable pub with_alias : Analysis → Alias → Outcome
+unfoldable pub with_alias : Analysis → Alias → Outcome Analysis
 with_alias a alias =
     if has_alias a alias.name || has_recipe a alias.name then Faulty DuplicateRecipe alias.name else
     Grown (record a { aliases = with_value (λ other. other.name.lexeme) a.aliases alias })
 
 -- a variable replaces one with its name, if it may
-unfoldable pub with_variable : Bool → Analysis → Assignment → Outcome
+unfoldable pub with_variable : Bool → Analysis → Assignment → Outcome Analysis
 with_variable may_replace a s =
     if not may_replace && has_variable a s.name then Faulty DuplicateVariable s.name else
     Grown (record a { justfile = with_assignment a.justfile s })
 
 -- a function has a name of its own
-unfoldable pub with_definition : Analysis → Function → Outcome
+unfoldable pub with_definition : Analysis → Function → Outcome Analysis
 with_definition a f =
     if has_function a f.name then Faulty DuplicateFunction f.name else
     Grown (record a { justfile = with_function a.justfile f })
 
+-- the parts and a recipe, which replaces one with its name
+abbrev pub and_recipe : Analysis → RecipeDefinition → Outcome Analysis
+and_recipe a r = Grown (record a { recipes = with_value (λ other. other.recipe.name.lexeme) a.recipes r })
+
 -- a recipe replaces one with its name, if it may
-unfoldable pub with_recipe : Bool → Analysis → RecipeDefinition → Outcome
+unfoldable pub with_recipe : Bool → Analysis → RecipeDefinition → Outcome Analysis
 with_recipe may_replace a r =
     if has_alias a r.recipe.name || (not may_replace && has_recipe a r.recipe.name)
     then Faulty DuplicateRecipe r.recipe.name
-    else Grown (record a { recipes = with_value (λ other. other.recipe.name.lexeme) a.recipes r })
+    else next (configured r) (and_recipe a)
 
 -- a setting is set once
-unfoldable pub with_set : Analysis → Set → Outcome
+unfoldable pub with_set : Analysis → Set → Outcome Analysis
 with_set a s =
     if has_set a s.name then Faulty DuplicateSet s.name else
     Grown (record a { sets = with_value (λ t. t.name.lexeme) a.sets s })
 
 -- a variable that is not passed on
-unfoldable pub with_unexport : Analysis → Token → Outcome
+unfoldable pub with_unexport : Analysis → Token → Outcome Analysis
 with_unexport a name =
     Grown (record a { justfile = record a.justfile { unexports = a.justfile.unexports ++ name.lexeme ∷ [] } })
 
 -- the parts with an item
-abbrev pub added : Allowed → Analysis → Item → Outcome
+abbrev pub added : Allowed → Analysis → Item → Outcome Analysis
 added allowed a (items.Alias name target) = with_alias a (record { name = name; target = target })
 added allowed a (items.Assigns s) = with_variable allowed.variables a s
 added allowed a (items.Defines f) = with_definition a f
@@ -125,16 +125,11 @@ added allowed a (items.Recipes r) = with_recipe allowed.recipes a r
 added allowed a (items.Sets s) = with_set a s
 added allowed a (items.Unexports name) = with_unexport a name
 
--- what follows parts
-abbrev pub next : Outcome → (Analysis → Outcome) → Outcome
-next (Grown a) more = more a
-next (Faulty fault name) more = Faulty fault name
-
 -- the parts with these items, one after another
-abbrev pub grown : Allowed → Analysis → List Item → Outcome
+abbrev pub grown : Allowed → Analysis → List Item → Outcome Analysis
 grown allowed a [] = Grown a
 grown allowed a (item ∷ rest) = next (added allowed a item) (λ b. grown allowed b rest)
 
 -- the parts that the items of a file make up
-abbrev pub analyzed : Text → Text → List Item → Outcome
+abbrev pub analyzed : Text → Text → List Item → Outcome Analysis
 analyzed source directory all = grown (allowed_by all) (empty source directory) all

@@ -1,2 +1,4 @@
+pub mod Outcome
+pub mod Parameters
 pub mod Analysis
 pub mod View

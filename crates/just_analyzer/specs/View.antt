@@ -1,11 +1,15 @@
 -- What the declared types are, and what an error says.
-use Rattle.std.specs.Prelude.{◌≡◌, map, Option, Some, None}
-use Rattle.just_syntax.specs.Plain.{Token}
+use Rattle.std.specs.Prelude.{◌≡◌, ℕ, map, Option, Some, None}
+use Rattle.std.specs.Borrow.{Bor}
+use Rattle.std.specs.BTreeMap.{BTreeMap, get_by}
+use Rattle.std.specs.Cmp.Lexicographic.{slice_cmp}
+use Rattle.std.specs.Ordering.{nat_cmp}
+use Rattle.just_syntax.specs.Plain.{Text, Token}
 use Rattle.just_syntax.specs.View.{name_view, set_view}
 use Rattle.just_host.specs.View.{justfile_view}
 use Rattle.just_parser.specs.View.{recipe_definition_view}
 use Rattle.just_analyzer.specs.Analysis as plain
-use Rattle.just_analyzer.specs.Analysis.{Faulty, Outcome}
+use Rattle.just_analyzer.specs.Outcome.{Outcome, Faulty}
 use Rattle.just_analyzer.specs.declared.added.Allowed.{Allowed}
 use Rattle.just_analyzer.specs.declared.alias.Alias.{Alias}
 use Rattle.just_analyzer.specs.declared.analysis.Analysis.{Analysis}
@@ -32,6 +36,10 @@ error_token (Fault kind name) = Some (name_view name)
 error_token OutOfMemory = None
 
 -- an item does not fit, by its name; of `OutOfMemory` nothing is said
-abbrev pub IsFault : Outcome → AnalysisError → Type 0
+abbrev pub IsFault : {A : Type 0} → Outcome A → AnalysisError → Type 0
 IsFault outcome (Fault kind name) = outcome ≡ Faulty kind (name_view name)
 IsFault outcome OutOfMemory = Unit {0}
+
+-- the place of a name
+abbrev pub place_in : BTreeMap (Bor Text) ℕ → Text → Option ℕ
+place_in places name = get_by (λ k. slice_cmp nat_cmp name k.now) places

@@ -1,18 +1,21 @@
 // Items, one after another.
 
-ghost use Rattle.std.specs.Prelude.{IfErr, IsOk, OnOk, ◌≡◌};
+ghost use Rattle.std.specs.Prelude.{IfErr, OnOk, ◌≡◌};
 ghost use Rattle.std.specs.Option.{is_some};
 ghost use Rattle.just_syntax.specs.Keyed.{value_at, with_value};
 ghost use Rattle.just_syntax.specs.View.{assignment_view, function_view, name_view, set_view};
 ghost use Rattle.just_parser.specs.View.{item_view, recipe_definition_view};
-ghost use Rattle.just_analyzer.specs.Analysis.{Grown, added, has_alias, has_function, has_recipe, has_set};
+ghost use Rattle.just_analyzer.specs.Analysis.{added, has_alias, has_function, has_recipe, has_set};
 ghost use Rattle.just_analyzer.specs.Analysis.{has_variable, with_alias, with_definition, with_recipe, with_set};
 ghost use Rattle.just_analyzer.specs.Analysis.{with_unexport, with_variable};
+ghost use Rattle.just_analyzer.specs.Outcome.{Grown};
 ghost use Rattle.just_analyzer.specs.View.{IsFault, alias_view, allowed_view, analysis_view};
 
 use crate::alias::Alias;
 use crate::analysis::Analysis;
 use crate::analysis_error::{AnalysisError, Fault};
+use crate::outcome::{after, allocated};
+use crate::parameters::configure;
 use just_parser::item::Item;
 use just_parser::recipe_definition::RecipeDefinition;
 use just_syntax::assignment::Assignment;
@@ -48,7 +51,7 @@ impl<'src> Analysis<'src> {
             Item::Alias { name, target } => self.add_alias(Alias { name, target }),
             Item::Assignment(assignment) => self.add_assignment(allowed, assignment),
             Item::Function(function) => self.add_function(function),
-            Item::Recipe(recipe) => self.add_recipe(allowed, recipe),
+            Item::Recipe(recipe) => self.add_recipe(alloc, allowed, recipe),
             Item::Set(set) => self.add_set(set),
             Item::Unexport { name } => self.add_unexport(alloc, name),
         }
@@ -103,12 +106,13 @@ impl<'src> Analysis<'src> {
         allocated(self.justfile.define(function))
     }
 
-    // Adds a recipe.
+    // Adds a recipe, whose parameters become what its attributes say.
     #[tactic(auto, unfolding(crate::specs::Analysis::with_recipe))]
     fn add_recipe(
         &mut self,
+        alloc: Global,
         allowed: Allowed,
-        recipe: RecipeDefinition<'src>,
+        mut recipe: RecipeDefinition<'src>,
     ) -> Result<(), AnalysisError<'src>>
         ensures ok { OnOk result (with_recipe allowed.recipes (analysis_view self.old)
             (recipe_definition_view recipe.entry) ≡ Grown (analysis_view self.new)) }
@@ -119,7 +123,11 @@ impl<'src> Analysis<'src> {
         if self.has_alias(name) || !allowed.recipes && self.has_recipe(name) {
             return Err(fault(Fault::DuplicateRecipe, name));
         }
-        inserted(&mut self.recipes, recipe)
+        let configured = configure(alloc, &mut recipe);
+        match after(configured, recipe) {
+            Ok(recipe) => inserted(&mut self.recipes, recipe),
+            Err(error) => Err(error),
+        }
     }
 
     // Adds a setting.
@@ -193,8 +201,8 @@ impl<'src> Analysis<'src> {
     }
 }
 
-// An item does not fit.
-fn fault<'src>(kind: Fault, name: Name<'src>) -> AnalysisError<'src>
+/// An item does not fit.
+pub(crate) fn fault<'src>(kind: Fault, name: Name<'src>) -> AnalysisError<'src>
     ensures { result ≡ AnalysisError.Fault kind name.entry }
 {
     AnalysisError::Fault { kind, name }
@@ -216,15 +224,4 @@ fn inserted<'src, V: Keyed + Drop>(
     ensures err { IfErr result (λ error. error ≡ AnalysisError.OutOfMemory) }
 {
     allocated(table.insert(value))
-}
-
-// What was done, or `OutOfMemory`.
-fn allocated<'src>(done: Result<(), OutOfMemory>) -> Result<(), AnalysisError<'src>>
-    ensures ok { OnOk result (IsOk done) }
-    ensures err { IfErr result (λ error. error ≡ AnalysisError.OutOfMemory) }
-{
-    match done {
-        Ok(()) => Ok(()),
-        Err(_) => Err(AnalysisError::OutOfMemory),
-    }
 }

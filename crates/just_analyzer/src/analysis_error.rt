@@ -16,6 +16,8 @@ use std::fmt;
 pub enum Fault {
     /// Another function has this name.
     DuplicateFunction,
+    /// Another parameter of the recipe has this name.
+    DuplicateParameter,
     /// Another recipe or alias has this name.
     DuplicateRecipe,
     /// The setting is set before.
@@ -24,6 +26,8 @@ pub enum Fault {
     DuplicateVariable,
     /// The variable is unexported before.
     DuplicateUnexport,
+    /// An attribute `arg` names no parameter of the recipe.
+    UndefinedParameter,
 }
 
 /// Why items make up no justfile.
@@ -58,6 +62,12 @@ impl fmt::Display for AnalysisError<'_> {
                         format_args!("function `{name}` has multiple definitions"),
                     )
                 }
+                Fault::DuplicateParameter => {
+                    write_unstyled(
+                        f,
+                        format_args!("parameter `{name}` has multiple definitions"),
+                    )
+                }
                 Fault::DuplicateRecipe => {
                     write_unstyled(f, format_args!("recipe `{name}` has multiple definitions"))
                 }
@@ -75,6 +85,9 @@ impl fmt::Display for AnalysisError<'_> {
                         f,
                         format_args!("variable `{name}` is unexported multiple times"),
                     )
+                }
+                Fault::UndefinedParameter => {
+                    write_unstyled(f, format_args!("attribute `{name}` names no parameter"))
                 }
             },
             AnalysisError::OutOfMemory => write_unstyled(f, OutOfMemory),

@@ -1,15 +1,17 @@
 // All items of a file.
 
-ghost use Rattle.std.specs.Prelude.{Err, IfErr, IfOk, IsOk, OnOk, map, ◌≡◌};
+ghost use Rattle.std.specs.Prelude.{IfErr, IfOk, OnOk, map, ◌≡◌};
 ghost use Rattle.std.specs.List.{list_any};
 ghost use Rattle.just_parser.specs.View.{item_view};
-ghost use Rattle.just_analyzer.specs.Analysis.{Grown, allowed_by, allows_recipes, allows_variables, analyzed, grown};
+ghost use Rattle.just_analyzer.specs.Analysis.{allowed_by, allows_recipes, allows_variables, analyzed, grown};
 ghost use Rattle.just_analyzer.specs.Analysis.{is_set};
+ghost use Rattle.just_analyzer.specs.Outcome.{Grown};
 ghost use Rattle.just_analyzer.specs.View.{IsFault, allowed_view, analysis_view};
 
 use crate::added::Allowed;
 use crate::analysis::Analysis;
 use crate::analysis_error::AnalysisError;
+use crate::outcome::after;
 use just_parser::item::Item;
 use just_syntax::setting::Setting;
 use std::alloc::Global;
@@ -114,19 +116,5 @@ fn allows_variables(item: &Item) -> bool
     match item {
         Item::Set(set) => matches!(set.value, Setting::AllowDuplicateVariables(true)),
         _ => false,
-    }
-}
-
-// A value, if what was done with it succeeded. It is generic, so that a failure needs no code that drops the parts.
-fn after<'src, T: Drop>(
-    done: Result<(), AnalysisError<'src>>,
-    value: T,
-) -> Result<T, AnalysisError<'src>>
-    ensures ok { IfOk result (λ kept. (kept ≡ value) × IsOk done.entry) }
-    ensures err { IfErr result (λ error. done.entry ≡ Err error) }
-{
-    match done {
-        Ok(()) => Ok(value),
-        Err(error) => Err(error),
     }
 }

@@ -7,7 +7,7 @@ pub mod alias;
 pub mod analysis;
 pub mod analysis_error;
 mod analyzing;
-#[cfg(test)]
-mod tests;
+mod outcome;
+mod parameters;
 
 pub use analyzing::analyze;

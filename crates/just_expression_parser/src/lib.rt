@@ -19,7 +19,5 @@ mod outcome;
 mod parse;
 pub mod parse_error;
 mod style;
-#[cfg(test)]
-mod tests;
 
 pub use parse::{parse_expression, parse_value, significant};

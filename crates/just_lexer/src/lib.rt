@@ -16,7 +16,5 @@ mod line;
 mod quote;
 mod span;
 mod step;
-#[cfg(test)]
-mod tests;
 
 pub use lexing::lex;

@@ -1,4 +1,5 @@
 pub mod Repeated
+pub mod Seen
 pub mod Reading
 pub mod Values
 pub mod Trimmed

@@ -1,21 +1,24 @@
 -- The items of a justfile: which tokens are which item, a rule an item.
-use Rattle.std.specs.Prelude.{ℕ, Bool, true, false, List, [], ◌∷◌, Option, Some, None, option_map, codes, if◌then◌else◌}
+use Rattle.std.specs.Prelude.{ℕ, Bool, true, false, ◌||◌, ◌==◌, nat_eq, List, [], ◌∷◌, length}
+use Rattle.std.specs.Prelude.{option_map, codes, if◌then◌else◌}
+use Rattle.std.specs.List.{starts_with}
 use Rattle.just_syntax.specs.Plain as syntax
 use Rattle.just_syntax.specs.Plain.{Assignment, Expr, Function, Interpreter, Literal, Set, Setting, Text, Token}
 use Rattle.just_syntax.specs.SettingName.{expression_named, flag_named, interpreter_named}
 use Rattle.just_lexer.specs.declared.kind.TokenKind.TheVariants as kinds
 use Rattle.just_expression_parser.specs.Parsed.{is_at_word}
-use Rattle.just_expression_parser.specs.Tokens.{Tokens, is_at}
+use Rattle.just_expression_parser.specs.Tokens.{is_at}
 use Rattle.just_expression_parser.specs.declared.parse_error.Fault.TheVariants as faults
-use Rattle.just_parser.specs.Phrase.{Phrase, Read, Refused, ◌>>=◌, ◌>>◌, accepted, after, comma_unless, expected}
-use Rattle.just_parser.specs.Phrase.{expression, give, give_if, in_line, many, one, refuse, value}
-use Rattle.just_parser.specs.Plain.{Alias, Assigns, Defines, Item, Recipes, Sets, Unexports}
+use Rattle.just_parser.specs.Attributes.{are_private, attributes, string}
+use Rattle.just_parser.specs.Phrase.{Phrase, Read, Refused, ◌>>=◌, ◌>>◌, accepted, after, comma_unless, expression}
+use Rattle.just_parser.specs.Phrase.{found_at, give, give_if, in_line, many, one, refuse, value_as}
+use Rattle.just_parser.specs.Plain.{Alias, Assigns, Defines, Item, Recipes, Sets, Unexports, WrittenAttribute}
 use Rattle.just_parser.specs.Recipes.{recipe}
-use Rattle.just_parser.specs.Settings.{form_of, indentation_of, interpreter_of, literal_of}
-use Rattle.just_parser.specs.Start.{start_of_item}
-use Rattle.just_parser.specs.declared.parse_error.Fault.{Fault}
+use Rattle.just_parser.specs.Settings.{form_of, indentation_of, interpreter_of}
+use Rattle.just_parser.specs.Start.{start_of_item, takes_attributes}
 use Rattle.just_parser.specs.declared.parse_error.Fault.TheVariants.{ExpectedBoolean, ExpectedCommand}
-use Rattle.just_parser.specs.declared.parse_error.Fault.TheVariants.{ExpectedIndentation, ExpectedItem, Syntax}
+use Rattle.just_parser.specs.declared.parse_error.Fault.TheVariants.{ExpectedIndentation, ExpectedItem}
+use Rattle.just_parser.specs.declared.parse_error.Fault.TheVariants.{ExtraneousAttributes, Syntax}
 use Rattle.just_parser.specs.declared.parse_error.Fault.TheVariants.{UnknownSetting}
 use Rattle.just_parser.specs.declared.parse_error.Fault.TheVariants.{Unsupported}
 use Rattle.just_parser.specs.declared.setting_form.SettingForm.{SettingForm}
@@ -25,13 +28,28 @@ use Rattle.just_parser.specs.declared.start.Start.TheVariants as starts
 
 -- ---- variables and functions
 
--- `NAME := expression`; no name has a number yet
-unfoldable pub assignment : Bool → Bool → Phrase Assignment
-assignment eager export = do
+-- a name that begins with `_` is private
+abbrev pub is_underscored : Text → Bool
+is_underscored name = starts_with nat_eq name (codes "_")
+
+-- a variable; no name has a number yet
+abbrev pub variable : Bool → Bool → Bool → Token → Expr → Assignment
+variable private eager export name value = record {
+  eager = eager;
+  export = export;
+  name = name;
+  number = 0;
+  private = private || is_underscored name.lexeme;
+  value = value;
+}
+
+-- `NAME := expression`
+unfoldable pub assignment : Bool → Bool → Bool → Phrase Assignment
+assignment private eager export = do
   name ← one kinds.Identifier
   one kinds.ColonEquals
   value ← in_line expression
-  give (record { eager = eager; export = export; name = name; number = 0; private = false; value = value })
+  give (variable private eager export name value)
 
 -- a parameter of a function, with the comma after it, if it is not the last one
 unfoldable pub parameter : Phrase (List (Token × ℕ))
@@ -52,15 +70,6 @@ function = do
   give (record { body = body; name = name; parameters = parameters })
 
 -- ---- settings
-
--- what was found, if it is there; else the first of these tokens is refused
-abbrev pub found_at : {A : Type 0} → Fault → Tokens → Option A → Phrase A
-found_at fault ts None rest = Refused fault ts
-found_at fault ts (Some a) rest = Read a rest
-
--- a value of some form; else its first token is refused
-unfoldable pub value_as : {A : Type 0} → Fault → (Expr → Option A) → Phrase A
-value_as fault form ts = after (value ts) (λ e. found_at fault ts (form e))
 
 -- `true` or `false`
 unfoldable pub boolean : Phrase Bool
@@ -96,7 +105,7 @@ setting forms.Interpreter name = do
   i ← given (value_as ExpectedCommand interpreter_of)
   give_if UnknownSetting (interpreter_named name i)
 setting forms.Version name = do
-  literal ← given (value_as (expected kinds.StringToken) literal_of)
+  literal ← given string
   give (syntax.MinimumVersion literal)
 
 -- the name of a setting, with the form of value that it takes; else it is refused
@@ -132,37 +141,43 @@ unexport = do
   give (Unexports name)
 
 -- an assignment, with these keywords before it
-abbrev pub assigns : Bool → Bool → Phrase Item
-assigns eager export = do
-  a ← assignment eager export
+abbrev pub assigns : Bool → Bool → Bool → Phrase Item
+assigns private eager export = do
+  a ← assignment private eager export
   give (Assigns a)
 
 -- a keyword, and something
 abbrev pub after_keyword : {A : Type 0} → Phrase A → Phrase A
 after_keyword phrase = one kinds.Identifier >> phrase
 
--- an item that begins so
-unfoldable pub item_of : Start → Phrase Item
-item_of starts.Alias = alias
-item_of starts.Assignment = assigns false false
-item_of starts.Eager = after_keyword (assigns true false)
-item_of starts.Export = after_keyword (assigns false true)
-item_of starts.Function = do
+-- an item that begins so, after these attributes
+unfoldable pub item_of : List WrittenAttribute → Start → Phrase Item
+item_of all starts.Alias = alias
+item_of all starts.Assignment = assigns (are_private all) false false
+item_of all starts.Eager = after_keyword (assigns (are_private all) true false)
+item_of all starts.Export = after_keyword (assigns (are_private all) false true)
+item_of all starts.Function = do
   f ← function
   give (Defines f)
-item_of starts.Other = refuse ExpectedItem
-item_of starts.Recipe = do
-  r ← recipe
+item_of all starts.Other = refuse ExpectedItem
+item_of all starts.Recipe = do
+  r ← recipe all
   give (Recipes r)
-item_of starts.Set = do
+item_of all starts.Set = do
   s ← set
   give (Sets s)
-item_of starts.Unexport = unexport
-item_of starts.Unsupported = refuse Unsupported
+item_of all starts.Unexport = unexport
+item_of all starts.Unsupported = refuse Unsupported
 
--- an item
+-- an item after these attributes, if it takes them
+unfoldable pub item_after : List WrittenAttribute → Phrase Item
+item_after all ts =
+    if (length all == 0) || takes_attributes (start_of_item ts) then item_of all (start_of_item ts) ts else
+    Refused ExtraneousAttributes ts
+
+-- attributes and an item
 unfoldable pub item : Phrase Item
-item ts = item_of (start_of_item ts) ts
+item = attributes >>= item_after
 
 -- an item, or an empty line
 unfoldable pub line : Phrase (List Item)

@@ -3,6 +3,7 @@ pub mod Plain
 pub mod View
 pub mod Start
 pub mod Settings
+pub mod Attributes
 pub mod Recipes
 pub mod Items
 pub mod Parsed

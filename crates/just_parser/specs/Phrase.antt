@@ -73,6 +73,15 @@ expression ts = of_machine (machine.run ts (machine.Expression 0) [])
 unfoldable pub value : Phrase Expr
 value ts = of_machine (machine.run ts (machine.Expression 4) [])
 
+-- what was found, if it is there; else the first of these tokens is refused
+abbrev pub found_at : {A : Type 0} → Fault → Tokens → Option A → Phrase A
+found_at fault ts None rest = Refused fault ts
+found_at fault ts (Some a) rest = Read a rest
+
+-- a value of some form; else its first token is refused
+unfoldable pub value_as : {A : Type 0} → Fault → (Expr → Option A) → Phrase A
+value_as fault form ts = after (value ts) (λ e. found_at fault ts (form e))
+
 -- the end of a line, or of the file, which stays
 unfoldable pub line_end : Phrase Unit
 line_end ts = if is_at 0 kinds.Eof ts then Read tt ts else after (one kinds.Eol ts) (λ _. give tt)

@@ -1,6 +1,25 @@
 -- Items of a justfile.
-use Rattle.std.specs.Prelude.{Bool, List}
-use Rattle.just_syntax.specs.Plain.{Assignment, Expr, Fragment, Function, Parameter, Recipe, Set, Token}
+use Rattle.std.specs.Prelude.{Bool, List, Option}
+use Rattle.just_syntax.specs.Plain.{Assignment, Attribute, Expr, Fragment, Function, Literal, Parameter, Recipe, Set}
+use Rattle.just_syntax.specs.Plain.{Token}
+
+-- an option of `arg` that evaluation needs
+pub data ArgOption : Type 0 where
+  Flag : ArgOption
+  Multiple : ArgOption
+  Value : Expr → ArgOption
+
+-- what an attribute `arg` says of the parameter with this name
+pub record ArgAttribute : Type 0 where
+  pub name : Token
+  pub options : List ArgOption
+  pub parameter : Literal
+
+-- an attribute as it is written, with what it says of a parameter
+pub record WrittenAttribute : Type 0 where
+  pub arg : Option ArgAttribute
+  pub attribute : Attribute
+  pub name : Token
 
 -- a recipe that another one depends on, with its arguments
 pub record Dependency : Type 0 where
@@ -13,6 +32,7 @@ Line = List Fragment
 
 -- a recipe, and what is run before and after it
 pub record RecipeDefinition : Type 0 where
+  pub args : List ArgAttribute
   pub body : List Line
   pub dependencies : List Dependency
   pub parameters : List Parameter

@@ -6,8 +6,9 @@ use Rattle.just_syntax.specs.declared.parameter_kind.ParameterKind.TheVariants.{
 use Rattle.just_lexer.specs.declared.kind.TokenKind.TheVariants as kinds
 use Rattle.just_expression_parser.specs.Tokens.{Tokens, is_at}
 use Rattle.just_parser.specs.Phrase.{Phrase, Read, ◌>>=◌, ◌>>◌, accepted, after, expression, give, line_end, many, one}
+use Rattle.just_parser.specs.Attributes.{args_of, attributes_of}
 use Rattle.just_parser.specs.Phrase.{value}
-use Rattle.just_parser.specs.Plain.{Dependency, Line, RecipeDefinition}
+use Rattle.just_parser.specs.Plain.{Dependency, Line, RecipeDefinition, WrittenAttribute}
 
 -- ---- parameters
 
@@ -165,14 +166,15 @@ body = do
 
 -- ---- whole recipes
 
--- a recipe of a name, without any part
-abbrev pub bare : Bool → Token → RecipeDefinition
-bare quiet name = record {
+-- a recipe of a name, with these attributes, and without any part
+abbrev pub bare : List WrittenAttribute → Bool → Token → RecipeDefinition
+bare all quiet name = record {
+  args = args_of all;
   body = [];
   dependencies = [];
   parameters = [];
   quiet = quiet;
-  recipe = record { attributes = []; name = name };
+  recipe = record { attributes = attributes_of all; name = name };
   subsequents = [];
 }
 
@@ -187,9 +189,9 @@ parts r = do
   lines ← body
   give (record r { body = lines; dependencies = before; parameters = ps; subsequents = later })
 
--- `NAME` and its parts, with `@` before it, if it is quiet
-unfoldable pub recipe : Phrase RecipeDefinition
-recipe = do
+-- after its attributes, `NAME` and its parts, with `@` before it, if it is quiet
+unfoldable pub recipe : List WrittenAttribute → Phrase RecipeDefinition
+recipe all = do
   quiet ← accepted kinds.At
   name ← one kinds.Identifier
-  parts (bare quiet name)
+  parts (bare all quiet name)

@@ -1,5 +1,5 @@
 -- How items begin. A keyword is one only where the tokens after it fit: `export := 'x'` assigns a variable.
-use Rattle.std.specs.Prelude.{Bool, ◌&&◌, ◌||◌, codes, if◌then◌else◌}
+use Rattle.std.specs.Prelude.{Bool, true, false, ◌&&◌, ◌||◌, codes, if◌then◌else◌}
 use Rattle.just_syntax.specs.Plain.{Text}
 use Rattle.just_lexer.specs.declared.kind.TokenKind.TheVariants as kinds
 use Rattle.just_expression_parser.specs.Parsed.{is_at_word}
@@ -47,3 +47,12 @@ start_of_item ts =
     if is_at 0 kinds.Identifier ts then start_of_name ts else
     if is_at 0 kinds.At ts then starts.Recipe else
     starts.Other
+
+-- what begins so may have attributes before it
+abbrev pub takes_attributes : Start → Bool
+takes_attributes starts.Alias = true
+takes_attributes starts.Assignment = true
+takes_attributes starts.Eager = true
+takes_attributes starts.Export = true
+takes_attributes starts.Recipe = true
+takes_attributes _ = false

@@ -2,7 +2,7 @@
 
 ghost use Rattle.std.specs.Prelude.{IfErr, IfOk, ◌≡◌};
 ghost use Rattle.just_syntax.specs.View.{assignment_view, view};
-ghost use Rattle.just_parser.specs.Items.{assignment};
+ghost use Rattle.just_parser.specs.Items.{assignment, is_underscored};
 ghost use Rattle.just_parser.specs.Parsed.{IsRefused, left};
 ghost use Rattle.just_parser.specs.Phrase.{Read, expression, in_line};
 
@@ -19,14 +19,16 @@ impl<'src> Parser<'_, 'src> {
     #[tactic(auto, unfolding(crate::specs::Items::assignment))]
     pub(crate) fn assignment(
         &mut self,
+        private: bool,
         eager: bool,
         export: bool,
     ) -> Result<Assignment<'src>, ParseError<'src>>
         ensures ok { IfOk result
-            (λ a. assignment eager export (left self.old) ≡ Read (assignment_view a) (left self.new)) }
-        ensures refused { IfErr result (IsRefused (assignment eager export (left self.old))) }
+            (λ a. assignment private eager export (left self.old) ≡ Read (assignment_view a) (left self.new)) }
+        ensures refused { IfErr result (IsRefused (assignment private eager export (left self.old))) }
     {
         let name = self.name()?;
+        let private = private || is_underscored(name.lexeme());
         self.one(TokenKind::ColonEquals)?;
         match self.expression_in_line() {
             Ok(value) => Ok(Assignment {
@@ -34,7 +36,7 @@ impl<'src> Parser<'_, 'src> {
                 export,
                 name,
                 number: Number::new(0),
-                private: false,
+                private,
                 value,
             }),
             Err(refusal) => Err(refusal),
@@ -51,4 +53,11 @@ impl<'src> Parser<'_, 'src> {
             Err(refusal) => Err(refusal),
         }
     }
+}
+
+// Whether a name begins with `_`.
+fn is_underscored(name: &str) -> bool
+    ensures { result ≡ is_underscored name.now }
+{
+    name.as_bytes().starts_with(b"_")
 }

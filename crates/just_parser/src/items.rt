@@ -3,17 +3,20 @@
 ghost use Rattle.std.specs.Prelude.{IfErr, IfOk, OnOk, map, ◌≡◌};
 ghost use Rattle.just_expression_parser.specs.Tokens.{is_at};
 ghost use Rattle.just_lexer.specs.declared.kind.TokenKind.TheVariants as kinds;
-ghost use Rattle.just_parser.specs.Items.{after_keyword, assigns, item, item_of, items, line};
+ghost use Rattle.std.specs.List.{list_any};
+ghost use Rattle.just_parser.specs.Attributes.{is_private};
+ghost use Rattle.just_parser.specs.Items.{after_keyword, assigns, item, item_after, item_of, items, line};
 ghost use Rattle.just_parser.specs.Parsed.{IsRefused, left};
 ghost use Rattle.just_parser.specs.Phrase.{Read, many, one, prepended};
 ghost use Rattle.just_syntax.specs.Plain.{Token};
-ghost use Rattle.just_parser.specs.View.{item_view};
+ghost use Rattle.just_parser.specs.View.{item_view, written_view};
 
 use crate::item::Item;
 use crate::outcome::{followed, pushed};
 use crate::parse_error::{Fault, ParseError};
 use crate::parser::Parser;
 use crate::start::{Start, start_of_item};
+use crate::written_attribute::WrittenAttribute;
 use just_lexer::kind::TokenKind;
 
 impl<'src> Parser<'_, 'src> {
@@ -75,23 +78,65 @@ impl<'src> Parser<'_, 'src> {
         }
     }
 
-    // An item.
-    #[tactic(auto, unfolding(crate::specs::Items::item, crate::specs::Items::item_of))]
+    // Attributes and an item.
+    #[tactic(auto, unfolding(crate::specs::Items::item))]
     fn item(&mut self) -> Result<Item<'src>, ParseError<'src>>
         ensures ok { IfOk result (λ i. item (left self.old) ≡ Read (item_view i) (left self.new)) }
         ensures refused { IfErr result (IsRefused (item (left self.old))) }
     {
-        match start_of_item(&self.cursor) {
+        let mut attributes = Vec::new(self.alloc);
+        let filled = self.attributes(&mut attributes);
+        match followed(attributes, filled) {
+            Ok(mut attributes) => {
+                let item = self.item_after(&mut attributes);
+                drop(attributes);
+                item
+            }
+            Err(refusal) => Err(refusal),
+        }
+    }
+
+    // An item after these attributes, if it takes them.
+    #[tactic(auto, unfolding(crate::specs::Items::item_after))]
+    fn item_after(
+        &mut self,
+        attributes: &mut Vec<WrittenAttribute<'src>>,
+    ) -> Result<Item<'src>, ParseError<'src>>
+        ensures ok { IfOk result (λ i. item_after (map written_view attributes.old.items) (left self.old)
+            ≡ Read (item_view i) (left self.new)) }
+        ensures refused { IfErr result (IsRefused (item_after (map written_view attributes.old.items) (left self.old))) }
+    {
+        let start = start_of_item(&self.cursor);
+        if !attributes.is_empty() && !start.takes_attributes() {
+            return Err(self.unexpected(Fault::ExtraneousAttributes));
+        }
+        self.item_of(attributes, start)
+    }
+
+    // An item that begins so, after these attributes.
+    #[tactic(auto, unfolding(crate::specs::Items::item_of))]
+    fn item_of(
+        &mut self,
+        attributes: &mut Vec<WrittenAttribute<'src>>,
+        start: Start,
+    ) -> Result<Item<'src>, ParseError<'src>>
+        ensures ok { IfOk result (λ i. item_of (map written_view attributes.old.items) start (left self.old)
+            ≡ Read (item_view i) (left self.new)) }
+        ensures refused { IfErr result
+            (IsRefused (item_of (map written_view attributes.old.items) start (left self.old))) }
+    {
+        let private = are_private(attributes);
+        match start {
             Start::Alias => self.alias(),
-            Start::Assignment => self.assigned(false, false),
-            Start::Eager => self.assigned_after_keyword(true, false),
-            Start::Export => self.assigned_after_keyword(false, true),
+            Start::Assignment => self.assigned(private, false, false),
+            Start::Eager => self.assigned_after_keyword(private, true, false),
+            Start::Export => self.assigned_after_keyword(private, false, true),
             Start::Function => match self.function() {
                 Ok(function) => Ok(Item::Function(function)),
                 Err(refusal) => Err(refusal),
             },
             Start::Other => Err(self.unexpected(Fault::ExpectedItem)),
-            Start::Recipe => match self.recipe() {
+            Start::Recipe => match self.recipe(attributes) {
                 Ok(recipe) => Ok(Item::Recipe(recipe)),
                 Err(refusal) => Err(refusal),
             },
@@ -107,25 +152,45 @@ impl<'src> Parser<'_, 'src> {
     // A keyword and an assignment.
     fn assigned_after_keyword(
         &mut self,
+        private: bool,
         eager: bool,
         export: bool,
     ) -> Result<Item<'src>, ParseError<'src>>
-        ensures ok { IfOk result (λ i. after_keyword (assigns eager export) (left self.old)
+        ensures ok { IfOk result (λ i. after_keyword (assigns private eager export) (left self.old)
             ≡ Read (item_view i) (left self.new)) }
-        ensures refused { IfErr result (IsRefused (after_keyword (assigns eager export) (left self.old))) }
+        ensures refused { IfErr result (IsRefused (after_keyword (assigns private eager export) (left self.old))) }
     {
         self.name()?;
-        self.assigned(eager, export)
+        self.assigned(private, eager, export)
     }
 
     // An assignment, as an item.
-    fn assigned(&mut self, eager: bool, export: bool) -> Result<Item<'src>, ParseError<'src>>
-        ensures ok { IfOk result (λ i. assigns eager export (left self.old) ≡ Read (item_view i) (left self.new)) }
-        ensures refused { IfErr result (IsRefused (assigns eager export (left self.old))) }
+    fn assigned(
+        &mut self,
+        private: bool,
+        eager: bool,
+        export: bool,
+    ) -> Result<Item<'src>, ParseError<'src>>
+        ensures ok { IfOk result (λ i. assigns private eager export (left self.old) ≡ Read (item_view i) (left self.new)) }
+        ensures refused { IfErr result (IsRefused (assigns private eager export (left self.old))) }
     {
-        match self.assignment(eager, export) {
+        match self.assignment(private, eager, export) {
             Ok(assignment) => Ok(Item::Assignment(assignment)),
             Err(refusal) => Err(refusal),
         }
     }
+}
+
+// Whether one of these attributes is `private`.
+fn are_private(attributes: &[WrittenAttribute]) -> bool
+    ensures { result ≡ list_any (λ a. is_private (written_view a)) attributes.now }
+{
+    attributes.iter().any(|attribute| is_private(attribute))
+}
+
+// Whether an attribute is `private`.
+fn is_private(attribute: &WrittenAttribute) -> bool
+    ensures { result ≡ is_private (written_view attribute.now) }
+{
+    attribute.name.lexeme() == "private"
 }

@@ -1,11 +1,15 @@
 // From the text of a justfile to its items. It depends on `just_lexer` and `just_expression_parser`.
 #![tactic(auto)]
 
+mod arg;
+pub mod arg_attribute;
 mod assignment;
+mod attributes;
 mod body;
 mod dependencies;
 pub mod dependency;
 mod function;
+mod ignored;
 pub mod item;
 mod items;
 mod names;
@@ -20,8 +24,7 @@ mod set;
 mod setting;
 mod setting_form;
 mod start;
-#[cfg(test)]
-mod tests;
 mod value;
+mod written_attribute;
 
 pub use parsing::parse;

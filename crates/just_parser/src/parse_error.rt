@@ -24,6 +24,8 @@ pub enum Fault {
     ExpectedIndentation,
     /// An item was expected.
     ExpectedItem,
+    /// After attributes an item was expected that takes them.
+    ExtraneousAttributes,
     /// A token of some kind, or an expression, was expected.
     Syntax(expression::Fault),
     /// No setting has this name.
@@ -77,6 +79,7 @@ impl fmt::Display for ParseError<'_> {
                     Fault::ExpectedCommand => "expected a list of a command and its arguments",
                     Fault::ExpectedIndentation => "expected a string of a tab or of spaces",
                     Fault::ExpectedItem => "expected an item",
+                    Fault::ExtraneousAttributes => "expected an item that takes attributes",
                     Fault::Syntax(fault) => {
                         let fault = *fault;
                         return write_unstyled(

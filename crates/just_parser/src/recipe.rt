@@ -1,28 +1,38 @@
 // Recipes.
 
-ghost use Rattle.std.specs.Prelude.{IfErr, IfOk, OnOk, [], ◌≡◌};
+ghost use Rattle.std.specs.Prelude.{IfErr, IfOk, OnOk, [], map, ◌++◌, ◌∷◌, ◌≡◌};
+ghost use Rattle.just_syntax.specs.View.{attributes_view, name_view};
+ghost use Rattle.just_parser.specs.Attributes.{args_of, attributes_of};
 ghost use Rattle.just_parser.specs.Parsed.{IsRefused, left};
 ghost use Rattle.just_parser.specs.Phrase.{Read};
-ghost use Rattle.just_parser.specs.Recipes.{parts, recipe};
-ghost use Rattle.just_parser.specs.View.{recipe_definition_view};
+ghost use Rattle.just_parser.specs.Recipes.{bare, parts, recipe};
+ghost use Rattle.just_parser.specs.View.{arg_view, recipe_definition_view, written_view};
 
-use crate::outcome::followed;
+use crate::arg_attribute::ArgAttribute;
+use crate::outcome::{allocated, followed, pushed_some};
 use crate::parse_error::ParseError;
 use crate::parser::Parser;
 use crate::recipe_definition::RecipeDefinition;
+use crate::written_attribute::WrittenAttribute;
 use just_lexer::kind::TokenKind;
+use just_syntax::attribute_set::AttributeSet;
 use just_syntax::recipe::Recipe;
 
 impl<'src> Parser<'_, 'src> {
-    /// A recipe. Its parameters have the number 0.
+    /// A recipe after its attributes, which are moved. Its parameters have the number 0.
     #[tactic(auto, unfolding(crate::specs::Recipes::recipe))]
-    pub(crate) fn recipe(&mut self) -> Result<RecipeDefinition<'src>, ParseError<'src>>
-        ensures ok { IfOk result (λ r. recipe (left self.old) ≡ Read (recipe_definition_view r) (left self.new)) }
-        ensures refused { IfErr result (IsRefused (recipe (left self.old))) }
+    pub(crate) fn recipe(
+        &mut self,
+        attributes: &mut Vec<WrittenAttribute<'src>>,
+    ) -> Result<RecipeDefinition<'src>, ParseError<'src>>
+        ensures ok { IfOk result (λ r. recipe (map written_view attributes.old.items) (left self.old)
+            ≡ Read (recipe_definition_view r) (left self.new)) }
+        ensures refused { IfErr result (IsRefused (recipe (map written_view attributes.old.items) (left self.old))) }
     {
         let quiet = self.accepted(TokenKind::At)?;
         let name = self.name()?;
         let mut recipe = RecipeDefinition {
+            args: Vec::new(self.alloc),
             body: Vec::new(self.alloc),
             dependencies: Vec::new(self.alloc),
             parameters: Vec::new(self.alloc),
@@ -30,8 +40,25 @@ impl<'src> Parser<'_, 'src> {
             recipe: Recipe::new(self.alloc, name),
             subsequents: Vec::new(self.alloc),
         };
-        let filled = self.parts(&mut recipe);
+        let filled = self.parts_after(attributes, &mut recipe);
         followed(recipe, filled)
+    }
+
+    // The attributes of a recipe, and its parts after its name.
+    fn parts_after(
+        &mut self,
+        attributes: &mut Vec<WrittenAttribute<'src>>,
+        recipe: &mut RecipeDefinition<'src>,
+    ) -> Result<(), ParseError<'src>>
+        requires bare { let r = recipe_definition_view recipe.old in r ≡ bare [] r.quiet r.recipe.name }
+        ensures ok { let r = recipe_definition_view recipe.old in
+            OnOk result (parts (bare (map written_view attributes.old.items) r.quiet r.recipe.name) (left self.old)
+            ≡ Read (recipe_definition_view recipe.new) (left self.new)) }
+        ensures refused { let r = recipe_definition_view recipe.old in IfErr result
+            (IsRefused (parts (bare (map written_view attributes.old.items) r.quiet r.recipe.name) (left self.old))) }
+    {
+        keep_attributes(attributes, &mut recipe.args, &mut recipe.recipe.attributes)?;
+        self.parts(recipe)
     }
 
     // The parts of a recipe after its name.
@@ -51,5 +78,47 @@ impl<'src> Parser<'_, 'src> {
         self.subsequents(&mut recipe.subsequents)?;
         self.line_end()?;
         self.body(&mut recipe.body)
+    }
+}
+
+// Moves attributes to those of a recipe, and what they say of parameters to what others say.
+fn keep_attributes<'src>(
+    attributes: &mut Vec<WrittenAttribute<'src>>,
+    args: &mut Vec<ArgAttribute<'src>>,
+    kept: &mut AttributeSet<'src>,
+) -> Result<(), ParseError<'src>>
+    ensures args { OnOk result (map arg_view args.new.items
+        ≡ map arg_view args.old.items ++ args_of (map written_view attributes.old.items)) }
+    ensures attributes { OnOk result (attributes_view kept.new
+        ≡ attributes_view kept.old ++ attributes_of (map written_view attributes.old.items)) }
+    ensures refused { IfErr result (λ refusal. refusal ≡ ParseError.OutOfMemory) }
+{
+    attributes.reverse();
+    while let Some(attribute) = attributes.pop() {
+        keep_attribute(attribute, args, kept)?;
+    }
+    Ok(())
+}
+
+// Moves an attribute.
+fn keep_attribute<'src>(
+    attribute: WrittenAttribute<'src>,
+    args: &mut Vec<ArgAttribute<'src>>,
+    kept: &mut AttributeSet<'src>,
+) -> Result<(), ParseError<'src>>
+    ensures args { OnOk result (map arg_view args.new.items
+        ≡ map arg_view args.old.items ++ args_of (written_view attribute.entry ∷ [])) }
+    ensures attributes { OnOk result (attributes_view kept.new
+        ≡ attributes_view kept.old ++ attributes_of (written_view attribute.entry ∷ [])) }
+    ensures refused { IfErr result (λ refusal. refusal ≡ ParseError.OutOfMemory) }
+{
+    let WrittenAttribute {
+        arg,
+        attribute,
+        name,
+    } = attribute;
+    match followed(attribute, pushed_some(args, arg)) {
+        Ok(attribute) => allocated(kept.push(attribute, name)),
+        Err(refusal) => Err(refusal),
     }
 }

@@ -2,18 +2,18 @@
 
 ghost use Rattle.std.specs.Prelude.{IfErr, IfOk, None, Some, ◌≡◌};
 ghost use Rattle.just_syntax.specs.View.{expression_interpreter_view, literal_view, setting_view, view};
-ghost use Rattle.just_lexer.specs.declared.kind.TokenKind.TheVariants as kinds;
-ghost use Rattle.just_parser.specs.Items.{boolean, flag, given, indentation, setting, value_as};
+ghost use Rattle.just_parser.specs.Attributes.{string};
+ghost use Rattle.just_parser.specs.Items.{boolean, flag, given, indentation, setting};
 ghost use Rattle.just_parser.specs.Parsed.{IsRefusalAt, IsRefused, left};
-ghost use Rattle.just_parser.specs.Phrase.{Read, expected, expression};
-ghost use Rattle.just_parser.specs.Settings.{interpreter_of, literal_of};
+ghost use Rattle.just_parser.specs.Phrase.{Read, expression, value_as};
+ghost use Rattle.just_parser.specs.Settings.{interpreter_of};
 ghost use Rattle.just_parser.specs.declared.parse_error.Fault.TheVariants.{ExpectedCommand, UnknownSetting};
 
 use crate::outcome::found;
 use crate::parse_error::{Fault, ParseError};
 use crate::parser::Parser;
 use crate::setting_form::SettingForm;
-use crate::value::{indentation_of, interpreter_of, literal_of};
+use crate::value::{indentation_of, interpreter_of};
 use just_expression_parser::parse_error as syntax;
 use just_lexer::kind::TokenKind;
 use just_syntax::expression::Expression;
@@ -101,7 +101,7 @@ impl<'src> Parser<'_, 'src> {
     }
 
     // `:=` and a list of a command and its first arguments.
-    #[tactic(auto, unfolding(crate::specs::Items::value_as))]
+    #[tactic(auto, unfolding(crate::specs::Phrase::value_as))]
     fn interpreter(&mut self) -> Result<Interpreter<Expression<'src>>, ParseError<'src>>
         ensures ok { IfOk result (λ i. given (value_as ExpectedCommand interpreter_of) (left self.old)
             ≡ Read (expression_interpreter_view i) (left self.new)) }
@@ -116,23 +116,16 @@ impl<'src> Parser<'_, 'src> {
     }
 
     // `:=` and a string.
-    #[tactic(auto, unfolding(crate::specs::Items::value_as))]
     fn version(&mut self) -> Result<StringLiteral<'src>, ParseError<'src>>
-        ensures ok { IfOk result (λ l. given (value_as (expected kinds.StringToken) literal_of) (left self.old)
-            ≡ Read (literal_view l) (left self.new)) }
-        ensures refused { IfErr result
-            (IsRefused (given (value_as (expected kinds.StringToken) literal_of) (left self.old))) }
+        ensures ok { IfOk result (λ l. given string (left self.old) ≡ Read (literal_view l) (left self.new)) }
+        ensures refused { IfErr result (IsRefused (given string (left self.old))) }
     {
         self.one(TokenKind::ColonEquals)?;
-        let otherwise = self.expected(TokenKind::StringToken);
-        match self.value() {
-            Ok(value) => found(literal_of(value), otherwise),
-            Err(refusal) => Err(refusal),
-        }
+        self.string()
     }
 
     // `:=` and the indentation of recipes, by the token of its string.
-    #[tactic(auto, unfolding(crate::specs::Items::indentation, crate::specs::Items::value_as))]
+    #[tactic(auto, unfolding(crate::specs::Items::indentation, crate::specs::Phrase::value_as))]
     fn indentation(&mut self) -> Result<Setting<'src>, ParseError<'src>>
         ensures ok { IfOk result (λ s. given indentation (left self.old) ≡ Read (setting_view s) (left self.new)) }
         ensures refused { IfErr result (IsRefused (given indentation (left self.old))) }

@@ -3,7 +3,7 @@
 ghost use Rattle.std.specs.Prelude.{◌≡◌};
 ghost use Rattle.just_expression_parser.specs.Parsed.{tokens};
 ghost use Rattle.just_parser.specs.Start.{ends_with_name, gives_name, is_unsupported, start_of_item, start_of_keyword};
-ghost use Rattle.just_parser.specs.Start.{start_of_name};
+ghost use Rattle.just_parser.specs.Start.{start_of_name, takes_attributes};
 
 use just_expression_parser::cursor::Cursor;
 use just_lexer::kind::TokenKind;
@@ -31,6 +31,18 @@ pub(crate) enum Start {
     Unexport,
     /// `import` or `mod`, which are not read.
     Unsupported,
+}
+
+impl Start {
+    /// Whether what begins so may have attributes before it.
+    pub(crate) fn takes_attributes(self) -> bool
+        ensures { result ≡ takes_attributes self }
+    {
+        matches!(
+            self,
+            Start::Alias | Start::Assignment | Start::Eager | Start::Export | Start::Recipe
+        )
+    }
 }
 
 /// How the next item begins.

@@ -1,6 +1,6 @@
 use Rattle.std.proofs.Common.{refl}
 use Rattle.just_parser.specs.View.{item_view}
-use Rattle.just_analyzer.proofs.Parts.{any_seen}
+use Rattle.just_parser.proofs.Seen.{any_seen}
 use Rattle.just_analyzer.specs.Analysis.{allows_recipes, allows_variables, is_set}
 use Rattle.just_analyzer.proofs.analyzing.allowed.Goals as goal
 

@@ -1,7 +1,6 @@
 use Rattle.std.proofs.Common.{ap, map, sym, ◌∙◌}
 use Rattle.std.proofs.lemmas.Result.{on_ok_weaker}
 use Rattle.just_syntax.proofs.Maps.{seen_with}
-use Rattle.just_syntax.specs.View.{name_view}
 use Rattle.just_analyzer.proofs.Parts.{alias_added}
 use Rattle.just_analyzer.specs.View.{alias_view, analysis_view}
 use Rattle.just_analyzer.proofs.analysis.Analysis.add_alias.Goals as goal

@@ -1,6 +1,6 @@
 // Texts and what they are read as.
 
-use crate::{parse_expression, significant};
+use just_expression_parser::{parse_expression, significant};
 use just_lexer::lex;
 use just_syntax::out_of_memory::OutOfMemory;
 use std::alloc::Global;

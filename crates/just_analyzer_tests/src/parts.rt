@@ -1,13 +1,21 @@
 // Texts and the parts that they make up.
 
-use crate::analysis::Analysis;
-use crate::analyze;
+use just_analyzer::analysis::Analysis;
+use just_analyzer::analyze;
 use just_parser::item::Item;
 use just_parser::parse;
 use just_syntax::keyed::Keyed;
 use just_syntax::out_of_memory::OutOfMemory;
+use just_syntax::parameter::Parameter;
 use just_syntax::table::Table;
 use std::alloc::Global;
+
+// What is asked for of a text: the names of its parts, or the parameters of its recipes.
+#[derive(Clone, Copy)]
+enum Asked {
+    Parameters,
+    Parts,
+}
 
 // Texts and their parts: the order of the variables, the functions, the settings, the recipes, the aliases, and the
 // variables that are not passed on.
@@ -52,11 +60,36 @@ const FAULTS: &[(&str, &str)] = &[
         "setting `export` is set more than once",
     ),
     ("a:\na:\n", "recipe `a` has multiple definitions"),
+    ("a b b:\n", "parameter `b` has multiple definitions"),
+    (
+        "a b c='d' $b='e' +b:\n",
+        "parameter `b` has multiple definitions",
+    ),
+    (
+        "[arg('b')]\n[arg('c')]\na b:\n",
+        "attribute `arg` names no parameter",
+    ),
+    ("[arg('')]\na:\n", "attribute `arg` names no parameter"),
     ("a:\nalias a := b\n", "recipe `a` has multiple definitions"),
     ("alias a := b\na:\n", "recipe `a` has multiple definitions"),
     (
         "alias a := b\nalias a := c\n",
         "recipe `a` has multiple definitions",
+    ),
+];
+
+// Texts and the parameters of their recipes, after what attributes say of them.
+const PARAMETERS: &[(&str, &str)] = &[
+    ("a b c='d':\n", "b c "),
+    ("[arg('b', flag, long)]\na b c:\n", "b flag c "),
+    (
+        "[arg('c', multiple, value='d' + e)]\n[arg('b', help='f'), arg(\"b\", flag)]\na b c:\n",
+        "b flag c multiple value='d' + e ",
+    ),
+    ("[arg('b', value='c', value='d')]\na b:\n", "b value='d' "),
+    (
+        "[arg('b', flag)]\na b:\nc b:\n[arg('\u{e4}')]\n[private]\nd:\n",
+        "attribute `arg` names no parameter",
     ),
 ];
 
@@ -86,15 +119,52 @@ fn add_names<V: Keyed>(table: &Table<V>, all: &mut String) -> Result<(), OutOfMe
     Ok(())
 }
 
-// Adds the names of the parts that items make up, or what is wrong with them.
+// Adds the parameters of all recipes.
+fn add_all_parameters(
+    alloc: Global,
+    analysis: &Analysis,
+    all: &mut String,
+) -> Result<(), OutOfMemory> {
+    for recipe in &analysis.recipes {
+        for parameter in &recipe.parameters {
+            add_parameter(alloc, parameter, all)?;
+        }
+    }
+    Ok(())
+}
+
+// Adds a parameter.
+fn add_parameter(
+    alloc: Global,
+    parameter: &Parameter,
+    all: &mut String,
+) -> Result<(), OutOfMemory> {
+    add(all, parameter.name.lexeme())?;
+    if parameter.flag {
+        add(all, "flag")?;
+    }
+    if parameter.multiple {
+        add(all, "multiple")?;
+    }
+    if let Some(value) = &parameter.value {
+        add(all, &format!(in alloc; "value={value}")?)?;
+    }
+    Ok(())
+}
+
+// Adds what is asked for of the parts that items make up, or what is wrong with them.
 fn add_analyzed<'src>(
     alloc: Global,
     all: &mut String,
     items: Vec<Item<'src>>,
+    asked: Asked,
 ) -> Result<(), OutOfMemory> {
     match analyze(alloc, items, "/work/justfile", "/work") {
         Ok(analysis) => {
-            let added = add_parts(&analysis, all);
+            let added = match asked {
+                Asked::Parameters => add_all_parameters(alloc, &analysis, all),
+                Asked::Parts => add_parts(&analysis, all),
+            };
             drop(analysis);
             added
         }
@@ -105,10 +175,10 @@ fn add_analyzed<'src>(
     }
 }
 
-// Adds the names of the parts of a text, or what is wrong with them.
-fn add_text(alloc: Global, all: &mut String, text: &str) -> Result<(), OutOfMemory> {
+// Adds what is asked for of a text, or what is wrong with it.
+fn add_text(alloc: Global, all: &mut String, text: &str, asked: Asked) -> Result<(), OutOfMemory> {
     match parse(alloc, "justfile", text) {
-        Ok(items) => add_analyzed(alloc, all, items),
+        Ok(items) => add_analyzed(alloc, all, items, asked),
         Err(_) => {
             all.push_str("no items")?;
             Ok(())
@@ -116,10 +186,10 @@ fn add_text(alloc: Global, all: &mut String, text: &str) -> Result<(), OutOfMemo
     }
 }
 
-// The names of the parts of a text.
-fn parts(alloc: Global, text: &str) -> Result<String, OutOfMemory> {
+// What is asked for of a text.
+fn of_text(alloc: Global, text: &str, asked: Asked) -> Result<String, OutOfMemory> {
     let mut all = String::new(alloc);
-    add_text(alloc, &mut all, text)?;
+    add_text(alloc, &mut all, text, asked)?;
     Ok(all)
 }
 
@@ -134,7 +204,7 @@ fn add(all: &mut String, word: &str) -> Result<(), OutOfMemory> {
 fn parts_of_texts(rt: HostRuntime) {
     let alloc = rt.alloc();
     for (text, expected) in PARTS {
-        let names = parts(alloc, text).expect(&rt, "no memory");
+        let names = of_text(alloc, text, Asked::Parts).expect(&rt, "no memory");
         assert_eq!(&rt; names.as_str(), *expected);
     }
 }
@@ -143,7 +213,16 @@ fn parts_of_texts(rt: HostRuntime) {
 fn faults_of_texts(rt: HostRuntime) {
     let alloc = rt.alloc();
     for (text, expected) in FAULTS {
-        let fault = parts(alloc, text).expect(&rt, "no memory");
+        let fault = of_text(alloc, text, Asked::Parts).expect(&rt, "no memory");
         assert_eq!(&rt; fault.as_str(), *expected);
+    }
+}
+
+#[test]
+fn parameters_of_texts(rt: HostRuntime) {
+    let alloc = rt.alloc();
+    for (text, expected) in PARAMETERS {
+        let parameters = of_text(alloc, text, Asked::Parameters).expect(&rt, "no memory");
+        assert_eq!(&rt; parameters.as_str(), *expected);
     }
 }

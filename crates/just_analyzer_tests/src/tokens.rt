@@ -1,7 +1,7 @@
 // Texts and their tokens.
 
-use crate::lex;
-use crate::lex_error::LexError;
+use just_lexer::lex;
+use just_lexer::lex_error::LexError;
 use std::alloc::{AllocError, Global};
 use std::fmt::Write;
 use std::process::Abort;

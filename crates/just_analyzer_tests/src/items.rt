@@ -1,9 +1,11 @@
 // Texts and their items.
 
-use crate::dependency::Dependency;
-use crate::item::Item;
-use crate::parse;
-use crate::recipe_definition::RecipeDefinition;
+use just_parser::arg_attribute::{ArgAttribute, ArgOption};
+use just_parser::dependency::Dependency;
+use just_parser::item::Item;
+use just_parser::parse;
+use just_parser::recipe_definition::RecipeDefinition;
+use just_syntax::attribute::Attribute;
 use just_syntax::fragment::Fragment;
 use just_syntax::out_of_memory::OutOfMemory;
 use just_syntax::parameter_kind::ParameterKind;
@@ -49,12 +51,62 @@ const ITEMS: &[(&str, &str)] = &[
     ),
     ("a:\n  # b\n  c {{{{d\ne:\n", "a: / # b / c {{{{d; e:; "),
     ("a:\n  b\n    c", "a: / b /   c; "),
+    ("_a := 'b'\n", "private _a := 'b'; "),
+    ("[private]\na := 'b'\n", "private a := 'b'; "),
+    (
+        "[private, group: 'c']\nexport a := 'b'\n",
+        "private export a := 'b'; ",
+    ),
+    ("[private]\nalias a := b\n", "alias a := b; "),
+    ("[private]\na:\n  b\n", "[private] a: / b; "),
+    (
+        "[linux]\n[confirm(\"a?\"), no-cd,]\n@a:\n",
+        "[linux] [confirm] [no-cd] @a:; ",
+    ),
+    (
+        "[script('sh', '-e',), metadata()]\na:\n",
+        "[script] [metadata] a:; ",
+    ),
+    (
+        "[env('A', b + `c`)]\n[env(\n  a,\n  'b',\n)]\na:\n",
+        "[env('A', b + `c`)] [env(a, 'b')] a:; ",
+    ),
+    (
+        "[arg('a', long, help='b', pattern = c / d)]\na b:\n",
+        "[arg] <'a'> a b:; ",
+    ),
+    (
+        "[arg(\"a\", flag, value='b' + c, multiple)]\n[arg('d')]\na b:\n",
+        "[arg] <\"a\" flag value='b' + c multiple> [arg] <'d'> a b:; ",
+    ),
 ];
 
 // Texts and what is wrong with them.
 const REFUSED: &[(&str, &str)] = &[
     ("a", "expected ':', found the end"),
-    ("[a]", "expected an item, found `[`"),
+    (
+        "[a]",
+        "expected an item that takes attributes, found the end",
+    ),
+    (
+        "[a]\nset export\n",
+        "expected an item that takes attributes, found `set`",
+    ),
+    (
+        "[a]\n\nb:\n",
+        "expected an item that takes attributes, found `\n`",
+    ),
+    ("[]\na:\n", "expected identifier, found `]`"),
+    ("[a b]\na:\n", "expected ']', found `b`"),
+    ("[a] b:\n", "expected end of line, found `b`"),
+    ("[a: ]\nb:\n", "expected an expression, found `]`"),
+    ("[env('a')]\nb:\n", "expected ',', found `)`"),
+    ("[env('a', 'b', 'c')]\nb:\n", "expected ')', found `'c'`"),
+    ("[env]\nb:\n", "expected '(', found `]`"),
+    ("[arg(a)]\nb:\n", "expected string, found `a`"),
+    ("[arg('a', 'b')]\nb:\n", "expected identifier, found `'b'`"),
+    ("[arg('a', flag='b')]\nb:\n", "expected ')', found `=`"),
+    ("[arg('a', value)]\nb:\n", "expected '=', found `)`"),
     ("a +b c:\n", "expected ':', found `c`"),
     ("a: (b\n", "unclosed delimiter `(`"),
     ("a: b &&\n", "expected identifier, found `\n`"),
@@ -104,6 +156,7 @@ fn written(alloc: Global, item: &Item) -> Result<String, OutOfMemory> {
     Ok(match item {
         Item::Alias { name, target } => format!(in alloc; "alias {name} := {target}; ")?,
         Item::Assignment(assignment) => {
+            let private = if assignment.private { "private " } else { "" };
             let keyword = if assignment.eager {
                 "eager "
             } else if assignment.export {
@@ -112,7 +165,7 @@ fn written(alloc: Global, item: &Item) -> Result<String, OutOfMemory> {
                 ""
             };
             let (name, value) = (&assignment.name, &assignment.value);
-            format!(in alloc; "{keyword}{name} := {value}; ")?
+            format!(in alloc; "{private}{keyword}{name} := {value}; ")?
         }
         Item::Function(function) => {
             let (name, body) = (&function.name, &function.body);
@@ -133,6 +186,7 @@ fn written(alloc: Global, item: &Item) -> Result<String, OutOfMemory> {
 // A recipe, as it is written.
 fn recipe_written(alloc: Global, recipe: &RecipeDefinition) -> Result<String, OutOfMemory> {
     let mut text = String::new(alloc);
+    add_attributes(alloc, &mut text, recipe)?;
     if recipe.quiet {
         text.push('@')?;
     }
@@ -174,6 +228,43 @@ fn recipe_written(alloc: Global, recipe: &RecipeDefinition) -> Result<String, Ou
     }
     text.push_str("; ")?;
     Ok(text)
+}
+
+// Adds the attributes of a recipe, each with what it says of a parameter.
+fn add_attributes(
+    alloc: Global,
+    text: &mut String,
+    recipe: &RecipeDefinition,
+) -> Result<(), OutOfMemory> {
+    let mut args = recipe.args.iter();
+    for (attribute, name) in recipe.recipe.attributes.iter() {
+        match attribute {
+            Attribute::Env(key, value) => {
+                text.push_str(&format!(in alloc; "[{name}({key}, {value})] ")?)?;
+            }
+            Attribute::Other => text.push_str(&format!(in alloc; "[{name}] ")?)?,
+        }
+        if name.lexeme() == "arg" {
+            if let Some(arg) = args.next() {
+                add_arg(alloc, text, arg)?;
+            }
+        }
+    }
+    Ok(())
+}
+
+// Adds what an attribute says of a parameter.
+fn add_arg(alloc: Global, text: &mut String, arg: &ArgAttribute) -> Result<(), OutOfMemory> {
+    text.push_str(&format!(in alloc; "<{}", arg.parameter)?)?;
+    for option in &arg.options {
+        match option {
+            ArgOption::Flag => text.push_str(" flag")?,
+            ArgOption::Multiple => text.push_str(" multiple")?,
+            ArgOption::Value(value) => text.push_str(&format!(in alloc; " value={value}")?)?,
+        }
+    }
+    text.push_str("> ")?;
+    Ok(())
 }
 
 // Adds dependencies with their arguments.
