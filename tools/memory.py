@@ -123,11 +123,11 @@ class Run:
         self.error = error
 
 
-def runs(program, library, given):
+def runs(command, library, given):
     """Yields the run that refuses nothing, and then one for each allocation."""
-    ended = subprocess.run([program], input=given, capture_output=True, env=dict(os.environ, LD_PRELOAD=library))
+    ended = subprocess.run(command, input=given, capture_output=True, env=dict(os.environ, LD_PRELOAD=library))
     if ended.returncode:
-        raise RuntimeError(f"{program}: the runs ended with {ended.returncode}: {ended.stderr[-300:]!r}")
+        raise RuntimeError(f"{command}: the runs ended with {ended.returncode}: {ended.stderr[-300:]!r}")
     at, size = 0, struct.calcsize("4q")
     while at < len(ended.stdout):
         number, status, output, error = struct.unpack_from("4q", ended.stdout, at)
@@ -173,9 +173,9 @@ def stored_cases():
             yield os.path.basename(path), it.read().partition(b"\n=> ")[0]
 
 
-def tried(program, library, name, given, is_right):
+def tried(command, library, name, given, is_right):
     """How many allocations were refused, and what is wrong."""
-    each = runs(program, library, given)
+    each = runs(command, library, given)
     whole, count, wrong = next(each), 0, []
     for run in each:
         count += 1
@@ -187,11 +187,15 @@ def tried(program, library, name, given, is_right):
 
 
 def built(name):
-    """The program that `rt ci` built of a crate."""
+    """The program that `rt ci` built of a crate, with the arguments that the gate runs it with."""
     path = f"{TOP}/crates/{name}/out/{name}"
     if not os.path.isfile(path):
         sys.exit(f"{path} is not there: run rt ci first")
-    return path
+    words = f"{TOP}/crates/{name}/args"
+    if not os.path.isfile(words):
+        return [path]
+    with open(words, encoding="utf8") as it:
+        return [path, *it.read().splitlines()]
 
 
 def given_to(name):

@@ -1,0 +1,93 @@
+// A host that answers from what is given.
+
+use crate::given::Given;
+use just_host::command_question::CommandQuestion;
+use just_host::host::{Host, STACK_BUDGET};
+use just_host::map_host::MapHost;
+use just_host::number_question::NumberQuestion;
+use just_host::text_answer::TextAnswer;
+use just_host::text_question::TextQuestion;
+use just_syntax::out_of_memory::OutOfMemory;
+use just_value::error::CommandFault;
+use std::alloc::Global;
+
+/// Answers commands and environment variables from what is given. A variable that is not given is absent, no file
+/// exists, and each number is 1. Another question has no answer, and is refused.
+#[derive(Drop)]
+pub(crate) struct Answers {
+    commands: Vec<String>,
+    others: MapHost,
+}
+
+impl Answers {
+    /// The answers that are given.
+    pub(crate) fn new(alloc: Global, given: &Given) -> Result<Answers, OutOfMemory> {
+        let mut others = MapHost::new(alloc);
+        others.variables = given.variables.clone()?;
+        Ok(Answers {
+            commands: given.answers.clone()?,
+            others,
+        })
+    }
+}
+
+impl Host for Answers {
+    ghost step = { λ _ _ _ _. Unit {0} };
+
+    fn command(
+        &mut self,
+        alloc: Global,
+        question: &CommandQuestion,
+    ) -> Result<String, CommandFault> {
+        match output_of(&self.commands, question.command) {
+            Some(text) => Ok(String::from_str(alloc, text)?),
+            None => Err(unanswered(alloc, question.command)?),
+        }
+    }
+
+    fn text(&mut self, alloc: Global, question: TextQuestion) -> TextAnswer {
+        match question {
+            TextQuestion::Variable(_) => self.others.text(alloc, question),
+            _ => match format!(in alloc; "no answer for {question}") {
+                Ok(text) => TextAnswer::Fault(text),
+                Err(_) => TextAnswer::OutOfMemory,
+            },
+        }
+    }
+
+    fn exists(&mut self, alloc: Global, path: &str) -> Result<bool, OutOfMemory> {
+        self.others.exists(alloc, path)
+    }
+
+    fn number(&mut self, alloc: Global, question: NumberQuestion) -> Result<u64, OutOfMemory> {
+        self.others.number(alloc, question)
+    }
+
+    fn stack_budget(&self) -> usize {
+        STACK_BUDGET
+    }
+}
+
+// The output of a command: the rest of the last answer that begins with the command and `=`.
+fn output_of<'a>(answers: &'a [String], command: &str) -> Option<&'a str> {
+    let mut output = None;
+    for answer in answers {
+        if let Some(rest) = after(answer, command) {
+            output = Some(rest);
+        }
+    }
+    output
+}
+
+// The rest of an answer to a command, if it is one.
+fn after<'a>(answer: &'a str, command: &str) -> Option<&'a str> {
+    answer.strip_prefix(command)?.strip_prefix('=')
+}
+
+// That a command has no answer.
+fn unanswered(alloc: Global, command: &str) -> Result<CommandFault, OutOfMemory> {
+    let text = format!(in alloc;
+        "no answer for command `{command}`: give --answer '{command}=TEXT'"
+    )?;
+    Ok(CommandFault::Fault(text))
+}

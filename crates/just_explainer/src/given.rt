@@ -1,0 +1,44 @@
+// What is given in place of a run.
+
+ghost use Rattle.std.specs.Prelude.{string_bytes, [], false, ◌≡◌};
+ghost use Rattle.just_syntax.specs.View.{pairs_view};
+
+use std::alloc::Global;
+use std::collections::BTreeMap;
+
+/// What is given in place of a run: the answers to its questions, and its options.
+#[derive(Debug, Drop)]
+pub struct Given {
+    /// Each is a command, `=` and what it outputs.
+    pub answers: Vec<String>,
+    /// The directory of the justfile.
+    pub directory: String,
+    /// The variables of dotenv files.
+    pub dotenv: BTreeMap<String, String>,
+    pub dry_run: bool,
+    /// Whether `lists` is set, whatever the justfile sets.
+    pub lists: bool,
+    /// The environment variables.
+    pub variables: BTreeMap<String, String>,
+}
+
+impl Given {
+    /// Nothing. It allocates nothing.
+    pub fn new(alloc: Global) -> Given
+        ensures answers { result.answers.items ≡ [] }
+        ensures directory { string_bytes result.directory ≡ [] }
+        ensures dotenv { pairs_view result.dotenv ≡ [] }
+        ensures dry_run { result.dry_run ≡ false }
+        ensures lists { result.lists ≡ false }
+        ensures variables { pairs_view result.variables ≡ [] }
+    {
+        Given {
+            answers: Vec::new(alloc),
+            directory: String::new(alloc),
+            dotenv: BTreeMap::new(alloc),
+            dry_run: false,
+            lists: false,
+            variables: BTreeMap::new(alloc),
+        }
+    }
+}

@@ -1,0 +1,45 @@
+// Names in a recipe that mean nothing.
+
+use crate::expressions::{Part, expressions_of};
+use crate::numbered_recipe::NumberedRecipe;
+use crate::outcome::pushed;
+use just_resolution::fault::Fault;
+use just_resolution::known::site_fault;
+use just_resolution::sites::sites_in;
+use just_syntax::function_definition::FunctionDefinition;
+use just_syntax::out_of_memory::OutOfMemory;
+use just_syntax::table::Table;
+use std::alloc::Global;
+
+/// The faults of the names in the expressions of a numbered recipe: variables that nothing has, and calls that do not
+/// fit. They come in the order of attributes, parameters, dependencies, lines, and dependencies after the recipe.
+///
+/// # Errors
+///
+/// `OutOfMemory`, if an allocation fails.
+pub fn recipe_faults<'src>(
+    alloc: Global,
+    recipe: &NumberedRecipe<'src>,
+    functions: &Table<FunctionDefinition<'src>>,
+) -> Result<Vec<Fault<'src>>, OutOfMemory> {
+    let mut faults = Vec::new(alloc);
+    for part in &expressions_of(alloc, recipe)? {
+        add_faults(alloc, part, functions, &mut faults)?;
+    }
+    Ok(faults)
+}
+
+// Adds the faults of the names in an expression.
+fn add_faults<'src>(
+    alloc: Global,
+    part: &Part<'src, '_>,
+    functions: &Table<FunctionDefinition<'src>>,
+    faults: &mut Vec<Fault<'src>>,
+) -> Result<(), OutOfMemory> {
+    for site in &sites_in(alloc, part.expression)? {
+        if let Some(fault) = site_fault(functions, site) {
+            pushed(faults, fault)?;
+        }
+    }
+    Ok(())
+}
