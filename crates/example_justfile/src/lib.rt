@@ -1,11 +1,7 @@
-// The justfile of the example programs, as a parser would build it. Its text is [`SOURCE`].
+// The justfile of the example programs, read from its text.
 #![tactic(auto)]
 
 pub mod module;
-mod place;
-pub mod recipe;
-mod rows;
-mod syntax;
 
 /// The text of the justfile.
 pub const SOURCE: &str = "mode := 'debug'

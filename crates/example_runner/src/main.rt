@@ -5,8 +5,7 @@
 ghost use Rattle.std.specs.Prelude.{◌<◌};
 
 use anyhow::Result;
-use example_justfile::module::module;
-use example_justfile::recipe::{lines, parameters, recipe};
+use example_justfile::module::{module, recipe};
 use just_eval::prelude::*;
 use just_prelude::*;
 use std::alloc::Global;
@@ -47,12 +46,12 @@ fn call(
 ) -> Result<()>
     requires may_call { 0 < context.now.recursion_limit }
 {
-    let (recipe, parameters) = (recipe(alloc)?, parameters(alloc)?);
+    let recipe = recipe(alloc)?;
     let words = words.split_whitespace().collect::<Vec<&str>>(alloc)?;
     let call = RecipeCall {
-        recipe: &recipe,
-        parameters: &parameters,
-        arguments: group_arguments(alloc, &recipe, &parameters, &words)?,
+        recipe: &recipe.recipe,
+        parameters: &recipe.parameters,
+        arguments: group_arguments(alloc, &recipe.recipe, &recipe.parameters, &words)?,
         is_dependency: false,
     };
     start(rt, alloc, host, context, &call)
@@ -73,7 +72,7 @@ fn start<'src>(
     }
     let name = Some(call.recipe.name);
     let evaluator = Evaluator::new(alloc, context, env, false, name, &scope)?;
-    for command in evaluator.evaluate_lines(alloc, host, &lines(alloc)?)? {
+    for command in evaluator.evaluate_lines(alloc, host, &recipe(alloc)?.body)? {
         println!(rt; "  > {command}")?;
     }
     Ok(())
