@@ -1,78 +1,53 @@
 // Words as the arguments of recipes.
 
+use crate::texts::{analyzed, push};
+use just_parser::recipe_definition::RecipeDefinition;
 use just_run::arguments::group_arguments;
-use just_syntax::expression::Expression;
-use just_syntax::name::Name;
-use just_syntax::number::Number;
-use just_syntax::out_of_memory::OutOfMemory;
-use just_syntax::parameter::Parameter;
-use just_syntax::parameter_kind::ParameterKind;
-use just_syntax::recipe::Recipe;
 use just_value::value::Value;
 use std::alloc::Global;
 use std::process::Abort;
 
-// Parameters, each with its kind and whether it has a default; words; and the arguments in brackets, or the message.
-type Row = (
-    &'static [(ParameterKind, bool)],
-    &'static [&'static str],
-    &'static str,
-);
-
-pub(crate) const ONE: (ParameterKind, bool) = (ParameterKind::Singular, false);
-
-const ONE_OR_DEFAULT: (ParameterKind, bool) = (ParameterKind::Singular, true);
-
-pub(crate) const SOME: (ParameterKind, bool) = (ParameterKind::Plus, false);
-
-const SOME_OR_DEFAULT: (ParameterKind, bool) = (ParameterKind::Plus, true);
-
-const ANY: (ParameterKind, bool) = (ParameterKind::Star, false);
-
-const ROWS: &[Row] = &[
-    (&[], &[], ""),
-    (&[], &["x"], "recipe `r` got 1 argument but only takes 0"),
-    // build target:
-    (&[ONE], &["x"], "[x]"),
-    (&[ONE], &[""], "[]"),
-    (&[ONE], &[], "recipe `r` got 0 arguments but takes 1"),
+// The text of a recipe; words, each after a bar; and the arguments in brackets, or the message.
+const ROWS: &[(&str, &str, &str)] = &[
+    ("r:\n", "", ""),
+    ("r:\n", "|x", "recipe `r` got 1 argument but only takes 0"),
+    ("r target:\n", "|x", "[x]"),
+    ("r target:\n", "|", "[]"),
+    ("r target:\n", "", "recipe `r` got 0 arguments but takes 1"),
     (
-        &[ONE],
-        &["x", "y"],
+        "r target:\n",
+        "|x|y",
         "recipe `r` got 2 arguments but only takes 1",
     ),
-    (&[ONE, ONE], &["x"], "recipe `r` got 1 argument but takes 2"),
-    // test target tests='all':
     (
-        &[ONE, ONE_OR_DEFAULT],
-        &["server", "unit"],
-        "[server][unit]",
+        "r from to:\n",
+        "|x",
+        "recipe `r` got 1 argument but takes 2",
     ),
-    (&[ONE, ONE_OR_DEFAULT], &["server"], "[server]()"),
+    ("r target tests='all':\n", "|server|unit", "[server][unit]"),
+    ("r target tests='all':\n", "|server", "[server]()"),
     (
-        &[ONE, ONE_OR_DEFAULT],
-        &[],
+        "r target tests='all':\n",
+        "",
         "recipe `r` got 0 arguments but takes at least 1",
     ),
     (
-        &[ONE, ONE_OR_DEFAULT],
-        &["a", "b", "c"],
+        "r target tests='all':\n",
+        "|a|b|c",
         "recipe `r` got 3 arguments but takes at most 2",
     ),
-    // backup +files:
-    (&[SOME], &["a", "b", "c"], "[a,b,c]"),
+    ("r +files:\n", "|a|b|c", "[a,b,c]"),
     (
-        &[SOME],
-        &[],
+        "r +files:\n",
+        "",
         "recipe `r` got 0 arguments but takes at least 1",
     ),
-    (&[SOME_OR_DEFAULT], &[], "()"),
-    // commit message *flags:
-    (&[ONE, ANY], &["m"], "[m]()"),
-    (&[ONE, ANY], &["m", "-a", "-b"], "[m][-a,-b]"),
+    ("r +files='all':\n", "", "()"),
+    ("r message *flags:\n", "|m", "[m]()"),
+    ("r message *flags:\n", "|m|-a|-b", "[m][-a,-b]"),
     (
-        &[ONE, ANY],
-        &[],
+        "r message *flags:\n",
+        "",
         "recipe `r` got 0 arguments but takes at least 1",
     ),
 ];
@@ -80,45 +55,48 @@ const ROWS: &[Row] = &[
 #[test]
 fn grouped(rt: HostRuntime) {
     let alloc = rt.alloc();
-    for (kinds, words, wanted) in ROWS {
-        let parameters = parameters_of(&rt, alloc, kinds);
-        let recipe = Recipe::new(alloc, Name::new("r", None));
-        let given = match group_arguments(alloc, &recipe, &parameters, words) {
-            Ok(arguments) => shown(alloc, &arguments).expect(&rt, "no memory"),
-            Err(error) => error.to_string(alloc).expect(&rt, "no memory"),
-        };
-        assert_eq!(rt; given.as_str(), *wanted);
+    for (text, words, wanted) in ROWS {
+        let given = given(&rt, alloc, text, words);
+        assert_eq!(rt; given.as_str(), *wanted, "{text} with {words}");
     }
 }
 
-pub(crate) fn parameters_of<'src>(
+/// The arguments of the recipe `r` of a text for words, each after a bar, or the message.
+pub(crate) fn given<'src>(rt: &impl Abort, alloc: Global, text: &'src str, words: &str) -> String {
+    let mut all = Vec::new(alloc);
+    for word in words.split('|').skip(1) {
+        push(rt, &mut all, word);
+    }
+    let analysis = analyzed(rt, alloc, text);
+    let recipe = analysis.recipes.get("r").expect(rt, "a recipe");
+    let given = grouped_by(recipe, rt, alloc, &all);
+    drop(analysis);
+    given
+}
+
+// The arguments of a recipe, or the message.
+fn grouped_by<'src>(
+    recipe: &RecipeDefinition<'src>,
     rt: &impl Abort,
     alloc: Global,
-    kinds: &[(ParameterKind, bool)],
-) -> Vec<Parameter<'src>> {
-    let mut parameters = Vec::new(alloc);
-    for (place, (kind, has_default)) in kinds.iter().enumerate() {
-        let mut parameter = Parameter::new(Name::new("p", None), Number::new(place as u64), *kind);
-        if *has_default {
-            let default = Expression::literal(alloc, "d", "'d'").expect(rt, "no memory");
-            parameter.default = Some(default);
-        }
-        parameters.push(parameter).expect(rt, "no memory");
+    words: &[&str],
+) -> String {
+    match group_arguments(alloc, &recipe.recipe, &recipe.parameters, words) {
+        Ok(arguments) => shown(rt, alloc, &arguments),
+        Err(error) => error.to_string(alloc).expect(rt, "no memory"),
     }
-    parameters
 }
 
 // Each argument in brackets, its elements after commas; an empty one is `()`.
-fn shown(alloc: Global, arguments: &[Value]) -> Result<String, OutOfMemory> {
+fn shown(rt: &impl Abort, alloc: Global, arguments: &[Value]) -> String {
     let mut text = String::new(alloc);
     for argument in arguments {
         if argument.is_empty() {
-            text.push_str("()")?;
+            text.push_str("()").expect(rt, "no memory");
         } else {
-            text.push_str("[")?;
-            text.push_str(&argument.elements().join(alloc, ",")?)?;
-            text.push_str("]")?;
+            let elements = argument.elements().join(alloc, ",").expect(rt, "no memory");
+            write!(text, "[{elements}]").expect(rt, "no memory");
         }
     }
-    Ok(text)
+    text
 }

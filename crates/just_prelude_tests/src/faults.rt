@@ -1,136 +1,78 @@
 // Faults of small modules, below a scope that binds the number 0.
 
-use Part::{Call, Read, Unnumbered};
+use crate::texts::{numbered_module, push, set_of};
 use just_faults::faults::faults;
 use just_host::justfile::Justfile;
 use just_resolution::fault::Fault;
-use just_syntax::assignment::Assignment;
-use just_syntax::expression::Expression;
-use just_syntax::function_definition::FunctionDefinition;
 use just_syntax::name::Name;
 use just_syntax::number::Number;
-use just_syntax::out_of_memory::OutOfMemory;
 use just_syntax::token::Token;
 use just_value::scope::Scope;
 use std::alloc::Global;
 use std::collections::HashSet;
 use std::process::Abort;
 
-// What occurs in an expression.
-#[derive(Clone, Copy)]
-enum Part {
-    // A variable, and its number.
-    Read(&'static str, u64),
-    // A variable without a number.
-    Unnumbered(&'static str),
-    // A call with this many arguments.
-    Call(&'static str, usize),
-}
+const NUMBERS: &str = "outer 0 a 1 b 2 c 3 z 4 p 9";
 
-// A function of the file: its name, the numbers of its parameters, each called `p`, and what occurs in its body.
-type Function = (&'static str, &'static [u64], &'static [Part]);
+const CALLED: &str = "f(p) := p\na := [f(''), outer]\nb := [a, uuid()]\n";
 
-// An assignment: its name, its number, and what occurs in its value.
-type Variable = (&'static str, u64, &'static [Part]);
+const EARLY: &str = "a := b\nb := ''\n";
 
-// Functions, assignments, the evaluation order, and the faults, a line each.
-type Row = (
-    &'static [Function],
-    &'static [Variable],
-    &'static [&'static str],
-    &'static str,
-);
+const READS_Z: &str = "f() := [f(), z]\na := f()\nb := f()\nz := ''\n";
 
-// f(p) := p
-const ONE_PARAMETER: &[Function] = &[("f", &[9], &[Read("p", 9)])];
-
-// f() := f() + z
-const READS_Z: &[Function] = &[("f", &[], &[Call("f", 0), Read("z", 3)])];
-
-// f() := g(); g() := f() + z
-const MUTUAL: &[Function] = &[
-    ("f", &[], &[Call("g", 0)]),
-    ("g", &[], &[Call("f", 0), Read("z", 3)]),
-];
-
-// a := f(); b := f(); z := ''
-const CALLERS: &[Variable] = &[
-    ("a", 1, &[Call("f", 0)]),
-    ("b", 2, &[Call("f", 0)]),
-    ("z", 3, &[]),
-];
-
-// a := b; b := ''
-const EARLY: &[Variable] = &[("a", 1, &[Read("b", 2)]), ("b", 2, &[])];
+const MUTUAL: &str = "f() := g()\ng() := [f(), z]\na := f()\nb := f()\nz := ''\n";
 
 const Z_FOR_A: &str = "a: attempted to evaluate unevaluated variable `z`\n";
 
-const NONE: &[Row] = &[
-    (&[], &[], &[], ""),
-    (
-        ONE_PARAMETER,
-        &[
-            ("a", 1, &[Call("f", 1), Read("outer", 0)]),
-            ("b", 2, &[Read("a", 1), Call("uuid", 0)]),
-        ],
-        &["a", "b", "a"],
-        "",
-    ),
-    (READS_Z, CALLERS, &["z", "a", "b"], ""),
-    // What the order does not name may read anything.
-    (&[], EARLY, &["b"], ""),
-];
+const Z_FOR_BOTH: &str = "a: attempted to evaluate unevaluated variable `z`\n\
+     b: attempted to evaluate unevaluated variable `z`\n";
 
-const ONE: &[Row] = &[
+// Texts; the numbers of their names, of which some have none; the evaluation order; and the faults, a line each.
+const ROWS: &[(&str, &str, &str, &str)] = &[
+    ("", "", "", ""),
+    (CALLED, NUMBERS, "a b a", ""),
+    (READS_Z, NUMBERS, "z a b", ""),
+    // What the order does not name may read anything.
+    (EARLY, NUMBERS, "b", ""),
+    // One fault of each kind.
     (
-        &[],
-        &[("a", 1, &[]), ("b", 1, &[])],
-        &["a", "b"],
+        "a := ''\nb := ''\n",
+        "a 1 b 1",
+        "a b",
         "b: variable `b` has the number of another variable\n",
     ),
     (
-        &[("f", &[0], &[])],
-        &[],
-        &[],
+        "f(p) := ''\n",
+        "p 0",
+        "",
         "p: parameter `p` has a number that is bound outside\n",
     ),
     (
-        &[],
-        &[("a", 1, &[Unnumbered("x")])],
-        &["a"],
+        "a := x\n",
+        NUMBERS,
+        "a",
         "x: attempted to evaluate unresolved variable `x`\n",
     ),
+    ("a := g()\n", NUMBERS, "a", "g: unknown function `g`\n"),
     (
-        &[],
-        &[("a", 1, &[Call("g", 0)])],
-        &["a"],
-        "g: unknown function `g`\n",
-    ),
-    (
-        ONE_PARAMETER,
-        &[("a", 1, &[Call("f", 2)])],
-        &["a"],
+        "f(p) := p\na := f('', '')\n",
+        NUMBERS,
+        "a",
         "f: function `f` called with a wrong number of arguments\n",
     ),
-    (&[], &[], &["e"], "e: unknown assignment `e`\n"),
+    ("", "", "e", "e: unknown assignment `e`\n"),
     (
-        &[],
         EARLY,
-        &["a", "b"],
+        NUMBERS,
+        "a b",
         "a: attempted to evaluate unevaluated variable `b`\n",
     ),
-];
-
-const SEVERAL: &[Row] = &[
     // Numbers, parameters, values, bodies, and then the order.
     (
-        &[("f", &[0, 1], &[Unnumbered("y"), Call("f", 1)])],
-        &[
-            ("a", 1, &[Call("g", 0), Unnumbered("x"), Read("b", 2)]),
-            ("b", 2, &[]),
-        ],
-        &["e", "a"],
-        "p: variable `p` has the number of another variable\n\
+        "f(p, q) := [y, f('')]\na := [g(), x, b]\nb := ''\n",
+        "p 0 q 1 a 1 b 2",
+        "e a",
+        "q: variable `q` has the number of another variable\n\
          p: parameter `p` has a number that is bound outside\n\
          g: unknown function `g`\n\
          x: attempted to evaluate unresolved variable `x`\n\
@@ -141,117 +83,109 @@ const SEVERAL: &[Row] = &[
     ),
     // Three assignments with one number: that it is taken before `b` does not excuse what `b` reads.
     (
-        &[],
-        &[
-            ("a", 1, &[]),
-            ("b", 1, &[Read("d", 4)]),
-            ("c", 1, &[]),
-            ("d", 4, &[]),
-        ],
-        &["a", "b"],
+        "a := ''\nb := d\nc := ''\nd := ''\n",
+        "a 1 b 1 c 1 d 4",
+        "a b",
         "b: variable `b` has the number of another variable\n\
          c: variable `c` has the number of another variable\n\
          b: attempted to evaluate unevaluated variable `d`\n",
     ),
     // `c` reads `a`, which counts as taken.
     (
-        &[],
-        &[
-            ("a", 1, &[Read("b", 2)]),
-            ("b", 2, &[]),
-            ("c", 3, &[Read("a", 1)]),
-        ],
-        &["a", "c"],
+        "a := b\nb := ''\nc := a\n",
+        NUMBERS,
+        "a c",
         "a: attempted to evaluate unevaluated variable `b`\n",
     ),
     // An assignment that reads itself is taken after its first place.
     (
-        &[],
-        &[("a", 1, &[Read("a", 1)])],
-        &["a", "a"],
+        "a := a\n",
+        NUMBERS,
+        "a a",
         "a: attempted to evaluate unevaluated variable `a`\n",
     ),
     // A name twice: what it reads is taken between its places, or never.
     (
-        &[],
         EARLY,
-        &["a", "b", "a"],
+        NUMBERS,
+        "a b a",
         "a: attempted to evaluate unevaluated variable `b`\n",
     ),
     (
-        &[],
         EARLY,
-        &["a", "a"],
+        NUMBERS,
+        "a a",
         "a: attempted to evaluate unevaluated variable `b`\n\
          a: attempted to evaluate unevaluated variable `b`\n",
     ),
     // The same body, reached by two assignments.
-    (
-        READS_Z,
-        CALLERS,
-        &["a", "b", "z"],
-        "a: attempted to evaluate unevaluated variable `z`\n\
-         b: attempted to evaluate unevaluated variable `z`\n",
-    ),
-    (
-        MUTUAL,
-        CALLERS,
-        &["a", "b", "z"],
-        "a: attempted to evaluate unevaluated variable `z`\n\
-         b: attempted to evaluate unevaluated variable `z`\n",
-    ),
-    (READS_Z, CALLERS, &["a", "z", "b"], Z_FOR_A),
-    (MUTUAL, CALLERS, &["a", "z", "b", "a"], Z_FOR_A),
+    (READS_Z, NUMBERS, "a b z", Z_FOR_BOTH),
+    (MUTUAL, NUMBERS, "a b z", Z_FOR_BOTH),
+    (READS_Z, NUMBERS, "a z b", Z_FOR_A),
+    (MUTUAL, NUMBERS, "a z b a", Z_FOR_A),
 ];
 
 #[test]
 fn faults_in_order(rt: HostRuntime) {
     let alloc = rt.alloc();
-    let outer = Scope::root(alloc, &[("outer", "")]).expect(&rt, "no memory");
-    for rows in [NONE, ONE, SEVERAL] {
-        for row in rows {
-            has_faults(&outer, &rt, alloc, *row);
-        }
+    for (text, numbers, order, wanted) in ROWS {
+        let given = given(&rt, alloc, text, numbers, order, None);
+        assert_eq!(rt;
+            given.as_str(),
+            *wanted,
+            "{text} with {numbers} in the order {order}"
+        );
     }
-    drop(outer);
 }
 
 // What is not referenced is not taken, and may read anything.
 #[test]
 fn unreferenced_assignments_have_no_fault(rt: HostRuntime) {
-    let alloc = rt.alloc();
-    let outer = Scope::root(alloc, &[]).expect(&rt, "no memory");
-    let mut references = HashSet::new(alloc);
-    references.insert(Number::new(2)).expect(&rt, "no memory");
-    let module = module_of(&rt, alloc, &[], EARLY, &["a", "b", "e"]);
-    let found = faults(alloc, &module, &outer, Some(&references)).expect(&rt, "no memory");
-    let text = shown(alloc, &found).expect(&rt, "no memory");
-    assert_eq!(rt; text.as_str(), "e: unknown assignment `e`\n");
-    drop(module);
-    drop(outer);
+    let references = set_of(&rt, rt.alloc(), "2");
+    let given = given(&rt, rt.alloc(), EARLY, NUMBERS, "a b e", Some(&references));
+    assert_eq!(rt; given.as_str(), "e: unknown assignment `e`\n");
 }
 
-fn has_faults<'src>(
-    outer: &Scope<'src, '_>,
+// The faults of a text with these numbers and in this order, a line each.
+fn given<'src>(
     rt: &impl Abort,
     alloc: Global,
-    (functions, variables, order, wanted): Row,
-) {
-    let module = module_of(rt, alloc, functions, variables, order);
-    let found = faults(alloc, &module, outer, None).expect(rt, "no memory");
-    let text = shown(alloc, &found).expect(rt, "no memory");
-    assert_eq!(rt; text.as_str(), wanted);
+    text: &'src str,
+    numbers: &'src str,
+    order: &'src str,
+    references: Option<&HashSet<Number>>,
+) -> String {
+    let outer = Scope::root(alloc, &[("outer", "")]).expect(rt, "no memory");
+    let mut module = numbered_module(rt, alloc, text, numbers);
+    set_order(&mut module, rt, order);
+    let given = found(&module, &outer, rt, alloc, references);
     drop(module);
+    drop(outer);
+    given
+}
+
+fn set_order<'src>(module: &mut Justfile<'src>, rt: &impl Abort, order: &'src str) {
+    module.evaluation_order.clear();
+    for word in order.split_whitespace() {
+        push(rt, &mut module.evaluation_order, Name::new(word, None));
+    }
 }
 
 // A line for each fault: the assignment that reads too early, or else the name where the fault occurs, and the message.
-fn shown(alloc: Global, found: &[Fault]) -> Result<String, OutOfMemory> {
+fn found<'src>(
+    module: &Justfile<'src>,
+    outer: &Scope<'src, '_>,
+    rt: &impl Abort,
+    alloc: Global,
+    references: Option<&HashSet<Number>>,
+) -> String {
+    let found = faults(alloc, module, outer, references).expect(rt, "no memory");
     let mut text = String::new(alloc);
-    for fault in found {
-        let of = about(fault);
-        text.push_str(&format!(in alloc; "{}: {fault}\n", of.lexeme)?)?;
+    for fault in &found {
+        let of = about(fault).lexeme;
+        writeln!(text, "{of}: {fault}").expect(rt, "no memory");
     }
-    Ok(text)
+    text
 }
 
 fn about<'src>(fault: &Fault<'src>) -> Token<'src> {
@@ -262,76 +196,4 @@ fn about<'src>(fault: &Fault<'src>) -> Token<'src> {
         } => assignment.token,
         other => other.token(),
     }
-}
-
-fn module_of<'src>(
-    rt: &impl Abort,
-    alloc: Global,
-    functions: &[Function],
-    variables: &[Variable],
-    order: &[&'static str],
-) -> Justfile<'src> {
-    let mut module = Justfile::new(alloc, "", "").expect(rt, "no memory");
-    for (lexeme, numbers, parts) in functions {
-        let parameters = parameters_of(rt, alloc, numbers);
-        let body = list(rt, alloc, parts);
-        let function = FunctionDefinition::new(Name::new(lexeme, None), parameters, body);
-        module.functions.insert(function).expect(rt, "no memory");
-    }
-    for (lexeme, number, parts) in variables {
-        let value = list(rt, alloc, parts);
-        let assignment = Assignment::new(Name::new(lexeme, None), Number::new(*number), value);
-        module
-            .assignments
-            .insert(assignment)
-            .expect(rt, "no memory");
-    }
-    for lexeme in order {
-        push(rt, &mut module.evaluation_order, Name::new(lexeme, None));
-    }
-    module
-}
-
-fn parameters_of<'src>(
-    rt: &impl Abort,
-    alloc: Global,
-    numbers: &[u64],
-) -> Vec<(Name<'src>, Number)> {
-    let mut parameters = Vec::new(alloc);
-    for number in numbers {
-        let added = parameters.extend_from_slice(&[(Name::new("p", None), Number::new(*number))]);
-        added.expect(rt, "no memory");
-    }
-    parameters
-}
-
-// [..]
-fn list<'src>(rt: &impl Abort, alloc: Global, parts: &[Part]) -> Expression<'src> {
-    let mut elements = Vec::new(alloc);
-    for part in parts {
-        push(rt, &mut elements, made(rt, alloc, *part));
-    }
-    Expression::list(elements, Token::new("[", None))
-}
-
-fn made<'src>(rt: &impl Abort, alloc: Global, part: Part) -> Expression<'src> {
-    match part {
-        Read(lexeme, number) => Expression::variable(Name::new(lexeme, None), Number::new(number)),
-        Unnumbered(lexeme) => Expression::Variable {
-            name: Name::new(lexeme, None),
-            number: None,
-        },
-        Call(lexeme, count) => {
-            let mut arguments = Vec::new(alloc);
-            for _ in 0..count {
-                let nothing = Expression::list(Vec::new(alloc), Token::new("[", None));
-                push(rt, &mut arguments, nothing);
-            }
-            Expression::call(Name::new(lexeme, None), arguments)
-        }
-    }
-}
-
-fn push<T: Drop>(rt: &impl Abort, items: &mut Vec<T>, item: T) {
-    items.push(item).expect(rt, "no memory");
 }

@@ -16,3 +16,5 @@ mod report;
 mod resolve;
 #[cfg(test)]
 mod sizes;
+#[cfg(test)]
+mod texts;

@@ -1,10 +1,8 @@
 // Calls with a thousand names, words and lines, which no case reaches. If there is memory each must succeed; no clause
 // forbids a call to give up.
 
-use crate::arguments::{ONE, SOME, parameters_of};
-use crate::reach::expression_of;
-use crate::resolve::free_numbers::pairs;
-use crate::{needs, resolve};
+use crate::arguments;
+use crate::texts::{analyzed, numbered_module, pairs};
 use just_host::justfile::Justfile;
 use just_needs::needed::needed;
 use just_needs::references::references;
@@ -12,13 +10,9 @@ use just_report::report::report;
 use just_resolve::name_faults::name_faults;
 use just_resolve::names::Names;
 use just_resolve::numbered::numbered;
-use just_run::arguments::group_arguments;
 use just_syntax::expression::Expression;
-use just_syntax::name::Name;
 use just_syntax::number::Number;
-use just_syntax::parameter_kind::ParameterKind;
 use just_syntax::place::Place;
-use just_syntax::recipe::Recipe;
 use just_syntax::token::Token;
 use just_value::scope::Scope;
 use std::alloc::Global;
@@ -30,6 +24,21 @@ fn thousand(rt: &impl Abort, alloc: Global, front: &str, back: &str) -> String {
     let mut text = String::new(alloc);
     for i in 1000..2000u64 {
         write!(text, "{front}{i}{back}").expect(rt, "no memory");
+    }
+    text
+}
+
+// The numbers from 1000 to 1999, each with one that is greater by `more`, between three texts.
+fn thousand_pairs(
+    rt: &impl Abort,
+    alloc: Global,
+    (front, between, back): (&str, &str, &str),
+    more: u64,
+) -> String {
+    let mut text = String::new(alloc);
+    for i in 1000..2000u64 {
+        let other = i.saturating_add(more);
+        write!(text, "{front}{i}{between}{other}{back}").expect(rt, "no memory");
     }
     text
 }
@@ -48,24 +57,33 @@ fn is_thousand(rt: &impl Abort, of: &str, count: usize) {
 #[test]
 fn a_thousand_needed_variables(rt: HostRuntime) {
     let alloc = rt.alloc();
-    let mut chain = String::new(alloc);
-    for i in 1000..2000u64 {
-        let next = i + 1;
-        write!(chain, "a{i} {i} {next};").expect(&rt, "no memory");
-    }
-    let outer = Scope::root(alloc, &[]).expect(&rt, "no memory");
-    let module = needs::module_of(&rt, alloc, &chain, "");
-    need_thousand(&rt, alloc, &module, &outer, "a1000");
-    need_thousand(&rt, alloc, &module, &outer, &thousand(&rt, alloc, "a", " "));
+    let text = thousand_pairs(&rt, alloc, ("a", " := a", "\n"), 1);
+    let numbers = thousand_pairs(&rt, alloc, ("a", " ", " "), 0);
+    let names = thousand(&rt, alloc, "a", " ");
+    of_chain(&rt, alloc, &text, &numbers, &names);
+}
+
+// The first name of a chain needs a thousand variables, and so do all of its names.
+fn of_chain<'src>(
+    rt: &impl Abort,
+    alloc: Global,
+    text: &'src str,
+    numbers: &'src str,
+    names: &str,
+) {
+    let outer = Scope::root(alloc, &[]).expect(rt, "no memory");
+    let module = numbered_module(rt, alloc, text, numbers);
+    need_thousand(&module, &outer, rt, alloc, "a1000");
+    need_thousand(&module, &outer, rt, alloc, names);
     drop(module);
     drop(outer);
 }
 
 fn need_thousand<'src>(
-    rt: &impl Abort,
-    alloc: Global,
     module: &Justfile<'src>,
     outer: &Scope<'src, '_>,
+    rt: &impl Abort,
+    alloc: Global,
     names: &str,
 ) {
     let names = apart(rt, alloc, names);
@@ -77,40 +95,46 @@ fn need_thousand<'src>(
 #[test]
 fn a_thousand_numbered_variables(rt: HostRuntime) {
     let alloc = rt.alloc();
-    let mut renumbered = String::new(alloc);
-    for i in 1000..2000u64 {
-        let other = i + 1000;
-        write!(renumbered, "{i} {other} ").expect(&rt, "no memory");
-    }
-    let written = thousand(&rt, alloc, "", " ");
-    let outer = Scope::root(alloc, &[]).expect(&rt, "no memory");
-    let module = needs::module_of(&rt, alloc, "", "");
-    renumber_thousand(&rt, alloc, &module, &outer, &renumbered, &written);
+    let reads = thousand(&rt, alloc, "a", ", ");
+    let text = format!(in alloc; "all := [{reads}]\n").expect(&rt, "no memory");
+    let numbers = thousand_pairs(&rt, alloc, ("a", " ", " "), 0);
+    let others = thousand_pairs(&rt, alloc, ("a", " ", " "), 1000);
+    of_list(&rt, alloc, &text, &numbers, &others);
+}
+
+fn of_list<'src>(
+    rt: &impl Abort,
+    alloc: Global,
+    text: &'src str,
+    numbers: &'src str,
+    others: &'src str,
+) {
+    let outer = Scope::root(alloc, &[]).expect(rt, "no memory");
+    let module = numbered_module(rt, alloc, text, numbers);
+    renumber_thousand(&module, &outer, rt, alloc, others);
     drop(module);
     drop(outer);
 }
 
 fn renumber_thousand<'src>(
-    rt: &impl Abort,
-    alloc: Global,
     module: &Justfile<'src>,
     outer: &Scope<'src, '_>,
-    renumbered: &'src str,
-    written: &'src str,
+    rt: &impl Abort,
+    alloc: Global,
+    others: &'src str,
 ) {
+    let all = module.assignments.get("all").expect(rt, "`all`");
     let mut names = Names::of(alloc, module, outer).expect(rt, "no memory");
-    let set = names.set_parameters(&pairs(rt, alloc, renumbered));
+    let set = names.set_parameters(&pairs(rt, alloc, others));
     set.expect(rt, "no memory");
-    let original = expression_of(rt, alloc, written);
-    let copy = numbered(alloc, &original, &names).expect(rt, "no memory");
-    is_from(rt, alloc, &original, 1000);
-    is_from(rt, alloc, &copy, 2000);
+    let copy = numbered(alloc, &all.value, &names).expect(rt, "no memory");
+    is_from(&all.value, rt, alloc, 1000);
+    is_from(&copy, rt, alloc, 2000);
     drop(copy);
-    drop(original);
 }
 
 // An expression reads a thousand numbers, the first of which is this.
-fn is_from(rt: &impl Abort, alloc: Global, expression: &Expression, first: u64) {
+fn is_from(expression: &Expression, rt: &impl Abort, alloc: Global, first: u64) {
     let read = references(alloc, expression).expect(rt, "no memory");
     is_thousand(rt, "references", read.len());
     let has_first = read.contains(&Number::new(first));
@@ -121,21 +145,26 @@ fn is_from(rt: &impl Abort, alloc: Global, expression: &Expression, first: u64) 
 #[test]
 fn a_thousand_faults(rt: HostRuntime) {
     let alloc = rt.alloc();
-    let reads = thousand(&rt, alloc, " x", "");
-    let assignment = format!(in alloc; "a{reads}").expect(&rt, "no memory");
-    let outer = Scope::root(alloc, &[]).expect(&rt, "no memory");
-    let module = resolve::module_of(&rt, alloc, &assignment, "");
-    let count = count_of_faults(&rt, alloc, &module, &outer);
-    drop(module);
+    let reads = thousand(&rt, alloc, "x", ", ");
+    let text = format!(in alloc; "all := [{reads}]\n").expect(&rt, "no memory");
+    is_thousand(&rt, "faults", faults_of(&rt, alloc, &text));
+}
+
+// How many names of a text nothing has.
+fn faults_of<'src>(rt: &impl Abort, alloc: Global, text: &'src str) -> usize {
+    let outer = Scope::root(alloc, &[]).expect(rt, "no memory");
+    let analysis = analyzed(rt, alloc, text);
+    let count = count_of_faults(&analysis.justfile, &outer, rt, alloc);
+    drop(analysis);
     drop(outer);
-    is_thousand(&rt, "faults", count);
+    count
 }
 
 fn count_of_faults<'src>(
-    rt: &impl Abort,
-    alloc: Global,
     module: &Justfile<'src>,
     outer: &Scope<'src, '_>,
+    rt: &impl Abort,
+    alloc: Global,
 ) -> usize {
     let faults = name_faults(alloc, module, outer).expect(rt, "no memory");
     faults.len()
@@ -145,23 +174,23 @@ fn count_of_faults<'src>(
 #[test]
 fn a_thousand_words(rt: HostRuntime) {
     let alloc = rt.alloc();
-    let written = thousand(&rt, alloc, "x", " ");
-    let words = apart(&rt, alloc, &written);
-    is_thousand(&rt, "elements", taken(&rt, alloc, &[SOME], &words));
-    is_thousand(&rt, "arguments", taken(&rt, alloc, &[ONE; 1000], &words));
+    let words = thousand(&rt, alloc, "|x", "");
+    let elements = thousand(&rt, alloc, ",x", "");
+    let given = arguments::given(&rt, alloc, "r +p:\n", &words);
+    let is_list = given.trim_start_matches('[').trim_end_matches(']')
+        == elements.trim_start_matches(',');
+    assert!(rt; is_list, "a thousand elements");
 }
 
-// How many words are in the arguments.
-fn taken(rt: &impl Abort, alloc: Global, kinds: &[(ParameterKind, bool)], words: &[&str]) -> usize {
-    let parameters = parameters_of(rt, alloc, kinds);
-    let recipe = Recipe::new(alloc, Name::new("r", None));
-    let arguments = group_arguments(alloc, &recipe, &parameters, words);
-    let arguments = arguments.expect(rt, "too few words");
-    let mut count = 0usize;
-    for argument in &arguments {
-        count = count.saturating_add(argument.len());
-    }
-    count
+#[test]
+fn a_thousand_arguments(rt: HostRuntime) {
+    let alloc = rt.alloc();
+    let words = thousand(&rt, alloc, "|x", "");
+    let parameters = thousand(&rt, alloc, " p", "");
+    let text = format!(in alloc; "r{parameters}:\n").expect(&rt, "no memory");
+    let given = arguments::given(&rt, alloc, &text, &words);
+    let is_each = given == thousand(&rt, alloc, "[x", "]");
+    assert!(rt; is_each, "a thousand arguments");
 }
 
 // A long name on the last of many lines.

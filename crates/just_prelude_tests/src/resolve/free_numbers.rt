@@ -1,11 +1,9 @@
 // Numbers for names that a module does not have.
 
-use super::{bind, push};
+use super::bind;
+use crate::texts::{numbered_module, push};
 use just_host::justfile::Justfile;
 use just_resolve::free_numbers::free_numbers;
-use just_syntax::assignment::Assignment;
-use just_syntax::expression::Expression;
-use just_syntax::function_definition::FunctionDefinition;
 use just_syntax::name::Name;
 use just_syntax::number::Number;
 use just_syntax::number_set::NumberSet;
@@ -13,123 +11,100 @@ use just_value::scope::Scope;
 use std::alloc::Global;
 use std::process::Abort;
 
-// Assignments with their numbers; functions, each as its name, a colon and its parameters with their numbers; what is
-// bound outside, with its numbers; the names that are given numbers, and whether there are enough.
+const ABC: &str = "a := ''\nb := ''\nc := ''\n";
+
+const AB: &str = "a := ''\nb := ''\n";
+
+const FGH: &str = "a := ''\nf(x) := ''\ng() := ''\nh(y) := ''\n";
+
+// Texts with the numbers of their names; what is bound outside, with its numbers; the names that are given numbers, and
+// whether there are enough.
 const ROWS: &[(&str, &str, &str, &str, bool)] = &[
     ("", "", "", "", true),
     ("", "", "", "p", true),
     ("", "", "", "p q r", true),
     // of two parameters with one name each gets a number
     ("", "", "", "p q p", true),
-    ("a 0 b 1 c 2", "", "", "p q", true),
-    ("a 2 b 0", "", "", "p q r", true),
-    ("a 7 b 7", "", "", "", true),
-    ("", "f: x 0 y 1; g: z 2", "", "p q", true),
-    ("a 1", "f: x 3; g:; h: y 5", "", "p q r s", true),
+    (ABC, "a 0 b 1 c 2", "", "p q", true),
+    (AB, "a 2 b 0", "", "p q r", true),
+    (AB, "a 7 b 7", "", "", true),
+    (
+        "f(x, y) := ''\ng(z) := ''\n",
+        "x 0 y 1 z 2",
+        "",
+        "p q",
+        true,
+    ),
+    (FGH, "a 1 x 3 y 5", "", "p q r s", true),
     ("", "", "HEX 0 RED 2 DIR 3", "p q r", true),
-    ("a 4", "f: x 5", "HEX 0 RED 6 DIR 8", "p q r", true),
+    (
+        "a := ''\nf(x) := ''\n",
+        "a 4 x 5",
+        "HEX 0 RED 6 DIR 8",
+        "p q r",
+        true,
+    ),
     // the greatest number is bound outside: there are others
-    ("a 4", "", "TOP 18446744073709551615", "p q", true),
+    ("a := ''\n", "a 4", "TOP 18446744073709551615", "p q", true),
     ("", "", "TOP 18446744073709551614", "p q", true),
     // the greatest numbers are taken
-    ("a 18446744073709551613", "", "", "p", true),
-    ("a 18446744073709551613", "", "", "p q", false),
+    ("a := ''\n", "a 18446744073709551613", "", "p", true),
+    ("a := ''\n", "a 18446744073709551613", "", "p q", false),
     (
+        "a := ''\n",
         "a 18446744073709551613",
-        "",
         "TOP 18446744073709551614",
         "p",
         false,
     ),
-    ("a 18446744073709551614", "", "", "p", false),
-    ("a 18446744073709551615 b 0", "", "", "p", false),
-    ("a 0", "f: x 18446744073709551615", "", "p", false),
+    ("a := ''\n", "a 18446744073709551614", "", "p", false),
+    (AB, "a 18446744073709551615 b 0", "", "p", false),
+    (
+        "a := ''\nf(x) := ''\n",
+        "a 0 x 18446744073709551615",
+        "",
+        "p",
+        false,
+    ),
 ];
 
 #[test]
 fn numbers_of_names(rt: HostRuntime) {
     let alloc = rt.alloc();
-    for (assignments, functions, bound, names, enough) in ROWS {
-        let mut outer = Scope::root(alloc, &[]).expect(&rt, "no memory");
-        bind(&rt, alloc, &mut outer, bound);
-        let module = module_of(&rt, alloc, assignments, functions);
-        let given = gives_numbers(&rt, alloc, &module, &outer, names);
-        drop(module);
+    for (text, numbers, bound, names, enough) in ROWS {
+        let given = given(&rt, alloc, text, numbers, bound, names);
         assert_eq!(rt;
             given,
             *enough,
-            "{assignments} with {functions} and {bound} for {names}"
+            "{text} with {numbers} and {bound} for {names}"
         );
     }
 }
 
-// Assignments and functions with numbers of their own.
-fn module_of<'src>(
+// Whether names get numbers, in a text with these numbers.
+fn given<'src>(
     rt: &impl Abort,
     alloc: Global,
-    assignments: &'src str,
-    functions: &'src str,
-) -> Justfile<'src> {
-    let mut module = Justfile::new(alloc, "justfile", "/").expect(rt, "no memory");
-    for (name, number) in pairs(rt, alloc, assignments) {
-        assign(rt, alloc, &mut module, name, number);
-    }
-    for written in functions.split(';') {
-        if let Some((name, parameters)) = written.split_once(':') {
-            define(rt, alloc, &mut module, name, parameters);
-        }
-    }
-    module
-}
-
-fn text<'src>(rt: &impl Abort, alloc: Global) -> Expression<'src> {
-    Expression::literal(alloc, "text", "'text'").expect(rt, "no memory")
-}
-
-fn assign<'src>(
-    rt: &impl Abort,
-    alloc: Global,
-    module: &mut Justfile<'src>,
-    name: Name<'src>,
-    number: Number,
-) {
-    let assignment = Assignment::new(name, number, text(rt, alloc));
-    module.assign(assignment).expect(rt, "no memory");
-}
-
-fn define<'src>(
-    rt: &impl Abort,
-    alloc: Global,
-    module: &mut Justfile<'src>,
-    name: &'src str,
-    parameters: &'src str,
-) {
-    let parameters = pairs(rt, alloc, parameters);
-    let function = FunctionDefinition::new(Name::new(name, None), parameters, text(rt, alloc));
-    module.define(function).expect(rt, "no memory");
-}
-
-// Names with their numbers.
-pub(crate) fn pairs<'src>(
-    rt: &impl Abort,
-    alloc: Global,
-    written: &'src str,
-) -> Vec<(Name<'src>, Number)> {
-    let mut pairs = Vec::new(alloc);
-    let mut words = written.split_whitespace();
-    while let (Some(name), Some(number)) = (words.next(), words.next()) {
-        let number = Number::new(number.parse::<u64>().expect(rt, "a number"));
-        push(rt, &mut pairs, (Name::new(name, None), number));
-    }
-    pairs
+    text: &'src str,
+    numbers: &'src str,
+    bound: &'src str,
+    names: &'src str,
+) -> bool {
+    let mut outer = Scope::root(alloc, &[]).expect(rt, "no memory");
+    bind(&mut outer, rt, alloc, bound);
+    let module = numbered_module(rt, alloc, text, numbers);
+    let given = gives_numbers(&module, &outer, rt, alloc, names);
+    drop(module);
+    drop(outer);
+    given
 }
 
 // Whether these names get numbers. Then they are new ones.
 fn gives_numbers<'src>(
-    rt: &impl Abort,
-    alloc: Global,
     module: &Justfile<'src>,
     outer: &Scope<'src, '_>,
+    rt: &impl Abort,
+    alloc: Global,
     written: &'src str,
 ) -> bool {
     let mut names = Vec::new(alloc);
@@ -139,7 +114,7 @@ fn gives_numbers<'src>(
     match free_numbers(alloc, module, outer, &names) {
         Ok(numbers) => {
             have_names(rt, &numbers, &names);
-            are_new(rt, alloc, module, outer, &numbers);
+            are_new(module, outer, rt, alloc, &numbers);
             true
         }
         Err(_) => false,
@@ -156,13 +131,13 @@ fn have_names(rt: &impl Abort, numbers: &[(Name, Number)], names: &[Name]) {
 
 // The numbers are distinct, those of no assignment and no parameter of a function, and not bound outside.
 fn are_new(
-    rt: &impl Abort,
-    alloc: Global,
     module: &Justfile,
     outer: &Scope,
+    rt: &impl Abort,
+    alloc: Global,
     numbers: &[(Name, Number)],
 ) {
-    let mut used = used_by(rt, alloc, module);
+    let mut used = used_by(module, rt, alloc);
     for (name, number) in numbers {
         let is_new = used.insert(*number).expect(rt, "no memory");
         assert!(rt; is_new, "the number of {name} is used");
@@ -172,7 +147,7 @@ fn are_new(
 }
 
 // The numbers of a module's assignments and of its functions' parameters.
-fn used_by(rt: &impl Abort, alloc: Global, module: &Justfile) -> NumberSet {
+fn used_by(module: &Justfile, rt: &impl Abort, alloc: Global) -> NumberSet {
     let mut used = NumberSet::new(alloc, 3000).expect(rt, "no memory");
     for assignment in &module.assignments {
         used.insert(assignment.number).expect(rt, "no memory");
@@ -189,22 +164,17 @@ fn used_by(rt: &impl Abort, alloc: Global, module: &Justfile) -> NumberSet {
 #[test]
 fn a_thousand_names(rt: HostRuntime) {
     let alloc = rt.alloc();
-    let mut assigned = String::new(alloc);
-    let mut defined = String::new(alloc);
+    let mut text = String::new(alloc);
+    let mut numbers = String::new(alloc);
     let mut bound = String::new(alloc);
     let mut names = String::new(alloc);
     for i in 1000..2000u64 {
         let (of_parameter, of_outside) = (i + 1000, i + 2000);
-        write!(assigned, "a{i} {i} ").expect(&rt, "no memory");
-        write!(defined, "f{i}: x {of_parameter};").expect(&rt, "no memory");
+        write!(text, "a{i} := ''\nf{i}(x{i}) := ''\n").expect(&rt, "no memory");
+        write!(numbers, "a{i} {i} x{i} {of_parameter} ").expect(&rt, "no memory");
         write!(bound, "b{i} {of_outside} ").expect(&rt, "no memory");
         write!(names, "p{i} ").expect(&rt, "no memory");
     }
-    let mut outer = Scope::root(alloc, &[]).expect(&rt, "no memory");
-    bind(&rt, alloc, &mut outer, &bound);
-    let module = module_of(&rt, alloc, &assigned, &defined);
-    let given = gives_numbers(&rt, alloc, &module, &outer, &names);
-    drop(module);
-    drop(outer);
+    let given = given(&rt, alloc, &text, &numbers, &bound, &names);
     assert!(rt; given, "a thousand names");
 }
