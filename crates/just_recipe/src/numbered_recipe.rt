@@ -164,14 +164,24 @@ fn add_parameters<'src>(
     copies: &mut Vec<Parameter<'src>>,
 ) -> Result<(), OutOfMemory> {
     for (parameter, (_, number)) in parameters.iter().zip(numbers) {
-        let (before, _) = numbers.split_at(copies.len().min(numbers.len()));
-        names.set_parameters(before)?;
+        if reads(parameter.default.as_ref()) || reads(parameter.value.as_ref()) {
+            let (before, _) = numbers.split_at(copies.len().min(numbers.len()));
+            names.set_parameters(before)?;
+        }
         pushed(
             copies,
             numbered_parameter(alloc, parameter, *number, names)?,
         )?;
     }
     Ok(())
+}
+
+// Whether an expression may read a name. A literal reads none, so it needs no names of earlier parameters.
+fn reads(expression: Option<&Expression>) -> bool {
+    match expression {
+        Some(Expression::StringLiteral { .. }) | None => false,
+        Some(_) => true,
+    }
 }
 
 // A copy of a parameter with a number.
