@@ -12,7 +12,7 @@ import re
 import subprocess
 import sys
 
-TOP = os.path.dirname(os.path.dirname(os.path.abspath(__file__)))
+from memory import TOP, built
 
 # The operators and their levels: a left side has a higher level, a right side at least the same.
 OPERATORS = {"or": ("||", 0), "and": ("&&", 1), "eq": ("==", 2), "ne": ("!=", 2), "add": ("+", 3), "cat": ("++", 3), "join": ("/", 3)}
@@ -221,9 +221,7 @@ def tried(program, path):
 
 
 def main():
-    program = f"{TOP}/crates/just_explain/out/just_explain"
-    if not os.path.isfile(program):
-        sys.exit(f"{program} is not there: run rt ci first")
+    program = built("just_explain")[0]
     paths = sorted(glob.glob(f"{TOP}/crates/just_stored_cases/data/*.case"))
     with concurrent.futures.ThreadPoolExecutor(os.cpu_count()) as pool:
         results = list(pool.map(lambda path: (path, *tried(program, path)), paths))

@@ -11,7 +11,7 @@ import random
 import subprocess
 import sys
 
-TOP = os.path.dirname(os.path.dirname(os.path.abspath(__file__)))
+from memory import built
 
 # A text for each rule: items, then expressions, then tokens.
 RULES = [
@@ -97,9 +97,7 @@ def ended_wrong(program, text):
 
 
 def main():
-    program = f"{TOP}/crates/just_explain/out/just_explain"
-    if not os.path.isfile(program):
-        sys.exit(f"{program} is not there: run rt ci first")
+    program = built("just_explain")[0]
     with concurrent.futures.ThreadPoolExecutor(os.cpu_count()) as pool:
         results = list(pool.map(lambda text: ended_wrong(program, text), texts()))
     wrong = [it for found in results for it in found]
