@@ -1,9 +1,11 @@
 -- Numbers that are not bound.
-use Rattle.std.specs.Prelude.{◌≡◌, ◌≤◌, ◌<◌, ℕ, suc, List, [], ◌∷◌}
+use Rattle.std.specs.Prelude.{◌≡◌, ◌≤◌, ◌<◌, ℕ, suc, List, [], ◌∷◌, ◌++◌, map}
 use Rattle.std.specs.List.{AllByRecursion}
 use Rattle.just_syntax.specs.Lists.{IsIn}
+use Rattle.just_syntax.specs.Plain.{Assignment, Function}
 use Rattle.just_value.specs.Frames.{Frames, value_in}
 use Rattle.just_meaning.specs.Resolved.{AreDistinct, HasValue}
+use Rattle.just_resolution.specs.Fault.{numbered_assignments, numbered_parameters}
 
 -- n is the first number from `start` on that no frame binds
 pub record IsNextFree (outer : Frames) (start n : ℕ) : Type 0 where
@@ -29,6 +31,10 @@ pub record AreTaken (outer : Frames) (start : ℕ) (ns : List ℕ) (end : ℕ) :
 -- these numbers are less than n
 abbrev pub AreBelow : ℕ → List ℕ → Type 0
 AreBelow n ms = AllByRecursion (λ m. m < n) ms
+
+-- the numbers that a module has: those of its assignments, and of the parameters of its functions
+abbrev pub numbers_of : List Function → List Assignment → List ℕ
+numbers_of functions assignments = map (λ p. p.1) (numbered_assignments assignments ++ numbered_parameters functions)
 
 -- these numbers are distinct, none of them is used, and no frame binds any
 pub record AreNew (used : List ℕ) (outer : Frames) (ns : List ℕ) : Type 0 where

@@ -13,7 +13,7 @@ pub use Rattle.just_value.specs.View.{bound_view, frame_view, frames_view}
 pub use Rattle.just_resolve.specs.Cycle.{IsCycle, IsRing, ReadInTurn}
 pub use Rattle.just_resolve.specs.Dependence.{AreSorted, DependsOn, DependsOnItself, IsSortedOrder, graph_of}
 pub use Rattle.just_resolve.specs.Dependence.{is_followed_in}
-pub use Rattle.just_resolve.specs.Free.{AreBelow, AreFree, AreNew, AreTaken, IsNextFree}
+pub use Rattle.just_resolve.specs.Free.{AreBelow, AreFree, AreNew, AreTaken, IsNextFree, numbers_of}
 pub use Rattle.just_resolve.specs.Hopeless.{AreFoundByName, NoOrderResolvesACycle}
 pub use Rattle.just_resolve.specs.Numbered.{bound_names, first_named, frame_names, numbered, numbered_pieces}
 pub use Rattle.just_resolve.specs.Numbered.{numbered_row, visible}
@@ -26,7 +26,7 @@ pub use Rattle.just_resolve.specs.Resolve.{IsUntaken}
 pub use Rattle.just_resolve.specs.Resolve.{arrow_text, cycle_in, cycle_text, error_token, fault_in, no_memory}
 pub use Rattle.just_resolve.specs.Resolve.{resolve_error_text, ring_text}
 pub use Rattle.just_resolve.specs.View.{declared_view, entered_in, name_numbered, named, next_free, number_in}
-pub use Rattle.just_resolve.specs.View.{step_view, steps_in, variable_named}
+pub use Rattle.just_resolve.specs.View.{parameter_named, step_view, steps_in, variable_named}
 pub use Rattle.just_resolve.specs.Walk.{Enter, IsPathBack, Leave, PlainStep, all_entered, path_in, variable_in}
 pub use Rattle.just_resolve.specs.Walk.{variables_in}
 pub use Rattle.just_needs.specs.Prelude.{OfFunction, OfVariable, PlainNode, graph_view, node_view, nodes_view}

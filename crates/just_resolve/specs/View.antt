@@ -29,9 +29,13 @@ number_in all name = get_by (λ k. slice_cmp nat_cmp name k.now) all
 abbrev pub variable_named : Names → Text → Option ℕ
 variable_named names name = number_in names.variables name
 
+-- the number of a parameter
+abbrev pub parameter_named : Names → Text → Option ℕ
+parameter_named names name = number_in names.parameters name
+
 -- the number of a parameter or, if no parameter has the name, of a variable
 abbrev pub named : Names → Text → Option ℕ
-named names name = option_or (number_in names.parameters name) (variable_named names name)
+named names name = option_or (parameter_named names name) (variable_named names name)
 
 -- the name of a number
 abbrev pub name_numbered : BTreeMap ℕ Name → ℕ → Option Token

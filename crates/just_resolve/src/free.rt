@@ -1,20 +1,38 @@
 // Numbers that a scope does not bind.
 
 ghost use Rattle.std.specs.Prelude.{IfOk, map, suc, ◌≡◌};
-ghost use Rattle.just_resolve.specs.Prelude.{AreBelow, IsNextFree, frames_view, next_free, parameter_view};
+ghost use Rattle.just_resolve.specs.Prelude.{AreBelow, IsNextFree, assignment_view, frames_view, functions_view};
+ghost use Rattle.just_resolve.specs.Prelude.{next_free, numbers_of, parameter_view};
 
+use just_host::justfile::Justfile;
+use just_resolution::numbers::{add_parameter_numbers, assignment_numbers};
 use just_syntax::name::Name;
 use just_syntax::number::Number;
 use just_syntax::out_of_memory::OutOfMemory;
 use just_value::scope::Scope;
+use std::alloc::Global;
 
-// Counts up, from 0, over the numbers that a scope does not bind.
-#[derive(Drop)]
-pub(crate) struct Free {
+/// Numbers from a start on, for names that have none yet. Those that a scope binds are passed over.
+#[derive(Clone, Copy, Debug)]
+pub struct Free {
     next: u64,
 }
 
 impl Free {
+    /// From the number after the greatest one that an assignment or a parameter of a function has.
+    ///
+    /// # Errors
+    ///
+    /// `OutOfMemory`, if an allocation fails, or if one of them has the number 2⁶⁴ - 1.
+    pub fn unused(alloc: Global, module: &Justfile) -> Result<Free, OutOfMemory>
+        ensures { IfOk result (λ free. AreBelow (next_free free)
+            (numbers_of (functions_view «module».now) (map assignment_view «module».now.assignments))) }
+    {
+        let mut used = assignment_numbers(alloc, &module.assignments)?;
+        add_parameter_numbers(&mut used, &module.functions)?;
+        Free::beyond(&used)
+    }
+
     // From 0.
     pub(crate) fn new() -> Free
         ensures { next_free result ≡ 0 }

@@ -4,7 +4,7 @@
 #![tactic(auto)]
 
 mod cycle;
-mod free;
+pub mod free;
 pub mod free_numbers;
 pub mod laws;
 pub mod name_faults;

@@ -1,10 +1,10 @@
 // Numbers by their names.
 
-ghost use Rattle.std.specs.Prelude.{IfOk, OnOk, [], map, ℕ, List, ◌++◌, ◌∷◌, ◌≡◌};
+ghost use Rattle.std.specs.Prelude.{IfOk, OnOk, [], None, map, ℕ, List, ◌++◌, ◌∷◌, ◌≡◌};
 ghost use Rattle.std.specs.Option.{option_or};
 ghost use Rattle.just_resolve.specs.Prelude.{assignment_view, bound_names, first_named, frame_names, frame_view};
-ghost use Rattle.just_resolve.specs.Prelude.{frames_view, named, name_view, number_in, parameter_view, variable_named};
-ghost use Rattle.just_resolve.specs.Prelude.{visible};
+ghost use Rattle.just_resolve.specs.Prelude.{frames_view, named, name_view, number_in, parameter_named, parameter_view};
+ghost use Rattle.just_resolve.specs.Prelude.{variable_named, visible};
 
 use just_host::justfile::Justfile;
 use just_resolution::numbers::assignment_numbers;
@@ -41,8 +41,9 @@ impl<'src> Names<'src> {
         module: &Justfile<'src>,
         outer: &Scope<'src, '_>,
     ) -> Result<Names<'src>, OutOfMemory>
-        ensures { IfOk result (λ names. (t : List ℕ) → named names t
+        ensures named { IfOk result (λ names. (t : List ℕ) → named names t
             ≡ first_named (visible (map assignment_view «module».now.assignments) (frames_view outer.now)) t) }
+        ensures parameters { IfOk result (λ names. (t : List ℕ) → parameter_named names t ≡ None) }
     {
         let variables = assignment_numbers(alloc, &module.assignments)?;
         Names::new(alloc, &variables, outer)
@@ -57,6 +58,7 @@ impl<'src> Names<'src> {
         ensures named { IfOk result (λ names. (t : List ℕ) → named names t
             ≡ first_named (map parameter_view variables.now ++ bound_names (frames_view outer.now)) t) }
         ensures variables { IfOk result (λ names. (t : List ℕ) → variable_named names t ≡ named names t) }
+        ensures parameters { IfOk result (λ names. (t : List ℕ) → parameter_named names t ≡ None) }
     {
         let mut all = BTreeMap::new(alloc);
         add_pairs(&mut all, variables)?;
@@ -79,6 +81,27 @@ impl<'src> Names<'src> {
     {
         self.parameters.clear();
         add_pairs(&mut self.parameters, parameters)
+    }
+
+    /// Removes the parameters.
+    pub fn clear_parameters(&mut self)
+        ensures parameters { (t : List ℕ) → parameter_named self.new t ≡ None }
+        ensures variables { (t : List ℕ) → variable_named self.new t ≡ variable_named self.old t }
+    {
+        self.parameters.clear();
+    }
+
+    /// Adds a parameter after those that are set. If one of them has its name, that one counts.
+    ///
+    /// # Errors
+    ///
+    /// `OutOfMemory`, if an allocation fails: the parameter is not added.
+    pub fn add_parameter(&mut self, name: &Name<'src>, number: Number) -> Result<(), OutOfMemory>
+        ensures parameters { OnOk result ((t : List ℕ) → parameter_named self.new t
+            ≡ option_or (parameter_named self.old t) (first_named ((name_view name.now, number) ∷ []) t)) }
+        ensures variables { (t : List ℕ) → variable_named self.new t ≡ variable_named self.old t }
+    {
+        add(&mut self.parameters, name, number)
     }
 
     /// The number of a name, if it has one.

@@ -1,43 +1,10 @@
-use Rattle.std.proofs.Common.{◌∙◌, ◌++◌, ℕ, ap, map, subst, sym}
-use Rattle.just_resolve.specs.Prelude.{AreBelow, AreNew, AreTaken, Token, frames_view, functions_view, numbered_parameters, parameter_view}
-use Rattle.just_resolve.proofs.Numbering.{none_taken, taken_more}
-use Rattle.just_resolve.proofs.Unused.{are_new, names_more, numbers_more}
+use Rattle.std.proofs.Common.{map}
+use Rattle.std.proofs.lemmas.Result.{IfOk-weaker}
+use Rattle.just_resolve.specs.Prelude.{frames_view, parameter_view}
+use Rattle.just_resolve.proofs.Unused.{are_new}
 use Rattle.just_resolve.proofs.free_numbers.free_numbers.Goals as goal
-
-pub loop-name-init : goal.loop-name-init
-loop-name-init c =
-    let outer = frames_view c.args.outer.now in
-    let start = c.in_ok-free.free.next in record {
-      start = start;
-      below = subst (λ ps. AreBelow start (map (λ (p : Token × ℕ). p.1) (map parameter_view ps))) c.deref.ensures.value c.in_ok-free.ensures;
-      names = ap (λ ps. map (λ (p : Token × ℕ). p.0) (map parameter_view ps)) c.in_ok-all.ensures.items;
-      taken = subst (λ ps. AreTaken outer start (map (λ (p : Token × ℕ). p.1) (map parameter_view ps)) start) (sym c.in_ok-all.ensures.items)
-          (none_taken outer start);
-    }
-
-pub loop-name-preserved : goal.loop-name-preserved
-loop-name-preserved c =
-    let outer = frames_view c.args.outer.now in
-    let start = c.loop-name.invariant.start in
-    let end = c.take.new.self.next in
-    let old = map parameter_view c.loop-name.all.items in
-    let names = c.args.names.now in
-    let i = c.loop-name.name-index in
-    let n = c.in_ok-take.field-0 in
-    let added = c.in_ok-add_pair.ensures in record {
-      start = start;
-      below = c.loop-name.invariant.below;
-      names = names_more names i _ old _ n added c.loop-name-test.true c.loop-name.invariant.names;
-      taken = subst (λ ns. AreTaken outer start ns end) (sym (numbers_more names i _ old _ n added))
-          (taken_more outer start c.loop-name.free.next n end (map (λ (p : Token × ℕ). p.1) old) c.loop-name.invariant.taken c.in_ok-take.ensures.first
-          c.in_ok-take.ensures.next);
-    }
 
 pub returns-clause-new : goal.returns-clause-new
 returns-clause-new c =
-    let outer = frames_view c.args.outer.now in
-    let made = map (λ (p : Token × ℕ). p.1) (map parameter_view c.loop-name.all.items) in
-    let parameters = numbered_parameters (functions_view c.args.«module».now) in
-    let used = c.in_ok-add_parameter_numbers.ensures ∙ ap (λ ps. ps ++ parameters) c.in_ok-used.ensures in
-    subst (λ ps. AreNew (map (λ (p : Token × ℕ). p.1) ps) outer made) used
-    (are_new outer _ c.loop-name.invariant.start made c.loop-name.invariant.below c.loop-name.invariant.taken.free)
+    IfOk-weaker c.numbers_from.result _ _ (λ all free. are_new (frames_view c.args.outer.now) _ c.in_ok-free.free.next
+    (map (λ p. p.1) (map parameter_view all.items)) c.in_ok-free.ensures free) c.numbers_from.ensures.free
