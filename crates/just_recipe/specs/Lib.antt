@@ -1,1 +1,4 @@
+pub mod Expressions
+pub mod Faults
 pub mod Numbered
+pub mod Setting

@@ -1,5 +1,12 @@
 // Names in a recipe that mean nothing.
 
+ghost use Rattle.std.specs.Prelude.{IfOk, OnOk, map, ◌++◌, ◌≡◌};
+ghost use Rattle.just_recipe.specs.Expressions.{part_view};
+ghost use Rattle.just_recipe.specs.Faults.{expression_faults, recipe_faults};
+ghost use Rattle.just_recipe.specs.Numbered.{numbered_recipe_view};
+ghost use Rattle.just_resolution.specs.Prelude.{module_fault_view};
+ghost use Rattle.just_syntax.specs.View.{function_view};
+
 use crate::expressions::{Part, expressions_of};
 use crate::numbered_recipe::NumberedRecipe;
 use crate::outcome::pushed;
@@ -21,7 +28,10 @@ pub fn recipe_faults<'src>(
     alloc: Global,
     recipe: &NumberedRecipe<'src>,
     functions: &Table<FunctionDefinition<'src>>,
-) -> Result<Vec<Fault<'src>>, OutOfMemory> {
+) -> Result<Vec<Fault<'src>>, OutOfMemory>
+    ensures { IfOk result (λ faults. map module_fault_view faults.items
+        ≡ recipe_faults (map function_view functions.now) (numbered_recipe_view recipe.now)) }
+{
     let mut faults = Vec::new(alloc);
     for part in &expressions_of(alloc, recipe)? {
         add_faults(alloc, part, functions, &mut faults)?;
@@ -35,7 +45,10 @@ fn add_faults<'src>(
     part: &Part<'src, '_>,
     functions: &Table<FunctionDefinition<'src>>,
     faults: &mut Vec<Fault<'src>>,
-) -> Result<(), OutOfMemory> {
+) -> Result<(), OutOfMemory>
+    ensures { OnOk result (map module_fault_view faults.new.items ≡ map module_fault_view faults.old.items
+        ++ expression_faults (map function_view functions.now) (part_view part.now)) }
+{
     for site in &sites_in(alloc, part.expression)? {
         if let Some(fault) = site_fault(functions, site) {
             pushed(faults, fault)?;

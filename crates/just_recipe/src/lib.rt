@@ -6,4 +6,5 @@ pub mod expressions;
 pub mod faults;
 pub mod numbered_recipe;
 pub mod numbered_setting;
+pub mod numbering;
 mod outcome;

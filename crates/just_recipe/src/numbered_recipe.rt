@@ -1,18 +1,22 @@
 // Recipes whose variables have numbers.
 
-ghost use Rattle.std.specs.Prelude.{IfOk, OnOk, [], map, option_map, ◌++◌, ◌≡◌};
-ghost use Rattle.just_recipe.specs.Numbered.{IsNumberedCopy, numbered_dependency};
-ghost use Rattle.just_recipe.specs.Numbered.{numbered_fragment, numbered_line};
-ghost use Rattle.just_parser.specs.View.{dependency_view};
-ghost use Rattle.just_resolve.specs.Prelude.{named, numbered, view};
-ghost use Rattle.just_syntax.specs.View.{fragment_view, line_view};
+ghost use Rattle.std.specs.Prelude.{IfOk, None, OnOk, [], length, map, option_map, ◌++◌, ◌≡◌};
+ghost use Rattle.just_recipe.specs.Numbered.{IsNumberedCopy, numbered_attribute, numbered_attributes};
+ghost use Rattle.just_recipe.specs.Numbered.{numbered_dependency, numbered_fragment, numbered_in_turn, numbered_line};
+ghost use Rattle.just_recipe.specs.Numbered.{numbered_parameter, numbered_recipe, numbered_recipe_view};
+ghost use Rattle.just_recipe.specs.Numbered.{with_parameters};
+ghost use Rattle.just_parser.specs.View.{dependency_view, recipe_definition_view};
+ghost use Rattle.just_resolve.specs.Prelude.{Text, assignment_view, frames_view, functions_view, name_view, named};
+ghost use Rattle.just_resolve.specs.Prelude.{numbered, parameter_named, parameter_view, variable_named, view};
+ghost use Rattle.just_syntax.specs.View.{attribute_view, attributes_view, fragment_view, line_view, recipe_view};
+ghost use Rattle.just_syntax.specs.View.{recipe_parameter_view};
 
 use crate::numbered_setting::add_numbered;
+use crate::numbering::Numbering;
 use crate::outcome::{followed, paired, pushed};
 use just_host::justfile::Justfile;
 use just_parser::dependency::Dependency;
 use just_parser::recipe_definition::RecipeDefinition;
-use just_resolve::free_numbers::free_numbers;
 use just_resolve::names::Names;
 use just_resolve::numbered::numbered;
 use just_syntax::attribute::Attribute;
@@ -39,8 +43,9 @@ pub struct NumberedRecipe<'src> {
 }
 
 /// A numbered copy of a recipe of a resolved module. Attributes can read the variables of the module and those that
-/// `outer` binds, a parameter also the parameters before it, and lines and the arguments of dependencies all parameters.
-/// A name that means nothing leaves its variable without a number.
+/// `outer` binds, a parameter also the parameters before it, and lines and the arguments of dependencies all
+/// parameters. A name that means nothing leaves its variable without a number. The parameters have numbers that nothing
+/// else has. If two parameters have one name, the first counts. For several recipes of a module there is `Numbering`.
 ///
 /// ```rust
 /// resolve(alloc, &mut analysis.justfile, &outer)?;
@@ -50,42 +55,46 @@ pub struct NumberedRecipe<'src> {
 ///
 /// # Errors
 ///
-/// `OutOfMemory`, if an allocation fails, or if an expression nests too deeply to be copied: nothing is created.
+/// `OutOfMemory`, if an allocation fails, if an expression nests too deeply to be copied, or if too few numbers are
+/// left: nothing is created.
 pub fn numbered_recipe<'src>(
     alloc: Global,
     definition: &RecipeDefinition<'src>,
     module: &Justfile<'src>,
     outer: &Scope<'src, '_>,
 ) -> Result<NumberedRecipe<'src>, OutOfMemory>
-    ensures { IfOk result (IsNumberedCopy definition.now) }
+    ensures { IfOk result (λ copy. IsNumberedCopy (functions_view «module».now)
+        (map assignment_view «module».now.assignments) (frames_view outer.now)
+        (recipe_definition_view definition.now) (numbered_recipe_view copy)) }
 {
-    let mut names = Names::of(alloc, module, outer)?;
-    let parameters = parameter_names(alloc, &definition.parameters)?;
-    let numbers = free_numbers(alloc, module, outer, &parameters)?;
-    let mut copy = NumberedRecipe {
-        body: Vec::new(alloc),
-        dependencies: Vec::new(alloc),
-        parameters: Vec::new(alloc),
-        recipe: Recipe::new(alloc, definition.recipe.name),
-        subsequents: Vec::new(alloc),
-    };
-    let filled = copy.fill(alloc, definition, &mut names, &numbers);
-    followed(copy, filled)
+    let mut numbering = Numbering::of(alloc, module, outer)?;
+    numbering.number(alloc, definition, outer)
 }
 
 impl<'src> NumberedRecipe<'src> {
-    // Adds the parts of a recipe.
-    fn fill(
+    /// Adds the parts of a recipe to an empty copy, whose parameters have these numbers.
+    ///
+    /// # Errors
+    ///
+    /// `OutOfMemory`, if an allocation fails, or if an expression nests too deeply to be copied: some parts are added.
+    pub(crate) fn fill(
         &mut self,
         alloc: Global,
         definition: &RecipeDefinition<'src>,
         names: &mut Names<'src>,
         numbers: &[(Name<'src>, Number)],
     ) -> Result<(), OutOfMemory>
+        requires recipe { recipe_view self.old.recipe
+            ≡ record { attributes = []; name = name_view definition.now.recipe.name } }
         requires body { self.old.body.items ≡ [] }
         requires dependencies { self.old.dependencies.items ≡ [] }
+        requires parameters { self.old.parameters.items ≡ [] }
         requires subsequents { self.old.subsequents.items ≡ [] }
-        ensures { OnOk result (IsNumberedCopy definition.now self.new) }
+        requires unset { (t : Text) → parameter_named names.old t ≡ None }
+        requires numbers { length numbers.now ≡ length definition.now.parameters.items }
+        ensures copy { OnOk result (numbered_recipe_view self.new ≡ numbered_recipe (variable_named names.old)
+            (map parameter_view numbers.now) (recipe_definition_view definition.now)) }
+        ensures names { (t : Text) → variable_named names.new t ≡ variable_named names.old t }
     {
         add_attributes(
             alloc,
@@ -96,11 +105,10 @@ impl<'src> NumberedRecipe<'src> {
         add_parameters(
             alloc,
             &definition.parameters,
-            names,
             numbers,
+            names,
             &mut self.parameters,
         )?;
-        names.set_parameters(numbers)?;
         add_lines(alloc, &definition.body, names, &mut self.body)?;
         add_dependencies(
             alloc,
@@ -112,25 +120,16 @@ impl<'src> NumberedRecipe<'src> {
     }
 }
 
-// The names of parameters.
-fn parameter_names<'src>(
-    alloc: Global,
-    parameters: &[Parameter<'src>],
-) -> Result<Vec<Name<'src>>, OutOfMemory> {
-    let mut names = Vec::new(alloc);
-    for parameter in parameters {
-        names.push(parameter.name)?;
-    }
-    Ok(names)
-}
-
 // Adds copies of a recipe's attributes.
 fn add_attributes<'src>(
     alloc: Global,
     recipe: &Recipe<'src>,
     names: &Names<'src>,
     copies: &mut AttributeSet<'src>,
-) -> Result<(), OutOfMemory> {
+) -> Result<(), OutOfMemory>
+    ensures { OnOk result (attributes_view copies.new ≡ attributes_view copies.old
+        ++ numbered_attributes (named names.now) (recipe_view recipe.now).attributes) }
+{
     for (attribute, name) in recipe.attributes.iter() {
         match numbered_attribute(alloc, attribute, names) {
             Ok(attribute) => copies.push(attribute, *name)?,
@@ -145,7 +144,10 @@ fn numbered_attribute<'src>(
     alloc: Global,
     attribute: &Attribute<'src>,
     names: &Names<'src>,
-) -> Result<Attribute<'src>, OutOfMemory> {
+) -> Result<Attribute<'src>, OutOfMemory>
+    ensures { IfOk result
+        (λ copy. attribute_view copy ≡ numbered_attribute (named names.now) (attribute_view attribute.now)) }
+{
     match attribute {
         Attribute::Env(key, value) => {
             let (key, value) = paired(numbered(alloc, key, names)?, numbered(alloc, value, names))?;
@@ -155,33 +157,30 @@ fn numbered_attribute<'src>(
     }
 }
 
-// Adds copies of parameters, each with its number. The expressions of each can read those before it.
+// Adds copies of parameters, each with its number, and its name to the names. The expressions of each can read those
+// before it.
 fn add_parameters<'src>(
     alloc: Global,
     parameters: &[Parameter<'src>],
-    names: &mut Names<'src>,
     numbers: &[(Name<'src>, Number)],
+    names: &mut Names<'src>,
     copies: &mut Vec<Parameter<'src>>,
-) -> Result<(), OutOfMemory> {
-    for (parameter, (_, number)) in parameters.iter().zip(numbers) {
-        if reads(parameter.default.as_ref()) || reads(parameter.value.as_ref()) {
-            let (before, _) = numbers.split_at(copies.len().min(numbers.len()));
-            names.set_parameters(before)?;
-        }
-        pushed(
-            copies,
-            numbered_parameter(alloc, parameter, *number, names)?,
-        )?;
+) -> Result<(), OutOfMemory>
+    requires empty { copies.old.items ≡ [] }
+    requires unset { (t : Text) → parameter_named names.old t ≡ None }
+    requires numbers { length numbers.now ≡ length parameters.now }
+    ensures copies { OnOk result (map recipe_parameter_view copies.new.items ≡ numbered_in_turn
+        (variable_named names.old) [] (map recipe_parameter_view parameters.now) (map parameter_view numbers.now)) }
+    ensures names { OnOk result ((t : Text) → named names.new t
+        ≡ with_parameters (map parameter_view numbers.now) (variable_named names.old) t) }
+    ensures variables { (t : Text) → variable_named names.new t ≡ variable_named names.old t }
+{
+    for (parameter, (name, number)) in parameters.iter().zip(numbers) {
+        let copy = numbered_parameter(alloc, parameter, *number, names)?;
+        pushed(copies, copy)?;
+        names.add_parameter(name, *number)?;
     }
     Ok(())
-}
-
-// Whether an expression may read a name. A literal reads none, so it needs no names of earlier parameters.
-fn reads(expression: Option<&Expression>) -> bool {
-    match expression {
-        Some(Expression::StringLiteral { .. }) | None => false,
-        Some(_) => true,
-    }
 }
 
 // A copy of a parameter with a number.
@@ -190,7 +189,10 @@ fn numbered_parameter<'src>(
     parameter: &Parameter<'src>,
     number: Number,
     names: &Names<'src>,
-) -> Result<Parameter<'src>, OutOfMemory> {
+) -> Result<Parameter<'src>, OutOfMemory>
+    ensures { IfOk result (λ copy. recipe_parameter_view copy
+        ≡ numbered_parameter (named names.now) (recipe_parameter_view parameter.now) number) }
+{
     let default = numbered_option(alloc, parameter.default.as_ref(), names)?;
     let value = numbered_option(alloc, parameter.value.as_ref(), names);
     let (default, value) = paired(default, value)?;

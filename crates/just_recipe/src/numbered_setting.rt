@@ -1,7 +1,9 @@
 // Settings whose variables have numbers.
 
-ghost use Rattle.std.specs.Prelude.{OnOk, map, ◌++◌, ◌≡◌};
+ghost use Rattle.std.specs.Prelude.{IfOk, IsOkAnd, OnOk, map, option_map, ◌++◌, ◌≡◌};
+ghost use Rattle.just_recipe.specs.Setting.{numbered_interpreter, numbered_setting};
 ghost use Rattle.just_resolve.specs.Prelude.{named, numbered, view};
+ghost use Rattle.just_syntax.specs.View.{expression_interpreter_view, setting_view};
 
 use crate::outcome::{followed, pushed};
 use just_resolve::names::Names;
@@ -28,7 +30,10 @@ pub fn numbered_setting<'src>(
     alloc: Global,
     setting: &Setting<'src>,
     names: &Names<'src>,
-) -> Result<Option<Setting<'src>>, OutOfMemory> {
+) -> Result<Option<Setting<'src>>, OutOfMemory>
+    ensures { IfOk result
+        (λ copy. option_map setting_view copy ≡ numbered_setting (named names.now) (setting_view setting.now)) }
+{
     match setting {
         Setting::DotenvCommand(value)
         | Setting::DotenvFilename(value)
@@ -52,7 +57,10 @@ fn numbered_interpreter<'src>(
     alloc: Global,
     interpreter: &Interpreter<Expression<'src>>,
     names: &Names<'src>,
-) -> Result<Interpreter<Expression<'src>>, OutOfMemory> {
+) -> Result<Interpreter<Expression<'src>>, OutOfMemory>
+    ensures { IfOk result (λ copy. expression_interpreter_view copy
+        ≡ numbered_interpreter (named names.now) (expression_interpreter_view interpreter.now)) }
+{
     let mut arguments = Vec::new(alloc);
     let added = add_numbered(alloc, &interpreter.arguments, names, &mut arguments);
     let arguments = followed(arguments, added);
@@ -64,7 +72,10 @@ fn numbered_interpreter<'src>(
 fn interpreter_of<T: Drop>(
     command: Result<T, OutOfMemory>,
     arguments: Result<Vec<T>, OutOfMemory>,
-) -> Result<Interpreter<T>, OutOfMemory> {
+) -> Result<Interpreter<T>, OutOfMemory>
+    ensures { IfOk result (λ made. IsOkAnd command (λ c. made.command ≡ c)
+        × IsOkAnd arguments (λ all. made.arguments.items ≡ all.items)) }
+{
     Ok(Interpreter::new(command?, arguments?))
 }
 
