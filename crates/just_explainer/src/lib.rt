@@ -4,6 +4,7 @@
 
 mod answers;
 mod body;
+mod circles;
 pub mod command_line;
 mod constants;
 mod environment;

@@ -10,6 +10,7 @@ use just_syntax::name::Name;
 use just_syntax::out_of_memory::OutOfMemory;
 use just_value::scope::Scope;
 use std::alloc::Global;
+use std::collections::BTreeMap;
 
 /// Reports the faults of recipes and aliases, prints each variable's constant value, or that it is open, or reports why
 /// it is refused, and then does so with the settings.
@@ -21,8 +22,9 @@ pub(crate) fn lint<'src>(
     session: &mut Session,
 ) -> Result<(), OutOfMemory> {
     report_recipes(alloc, analysis, outer, session)?;
+    let places = places_of(alloc, &survey.refused)?;
     for assignment in &analysis.justfile.assignments {
-        print_variable(assignment, survey, session)?;
+        print_variable(assignment, survey, &places, session)?;
     }
     evaluate_settings(alloc, analysis, outer, &survey.evaluator, session)?;
     print_settings(analysis, session)
@@ -33,17 +35,30 @@ fn print_settings(analysis: &Analysis, session: &mut Session) -> Result<(), OutO
     session.text(&analysis.justfile.settings)
 }
 
+// Where each refused variable is in the list, by its name.
+fn places_of<'src>(
+    alloc: Global,
+    refused: &[RefusedConstant<'src>],
+) -> Result<BTreeMap<&'src str, usize>, OutOfMemory> {
+    let mut places = BTreeMap::new(alloc);
+    for (place, constant) in refused.iter().enumerate() {
+        places.insert(constant.name.lexeme(), place)?;
+    }
+    Ok(places)
+}
+
 // Prints a variable's value, or that it is open, or reports why it is refused.
 fn print_variable<'src>(
     assignment: &Assignment<'src>,
     survey: &ConstSurvey<'src, '_>,
+    places: &BTreeMap<&'src str, usize>,
     session: &mut Session,
 ) -> Result<(), OutOfMemory> {
     let name = assignment.name;
     if let Some(value) = survey.evaluator.scope().value(assignment.number) {
         return session.line(format_args!("{name} = {value}"));
     }
-    match refusal_of(&survey.refused, name) {
+    match refusal_of(&survey.refused, places, name) {
         Some(refused) => session.report(&refused.error, &refused.error.token()),
         None => session.line(format_args!("{name} is open")),
     }
@@ -52,9 +67,11 @@ fn print_variable<'src>(
 // The refusal of a variable.
 fn refusal_of<'a, 'src>(
     refused: &'a [RefusedConstant<'src>],
+    places: &BTreeMap<&'src str, usize>,
     name: Name<'src>,
 ) -> Option<&'a RefusedConstant<'src>> {
-    refused
-        .iter()
-        .find(|constant| constant.name.lexeme() == name.lexeme())
+    match places.get(name.lexeme()) {
+        Some(place) => refused.get(*place),
+        None => None,
+    }
 }

@@ -19,8 +19,8 @@ use just_value::scope::Scope;
 use std::alloc::Global;
 use std::collections::{BTreeSet, HashMap};
 
-/// Lists what could be run, read or asked by evaluating the variables and recipes that the words name, or all variables,
-/// each once with its place.
+/// Lists what could be run, read or asked by evaluating the variables and recipes that the words name, or all
+/// variables, each once with its place.
 pub(crate) fn reach_all<'src>(
     alloc: Global,
     analysis: &Analysis<'src>,

@@ -1,12 +1,14 @@
 // Reports of what is wrong with recipes and aliases.
 
+use crate::circles::report_circles;
 use crate::session::Session;
 use just_analyzer::alias::Alias;
 use just_analyzer::analysis::Analysis;
 use just_parser::dependency::Dependency;
 use just_parser::recipe_definition::RecipeDefinition;
 use just_recipe::faults::recipe_faults;
-use just_recipe::numbered_recipe::{NumberedRecipe, numbered_recipe};
+use just_recipe::numbered_recipe::NumberedRecipe;
+use just_recipe::numbering::Numbering;
 use just_run::arguments::group_arguments;
 use just_syntax::name::Name;
 use just_syntax::out_of_memory::OutOfMemory;
@@ -21,9 +23,11 @@ pub(crate) fn report_recipes<'src>(
     outer: &Scope<'src, '_>,
     session: &mut Session,
 ) -> Result<(), OutOfMemory> {
+    let mut numbering = Numbering::of(alloc, &analysis.justfile, outer)?;
     for definition in &analysis.recipes {
-        report_definition(alloc, analysis, outer, definition, session)?;
+        report_definition(alloc, analysis, outer, definition, &mut numbering, session)?;
     }
+    report_circles(alloc, &analysis.recipes, session)?;
     for alias in &analysis.aliases {
         report_alias(alias, &analysis.recipes, session)?;
     }
@@ -65,9 +69,10 @@ fn report_definition<'src>(
     analysis: &Analysis<'src>,
     outer: &Scope<'src, '_>,
     definition: &RecipeDefinition<'src>,
+    numbering: &mut Numbering<'src>,
     session: &mut Session,
 ) -> Result<(), OutOfMemory> {
-    let recipe = numbered_recipe(alloc, definition, &analysis.justfile, outer)?;
+    let recipe = numbering.number(alloc, definition, outer)?;
     let reported = report_recipe(alloc, analysis, &recipe, session);
     drop(recipe);
     reported

@@ -4,3 +4,15 @@
 
 #[cfg(test)]
 mod calls;
+#[cfg(test)]
+mod evaluate;
+#[cfg(test)]
+mod faults;
+#[cfg(test)]
+mod lint;
+#[cfg(test)]
+mod reach;
+#[cfg(test)]
+mod recipe;
+#[cfg(test)]
+mod words;

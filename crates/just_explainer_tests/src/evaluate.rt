@@ -1,0 +1,85 @@
+// `just_explain evaluate`.
+
+use crate::calls::{BUILD, Call, try_calls};
+
+const EVALUATE: &[Call] = &[
+    ("evaluate", "", "", "", 0),
+    (
+        "evaluate|--answer|git rev-parse HEAD=1f3a",
+        BUILD,
+        "\
+flag = \"-cu\"
+mode = \"debug\"
+  asks variable \"MODE\"
+commit = \"1f3a\"
+  asks command \"git rev-parse HEAD\"
+target = \"out/debug\"
+",
+        "",
+        0,
+    ),
+    (
+        "evaluate|--env|MODE=a=b|target",
+        BUILD,
+        "\
+mode = \"a=b\"
+  asks variable \"MODE\"
+target = \"out/a=b\"
+",
+        "",
+        0,
+    ),
+    (
+        "evaluate|mode=release|target",
+        BUILD,
+        "mode = \"release\"\ntarget = \"out/release\"\n",
+        "",
+        0,
+    ),
+    (
+        "evaluate|commit",
+        BUILD,
+        "commit is refused\n  asks command \"git rev-parse HEAD\"\n",
+        "\
+error: backtick failed: no answer for command `git rev-parse HEAD`: give --answer 'git rev-parse HEAD=TEXT'
+ ——▶ justfile:4:11
+  │
+4 │ commit := `git rev-parse HEAD`
+  │           ^^^^^^^^^^^^^^^^^^^^
+",
+        1,
+    ),
+    (
+        "evaluate|--dry-run|commit",
+        BUILD,
+        "commit = \"`git rev-parse HEAD`\"\n",
+        "",
+        0,
+    ),
+    (
+        "evaluate|nope",
+        BUILD,
+        "",
+        "error: variable `nope` is not assigned\n",
+        1,
+    ),
+    (
+        "evaluate|--answer|a=b=c|--answer|a=b|--answer|a=d",
+        "a := `a`\nb := shell('a=b')\n",
+        "a = \"d\"\n  asks command \"a\"\nb = \"c\"\n  asks command \"a=b\"\n",
+        "",
+        0,
+    ),
+    (
+        "evaluate|--directory|/work|--dotenv|A=b",
+        "a := justfile()\nb := env('A')\nc := HEX\n",
+        "a = \"/work/justfile\"\nb = \"b\"\nc = \"0123456789abcdef\"\n",
+        "",
+        0,
+    ),
+];
+
+#[test]
+fn values(rt: HostRuntime) {
+    try_calls(&rt, rt.alloc(), EVALUATE);
+}
