@@ -207,6 +207,14 @@ def given_to(name):
         return it.read()
 
 
+def status_of(wrong, tried):
+    """Prints the first of what is wrong, and how much was tried; returns the status."""
+    for it in wrong[:20]:
+        print(it)
+    print(f"{tried}, {len(wrong)} wrong")
+    return 1 if wrong else 0
+
+
 def main():
     examples = sys.argv[1:]
     with tempfile.TemporaryDirectory() as folder, concurrent.futures.ThreadPoolExecutor(os.cpu_count()) as pool:
@@ -219,10 +227,7 @@ def main():
         tasks += [pool.submit(tried, built(name), library, name, given_to(name), is_report) for name in examples]
         results = [it.result() for it in tasks]
     wrong = [it for _, found in results for it in found]
-    for it in wrong[:20]:
-        print(it)
-    print(f"{sum(count for count, _ in results)} allocations refused, {len(wrong)} wrong")
-    return 1 if wrong else 0
+    return status_of(wrong, f"{sum(count for count, _ in results)} allocations refused")
 
 
 if __name__ == "__main__":

@@ -11,7 +11,7 @@ import random
 import subprocess
 import sys
 
-from memory import built
+from memory import built, status_of
 
 # A text for each rule: items, then expressions, then tokens.
 RULES = [
@@ -100,11 +100,7 @@ def main():
     program = built("just_explain")[0]
     with concurrent.futures.ThreadPoolExecutor(os.cpu_count()) as pool:
         results = list(pool.map(lambda text: ended_wrong(program, text), texts()))
-    wrong = [it for found in results for it in found]
-    for it in wrong[:20]:
-        print(it)
-    print(f"{3 * len(results)} runs, {len(wrong)} wrong")
-    return 1 if wrong else 0
+    return status_of([it for found in results for it in found], f"{3 * len(results)} runs")
 
 
 if __name__ == "__main__":
