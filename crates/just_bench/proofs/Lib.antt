@@ -10,7 +10,6 @@ mod Lexical
 mod Lines
 mod OneAnswer
 mod OneName
-mod OneStage
 mod OneWalk
 mod Outcomes
 mod Places

@@ -1,8 +1,10 @@
 -- A case has one answer.
 use Rattle.std.proofs.Common.{◌≡◌, ◌≢◌, ◌↔◌, ℕ, Bool, true, false, IsTrue, List, [], ◌∷◌, ◌++◌, None, map, refl, sym, ap, subst, ◌∙◌, append_assoc}
 use Rattle.just_bench.specs.Prelude.{AnswersLines, BadLine, Blocks, BlocksPrints, Case, CaseRuns, ConstPrints, Described, Describes, Evaluated, Evaluation}
-use Rattle.just_bench.specs.Prelude.{Frames, HadMemory, Module, OneAnswer, RunPrints, Script, Stopped, Text, Token, by_script, case_constants, case_module}
-use Rattle.just_bench.specs.Prelude.{dynamically, events_of, in_order, outcome_lines, question_lines, refusal_line, stage_lines, unresolved_line}
+use Rattle.just_bench.specs.Prelude.{Frames, Gave, HadMemory, Module, OneAnswer, Outcome, Refused, RunPrints, Script, Stopped, Text, Token, by_script}
+use Rattle.just_bench.specs.Prelude.{case_constants, case_module, dynamically, events_of, in_order, outcome_lines, question_lines, refusal_line, stage_lines}
+use Rattle.just_bench.specs.Prelude.{unresolved_line}
+use Rattle.just_value.specs.Outcome.{UnlessStopped}
 use Rattle.just_case_reader.specs.Case.{Run, Const}
 use Rattle.just_case_reader.specs.Line.{line_of, lines_of}
 use Rattle.just_case_reader.specs.Reading.{described}
@@ -10,7 +12,6 @@ use Rattle.just_laws.proofs.Decide.{answers_decide}
 use Rattle.just_bench.proofs.Decided.{chains_one}
 use Rattle.just_bench.proofs.Heeded.{run_answered}
 use Rattle.just_bench.proofs.Lines.{are_questions, are_unresolved, lines_after}
-use Rattle.just_bench.proofs.OneStage.{stage_one}
 use Rattle.just_bench.proofs.OneWalk.{both_one, had_after}
 
 -- two tests of the same proposition
@@ -32,6 +33,12 @@ stage_whole {c = c} p one had e =
     (had (unresolved_line one.resolved) (are_unresolved one.resolved)).1
     (one.text ∙ ap (λ o. unresolved_line one.resolved ++ stage_lines (case_constants c) o) e)
 
+-- an outcome that is not stopped is the expected one
+unstopped_is : {A : Type 0} (o w : Outcome A) → UnlessStopped o w → o ≢ Stopped → o ≡ w
+unstopped_is (Gave a) w is on = is
+unstopped_is (Refused r) w is on = is
+unstopped_is Stopped w is on = absurd (on refl)
+
 runs_one : (s u : Script) (m : Module) (outer : Frames) (p q : Text) (i j : ℕ) (from : s ≡ u) → RunPrints by_script s m outer p i
     → RunPrints by_script u m outer q j → HadMemory p → HadMemory q → (p ≡ q) × (i ≡ j)
 runs_one s u m outer p q i j from one other had also =
@@ -50,7 +57,8 @@ stages_one : (c : Case) (outer : Frames) (p q : Text) (i j : ℕ) → ConstPrint
     → (p ≡ q) × (i ≡ j)
 stages_one c outer p q i j one other had also =
     let resolved = flags_one _ one.resolved other.resolved one.test other.test in
-    let same = stage_one one.outcome other.outcome one.staged other.staged (stage_whole p one had) (stage_whole q other also) in
+    let same : one.outcome ≡ other.outcome = unstopped_is one.outcome _ one.staged.comes (stage_whole p one had)
+    ∙ sym (unstopped_is other.outcome _ other.staged.comes (stage_whole q other also)) in
     (one.text ∙ rw (resolved, same) (sym other.text), one.ends ∙ rw same (sym other.ends))
 
 abbrev Starts : Script → Script → Type 0

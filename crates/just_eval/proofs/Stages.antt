@@ -1,59 +1,42 @@
 -- How const stages are composed.
-use Rattle.std.proofs.Common.{◌≡◌, ℕ, ◌+◌, ◌<◌, true, false, List, [], ◌∷◌, ◌++◌, Option, Some, None, Result, Ok, Err, IsErrAnd, map, drop, get_or, length, sym}
-use Rattle.std.proofs.Common.{subst}
+use Rattle.std.proofs.Common.{◌≡◌, ℕ, ◌+◌, ◌<◌, true, false, not, List, [], ◌∷◌, ◌++◌, Option, Some, None, Result, Ok, Err, IsErrAnd, map, drop, get_or, length}
+use Rattle.std.proofs.Common.{refl, sym, ap, ◌∙◌, subst}
+use Rattle.std.proofs.Math.Bool.{and-false}
+use Rattle.std.specs.Option.{is_some}
 use Rattle.just_eval.specs.Prelude.{Assignment, Bound, Const, ConstRefusal, Constants, Gave, Internal, IsFinal, Outcome, Refusal, Refused, RefusesWith}
-use Rattle.just_eval.specs.Prelude.{StageState, Staged, Stopped, Token, Value, assignment_at, bound_of, compile_refusal, const_ended, innermost}
-use Rattle.just_eval.specs.Prelude.{unknown_assignment_text, with_open, without_value}
+use Rattle.just_eval.specs.Prelude.{StageState, Staged, Stopped, Token, UnlessStopped, Value, and_then, assignment_at, bound_of, compile_refusal}
+use Rattle.just_eval.specs.Prelude.{const_ended, innermost, unknown_assignment_text, with_open, without_value}
 use Rattle.just_value.specs.declared.compile_error.CompileError.{CompileError}
-use Rattle.just_meaning.specs.Stage.{Found, IsNew, Stage, Finished, Stops, Unknown, Passes, Skips, StaysOpen, Settles, Opens, Breaks, const_assigned}
-use Rattle.just_meaning.specs.Stage.{with_settled}
+use Rattle.just_meaning.specs.Stage.{after_assignment, after_outcome, const_assigned, stage, with_settled}
+use Rattle.just_soundness.proofs.Ready.{IsDue}
 use Rattle.just_eval.proofs.Module.{front}
 
-module _ {m : Constants} where
-  -- continues a stage from its standing
-  stage_then : {s mid : StageState} {left more : List Token} {fs gs : List Found} {o : Outcome StageState} → Stage m s left fs (Gave mid)
-      → Stage m mid more gs o → Stage m s (left ++ more) (fs ++ gs) o
-  stage_then Finished q = q
-  stage_then (Passes a f h r) q = Passes a f h (stage_then r q)
-  stage_then (Skips a b f h i r) q = Skips a b f h i (stage_then r q)
-  stage_then (StaysOpen a f h i r) q = StaysOpen a f h i (stage_then r q)
-  stage_then (Settles a v k e r) q = Settles a v k e (stage_then r q)
-  stage_then (Opens a c k e r) q = Opens a c k e (stage_then r q)
+-- a stage continues from its standing
+stage_append : (m : Constants) (s : StageState) (left more : List Token) → stage m s (left ++ more) ≡ and_then (stage m s left) (λ mid. stage m mid more)
+stage_append m s [] more = refl
+stage_append m s (t ∷ left) more = elim (after_assignment m s t (assignment_at m.assignments t.lexeme)) as
+    (λ o. and_then o (λ next. stage m next (left ++ more)) ≡ and_then (and_then o (λ next. stage m next left)) (λ mid. stage m mid more))
+    [ Gave next ↦ stage_append m next left more | Refused r ↦ refl | Stopped ↦ refl ]
 
+module _ {m : Constants} where
   pub staged_then : {s mid : StageState} {left more : List Token} {o : Outcome StageState} → Staged m s left (Gave mid) → Staged m mid more o
       → Staged m s (left ++ more) o
-  staged_then r q = (r.0 ++ q.0, stage_then r.1 q.1)
-
-  -- a stage that ended is also a stage of more assignments
-  stage_refused : {s : StageState} {left : List Token} {fs : List Found} {r : Refusal} (more : List Token) → Stage m s left fs (Refused r)
-      → Stage m s (left ++ more) fs (Refused r)
-  stage_refused more (Unknown f) = Unknown f
-  stage_refused more (Passes a f h r) = Passes a f h (stage_refused more r)
-  stage_refused more (Skips a b f h i r) = Skips a b f h i (stage_refused more r)
-  stage_refused more (StaysOpen a f h i r) = StaysOpen a f h i (stage_refused more r)
-  stage_refused more (Settles a v k e r) = Settles a v k e (stage_refused more r)
-  stage_refused more (Opens a c k e r) = Opens a c k e (stage_refused more r)
-  stage_refused more (Breaks a r final k e) = Breaks a r final k e
-
-  stage_stopped : {s : StageState} {left : List Token} {fs : List Found} (more : List Token) → Stage m s left fs Stopped → Stage m s (left ++ more) fs Stopped
-  stage_stopped more Stops = Stops
-  stage_stopped more (Passes a f h r) = Passes a f h (stage_stopped more r)
-  stage_stopped more (Skips a b f h i r) = Skips a b f h i (stage_stopped more r)
-  stage_stopped more (StaysOpen a f h i r) = StaysOpen a f h i (stage_stopped more r)
-  stage_stopped more (Settles a v k e r) = Settles a v k e (stage_stopped more r)
-  stage_stopped more (Opens a c k e r) = Opens a c k e (stage_stopped more r)
+  staged_then {s = s} {left = left} {more = more} {o = o} r q = record {
+    comes = subst (UnlessStopped o) (ap (λ w. and_then w (λ mid. stage m mid more)) r.comes ∙ sym (stage_append m s left more)) q.comes;
+  }
 
   pub staged_finished : (s : StageState) → Staged m s [] (Gave s)
-  staged_finished s = ([], Finished)
+  staged_finished s = record { comes = refl }
 
   pub staged_stops : (s : StageState) (left : List Token) → Staged m s left Stopped
-  staged_stops s left = ([], Stops)
+  staged_stops s left = record { comes = tt }
 
   -- a stage that ended is also a stage of more assignments, with its outcome
   pub staged_ends : {s : StageState} {left : List Token} (more : List Token) (e : Option Refusal) → Staged m s left (without_value e)
       → Staged m s (left ++ more) (without_value e)
-  staged_ends more (Some r) q = (q.0, stage_refused more q.1)
-  staged_ends more None q = (q.0, stage_stopped more q.1)
+  staged_ends {s = s} {left = left} more (Some r) q =
+      record { comes = ap (λ w. and_then w (λ mid. stage m mid more)) q.comes ∙ sym (stage_append m s left more) }
+  staged_ends more None q = record { comes = tt }
 
   -- the exit of a `?`
   pub staged_exit : {X : Type 0} {s : StageState} {left : List Token} (f : X → StageState) (r : Result X CompileError) (e : CompileError)
@@ -66,29 +49,33 @@ module _ {m : Constants} where
   module _ (s : StageState) (t : Token) where
     pub staged_unknown : (r : Option Refusal) → assignment_at m.assignments t.lexeme ≡ None → RefusesWith r (Internal (unknown_assignment_text t.lexeme) t)
         → Staged m s (t ∷ []) (without_value r)
-    staged_unknown None f is = staged_stops s (t ∷ [])
-    staged_unknown (Some r) f is = rw is ([], Unknown f)
+    staged_unknown None f is = record { comes = tt }
+    staged_unknown (Some r) f is = record { comes = rw (is, f) refl }
 
     module _ (a : Assignment) (found : assignment_at m.assignments t.lexeme ≡ Some a) where
       pub staged_passes : m.assignments.referenced a.number ≡ false → Staged m s (t ∷ []) (Gave s)
-      staged_passes e = ([], Passes a found e Finished)
+      staged_passes e = record { comes = rw (found, e) refl }
 
       module _ (referenced : m.assignments.referenced a.number ≡ true) where
         pub staged_open : s.is_open a.number ≡ true → Staged m s (t ∷ []) (Gave s)
-        staged_open e = ([], StaysOpen a found referenced e Finished)
+        staged_open e = record { comes = rw (found, referenced, e, and-false (not (is_some (innermost a.number s.frames)))) refl }
 
         pub staged_skips : (b : Bound) → innermost a.number s.frames ≡ Some b → Staged m s (t ∷ []) (Gave s)
-        staged_skips b e = ([], Skips a b found referenced e Finished)
+        staged_skips b e = record { comes = rw (found, referenced, e) refl }
 
-    module _ (a : Assignment) (new : IsNew m s t a) where
+    module _ (a : Assignment) (new : IsDue m s t a) where
       pub staged_settles : (v : Value) → const_assigned m s a ≡ Gave v → Staged m s (t ∷ []) (Gave (with_settled s (bound_of false a v)))
-      staged_settles v e = (record { number = a.number; outcome = Gave v } ∷ [], Settles a v new e Finished)
+      staged_settles v e = record { comes = rw (new.found, new.referenced, new.unbound, new.unopened, e) refl }
 
       pub staged_opens : (c : ConstRefusal) → const_assigned m s a ≡ Refused (Const c) → Staged m s (t ∷ []) (Gave (with_open s a.number))
-      staged_opens c e = (record { number = a.number; outcome = Refused (Const c) } ∷ [], Opens a c new e Finished)
+      staged_opens c e = record { comes = rw (new.found, new.referenced, new.unbound, new.unopened, e) refl }
 
       pub staged_breaks : (r : Refusal) → IsFinal r → const_assigned m s a ≡ Refused r → Staged m s (t ∷ []) (Refused r)
-      staged_breaks r final e = (record { number = a.number; outcome = Refused r } ∷ [], Breaks a r final new e)
+      staged_breaks r final e = record { comes = rw (new.found, new.referenced, new.unbound, new.unopened, e) (ends r final) }
+        where
+          ends : (r : Refusal) → IsFinal r → Refused r ≡ and_then (after_outcome s a (Refused r)) (λ next. Gave next)
+          ends (Const c) final = absurd final
+          ends _ final = refl
 
   -- ---- one name after another
 

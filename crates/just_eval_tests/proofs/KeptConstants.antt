@@ -1,17 +1,17 @@
 -- Constants keep their values in a run, from public laws alone.
-use Rattle.std.proofs.Common.{◌≡◌, ◌⊎◌, inl, inr, ℕ, Bool, List, [], ◌∷◌, Option, Some, None, refl, sym, subst, ◌∙◌}
+use Rattle.std.proofs.Common.{◌≡◌, ◌⊎◌, inl, inr, ℕ, Bool, List, [], ◌∷◌, Option, Some, None, append-nil, refl, sym, subst, ◌∙◌}
 use Rattle.just_value.specs.Frames.{Bound, Frames, bound_at, own_frame}
 use Rattle.just_value.specs.Outcome.{Gave}
 use Rattle.just_host.specs.Interaction.{Step}
 use Rattle.just_eval_tests.specs.Prelude.{IsResolvedConst, IsResolvedModule, KeepsConstants}
 use Rattle.just_meaning.specs.Module.{Block, Module, Ran, Run, lexically}
-use Rattle.just_meaning.specs.Stage.{Constants, Found, Stage, Staged, StageState, at_start}
-use Rattle.just_laws.specs.Predicted.{AreOfOneModule, ConstAgrees, Predicts, is_found_open}
+use Rattle.just_meaning.specs.Stage.{Constants, Staged, StageState, at_start}
+use Rattle.just_laws.specs.Predicted.{AreOfOneModule, ConstAgrees, Predicts, is_found_open, whole_found, whole_stage}
 use Rattle.just_laws.specs.Results.{EndsAsItsBlocks, ResultsHaveBlocks}
 
 module _ (agrees : ConstAgrees) (results : ResultsHaveBlocks) (m : Constants) (lists : Bool) (outer : Frames) (n : Module) (others : Frames)
     (same : AreOfOneModule m lists outer n others) (before : IsResolvedConst m.assignments outer) (resolved : IsResolvedModule n others)
-    (fs : List Found) (s : StageState) (stage : Stage m (at_start lists outer) m.assignments.order fs (Gave s))
+    (s : StageState) (stage : whole_stage m lists outer ≡ Gave s)
     (bs : List Block) (frames : Frames) (run : Run lexically n ([] ∷ others) n.assignments.order bs (Gave frames)) where
   ends : EndsAsItsBlocks bs (Gave frames)
   ends = results n others bs (Gave frames) resolved run
@@ -20,12 +20,13 @@ module _ (agrees : ConstAgrees) (results : ResultsHaveBlocks) (m : Constants) (l
   one_value : (k : ℕ) (settled bound : Bound) → bound_at k (own_frame s.frames) ≡ Some settled → bound_at k (own_frame frames) ≡ Some bound
       → bound.value ≡ settled.value
   one_value k settled bound h e =
-      let found = (agrees.states m lists outer fs s stage).binds k settled h in
+      let found = (agrees.states m lists outer s stage).binds k settled h in
       let block = ends.bindings frames k bound refl e in
       let on = ends.unstopped block.0 (λ stopped. absurd (cc)) block.1 in
-      let predicted = agrees.blocks m lists outer n others fs (Gave s) bs (Gave frames) same before resolved stage run found.0 block.0 found.1 block.1
-      (found.2 ∙ sym block.2) on in
-      let gave : Predicts (is_found_open fs) (Gave settled.value) block.0 = subst (λ o. Predicts (is_found_open fs) o block.0) found.3 predicted in
+      let predicted = agrees.blocks m lists outer n others m.assignments.order [] bs (Gave frames) (sym (append-nil m.assignments.order))
+      same before resolved run found.0 block.0 found.1 block.1 (found.2 ∙ sym block.2) on in
+      let is_open = is_found_open (whole_found m lists outer) in
+      let gave : Predicts is_open (Gave settled.value) block.0 = subst (λ o. Predicts is_open o block.0) found.3 predicted in
       cc (block.3, gave.0)
 
   keeps : KeepsConstants s.is_open s.frames frames
@@ -43,4 +44,4 @@ pub keeps_staged : (agrees : ConstAgrees) (results : ResultsHaveBlocks) (m : Con
     → Staged m (at_start lists outer) m.assignments.order (Gave s) → Ran step old lexically n ([] ∷ outer) n.assignments.order (Gave frames) new
     → KeepsConstants s.is_open s.frames frames
 keeps_staged agrees results m lists outer n same before resolved s frames stage run =
-    keeps agrees results m lists outer n outer same before resolved stage.0 s stage.1 run.blocks frames run.run
+    keeps agrees results m lists outer n outer same before resolved s (sym stage.comes) run.blocks frames run.run

@@ -17,18 +17,18 @@ use Rattle.just_meaning.specs.Internal.{IfRefused, IsFinal}
 use Rattle.just_meaning.specs.Meaning.{Program, AtLimit, eval}
 use Rattle.just_meaning.specs.Module.{Module, Block, assigned, lexically, or_override, situation_at}
 use Rattle.just_meaning.specs.Reaches.{Mention, VariableOf, CallOf, Occurs}
-use Rattle.just_meaning.specs.Stage.{Constants, Found, const_meaning}
+use Rattle.just_meaning.specs.Stage.{Constants, Found, at_start, const_meaning, stage_found}
 use Rattle.just_meaning.proofs.Distinct.{distinct_front}
 use Rattle.just_soundness.proofs.Ends.{AllEnd}
 use Rattle.just_soundness.proofs.Final.{IsFinalDeeper, final_eval}
 use Rattle.just_soundness.proofs.Refused.{refused_override}
-use Rattle.just_laws.specs.Predicted.{AreConstant, AreOfOneModule, ConstAgrees, Predicts, is_found_open, is_shut}
+use Rattle.just_laws.specs.Predicted.{AreConstant, AreOfOneModule, ConstAgrees, Predicts, is_found_open, is_shut, whole_found}
 use Rattle.just_laws.specs.Cone.{assignment_numbered}
 use Rattle.just_soundness.proofs.Alike.{Alike, Sight, Done, Both, Same, SameCheck, UpTo, ReadsAlike, alike_eval, alike_override}
 use Rattle.just_laws.proofs.Blocks.{AllMet, IsGiven, Met, all_met, gave_same, met_outside, never_both, some_same}
 use Rattle.just_laws.proofs.Agreed.{gave_on}
 use Rattle.just_laws.proofs.Stages as stages
-use Rattle.just_laws.proofs.Stages.{IsFound, MetConst, found_outside, is_what_was_found, stage_state}
+use Rattle.just_laws.proofs.Stages.{IsFound, MetConst, found_outside, stage_state, staging}
 
 -- ---- traces
 
@@ -174,11 +174,12 @@ module _ (m : Constants) (lists : Bool) (outer : Frames) (n : Module) (others : 
 
 pub const_agrees : ConstAgrees
 const_agrees = record {
-  states = λ m lists outer fs s r. is_what_was_found m lists outer r;
-  refusals = λ m lists outer fs r resolved stage. let f = stages.ends_refused m lists outer _ resolved.named stage r refl in (f.0, of_in fs f.0 f.1, f.2);
-  blocks = λ m lists outer n others fs o bs p same before resolved stage run f b at at' number on.
-      bear_all m lists outer n others same (is_found_open fs) fs (stages.all_met m lists outer before.distinct before.in_order stage) [] bs
-      (λ c none. absurd none)
+  states = stages.is_what_was_found;
+  refusals = λ m lists outer r resolved e.
+      let f = stages.ends_refused m lists outer (at_start lists outer) resolved.named (staging m (at_start lists outer) m.assignments.order) r e in
+      (f.0, of_in (whole_found m lists outer) f.0 f.1, f.2);
+  blocks = λ m lists outer n others names more bs p is same before resolved run f b at at' number on. let fs = stage_found m (at_start lists outer) names in
+      bear_all m lists outer n others same (is_found_open fs) fs (stages.all_met m lists outer names more is before) [] bs (λ c none. absurd none)
       (all_met n others (distinct_front (map (λ a. a.number) n.assignments.all) _ resolved.distinct) resolved.in_order run) b (in_of bs b at') f
       (in_of fs f at) number on;
 }

@@ -1,5 +1,7 @@
 -- Soundness of constant evaluation: what a const stage finds, every run confirms.
-use Rattle.std.specs.Prelude.{◌≡◌, ◌≢◌, ◌⊎◌, ℕ, Bool, true, false, ◌&&◌, ◌||◌, Contains, List, [], ◌∷◌, nat_eq, Some}
+use Rattle.std.specs.Prelude.{◌≡◌, ◌≢◌, ◌⊎◌, ℕ, Bool, true, false, ◌&&◌, ◌||◌}
+use Rattle.std.specs.Prelude.{Contains, List, [], ◌∷◌, ◌++◌, nat_eq, Some}
+use Rattle.just_syntax.specs.Plain.{Token}
 use Rattle.just_value.specs.Value.{Value}
 use Rattle.just_value.specs.Frames.{Bound, Frames, bound_at, own_frame, value_in}
 use Rattle.just_value.specs.Refusal.{Refusal, Const}
@@ -7,7 +9,7 @@ use Rattle.just_value.specs.Outcome.{Outcome, Gave, Refused, Stopped}
 use Rattle.just_host.specs.Interaction.{Note, Read, Entered, Command, Event, Noted}
 use Rattle.just_meaning.specs.Module.{Module, Block, Run, lexically, IsResolvedModule}
 use Rattle.just_meaning.specs.Resolved.{IsResolvedConst}
-use Rattle.just_meaning.specs.Stage.{Constants, StageState, Found, Stage, at_start}
+use Rattle.just_meaning.specs.Stage.{Constants, StageState, Found, at_start, stage, stage_found}
 
 -- what the const rules refuse: a call, a command, or the reading of an open variable
 abbrev pub is_shut : (ℕ → Bool) → Note → Bool
@@ -53,6 +55,13 @@ pub record IsWhatWasFound (fs : List Found) (s : StageState) : Type 0 where
   pub settles : (f : Found) (v : Value) → Contains fs f → f.outcome ≡ Gave v
       → (b : Bound) × (bound_at f.number (own_frame s.frames) ≡ Some b) × (b.value ≡ v)
 
+-- the outcome of the const stage over all assignments, and what it finds
+abbrev pub whole_stage : Constants → Bool → Frames → Outcome StageState
+whole_stage m lists outer = stage m (at_start lists outer) m.assignments.order
+
+abbrev pub whole_found : Constants → Bool → Frames → List Found
+whole_found m lists outer = stage_found m (at_start lists outer) m.assignments.order
+
 -- A const stage and a run have the same assignments and overrides, the same lists flag, and outer frames with the same
 -- values. Their orders, references, functions and all else are free.
 pub record AreOfOneModule (m : Constants) (lists : Bool) (outer : Frames) (n : Module) (others : Frames) : Type 0 where
@@ -61,19 +70,19 @@ pub record AreOfOneModule (m : Constants) (lists : Bool) (outer : Frames) (n : M
   pub same_lists : lists ≡ n.program.fixed.settings.lists
   pub values : (k : ℕ) → value_in outer k ≡ value_in others k
 
--- Soundness of constant evaluation. If both are resolved, what the stage finds for an assignment foretells its block in
--- a run that reaches it and is not stopped in it. The standing of a stage that finishes is what it found, and the
--- refusal of any other is one that it found.
+-- Soundness of constant evaluation. If both are resolved, what the stage over the first names of its order finds for an
+-- assignment foretells its block in a run that reaches it and is not stopped in it. The standing of a stage that finishes
+-- is what it found, and the refusal of any other is one that it found.
 pub record ConstAgrees : Type 0 where
-  pub states : (m : Constants) (lists : Bool) (outer : Frames) (fs : List Found) (s : StageState)
-      → Stage m (at_start lists outer) m.assignments.order fs (Gave s) → IsWhatWasFound fs s
-  pub refusals : (m : Constants) (lists : Bool) (outer : Frames) (fs : List Found) (r : Refusal)
-      → IsResolvedConst m.assignments outer
-      → Stage m (at_start lists outer) m.assignments.order fs (Refused r) → (f : Found) × Contains fs f
+  pub states : (m : Constants) (lists : Bool) (outer : Frames) (s : StageState) → whole_stage m lists outer ≡ Gave s
+      → IsWhatWasFound (whole_found m lists outer) s
+  pub refusals : (m : Constants) (lists : Bool) (outer : Frames) (r : Refusal) → IsResolvedConst m.assignments outer
+      → whole_stage m lists outer ≡ Refused r → (f : Found) × Contains (whole_found m lists outer) f
       × (f.outcome ≡ Refused r)
-  pub blocks : (m : Constants) (lists : Bool) (outer : Frames) (n : Module) (others : Frames) (fs : List Found)
-      (o : Outcome StageState) (bs : List Block) (p : Outcome Frames)
-      → AreOfOneModule m lists outer n others → IsResolvedConst m.assignments outer → IsResolvedModule n others
-      → Stage m (at_start lists outer) m.assignments.order fs o → Run lexically n ([] ∷ others) n.assignments.order bs p
+  pub blocks : (m : Constants) (lists : Bool) (outer : Frames) (n : Module) (others : Frames) (names more : List Token)
+      (bs : List Block) (p : Outcome Frames)
+      → let fs = stage_found m (at_start lists outer) names in
+      m.assignments.order ≡ names ++ more → AreOfOneModule m lists outer n others → IsResolvedConst m.assignments outer
+      → IsResolvedModule n others → Run lexically n ([] ∷ others) n.assignments.order bs p
       → (f : Found) (b : Block) → Contains fs f → Contains bs b → f.number ≡ b.number → b.outcome ≢ Stopped
       → Predicts (is_found_open fs) f.outcome b

@@ -1,15 +1,15 @@
 -- What a module's assignments mean before any run: which variables are settled, and which stay open.
-use Rattle.std.specs.Prelude.{◌≡◌, ℕ, Bool, true, false, ◌||◌, List, [], ◌∷◌, Option, Some, None, nat_eq}
+use Rattle.std.specs.Prelude.{ℕ, Bool, false, ◌&&◌, ◌||◌, not, List, [], ◌∷◌, ◌++◌, Option, Some, None, nat_eq}
+use Rattle.std.specs.Prelude.{if◌then◌else◌}
+use Rattle.std.specs.Option.{is_some}
 use Rattle.just_syntax.specs.Plain.{Text, Token, Expr, Assignment}
 use Rattle.just_value.specs.Value.{Value}
 use Rattle.just_value.specs.Frames.{Bound, Frames, innermost, bound_innermost}
-use Rattle.just_value.specs.ConstRefusal.{ConstRefusal}
-use Rattle.just_value.specs.Refusal.{Refusal, Const, Internal}
-use Rattle.just_value.specs.Outcome.{Outcome, Gave, Refused, Stopped}
+use Rattle.just_value.specs.Refusal.{Const, Internal}
+use Rattle.just_value.specs.Outcome.{Outcome, Gave, Refused, Stopped, UnlessStopped, and_then}
 use Rattle.just_host.specs.Interaction.{Tree}
 use Rattle.just_meaning.specs.Assignments.{Assignments, assignment_at}
 use Rattle.just_meaning.specs.Constant.{constant, nowhere}
-use Rattle.just_meaning.specs.Internal.{IsFinal}
 use Rattle.just_meaning.specs.Messages.{unknown_assignment_text}
 use Rattle.just_meaning.specs.Meaning.{AtLimit, eval}
 use Rattle.just_meaning.specs.Module.{bound_of, or_override, situation_at}
@@ -50,53 +50,51 @@ const_value s e = constant s.is_open (const_meaning s e)
 abbrev pub const_assigned : Constants → StageState → Assignment → Outcome Value
 const_assigned m s a = constant s.is_open (or_override (m.overrides a.number) (const_meaning s a.value))
 
--- the name is that of an assignment that is referenced and neither bound nor open
-pub record IsNew (m : Constants) (s : StageState) (t : Token) (a : Assignment) : Type 0 where
-  pub found : assignment_at m.assignments t.lexeme ≡ Some a
-  pub referenced : m.assignments.referenced a.number ≡ true
-  pub unbound : innermost a.number s.frames ≡ None
-  pub unopened : s.is_open a.number ≡ false
+-- the assignment is evaluated: it is referenced, and it is neither bound nor open
+abbrev pub is_due : Constants → StageState → Assignment → Bool
+is_due m s a =
+    m.assignments.referenced a.number && (not (is_some (innermost a.number s.frames)) && not (s.is_open a.number))
+
+-- The state after an assignment with this outcome. A value settles it, and a refusal of the const rules opens it. Any
+-- other refusal ends the stage.
+abbrev pub after_outcome : StageState → Assignment → Outcome Value → Outcome StageState
+after_outcome s a (Gave v) = Gave (with_settled s (bound_of false a v))
+after_outcome s a (Refused (Const c)) = Gave (with_open s a.number)
+after_outcome s a (Refused r) = Refused r
+after_outcome s a Stopped = Stopped
+
+-- the state after a name: that of no assignment is refused, and an assignment that is not evaluated changes nothing
+abbrev pub after_assignment : Constants → StageState → Token → Option Assignment → Outcome StageState
+after_assignment m s t None = Refused (Internal (unknown_assignment_text t.lexeme) t)
+after_assignment m s t (Some a) = if is_due m s a then after_outcome s a (const_assigned m s a) else Gave s
+
+-- a const stage over the assignments with these names: the state at the end, or the refusal that ends it
+abbrev pub stage : Constants → StageState → List Token → Outcome StageState
+stage m s [] = Gave s
+stage m s (t ∷ left) =
+    and_then (after_assignment m s t (assignment_at m.assignments t.lexeme)) (λ next. stage m next left)
 
 -- one assignment that was evaluated: its number and its outcome
 pub record Found : Type 0 where
   pub number : ℕ
   pub outcome : Outcome Value
 
--- A const stage over the assignments with these names: the outcome of each one that is evaluated, and the standing at
--- the end. If memory runs out, it may stop at any point.
-pub data Stage (m : Constants) : StageState → List Token → List Found → Outcome StageState → Type 0 where
-  Finished : {s : StageState} → Stage m s [] [] (Gave s)
-  Stops : {s : StageState} {left : List Token} → Stage m s left [] Stopped
-  -- there is no such assignment
-  Unknown : {s : StageState} {t : Token} {left : List Token} → assignment_at m.assignments t.lexeme ≡ None
-      → Stage m s (t ∷ left) [] (Refused (Internal (unknown_assignment_text t.lexeme) t))
-  -- it is not referenced
-  Passes : {s : StageState} {t : Token} {left : List Token} {fs : List Found} {o : Outcome StageState}
-      → (a : Assignment) → assignment_at m.assignments t.lexeme ≡ Some a → m.assignments.referenced a.number ≡ false
-      → Stage m s left fs o → Stage m s (t ∷ left) fs o
-  -- it is already bound
-  Skips : {s : StageState} {t : Token} {left : List Token} {fs : List Found} {o : Outcome StageState}
-      → (a : Assignment) (b : Bound) → assignment_at m.assignments t.lexeme ≡ Some a → m.assignments.referenced a.number
-      ≡ true → innermost a.number s.frames ≡ Some b → Stage m s left fs o → Stage m s (t ∷ left) fs o
-  -- it is already open
-  StaysOpen : {s : StageState} {t : Token} {left : List Token} {fs : List Found} {o : Outcome StageState}
-      → (a : Assignment) → assignment_at m.assignments t.lexeme ≡ Some a → m.assignments.referenced a.number ≡ true
-      → s.is_open a.number ≡ true → Stage m s left fs o → Stage m s (t ∷ left) fs o
-  -- it is settled: its value is bound
-  Settles : {s : StageState} {t : Token} {left : List Token} {fs : List Found} {o : Outcome StageState}
-      → (a : Assignment) (v : Value) → IsNew m s t a → const_assigned m s a ≡ Gave v
-      → Stage m (with_settled s (bound_of false a v)) left fs o
-      → Stage m s (t ∷ left) (record { number = a.number; outcome = Gave v } ∷ fs) o
-  -- it is open, and the stage continues
-  Opens : {s : StageState} {t : Token} {left : List Token} {fs : List Found} {o : Outcome StageState}
-      → (a : Assignment) (c : ConstRefusal) → IsNew m s t a → const_assigned m s a ≡ Refused (Const c)
-      → Stage m (with_open s a.number) left fs o
-      → Stage m s (t ∷ left) (record { number = a.number; outcome = Refused (Const c) } ∷ fs) o
-  -- any other refusal ends the stage
-  Breaks : {s : StageState} {t : Token} {left : List Token} → (a : Assignment) (r : Refusal) → IsFinal r → IsNew m s t a
-      → const_assigned m s a ≡ Refused r
-      → Stage m s (t ∷ left) (record { number = a.number; outcome = Refused r } ∷ []) (Refused r)
+-- what is found for an assignment: its outcome, if it is evaluated
+abbrev pub found_here : Constants → StageState → Option Assignment → List Found
+found_here m s None = []
+found_here m s (Some a) = if is_due m s a then record { number = a.number; outcome = const_assigned m s a } ∷ [] else []
 
--- a const stage over these names ends with this outcome
-abbrev pub Staged : Constants → StageState → List Token → Outcome StageState → Type 0
-Staged m s names o = (fs : List Found) × Stage m s names fs o
+-- what is found from the state on, if there is one
+abbrev pub found_later : Outcome StageState → (StageState → List Found) → List Found
+found_later (Gave s) go = go s
+found_later _ go = []
+
+-- what a const stage finds: the outcome of each assignment that it evaluates, in their order
+abbrev pub stage_found : Constants → StageState → List Token → List Found
+stage_found m s [] = []
+stage_found m s (t ∷ left) = let a = assignment_at m.assignments t.lexeme in
+    found_here m s a ++ found_later (after_assignment m s t a) (λ next. stage_found m next left)
+
+-- A const stage over these names ends with this outcome. If memory runs out, it may stop at any point.
+pub record Staged (m : Constants) (s : StageState) (names : List Token) (o : Outcome StageState) : Type 0 where
+  pub comes : UnlessStopped o (stage m s names)

@@ -3,6 +3,7 @@ pub mod Forms
 pub mod Refused
 pub mod Bound
 pub mod Taken
+pub mod Ready
 pub mod Overlays
 pub mod Reached
 pub mod Alike

@@ -29,7 +29,7 @@ returns-in_err-evaluate_const_named-clause-headline c =
 pub returns-in_err-evaluate_const_named-clause-never_internal :
     goal.returns-in_err-evaluate_const_named-clause-never_internal
 returns-in_err-evaluate_const_named-clause-never_internal c = λ resolved.
-    resolved_stage_is_never_internal _ _ _ _ _ resolved (returns-in_err-evaluate_const_named-clause-headline c).1
+    resolved_stage_is_never_internal _ _ _ _ resolved (returns-in_err-evaluate_const_named-clause-headline c)
 
 pub loop-name-preserved : goal.loop-name-preserved
 loop-name-preserved c = record {
