@@ -1,5 +1,5 @@
 -- Parameters that get their numbers one after another.
-use Rattle.std.proofs.Common.{◌≡◌, ◌∙◌, ⊎_elim, ◌⊎◌, ℕ, suc, List, [], ◌∷◌, ◌++◌, Option, None, length, map, ap, append-nil, refl, sym}
+use Rattle.std.proofs.Common.{◌≡◌, ◌∙◌, ℕ, List, [], ◌∷◌, ◌++◌, Option, length, map, ap, refl, sym}
 use Rattle.std.proofs.lemmas.List.{append_assoc}
 use mathlib.Core.Path.{fun_ext}
 use Rattle.std.specs.Option.{option_or}
@@ -19,26 +19,6 @@ pub record AreNumbered (outside : Text → Option ℕ) (parameters : List Parame
   pub copied : copies ++ numbered_in_turn outside before ps qs ≡ numbered_in_turn outside [] parameters numbers
   pub own_names : (t : Text) → own t ≡ first_named before t
   pub other_names : (t : Text) → others t ≡ outside t
-
--- at the start no parameter has its number
-pub numbered_start : {outside own : Text → Option ℕ} {parameters ps : List Parameter} {numbers qs : List (Token × ℕ)} {copies : List Parameter}
-    → ps ≡ parameters → qs ≡ numbers → copies ≡ [] → ((t : Text) → own t ≡ None) → length numbers ≡ length parameters
-    → AreNumbered outside parameters numbers copies own outside ps qs
-numbered_start {outside = outside} {parameters = parameters} {ps = ps} {numbers = numbers} {qs = qs} first second empty unset long = record {
-  before = [];
-  pairs = second;
-  long = ap length second ∙ long ∙ ap length (sym first);
-  copied = ap (λ cs. cs ++ numbered_in_turn outside [] ps qs) empty ∙ ap (λ xs. numbered_in_turn outside [] xs qs) first
-      ∙ ap (numbered_in_turn outside [] parameters) second;
-  own_names = unset;
-  other_names = λ t. refl;
-}
-
--- all parameters have their numbers
-pub record AllNumbered (outside : Text → Option ℕ) (parameters : List Parameter) (numbers : List (Token × ℕ)) (copies : List Parameter)
-    (own others : Text → Option ℕ) : Type 0 where
-  pub copied : copies ≡ numbered_in_turn outside [] parameters numbers
-  pub named : (t : Text) → option_or (own t) (others t) ≡ with_parameters numbers outside t
 
 module _ {outside : Text → Option ℕ} {parameters : List Parameter} {numbers : List (Token × ℕ)} {copies : List Parameter} {own others : Text → Option ℕ} where
   -- one more parameter has its number
@@ -62,18 +42,6 @@ module _ {outside : Text → Option ℕ} {parameters : List Parameter} {numbers 
     own_names = λ t. named t ∙ ap (λ o. option_or o (first_named (q ∷ []) t)) (are.own_names t) ∙ sym (first_named-append are.before (q ∷ []) t);
     other_names = λ t. same t ∙ are.other_names t;
   }
-
-  -- at the end nothing is left
-  pub numbered_all : {ps : List Parameter} {qs : List (Token × ℕ)} → AreNumbered outside parameters numbers copies own others ps qs
-      → (ps ≡ []) ⊎ (qs ≡ []) → AllNumbered outside parameters numbers copies own others
-  numbered_all {ps = []} {qs = []} are end = record {
-    copied = sym (append-nil copies) ∙ are.copied;
-    named = λ t. ap (λ o. option_or o (others t)) (are.own_names t ∙ ap (λ qs. first_named qs t) (sym (append-nil are.before) ∙ are.pairs))
-        ∙ ap (option_or (first_named numbers t)) (are.other_names t);
-  }
-  numbered_all {ps = p ∷ ps} {qs = []} are end = absurd (let bad : 0 ≡ suc (length ps) = are.long in cc)
-  numbered_all {ps = []} {qs = q ∷ qs} are end = absurd (let bad : suc (length qs) ≡ 0 = are.long in cc)
-  numbered_all {ps = p ∷ ps} {qs = q ∷ qs} are end = absurd (⊎_elim (λ e. cc) (λ e. cc) end)
 
 -- copies that were added to none
 pub added_to_none : {A B : Type 0} (view : A → B) (copy : B → B) {copies : List B} {old part all : List A}
