@@ -14,7 +14,8 @@ use Rattle.just_analyzer.specs.Parameters.{duplicate, is_named, place_of, repeat
 at_end : (t : Text) (i : ℕ) (ps : List Parameter) (p : Parameter)
     → position_from (is_named t) i (ps ++ p ∷ []) ≡ option_or (position_from (is_named t) i ps) (cond (is_named t p) (Some (i + length ps)) None)
 at_end t i [] p = ap (λ k. cond (is_named t p) (Some k) None) (sym (add-zero i))
-at_end t i (q ∷ ps) p = by (is_named t q) (at_end t (i + 1) ps p ∙ ap (λ k. option_or (position_from (is_named t) (i + 1) ps) (cond (is_named t p) (Some k) None)) next)
+at_end t i (q ∷ ps) p = by (is_named t q)
+    (at_end t (i + 1) ps p ∙ ap (λ k. option_or (position_from (is_named t) (i + 1) ps) (cond (is_named t p) (Some k) None)) next)
   where
     next : (i + 1) + length ps ≡ i + length (q ∷ ps)
     next = omega arith

@@ -1,4 +1,5 @@
-// What becomes of parts. The functions are generic or of small values, so that a failure needs no code that drops a part.
+// What becomes of parts. The functions are generic or of small values, so that a failure needs no code that drops a
+// part.
 
 ghost use Rattle.std.specs.Prelude.{Err, IfErr, IfOk, IsOk, OnOk, ◌≡◌};
 

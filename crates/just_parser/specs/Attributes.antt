@@ -5,8 +5,8 @@ use Rattle.std.specs.Option.{option_to_list}
 use Rattle.just_syntax.specs.Plain.{Attribute, Env, Expr, Literal, Other, Text, Token}
 use Rattle.just_lexer.specs.declared.kind.TokenKind.TheVariants as kinds
 use Rattle.just_expression_parser.specs.Tokens.{Tokens, is_at}
-use Rattle.just_parser.specs.Phrase.{Phrase, Read, ◌>>=◌, ◌>>◌, after, comma_unless, expected, expression, give, line_end}
-use Rattle.just_parser.specs.Phrase.{many, one, value, value_as}
+use Rattle.just_parser.specs.Phrase.{Phrase, Read, ◌>>=◌, ◌>>◌, after, comma_unless, expected, expression, give}
+use Rattle.just_parser.specs.Phrase.{line_end, many, one, value, value_as}
 use Rattle.just_parser.specs.Plain.{ArgAttribute, ArgOption, Flag, Multiple, Value, WrittenAttribute}
 use Rattle.just_parser.specs.Settings.{literal_of}
 

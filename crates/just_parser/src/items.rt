@@ -104,7 +104,8 @@ impl<'src> Parser<'_, 'src> {
     ) -> Result<Item<'src>, ParseError<'src>>
         ensures ok { IfOk result (λ i. item_after (map written_view attributes.old.items) (left self.old)
             ≡ Read (item_view i) (left self.new)) }
-        ensures refused { IfErr result (IsRefused (item_after (map written_view attributes.old.items) (left self.old))) }
+        ensures refused { IfErr result
+            (IsRefused (item_after (map written_view attributes.old.items) (left self.old))) }
     {
         let start = start_of_item(&self.cursor);
         if !attributes.is_empty() && !start.takes_attributes() {
@@ -171,7 +172,8 @@ impl<'src> Parser<'_, 'src> {
         eager: bool,
         export: bool,
     ) -> Result<Item<'src>, ParseError<'src>>
-        ensures ok { IfOk result (λ i. assigns private eager export (left self.old) ≡ Read (item_view i) (left self.new)) }
+        ensures ok { IfOk result
+            (λ i. assigns private eager export (left self.old) ≡ Read (item_view i) (left self.new)) }
         ensures refused { IfErr result (IsRefused (assigns private eager export (left self.old))) }
     {
         match self.assignment(private, eager, export) {

@@ -23,6 +23,7 @@ pub use Rattle.just_value.specs.Said.{error_token}
 pub use Rattle.just_value.specs.Shown.{IsPlain, escaped, quoted, quoted_after, shown}
 pub use Rattle.just_value.specs.Value.{EmptyTextIsTruthy, JoinsNoneAndOne, SameExactlyIfEqual, from_condition}
 pub use Rattle.just_value.specs.Value.{is_truthy, joined}
-pub use Rattle.just_value.specs.View.{ShowsFrame, bindings_left, bound_view, compile_refusal, compile_token, conjunction_of}
+pub use Rattle.just_value.specs.View.{ShowsFrame, bindings_left, bound_view}
+pub use Rattle.just_value.specs.View.{compile_refusal, compile_token, conjunction_of}
 pub use Rattle.just_value.specs.View.{const_eval_refusal, const_refusal, constant_view, enclosing_view, ended}
 pub use Rattle.just_value.specs.View.{frame_view, frames_left, frames_view, items_of, positional_view, refusal}

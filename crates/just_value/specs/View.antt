@@ -56,7 +56,8 @@ frame_view f = map (λ b. (b.number, bound_view b)) f
 
 -- bindings and places show a frame: at the places, in this order, are its bindings
 abbrev pub ShowsFrame : plain.Frame → List Binding → List (ℕ × ℕ) → Type 0
-ShowsFrame frame bindings places = ArePlaced bindings places × (frame_view (elements bindings (values_of places)) ≡ frame)
+ShowsFrame frame bindings places =
+    ArePlaced bindings places × (frame_view (elements bindings (values_of places)) ≡ frame)
 
 -- the bindings that are still to come
 abbrev pub bindings_left : Bindings → List Binding

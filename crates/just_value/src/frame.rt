@@ -190,8 +190,8 @@ fn bind_by_place<'src>(
     Ok(())
 }
 
-// Binds the first number by its place, among bindings in ascending order. If memory runs out, the bindings are unchanged,
-// and there are no places, or those of all.
+// Binds the first number by its place, among bindings in ascending order. If memory runs out, the bindings are
+// unchanged, and there are no places, or those of all.
 #[inline(never)]
 fn bind_first_by_place<'src>(
     bindings: &mut Vec<Binding<'src>>,

@@ -23,8 +23,9 @@ returns-in_err-ignored_element-clause-refused c =
 
 pub loop-preserved : goal.loop-preserved
 loop-preserved c =
-    turned (length c.rest-end.result.now) c.loop.counter (is_at 0 kinds.ParenR) ignored_element [] [] (left c.loop.self) (left c.ignored_element.new.self) c.loop-test.true
-    (sym c.is_at.ensures ∙ c.if-is_at.false) (prepended_none (ignored_element (left c.loop.self)) ∙ c.in_ok-ignored_element.ensures.ok) ∙ c.loop.invariant
+    turned (length c.rest-end.result.now) c.loop.counter (is_at 0 kinds.ParenR) ignored_element [] [] (left c.loop.self)
+    (left c.ignored_element.new.self) c.loop-test.true (sym c.is_at.ensures ∙ c.if-is_at.false)
+    (prepended_none (ignored_element (left c.loop.self)) ∙ c.in_ok-ignored_element.ensures.ok) ∙ c.loop.invariant
 
 pub returns-clause-ok : goal.returns-clause-ok
 returns-clause-ok c =

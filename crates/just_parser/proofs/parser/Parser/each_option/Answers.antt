@@ -10,16 +10,15 @@ use Rattle.just_parser.proofs.parser.Parser.each_option.Goals as goal
 
 pub returns-then-is_at-clause-ok : goal.returns-then-is_at-clause-ok
 returns-then-is_at-clause-ok c =
-    turns_end (is_at 0 kinds.ParenR) arg_option (map arg_option_view c.loop.into.items) (map arg_option_view c.args.into.now.items) _ (left c.loop.self) (left c.args.self.now)
-    (sym c.is_at.ensures ∙ c.if-is_at.true) c.loop.invariant
+    turns_end (is_at 0 kinds.ParenR) arg_option (map arg_option_view c.loop.into.items) (map arg_option_view c.args.into.now.items) _
+    (left c.loop.self) (left c.args.self.now) (sym c.is_at.ensures ∙ c.if-is_at.true) c.loop.invariant
 
 pub returns-in_err-arg_option-clause-refused : goal.returns-in_err-arg_option-clause-refused
 returns-in_err-arg_option-clause-refused c =
     let refused : IsRefused (many (is_at 0 kinds.ParenR) arg_option (left c.args.self.now)) c.in_err-arg_option.field-0.0 =
-    turn_refused (length c.rest-end.result.now) c.loop.counter (is_at 0 kinds.ParenR) arg_option (map arg_option_view c.loop.into.items) (map arg_option_view c.args.into.now.items)
-    (left c.loop.self) (many (is_at 0 kinds.ParenR) arg_option (left c.args.self.now)) c.in_err-arg_option.field-0.0 c.loop-test.true (sym
-    c.is_at.ensures ∙ c.if-is_at.false)
-    c.in_err-arg_option.ensures.refused c.loop.invariant in
+    turn_refused (length c.rest-end.result.now) c.loop.counter (is_at 0 kinds.ParenR) arg_option (map arg_option_view c.loop.into.items)
+    (map arg_option_view c.args.into.now.items) (left c.loop.self) (many (is_at 0 kinds.ParenR) arg_option (left c.args.self.now))
+    c.in_err-arg_option.field-0.0 c.loop-test.true (sym c.is_at.ensures ∙ c.if-is_at.false) c.in_err-arg_option.ensures.refused c.loop.invariant in
     search rules
 
 pub loop-preserved : goal.loop-preserved

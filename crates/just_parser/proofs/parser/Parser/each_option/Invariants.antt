@@ -10,4 +10,5 @@ use Rattle.just_parser.proofs.parser.Parser.each_option.Given as goal
 -- what is left gives the rest
 abbrev pub invariant-loop : goal.invariant-loop
 invariant-loop l =
-    Turns (is_at 0 kinds.ParenR) arg_option (map arg_option_view l.into.items) (map arg_option_view l.fn.into.items) (l.end - l.counter) (left l.self) (left l.fn.self)
+    Turns (is_at 0 kinds.ParenR) arg_option (map arg_option_view l.into.items) (map arg_option_view l.fn.into.items) (l.end - l.counter)
+    (left l.self) (left l.fn.self)
