@@ -4,7 +4,7 @@ use crate::answers::Answers;
 use crate::given::Given;
 use crate::output::Output;
 use just_host::recorder::Recorder;
-use just_report::report::report;
+use just_report::report::report_in_line;
 use just_syntax::out_of_memory::OutOfMemory;
 use just_syntax::token::Token;
 use std::alloc::Global;
@@ -18,6 +18,8 @@ pub(crate) struct Session {
     output: Output,
     // The text of the justfile, which reports quote.
     source: String,
+    // Where its lines begin, in bytes from its start. It is empty before the first report.
+    starts: Vec<usize>,
 }
 
 impl Session {
@@ -29,6 +31,7 @@ impl Session {
             host: Recorder::new(alloc, Answers::new(alloc, given)?),
             output: Output::new(alloc),
             source,
+            starts: Vec::new(alloc),
         })
     }
 
@@ -82,7 +85,11 @@ impl Session {
         error: &E,
         token: &Token,
     ) -> Result<(), OutOfMemory> {
-        let text = report(self.alloc, error, token, &self.source)?;
+        if self.starts.is_empty() {
+            self.starts = line_starts(self.alloc, &self.source)?;
+        }
+        let line = line_at(&self.source, &self.starts, token.line);
+        let text = report_in_line(self.alloc, error, token, line)?;
         self.output.status = 1;
         Ok(self.output.err.push_str(&text)?)
     }
@@ -101,5 +108,28 @@ impl Session {
             writeln!(self.output.out, "  asks {question}")?;
         }
         Ok(())
+    }
+}
+
+// Where the lines of a text begin, in bytes from its start.
+fn line_starts(alloc: Global, source: &str) -> Result<Vec<usize>, OutOfMemory> {
+    let mut starts = Vec::new(alloc);
+    starts.push(0)?;
+    for (place, byte) in source.bytes().enumerate() {
+        if byte == b'\n' {
+            starts.push(place.saturating_add(1))?;
+        }
+    }
+    Ok(starts)
+}
+
+// A line of a text by its number, counted from 0; no text after the last line.
+fn line_at<'a>(source: &'a str, starts: &[usize], number: usize) -> &'a str {
+    let Some(start) = starts.get(number) else {
+        return "";
+    };
+    match source.get(*start..) {
+        Some(rest) => rest.lines().next().unwrap_or(""),
+        None => "",
     }
 }

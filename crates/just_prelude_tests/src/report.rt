@@ -1,6 +1,6 @@
 // Reports on tokens of several sources.
 
-use just_report::report::report;
+use just_report::report::{report, report_in_line};
 use just_syntax::out_of_memory::OutOfMemory;
 use just_syntax::token::Token;
 use std::alloc::Global;
@@ -105,5 +105,8 @@ fn is_reported(rt: &impl Abort, alloc: Global, (line, column, lexeme, source, wa
     };
     let wanted = format!(in alloc; "error: no such variable\n{wanted}").expect(rt, "no memory");
     let reported = report(alloc, &"no such variable", &token, source).expect(rt, "no memory");
+    assert_eq!(rt; reported, wanted);
+    let line = source.lines().nth(line).unwrap_or("");
+    let reported = report_in_line(alloc, &"no such variable", &token, line).expect(rt, "no memory");
     assert_eq!(rt; reported, wanted);
 }

@@ -69,9 +69,12 @@ source_lines number line = padding number ++ (bar ++ (10 ∷ numbered number lin
 abbrev pub mark_line : Text → Token → Text → Text
 mark_line number t line = padding number ++ (bar ++ (32 ∷ marks t line ++ 10 ∷ []))
 
--- the message, the place, and the line of the source there with marks under the token
-abbrev pub report : Text → Token → Text → Text
-report message t source =
+-- the message, the place, and the line there with marks under the token
+abbrev pub report_in_line : Text → Token → Text → Text
+report_in_line message t line =
     let number = decimal (ordinal t.line) in
-    let line = line_at t.line source in
     codes "error: " ++ (message ++ (10 ∷ place_line number t ++ (source_lines number line ++ mark_line number t line)))
+
+-- the same, from a source that has the line
+abbrev pub report : Text → Token → Text → Text
+report message t source = report_in_line message t (line_at t.line source)

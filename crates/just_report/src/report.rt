@@ -2,7 +2,7 @@
 
 ghost use Rattle.std.specs.Prelude.{IfOk, IfSome, OnOk, string_bytes, ◌++◌, ◌≡◌};
 ghost use Rattle.just_report.specs.Report.{line_at, mark_line, marks, numbered, place_line, report};
-ghost use Rattle.just_report.specs.Report.{source_lines};
+ghost use Rattle.just_report.specs.Report.{report_in_line, source_lines};
 ghost use Rattle.just_syntax.specs.View.{token_view};
 
 use crate::columns::push_repeated;
@@ -29,6 +29,8 @@ use std::fmt;
 /// end of its line has one mark. A line past the end of the source is shown as an empty one. The report ends with a
 /// newline. The layout follows upstream's reports, without colours.
 ///
+/// It looks for the line from the start of the source. [`report_in_line`] is for a caller that has the line.
+///
 /// # Errors
 ///
 /// `OutOfMemory`, if an allocation fails: nothing is created.
@@ -41,9 +43,26 @@ pub fn report<E: fmt::Display>(
     ensures { IfOk result (λ text. IfSome (E.output error.now)
         (λ message. string_bytes text ≡ report message (token_view token.now) source.now)) }
 {
+    report_in_line(alloc, error, token, line_at(source, token.line))
+}
+
+/// The report of an error as [`report`] writes it, from the line of the source that has the token. It takes as long as
+/// the line is, so reports of many errors take linear time.
+///
+/// # Errors
+///
+/// `OutOfMemory`, if an allocation fails: nothing is created.
+pub fn report_in_line<E: fmt::Display>(
+    alloc: Global,
+    error: &E,
+    token: &Token,
+    line: &str,
+) -> Result<String, OutOfMemory>
+    ensures { IfOk result (λ text. IfSome (E.output error.now)
+        (λ message. string_bytes text ≡ report_in_line message (token_view token.now) line.now)) }
+{
     let row = token.line.saturating_add(1);
     let number = format!(in alloc; "{row}")?;
-    let line = line_at(source, token.line);
     let mut text = format!(in alloc; "error: {error}\n")?;
     push_place(&mut text, &number, token)?;
     push_source(&mut text, &number, line)?;

@@ -1,7 +1,7 @@
 use Rattle.std.proofs.Common.{◌∷◌, [], arith, codes, string_bytes}
 use Rattle.std.proofs.lemmas.Grind.{common_steps}
 use Rattle.just_report.proofs.Displayed.{displayed}
-use Rattle.just_report.proofs.report.report.Goals as goal
+use Rattle.just_report.proofs.report.report_in_line.Goals as goal
 
 pub returns : goal.returns
 returns g c =
