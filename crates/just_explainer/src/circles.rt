@@ -10,7 +10,7 @@ use std::alloc::Global;
 use std::collections::BTreeMap;
 
 // A recipe, and where its dependencies are in the list of all.
-#[derive(Clone, Copy, Debug)]
+#[derive(Clone, Copy)]
 struct Node<'src> {
     name: Name<'src>,
     state: State,
@@ -19,7 +19,7 @@ struct Node<'src> {
 }
 
 // Whether a recipe was entered, and whether it was left.
-#[derive(Clone, Copy, Debug, PartialEq, Eq)]
+#[derive(Clone, Copy, PartialEq, Eq)]
 enum State {
     New,
     Entered,
@@ -27,7 +27,7 @@ enum State {
 }
 
 // A recipe that was entered and not left, and its dependency that is looked at next.
-#[derive(Clone, Copy, Debug)]
+#[derive(Clone, Copy)]
 struct Step {
     node: usize,
     next: usize,
@@ -52,15 +52,7 @@ pub(crate) fn report_circles<'src>(
     recipes: &Table<RecipeDefinition<'src>>,
     session: &mut Session,
 ) -> Result<(), OutOfMemory> {
-    let mut search = Search {
-        nodes: Vec::new(alloc),
-        places: BTreeMap::new(alloc),
-        steps: Vec::new(alloc),
-        targets: Vec::new(alloc),
-    };
-    for definition in recipes {
-        search.add(definition)?;
-    }
+    let mut search = Search::of(alloc, recipes)?;
     for node in 0..search.nodes.len() {
         search.enter(node)?;
         search.follow(alloc, session)?;
@@ -68,7 +60,41 @@ pub(crate) fn report_circles<'src>(
     Ok(())
 }
 
+/// Reports those that a recipe leads to, itself among them.
+pub(crate) fn report_circles_of<'src>(
+    alloc: Global,
+    recipes: &Table<RecipeDefinition<'src>>,
+    name: &str,
+    session: &mut Session,
+) -> Result<(), OutOfMemory> {
+    let mut search = Search::of(alloc, recipes)?;
+    match search.places.get(name).copied() {
+        Some(node) => {
+            search.enter(node)?;
+            search.follow(alloc, session)
+        }
+        None => Ok(()),
+    }
+}
+
 impl<'src> Search<'src> {
+    // A search in which no recipe was entered.
+    fn of(
+        alloc: Global,
+        recipes: &Table<RecipeDefinition<'src>>,
+    ) -> Result<Search<'src>, OutOfMemory> {
+        let mut search = Search {
+            nodes: Vec::new(alloc),
+            places: BTreeMap::new(alloc),
+            steps: Vec::new(alloc),
+            targets: Vec::new(alloc),
+        };
+        for definition in recipes {
+            search.add(definition)?;
+        }
+        Ok(search)
+    }
+
     // Adds a recipe.
     fn add(&mut self, definition: &RecipeDefinition<'src>) -> Result<(), OutOfMemory> {
         let name = definition.recipe.name;

@@ -2,6 +2,7 @@
 
 ghost use Rattle.std.specs.Prelude.{◌<◌};
 
+use crate::circles::report_circles_of;
 use crate::evaluate::run_of;
 use crate::recipe_lines::print_call;
 use crate::recipe_reports::{report_alias, report_recipe};
@@ -57,7 +58,7 @@ fn explain_named<'src>(
     explained
 }
 
-// Groups the arguments, if each name in the recipe means something.
+// Groups the arguments, if each name in the recipe means something and its dependencies lead to no circle.
 fn explain_numbered<'src>(
     alloc: Global,
     analysis: &Analysis<'src>,
@@ -70,6 +71,12 @@ fn explain_numbered<'src>(
     requires may_call { 0 < run.now.recursion_limit }
 {
     report_recipe(alloc, analysis, recipe, session)?;
+    report_circles_of(
+        alloc,
+        &analysis.recipes,
+        recipe.recipe.name.lexeme(),
+        session,
+    )?;
     if session.has_refused() {
         return Ok(());
     }

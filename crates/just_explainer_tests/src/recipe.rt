@@ -50,6 +50,26 @@ build
         1,
     ),
     (
+        "recipe|a",
+        "a: b\nb: c\nc: b\nd: d\ne: && f\nf:\n",
+        "",
+        "\
+error: recipe `c` has circular dependency `b -> c -> b`
+ ——▶ justfile:3:4
+  │
+3 │ c: b
+  │    ^
+",
+        1,
+    ),
+    (
+        "recipe|e",
+        "a: b\nb: a\ne: && f\nf:\n",
+        "e\n  after: f\n",
+        "",
+        0,
+    ),
+    (
         "recipe|nope",
         BUILD,
         "",
