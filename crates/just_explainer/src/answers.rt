@@ -11,11 +11,12 @@ use just_syntax::out_of_memory::OutOfMemory;
 use just_value::error::CommandFault;
 use std::alloc::Global;
 
-/// Answers commands and environment variables from what is given. A variable that is not given is absent, no file
-/// exists, and each number is 1. Another question has no answer, and is refused.
+/// Answers commands, environment variables and other questions for a text from what is given. A variable that is not
+/// given is absent, no file exists, and each number is 1. A command or another text that is not given is refused.
 #[derive(Drop)]
 pub(crate) struct Answers {
     commands: Vec<String>,
+    texts: Vec<String>,
     others: MapHost,
 }
 
@@ -26,8 +27,22 @@ impl Answers {
         others.variables = given.variables.clone()?;
         Ok(Answers {
             commands: given.answers.clone()?,
+            texts: given.texts.clone()?,
             others,
         })
+    }
+
+    // The text that is given for a question as it is printed, or that none is.
+    fn given_text(&self, alloc: Global, question: &str) -> Result<TextAnswer, OutOfMemory> {
+        match output_of(&self.texts, question) {
+            Some(text) => Ok(TextAnswer::Text(String::from_str(alloc, text)?)),
+            None => {
+                let text = format!(in alloc;
+                    "no answer for {question}: give --text '{question}=TEXT'"
+                )?;
+                Ok(TextAnswer::Fault(text))
+            }
+        }
     }
 }
 
@@ -48,8 +63,8 @@ impl Host for Answers {
     fn text(&mut self, alloc: Global, question: TextQuestion) -> TextAnswer {
         match question {
             TextQuestion::Variable(_) => self.others.text(alloc, question),
-            _ => match format!(in alloc; "no answer for {question}") {
-                Ok(text) => TextAnswer::Fault(text),
+            _ => match format!(in alloc; "{question}") {
+                Ok(printed) => text_or_none(self.given_text(alloc, &printed)),
                 Err(_) => TextAnswer::OutOfMemory,
             },
         }
@@ -68,20 +83,28 @@ impl Host for Answers {
     }
 }
 
-// The output of a command: the rest of the last answer that begins with the command and `=`.
-fn output_of<'a>(answers: &'a [String], command: &str) -> Option<&'a str> {
+// An answer, or that there was no memory for it.
+fn text_or_none(answer: Result<TextAnswer, OutOfMemory>) -> TextAnswer {
+    match answer {
+        Ok(answer) => answer,
+        Err(OutOfMemory) => TextAnswer::OutOfMemory,
+    }
+}
+
+// The answer to a command or a question: the rest of the last answer that begins with it and `=`.
+fn output_of<'a>(answers: &'a [String], question: &str) -> Option<&'a str> {
     let mut output = None;
     for answer in answers {
-        if let Some(rest) = after(answer, command) {
+        if let Some(rest) = after(answer, question) {
             output = Some(rest);
         }
     }
     output
 }
 
-// The rest of an answer to a command, if it is one.
-fn after<'a>(answer: &'a str, command: &str) -> Option<&'a str> {
-    answer.strip_prefix(command)?.strip_prefix('=')
+// The rest of an answer to a command or a question, if it is one.
+fn after<'a>(answer: &'a str, question: &str) -> Option<&'a str> {
+    answer.strip_prefix(question)?.strip_prefix('=')
 }
 
 // That a command has no answer.

@@ -20,11 +20,15 @@ command that it begins with, so both may contain `=`. The last answer to a comma
 
 const ENV: &str = "An environment variable. One that is not given is absent";
 
+const TEXT: &str =
+    "What a question for another text gets, by the question as it is printed: `os=linux`, or \
+`read \"a.txt\"=b`";
+
 const WORDS: &str = "NAME=VALUE sets a variable, before any other word";
 
 const UNANSWERED: &str =
-    "A command without an answer is refused, and so is what asks for another text, as `arch()` does. \
-No file exists, and each number, as that of `num_cpus()`, is 1.";
+    "A command without an answer is refused, and so is what asks for another text, as `arch()` does, \
+without one. No file exists, and each number, as that of `num_cpus()`, is 1.";
 
 /// What a command line asks for. The first word is the name of the program.
 ///
@@ -125,6 +129,7 @@ fn with_given<'a>(alloc: Global, command: Command<'a>) -> Result<Command<'a>, Al
             "NAME=VALUE",
             "A variable of the dotenv files",
         ))?
+        .arg(repeated(alloc, "text", "QUESTION=TEXT", TEXT))?
         .arg(directory)?
         .arg(dry_run)?
         .arg(lists(alloc))
@@ -201,6 +206,9 @@ fn fill<'a>(
         return Ok(Some(word));
     }
     if let Some(word) = add_pairs(alloc, &mut given.dotenv, matches.get_strs("dotenv"))? {
+        return Ok(Some(word));
+    }
+    if let Some(word) = add_answers(alloc, &mut given.texts, matches.get_strs("text"))? {
         return Ok(Some(word));
     }
     add_answers(alloc, &mut given.answers, matches.get_strs("answer"))

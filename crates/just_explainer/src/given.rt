@@ -18,6 +18,8 @@ pub struct Given {
     pub dry_run: bool,
     /// Whether `lists` is set, whatever the justfile sets.
     pub lists: bool,
+    /// Each is another question for a text, as it is printed, `=` and the text, such as `os=linux`.
+    pub texts: Vec<String>,
     /// The environment variables.
     pub variables: BTreeMap<String, String>,
 }
@@ -30,6 +32,7 @@ impl Given {
         ensures dotenv { pairs_view result.dotenv ≡ [] }
         ensures dry_run { result.dry_run ≡ false }
         ensures lists { result.lists ≡ false }
+        ensures texts { result.texts.items ≡ [] }
         ensures variables { pairs_view result.variables ≡ [] }
     {
         Given {
@@ -38,6 +41,7 @@ impl Given {
             dotenv: BTreeMap::new(alloc),
             dry_run: false,
             lists: false,
+            texts: Vec::new(alloc),
             variables: BTreeMap::new(alloc),
         }
     }

@@ -57,6 +57,26 @@ error: backtick failed: no answer for command `git rev-parse HEAD`: give --answe
         0,
     ),
     (
+        "evaluate|--text|os=a|--text|arch=b|--text|os=c=d",
+        "x := os() + arch()\n",
+        "x = \"c=db\"\n  asks os\n  asks arch\n",
+        "",
+        0,
+    ),
+    (
+        "evaluate|--text|osx=a",
+        "x := os()\n",
+        "x is refused\n  asks os\n",
+        "\
+error: call to function `os` failed: `os` has no answer
+ ——▶ justfile:1:6
+  │
+1 │ x := os()
+  │      ^^
+",
+        1,
+    ),
+    (
         "evaluate|nope",
         BUILD,
         "",

@@ -23,6 +23,7 @@ For more information, try '--help'.\n",
     ("evaluate|--env|A", "", "", "error: `A` has no `=`\n", 2),
     ("evaluate|--dotenv|A", "", "", "error: `A` has no `=`\n", 2),
     ("evaluate|--answer|a", "", "", "error: `a` has no `=`\n", 2),
+    ("evaluate|--text|os", "", "", "error: `os` has no `=`\n", 2),
     (
         "evaluate|../a/b",
         "",
