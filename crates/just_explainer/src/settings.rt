@@ -21,7 +21,7 @@ pub(crate) fn sets_lists(sets: &Table<Set>) -> bool {
     }
 }
 
-/// Evaluates the settings, and reports each that is refused.
+/// Evaluates the settings, and reports each that is refused. It looks for no names, if nothing is set.
 pub(crate) fn evaluate_settings<'src>(
     alloc: Global,
     analysis: &mut Analysis<'src>,
@@ -29,6 +29,9 @@ pub(crate) fn evaluate_settings<'src>(
     stage: &Evaluator<'src, '_>,
     session: &mut Session,
 ) -> Result<(), OutOfMemory> {
+    if analysis.sets.is_empty() {
+        return Ok(());
+    }
     let lists = analysis.justfile.settings.lists;
     let names = Names::of(alloc, &analysis.justfile, outer)?;
     for set in &analysis.sets {

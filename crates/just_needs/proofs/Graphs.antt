@@ -1,15 +1,13 @@
 -- The nodes of a graph.
-use Rattle.std.proofs.Common.{◌≡◌, ◌⊎◌, inl, inr, ⊎_elim, ℕ, Bool, true, false, cond, is_some, List, [], ◌∷◌, ◌++◌, map, Option, Some, None, Vec, refl, ap, sym}
-use Rattle.std.specs.BTreeMap.{is_at}
+use Rattle.std.proofs.Common.{◌≡◌, ◌⊎◌, inl, inr, ⊎_elim, ℕ, Bool, true, false, cond, is_some, List, [], ◌∷◌, ◌++◌, map, Option, Some, None, Vec, refl, ap, sym, nat_eq}
 use Rattle.std.specs.HashMap.{HashMap}
 use Rattle.std.specs.List.{flat_map}
 use Rattle.std.specs.Map.{lookup}
-use Rattle.std.specs.Ordering.{nat_cmp}
 use Rattle.std.specs.Str.{bytes_eq}
 use Rattle.std.specs.declared.string.String.{String}
+use Rattle.std.proofs.lemmas.Bool.{eqb-true}
 use Rattle.std.proofs.lemmas.Slice.Eq.{bytes_eq-Decides}
 use Rattle.just_syntax.proofs.Lists.{in_first, in_second}
-use Rattle.just_syntax.proofs.Members.{number_decides}
 use Rattle.just_needs.specs.declared.numbered.Valued.{Valued}
 use Rattle.just_needs.specs.Prelude.{Function, IsIn, OfFunction, OfVariable, PlainNode, Text, function_at, function_view, graph_view, looked_up, nodes_in}
 use Rattle.just_needs.specs.Prelude.{read_by, read_by_body, read_in, text_numbered, unless_overridden, Expr}
@@ -28,15 +26,15 @@ all_nodes g = variables g ++ functions g
 
 -- a number that has no entry reads nothing
 variable_known : {A : Type 0} (is_followed : ℕ → Bool) (es : List (ℕ × Vec Valued A)) (n : ℕ)
-    → IsIn (map (λ e. OfVariable e.0) es) (OfVariable n) ⊎ (flat_map (nodes_in is_followed) (looked_up (lookup (is_at (nat_cmp n)) es)) ≡ [])
+    → IsIn (map (λ e. OfVariable e.0) es) (OfVariable n) ⊎ (flat_map (nodes_in is_followed) (looked_up (lookup (nat_eq n) es)) ≡ [])
 variable_known is_followed [] n = inr refl
-variable_known is_followed (e ∷ es) n = by (is_at (nat_cmp n) e.0) refl (variable_known is_followed es n)
+variable_known is_followed (e ∷ es) n = by (nat_eq n e.0) refl (variable_known is_followed es n)
   where
-    by : (b : Bool) → is_at (nat_cmp n) e.0 ≡ b
-        → IsIn (map (λ e. OfVariable e.0) es) (OfVariable n) ⊎ (flat_map (nodes_in is_followed) (looked_up (lookup (is_at (nat_cmp n)) es)) ≡ [])
+    by : (b : Bool) → nat_eq n e.0 ≡ b
+        → IsIn (map (λ e. OfVariable e.0) es) (OfVariable n) ⊎ (flat_map (nodes_in is_followed) (looked_up (lookup (nat_eq n) es)) ≡ [])
         → IsIn (map (λ e. OfVariable e.0) (e ∷ es)) (OfVariable n)
-        ⊎ (flat_map (nodes_in is_followed) (looked_up (cond b (Some e.1) (lookup (is_at (nat_cmp n)) es))) ≡ [])
-    by true is rest = inl (inl (ap OfVariable (sym ((number_decides n e.0).0 is))))
+        ⊎ (flat_map (nodes_in is_followed) (looked_up (cond b (Some e.1) (lookup (nat_eq n) es))) ≡ [])
+    by true is rest = inl (inl (ap OfVariable (sym (eqb-true n e.0 is))))
     by false is rest = ⊎_elim (λ h. inl (inr h)) (λ none. inr none) rest
 
 -- a name that no function has reads nothing

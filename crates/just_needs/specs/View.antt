@@ -1,11 +1,9 @@
 -- Nodes, graphs and sets as plain data.
 use Rattle.std.specs.Prelude.{Vec, ℕ, Bool, List, [], Option, Some, None, map, nat_eq}
-use Rattle.std.specs.BTreeMap.{BTreeMap, is_at}
 use Rattle.std.specs.HashMap.{HashMap}
 use Rattle.std.specs.HashSet.{HashSet}
 use Rattle.std.specs.List.{list_any}
 use Rattle.std.specs.Map.{lookup}
-use Rattle.std.specs.Ordering.{nat_cmp}
 use Rattle.std.specs.declared.string.String.{String}
 use Rattle.just_syntax.specs.NumberSet.{is_member}
 use Rattle.just_syntax.specs.Plain.{Expr}
@@ -39,8 +37,8 @@ looked_up None = []
 looked_up (Some assignments) = found_values assignments.items
 
 -- the values of the assignments with a number
-abbrev pub values_in : {A : Type 0} → BTreeMap ℕ (Vec Valued A) → ℕ → List Expr
-values_in all n = looked_up (lookup (is_at (nat_cmp n)) all.entries)
+abbrev pub values_in : {A S : Type 0} → HashMap ℕ (Vec Valued A) S → ℕ → List Expr
+values_in all n = looked_up (lookup (nat_eq n) all.entries)
 
 abbrev pub graph_view : Graph → PlainGraph
 graph_view g = record {

@@ -21,7 +21,7 @@ use just_syntax::out_of_memory::OutOfMemory;
 use just_syntax::table::Table;
 use just_value::scope::Scope;
 use std::alloc::Global;
-use std::collections::{BTreeMap, BTreeSet};
+use std::collections::{BTreeSet, HashMap};
 
 /// The functions of a module, its assignments by their numbers, and the numbers that are followed: those of assignments
 /// that are not bound outside.
@@ -29,7 +29,7 @@ use std::collections::{BTreeMap, BTreeSet};
 pub struct Graph<'src, 'a> {
     functions: &'a Table<FunctionDefinition<'src>>,
     followed: NumberSet,
-    numbered: BTreeMap<Number, Vec<Valued<'src, 'a>>>,
+    numbered: HashMap<Number, Vec<Valued<'src, 'a>>>,
 }
 
 impl<'a, 'src> Graph<'src, 'a> {

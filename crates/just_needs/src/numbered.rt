@@ -12,7 +12,7 @@ use just_syntax::out_of_memory::OutOfMemory;
 use just_syntax::table::Table;
 use just_value::scope::Scope;
 use std::alloc::Global;
-use std::collections::BTreeMap;
+use std::collections::HashMap;
 
 // The value of an assignment.
 #[derive(Clone, Copy)]
@@ -24,11 +24,11 @@ pub(crate) struct Valued<'src, 'a> {
 pub(crate) fn by_number<'a, 'src>(
     alloc: Global,
     assignments: &'a Table<Assignment<'src>>,
-) -> Result<BTreeMap<Number, Vec<Valued<'src, 'a>>>, OutOfMemory>
+) -> Result<HashMap<Number, Vec<Valued<'src, 'a>>>, OutOfMemory>
     ensures { IfOk result (λ all. (n : ℕ)
         → values_in all n ≡ values_numbered (map assignment_view assignments.entry.now) n) }
 {
-    let mut all = BTreeMap::new(alloc);
+    let mut all = HashMap::new(alloc);
     for assignment in assignments {
         add(alloc, &mut all, assignment)?;
     }
@@ -38,7 +38,7 @@ pub(crate) fn by_number<'a, 'src>(
 // Adds an assignment to those with its number.
 fn add<'a, 'src>(
     alloc: Global,
-    all: &mut BTreeMap<Number, Vec<Valued<'src, 'a>>>,
+    all: &mut HashMap<Number, Vec<Valued<'src, 'a>>>,
     assignment: &'a Assignment<'src>,
 ) -> Result<(), OutOfMemory>
     ensures { OnOk result ((n : ℕ) → values_in all.new n ≡ values_in all.old n

@@ -2,11 +2,10 @@
 use Rattle.std.proofs.Common.{◌≡◌, ◌↔◌, inl, inr, ⊎_elim, ◌+◌, ◌<◌, ℕ, Bool, true, false, cond, List, [], ◌∷◌, ◌++◌, map, drop, take, Some, None}
 use Rattle.std.proofs.Common.{IsSome, IfSome, nat_eq}
 use Rattle.std.proofs.Common.{get_or, length, refl, ap, sym, ◌∙◌, subst, option_map}
-use Rattle.std.specs.BTreeMap.{BTreeMap, is_at}
+use Rattle.std.specs.HashMap.{HashMap}
 use Rattle.std.specs.Map.{lookup}
 use Rattle.std.specs.List.{AllByRecursion}
 use Rattle.std.specs.List.Sorted.{IsPermutation}
-use Rattle.std.specs.Ordering.{nat_cmp}
 use Rattle.std.proofs.lemmas.Bool.{eq-eqb, eqb-true}
 use Rattle.std.specs.Str.{bytes_eq}
 use Rattle.std.proofs.lemmas.List.{append_assoc, append-nil, take-append-drop}
@@ -59,22 +58,22 @@ taken_plain {A = A} xs i x within is = sym (map_same (take (i + 1) xs)) ∙ take
 -- ---- names by numbers
 
 -- The names of the assignments so far, by their numbers.
-pub record IsIndexed (all rest : List Assignment) (names : BTreeMap ℕ Name) : Type 0 where
+pub record IsIndexed {S : Type 0} (all rest : List Assignment) (names : HashMap ℕ Name S) : Type 0 where
   pub done : List Assignment
   pub same : done ++ rest ≡ all
   pub known : AllByRecursion (λ (a : Assignment). IsSome (name_numbered names a.number)) done
   pub named : (n : ℕ) → IfSome (name_numbered names n) (IsNameOf all n)
 
-pub index_begins : (all : List Assignment) (names : BTreeMap ℕ Name) → names.entries ≡ [] → IsIndexed all all names
+pub index_begins : {S : Type 0} (all : List Assignment) (names : HashMap ℕ Name S) → names.entries ≡ [] → IsIndexed all all names
 index_begins all names empty = record {
   done = [];
   same = refl;
   known = tt;
-  named = λ n. let none : name_numbered names n ≡ None = ap (λ (es : List (ℕ × Name)). option_map name_view (lookup (is_at (nat_cmp n)) es)) empty in
+  named = λ n. let none : name_numbered names n ≡ None = ap (λ (es : List (ℕ × Name)). option_map name_view (lookup (nat_eq n) es)) empty in
       subst (λ o. IfSome o (IsNameOf all n)) (sym none) tt;
 }
 
-module _ (all rest start : List Assignment) (a : Assignment) (old new : BTreeMap ℕ Name) (w : IsIndexed all start old) (is : start ≡ a ∷ rest)
+module _ {S : Type 0} (all rest start : List Assignment) (a : Assignment) (old new : HashMap ℕ Name S) (w : IsIndexed all start old) (is : start ≡ a ∷ rest)
     (updates : (n : ℕ) → name_numbered new n ≡ cond (nat_eq a.number n) (Some a.name) (name_numbered old n)) where
   looked : (n : ℕ) (b : Bool) → nat_eq a.number n ≡ b → name_numbered new n ≡ cond b (Some a.name) (name_numbered old n)
   looked n b e = updates n ∙ ap (λ c. cond c (Some a.name) (name_numbered old n)) e
@@ -107,7 +106,7 @@ module _ (all rest start : List Assignment) (a : Assignment) (old new : BTreeMap
   }
 
 -- all assignments are indexed
-pub index_all : (all rest : List Assignment) (names : BTreeMap ℕ Name) → IsIndexed all rest names → rest ≡ []
+pub index_all : {S : Type 0} (all rest : List Assignment) (names : HashMap ℕ Name S) → IsIndexed all rest names → rest ≡ []
     → AllByRecursion (λ (a : Assignment). IsSome (name_numbered names a.number)) all
 index_all all rest names w none =
     subst (AllByRecursion (λ (a : Assignment). IsSome (name_numbered names a.number)))
@@ -134,7 +133,7 @@ names_more all ns names n name w is = record {
     last f (y ∷ ys) x = ap (λ zs. f y ∷ zs) (last f ys x)
 
 -- a number of an assignment has a name
-pub number_named_there : (all : List Assignment) (names : BTreeMap ℕ Name) (n : ℕ)
+pub number_named_there : {S : Type 0} (all : List Assignment) (names : HashMap ℕ Name S) (n : ℕ)
     → AllByRecursion (λ (a : Assignment). IsSome (name_numbered names a.number)) all → IsIn (map (λ (a : Assignment). a.number) all) n
     → IsSome (name_numbered names n)
 number_named_there all names n known h =

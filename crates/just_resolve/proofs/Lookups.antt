@@ -1,6 +1,5 @@
 -- Look-ups of names, one after another.
-use Rattle.std.proofs.Common.{◌≡◌, inl, inr, ℕ, Bool, true, false, cond, List, [], ◌∷◌, ◌++◌, Option, Some, None, Bor, is_some, map, refl, ap, sym, ◌∙◌, subst}
-use Rattle.std.specs.Bool.{Decides}
+use Rattle.std.proofs.Common.{◌≡◌, inl, inr, ℕ, Bool, true, false, cond, List, [], ◌∷◌, ◌++◌, Option, Some, None, Bor, map, refl, ap, sym, ◌∙◌, subst}
 use Rattle.std.specs.BTreeMap.{is_at}
 use Rattle.std.specs.Cmp.Lexicographic.{slice_cmp}
 use Rattle.std.specs.Map.{lookup, values_of}
@@ -78,22 +77,6 @@ pub looked_more : (old new : Option ℕ) (ps qs : List (Token × ℕ)) (t : Text
     → option_or new (first_named qs t) ≡ option_or old (first_named (ps ++ qs) t)
 looked_more old new ps qs t is =
     ap (λ o. option_or o (first_named qs t)) is ∙ or_assoc old (first_named ps t) (first_named qs t) ∙ ap (option_or old) (sym (first_named-append ps qs t))
-
--- a name that had no number has the one that was inserted
-pub added_name : (old new : Option ℕ) (n : ℕ) (name t : Text) → (name ≡ t → is_some old ≡ false) → new ≡ cond (bytes_eq name t) (Some n) old
-    → new ≡ option_or old (cond (bytes_eq t name) (Some n) None)
-added_name old new n name t none is = by (bytes_eq name t) (bytes_eq t name) refl refl (bytes_eq-Decides name t) (bytes_eq-Decides t name)
-  where
-    absent : (o : Option ℕ) → is_some o ≡ false → o ≡ None
-    absent None h = refl
-    absent (Some x) h = absurd (let bad : true ≡ false = h in cc)
-
-    by : (a b : Bool) → bytes_eq name t ≡ a → bytes_eq t name ≡ b → Decides (bytes_eq name t) (name ≡ t) → Decides (bytes_eq t name) (t ≡ name)
-        → new ≡ option_or old (cond b (Some n) None)
-    by true true e f d g = let gone = absent old (none (d.0 e)) in is ∙ ap (λ c. cond c (Some n) old) e ∙ ap (λ o. option_or o (Some n)) (sym gone)
-    by false false e f d g = is ∙ ap (λ c. cond c (Some n) old) e ∙ sym (or_none old)
-    by true false e f d g = absurd (let on : bytes_eq t name ≡ true = g.1 (sym (d.0 e)) in cc)
-    by false true e f d g = absurd (let on : bytes_eq name t ≡ true = d.1 (sym (g.0 f)) in cc)
 
 -- a frame's bindings, in order, are its names
 pub names_of_bindings : (frame : Frame) → map (λ (b : Bound). (b.name, b.number)) (values_of frame) ≡ frame_names frame

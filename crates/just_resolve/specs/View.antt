@@ -1,8 +1,10 @@
 -- Names, numbers and the steps of a walk as plain data.
-use Rattle.std.specs.Prelude.{ℕ, Bool, List, Option, map, if◌then◌else◌}
+use Rattle.std.specs.Prelude.{ℕ, Bool, List, Option, map, nat_eq, if◌then◌else◌}
 use Rattle.std.specs.Borrow.{Bor}
 use Rattle.std.specs.BTreeMap.{BTreeMap, get_by}
 use Rattle.std.specs.Cmp.Lexicographic.{slice_cmp}
+use Rattle.std.specs.HashMap.{HashMap}
+use Rattle.std.specs.Map.{lookup}
 use Rattle.std.specs.Option.{option_map, option_or}
 use Rattle.std.specs.Ordering.{nat_cmp}
 use Rattle.just_syntax.specs.Plain.{Assignment, Text, Token}
@@ -38,8 +40,8 @@ abbrev pub named : Names → Text → Option ℕ
 named names name = option_or (parameter_named names name) (variable_named names name)
 
 -- the name of a number
-abbrev pub name_numbered : BTreeMap ℕ Name → ℕ → Option Token
-name_numbered all n = option_map name_view (get_by (nat_cmp n) all)
+abbrev pub name_numbered : {S : Type 0} → HashMap ℕ Name S → ℕ → Option Token
+name_numbered all n = option_map name_view (lookup (nat_eq n) all.entries)
 
 -- whether a node was entered
 abbrev pub entered_in : declared_walk.Walk → PlainNode → Bool

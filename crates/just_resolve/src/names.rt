@@ -1,6 +1,7 @@
 // Numbers by their names.
 
-ghost use Rattle.std.specs.Prelude.{IfOk, OnOk, [], None, map, ℕ, List, ◌++◌, ◌∷◌, ◌≡◌};
+ghost use Rattle.std.specs.Prelude.{IfOk, OnOk, [], None, Some, bytes_eq, if◌then◌else◌, map, ℕ, List, ◌++◌, ◌∷◌};
+ghost use Rattle.std.specs.Prelude.{◌≡◌};
 ghost use Rattle.std.specs.Option.{option_or};
 ghost use Rattle.just_resolve.specs.Prelude.{assignment_view, bound_names, first_named, frame_names, frame_view};
 ghost use Rattle.just_resolve.specs.Prelude.{frames_view, named, name_view, number_in, parameter_named, parameter_view};
@@ -171,7 +172,7 @@ fn add_pairs<'src>(
     Ok(())
 }
 
-// Adds a name with its number, unless it has one.
+// Adds a name with its number, unless it has one. A name that has none is looked for once.
 fn add<'src>(
     all: &mut BTreeMap<&'src str, Number>,
     name: &Name<'src>,
@@ -180,11 +181,24 @@ fn add<'src>(
     ensures { OnOk result ((t : List ℕ) → number_in all.new t
         ≡ option_or (number_in all.old t) (first_named ((name_view name.now, number) ∷ []) t)) }
 {
-    if all.contains_key(name.lexeme()) {
-        return Ok(());
+    if let Some(first) = put(all, name, number)? {
+        put(all, name, first)?;
     }
+    Ok(())
+}
+
+// Gives a name a number, and returns the one that it had.
+fn put<'src>(
+    all: &mut BTreeMap<&'src str, Number>,
+    name: &Name<'src>,
+    number: Number,
+) -> Result<Option<Number>, OutOfMemory>
+    ensures old { IfOk result (λ old. old ≡ number_in all.old name.now.token.lexeme.now) }
+    ensures new { OnOk result ((t : List ℕ) → number_in all.new t
+        ≡ (if bytes_eq name.now.token.lexeme.now t then Some number else number_in all.old t)) }
+{
     match all.insert(name.lexeme(), number) {
-        Ok(_) => Ok(()),
+        Ok(old) => Ok(old),
         Err(_) => Err(OutOfMemory),
     }
 }

@@ -17,7 +17,7 @@ use just_syntax::out_of_memory::OutOfMemory;
 use just_syntax::table::Table;
 use just_value::scope::Scope;
 use std::alloc::Global;
-use std::collections::BTreeMap;
+use std::collections::HashMap;
 
 // The names of a module's assignments, each after those that it depends on, unless it depends on itself. Otherwise they
 // are in the order of the text.
@@ -138,13 +138,13 @@ fn add_name<'src>(names: &mut Vec<Name<'src>>, name: &Name<'src>) -> Result<(), 
 fn by_number<'src>(
     alloc: Global,
     assignments: &Table<Assignment<'src>>,
-) -> Result<BTreeMap<Number, Name<'src>>, OutOfMemory>
+) -> Result<HashMap<Number, Name<'src>>, OutOfMemory>
     ensures known { IfOk result (λ names. AllByRecursion (λ a. IsSome (name_numbered names a.number))
         (map assignment_view assignments.now)) }
     ensures named { IfOk result (λ names. (n : ℕ) → IfSome (name_numbered names n)
         (IsNameOf (map assignment_view assignments.now) n)) }
 {
-    let mut names = BTreeMap::new(alloc);
+    let mut names = HashMap::new(alloc);
     for assignment in assignments {
         add_named(&mut names, assignment)?;
     }
@@ -153,7 +153,7 @@ fn by_number<'src>(
 
 // Adds the name of an assignment under its number.
 fn add_named<'src>(
-    names: &mut BTreeMap<Number, Name<'src>>,
+    names: &mut HashMap<Number, Name<'src>>,
     assignment: &Assignment<'src>,
 ) -> Result<(), OutOfMemory>
     ensures { OnOk result ((n : ℕ) → name_numbered names.new n ≡ (if nat_eq assignment.now.number n
