@@ -28,7 +28,7 @@ use just_syntax::table::Table;
 use std::alloc::Global;
 
 /// Whether recipes, and whether variables, may have one name.
-#[derive(Clone, Copy, Debug)]
+#[derive(Clone, Copy)]
 pub(crate) struct Allowed {
     pub recipes: bool,
     pub variables: bool,

@@ -18,7 +18,7 @@ use just_value::value::Value;
 use std::alloc::Global;
 
 /// What a call reaches.
-#[derive(Clone, Copy, Debug)]
+#[derive(Clone, Copy)]
 pub(crate) enum Callee<'src, 'run> {
     /// A built-in function.
     BuiltIn(Function),

@@ -5,7 +5,7 @@ use just_host::number_question::NumberQuestion;
 use just_host::recorded::{Recorded, TextKind};
 
 /// A kind of question.
-#[derive(Clone, Copy, Debug, PartialEq, Eq)]
+#[derive(Clone, Copy, PartialEq, Eq)]
 pub(crate) enum Kind {
     /// A command without arguments, as one in backticks asks it.
     Command,

@@ -17,7 +17,7 @@ use std::collections::{HashMap, HashSet};
 use std::mem;
 
 /// A case with the numbers and the order that `resolve` gives its module.
-#[derive(Debug, Drop)]
+#[derive(Drop)]
 pub(crate) struct ByNames<'src> {
     pub(crate) case: Case<'src>,
     /// Whether the case itself evaluates the same variables in another order.

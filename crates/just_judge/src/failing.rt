@@ -87,7 +87,7 @@ fn check_failing_from(
 }
 
 // A question that fails: the text printed up to and including its line, and the line without its mark.
-#[derive(Debug, Drop)]
+#[derive(Drop)]
 struct FailedQuestion<'answer> {
     printed: String,
     question: &'answer str,

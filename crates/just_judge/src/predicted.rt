@@ -6,7 +6,7 @@ use just_syntax::out_of_memory::OutOfMemory;
 use std::alloc::Global;
 
 /// The constants of a case, as its runs show them.
-#[derive(Debug, Drop)]
+#[derive(Drop)]
 pub(crate) struct Predicted<'text> {
     /// The variables that the case's run evaluates, in order.
     pub(crate) taken: Vec<&'text str>,
@@ -95,7 +95,7 @@ fn settled_then(
 
 // The place at which a watched run first asks a question or is refused: the variable, the line of the question or
 // refusal, and whether the run reached something that the const rules refuse.
-#[derive(Debug, Drop)]
+#[derive(Drop)]
 struct End<'text> {
     variable: &'text str,
     line: String,

@@ -7,7 +7,7 @@ ghost use Rattle.just_parser.specs.Settings.{form_of};
 use just_syntax::setting::Setting;
 
 /// The form of value that a setting takes.
-#[derive(Clone, Copy, Debug)]
+#[derive(Clone, Copy)]
 pub(crate) enum SettingForm {
     /// An expression.
     Expression,

@@ -9,7 +9,7 @@ use just_expression_parser::cursor::Cursor;
 use just_lexer::kind::TokenKind;
 
 /// How an item begins.
-#[derive(Clone, Copy, Debug)]
+#[derive(Clone, Copy)]
 pub(crate) enum Start {
     /// `alias`
     Alias,

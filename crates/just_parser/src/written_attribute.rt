@@ -5,7 +5,7 @@ use just_syntax::attribute::Attribute;
 use just_syntax::name::Name;
 
 /// An attribute as it is written before an item.
-#[derive(Debug, Drop)]
+#[derive(Drop)]
 pub(crate) struct WrittenAttribute<'src> {
     /// What it says of a parameter.
     pub arg: Option<ArgAttribute<'src>>,
