@@ -4,9 +4,10 @@ use Rattle.std.proofs.lemmas.List.Elements.{All-head, All-nil}
 use Rattle.std.proofs.lemmas.Map.Views.{All-values-insert_entry}
 use Rattle.std.specs.Map.{values_of}
 use Rattle.std.specs.Ordering.{nat_cmp}
-use Rattle.just_bench.specs.Prelude.{Binds, Block, Bound, Closing, Frames, Gave, Halts, Module, Outcome, Refused, Stopped, Token, bound_in, bound_innermost}
+use Rattle.just_bench.specs.Prelude.{Bound, Closing, Frames, Gave, Module, Outcome, Ran, Refused, Step, Stopped, Token, bound_in, bound_innermost}
 use Rattle.just_bench.specs.Prelude.{first_bound, own_frame, without_attributes}
-use Rattle.just_meaning.specs.Module.{Run, Finished, Stops, Unknown, Passes, Skips, Breaks}
+use Rattle.just_meaning.specs.Blocks.{Block}
+use Rattle.just_soundness.proofs.Running.{Running, Finished, Stops, Unknown, Passes, Skips, Binds, Breaks, Halts, by_rules}
 
 abbrev HasNone : Bound → Type 0
 HasNone b = b.attributes ≡ []
@@ -24,7 +25,7 @@ one_more [] b e h = h
 one_more (frame ∷ outer) b e h = All-values-insert_entry nat_cmp b.number b HasNone frame h e
 
 given_none : {closing : Closing} {m : Module} {frames : Frames} {left : List Token} {bs : List Block} {o : Outcome Frames} → HaveNone frames
-    → Run closing m frames left bs o → GivenNone o
+    → Running closing m frames left bs o → GivenNone o
 given_none h Finished = h
 given_none h Stops = tt
 given_none h (Unknown f) = tt
@@ -39,7 +40,8 @@ first_none [] h = refl
 first_none (b ∷ bs) h = ap (λ attributes. Some (record b { attributes = attributes })) (sym (All-head HasNone b bs h))
 
 -- removing the attributes from the first binding of a run in an empty scope does not change it
-pub first_given : {closing : Closing} {m : Module} (outer : Frames) {left : List Token} {bs : List Block} (given : Frames)
-    → Run closing m ([] ∷ outer) left bs (Gave given) → option_map without_attributes (first_bound (values_of (own_frame given)))
+pub first_given : {closing : Closing} {S : Type 0} {step : Step S} {old new : S} {m : Module} (outer : Frames) {left : List Token} (given : Frames)
+    → Ran step old closing m ([] ∷ outer) left (Gave given) new → option_map without_attributes (first_bound (values_of (own_frame given)))
     ≡ first_bound (values_of (own_frame given))
-first_given outer given r = first_none (values_of (own_frame given)) (given_none (All-nil HasNone) r)
+first_given {closing = closing} {m = m} outer {left = left} given r =
+    first_none (values_of (own_frame given)) (given_none (All-nil HasNone) (by_rules closing m ([] ∷ outer) left r.runs.path).rules)

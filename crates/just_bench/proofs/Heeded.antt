@@ -1,15 +1,15 @@
 -- A question answered by `NoMemory` stops the one who asked it.
 use Rattle.std.proofs.Common.{◌≡◌, ◌≢◌, ◌-◌, ℕ, zero, suc, Bool, true, false, List, [], ◌∷◌, ◌++◌, Option, Some, None, Result, Ok, Err, if◌then◌else◌, map}
 use Rattle.std.proofs.Common.{length, nat_eq, slice_get, refl, ap, subst, ◌∙◌}
-use Rattle.just_bench.specs.Prelude.{Answer, Assignment, Binds, Blind, Block, Event, Frames, Gave, Halts, Module, NoMemory, Outcome, Refused, Stopped, Text}
-use Rattle.just_bench.specs.Prelude.{Token, Value, dynamically, events_of}
+use Rattle.just_bench.specs.Prelude.{Answer, Assignment, Blind, Event, Frames, Gave, Module, NoMemory, Outcome, Refused, Stopped, Text, Token, Value}
+use Rattle.just_bench.specs.Prelude.{dynamically}
 use Rattle.just_syntax.specs.Plain.{Expr, Function, count}
 use Rattle.just_text.specs.Case.{capitalize, lowercase, uppercase}
 use Rattle.just_text.specs.Path as path
 use Rattle.just_value.specs.Refusal.{Code, Message}
 use Rattle.just_host.specs.Function.{Context}
 use Rattle.just_host.specs.Interaction as interaction
-use Rattle.just_host.specs.Interaction.{Tree, Verdict, done, ask, note, check, bind, Path, Ends, Asks, Notes, Checks, Shuts, freely}
+use Rattle.just_host.specs.Interaction.{Tree, Verdict, done, ask, note, check, bind, gives, Path, Ends, Asks, Notes, Checks, Shuts, freely}
 use Rattle.just_host.specs.Question.{Failed, Absent, Found, Numbered, Executable}
 use Rattle.just_host.specs.declared.number_question.NumberQuestion.TheVariants.{Cpus}
 use Rattle.just_builtins.specs.Argument.{argument_at, text_at, first}
@@ -27,7 +27,8 @@ use Rattle.just_meaning.specs.Closings.{dynamic, inside}
 use Rattle.just_meaning.specs.Meaning as reads
 use Rattle.just_meaning.specs.Meaning.{Program, Situation, Deeper, AtLimit, WithinLimit, Row, answered, argument, as_it_is, built_in_call, built_in_context}
 use Rattle.just_meaning.specs.Meaning.{called, eval, eval_row, returned, texts_of}
-use Rattle.just_meaning.specs.Module.{Run, Finished, Stops as StopsRun, Unknown as UnknownName, Passes, Skips, Breaks, assigned, or_override, situation_at}
+use Rattle.just_meaning.specs.Assignments.{assignment_at}
+use Rattle.just_meaning.specs.Module.{assigned, evaluated, is_taken, or_override, run, situation_at, turn, turn_of}
 use Rattle.just_soundness.proofs.Forms.{holds_eval}
 
 -- no question was answered by `NoMemory`
@@ -248,21 +249,21 @@ assigned_heeds m frames a = by (m.overrides a.number)
     by (Some text) = tt
     by None = eval_heeds m.program (dynamically m frames) (dynamic_heeds m.program (m.limit - 1)) (situation_at m.program.fixed.settings.lists frames) a.value
 
-append_answered : (es fs : List Event) → AllAnswered es → AllAnswered fs → AllAnswered (es ++ fs)
-append_answered [] fs h k = k
-append_answered (interaction.Asked q a ∷ es) fs (h, on) k = (h, append_answered es fs on k)
-append_answered (interaction.Noted x ∷ es) fs h k = append_answered es fs h k
-append_answered (interaction.Checked p v a ∷ es) fs h k = append_answered es fs h k
+choice_heeds : (m : Module) (frames : Frames) (a : Assignment) (b : Bool)
+    → Heeds Frames (if b then evaluated dynamically m frames a else gives frames)
+choice_heeds m frames a true = heeds_bind Value Frames (assigned dynamically m frames a) _ (assigned_heeds m frames a) (λ v. tt)
+choice_heeds m frames a false = tt
+
+turn_heeds : (m : Module) (frames : Frames) (t : Token) (x : Option Assignment) → Heeds Frames (turn_of dynamically m frames t x)
+turn_heeds m frames t None = tt
+turn_heeds m frames t (Some a) = choice_heeds m frames a (is_taken m frames a)
+
+run_heeds : (m : Module) (frames : Frames) (names : List Token) → Heeds Frames (run dynamically m frames names)
+run_heeds m frames [] = tt
+run_heeds m frames (t ∷ left) =
+    heeds_bind Frames Frames (turn dynamically m frames t) _ (turn_heeds m frames t (assignment_at m.assignments t.lexeme)) (λ next. run_heeds m next left)
 
 -- in a run that is not stopped, no answer is `NoMemory`
-pub run_answered : {m : Module} {frames : Frames} {names : List Token} {bs : List Block} {o : Outcome Frames} → Run dynamically m frames names bs o
-    → o ≢ Stopped → AllAnswered (events_of bs)
-run_answered Finished some = tt
-run_answered StopsRun some = tt
-run_answered (UnknownName none) some = tt
-run_answered (Passes a f e r) some = run_answered r some
-run_answered (Skips a b f e g r) some = run_answered r some
-run_answered {m = m} {frames = frames} (Binds a es v k p r) some =
-    append_answered es _ (all_answered p (assigned_heeds m frames a) (λ e. absurd (cc))) (run_answered r some)
-run_answered {m = m} {frames = frames} (Breaks a es r k p) some = append_answered es [] (all_answered p (assigned_heeds m frames a) (λ e. absurd (cc))) tt
-run_answered (Halts a es k p) some = absurd (some refl)
+pub run_answered : (m : Module) (frames : Frames) (names : List Token) {es : List Event} {o : Outcome Frames}
+    → Path freely (run dynamically m frames names) es o → o ≢ Stopped → AllAnswered es
+run_answered m frames names path some = all_answered path (run_heeds m frames names) some

@@ -2,7 +2,7 @@
 use Rattle.std.proofs.Common.{◌≡◌, ◌≢◌, ◌↔◌, ℕ, Bool, true, false, IsTrue, List, [], ◌∷◌, ◌++◌, None, map, refl, sym, ap, subst, ◌∙◌, append_assoc}
 use Rattle.just_bench.specs.Prelude.{AnswersLines, BadLine, Blocks, BlocksPrints, Case, CaseRuns, ConstPrints, Described, Describes, Evaluated, Evaluation}
 use Rattle.just_bench.specs.Prelude.{Frames, Gave, HadMemory, Module, OneAnswer, Outcome, Refused, RunPrints, Script, Stopped, Text, Token, by_script}
-use Rattle.just_bench.specs.Prelude.{case_constants, case_module, dynamically, events_of, in_order, outcome_lines, question_lines, refusal_line, stage_lines}
+use Rattle.just_bench.specs.Prelude.{case_constants, case_module, dynamically, in_order, outcome_lines, question_lines, refusal_line, stage_lines}
 use Rattle.just_bench.specs.Prelude.{unresolved_line}
 use Rattle.just_value.specs.Outcome.{UnlessStopped}
 use Rattle.just_case_reader.specs.Case.{Run, Const}
@@ -42,13 +42,14 @@ unstopped_is Stopped w is on = absurd (on refl)
 runs_one : (s u : Script) (m : Module) (outer : Frames) (p q : Text) (i j : ℕ) (from : s ≡ u) → RunPrints by_script s m outer p i
     → RunPrints by_script u m outer q j → HadMemory p → HadMemory q → (p ≡ q) × (i ≡ j)
 runs_one s u m outer p q i j from one other had also =
-    let x = one.dynamic in
-    let y = other.dynamic in
+    let x = one.dynamic.runs in
+    let y = other.dynamic.runs in
     let here = run_whole p one had in
     let there = run_whole q other also in
-    let (same, ends) = chains_one (one.outcome ≡ other.outcome) (s, []) (u, []) (events_of x.blocks) (events_of y.blocks) (one.new, one.kept)
-    (other.new, other.kept) (ap (λ h. (h, [])) from) (run_answered x.run here) (run_answered y.run there) x.chain y.chain
-    (answers_decide.runs dynamically m ([] ∷ outer) m.assignments.order x.blocks y.blocks one.outcome other.outcome x.run y.run here there) in
+    let (same, ends) = chains_one (one.outcome ≡ other.outcome) (s, []) (u, []) x.events y.events (one.new, one.kept)
+    (other.new, other.kept) (ap (λ h. (h, [])) from) (run_answered m ([] ∷ outer) m.assignments.order x.path here)
+    (run_answered m ([] ∷ outer) m.assignments.order y.path there) x.chain y.chain
+    (answers_decide.runs dynamically m ([] ∷ outer) m.assignments.order x.events y.events one.outcome other.outcome x.path y.path here there) in
     let resolved = flags_one _ one.resolved other.resolved one.test other.test in
     let kept = ap (λ h. h.1) ends in
     (one.text ∙ rw (resolved, kept, same) (sym other.text), one.ends ∙ rw same (sym other.ends))

@@ -1,9 +1,10 @@
 -- A run of one name in an empty scope binds nothing, or one number.
 use Rattle.std.proofs.Common.{◌≡◌, ◌⊎◌, inl, inr, List, [], ◌∷◌, Option, Some, None, refl, ap, ◌∙◌, sym, subst}
 use Rattle.std.specs.Map.{values_of}
-use Rattle.just_bench.specs.Prelude.{Binds, Block, Bound, Closing, Extends, Frames, Gave, Module, Outcome, Ran, Refused, Step, Stopped, Token, and_then}
+use Rattle.just_bench.specs.Prelude.{Bound, Closing, Extends, Frames, Gave, Module, Outcome, Ran, Refused, Step, Stopped, Token, and_then}
 use Rattle.just_bench.specs.Prelude.{bound_in, bound_innermost, first_bound, first_given, grown, in_order, own_frame}
-use Rattle.just_meaning.specs.Module.{Run, Finished, Passes, Skips}
+use Rattle.just_meaning.specs.Blocks.{Block}
+use Rattle.just_soundness.proofs.Running.{Running, Finished, Passes, Skips, Binds, by_rules}
 
 -- frames with an optional binding added
 abbrev pub with_one : Frames → Option Bound → Frames
@@ -14,10 +15,10 @@ abbrev BindsOne : Frames → Type 0
 BindsOne own = (values_of (own_frame own) ≡ []) ⊎ ((b : Bound) × (values_of (own_frame own) ≡ b ∷ []))
 
 module _ {closing : Closing} {m : Module} where
-  at_end : {frames own : Frames} {bs : List Block} → Run closing m frames [] bs (Gave own) → frames ≡ own
+  at_end : {frames own : Frames} {bs : List Block} → Running closing m frames [] bs (Gave own) → frames ≡ own
   at_end Finished = refl
 
-  binds_one : {frames own : Frames} {t : Token} {bs : List Block} → Run closing m ([] ∷ frames) (t ∷ []) bs (Gave own) → BindsOne own
+  binds_one : {frames own : Frames} {t : Token} {bs : List Block} → Running closing m ([] ∷ frames) (t ∷ []) bs (Gave own) → BindsOne own
   binds_one (Passes a f e r) = inl (rw (sym (at_end r)) refl)
   binds_one (Skips a b f e g r) = inl (rw (sym (at_end r)) refl)
   binds_one (Binds a es v k p r) = inr (bound_in m a v, rw (sym (at_end r)) refl)
@@ -27,7 +28,7 @@ first_is_all frames own (inl none) = rw none refl
 first_is_all frames own (inr (b, one)) = rw one refl
 
 given_all : {closing : Closing} {m : Module} {frames : Frames} {t : Token} {bs : List Block} (given : Outcome Frames)
-    → Run closing m ([] ∷ frames) (t ∷ []) bs given → and_then (first_given given) (λ b. Gave (with_one frames b))
+    → Running closing m ([] ∷ frames) (t ∷ []) bs given → and_then (first_given given) (λ b. Gave (with_one frames b))
     ≡ and_then given (λ own. Gave (grown frames (values_of (own_frame own))))
 given_all {frames = frames} (Gave own) run = ap Gave (first_is_all frames own (binds_one run))
 given_all (Refused r) run = refl
@@ -41,4 +42,5 @@ pub extends_first : {closing : Closing} {S : Type 0} {step : Step S} {old new : 
 extends_first {closing = closing} {step = step} {old = old} {new = new} {frames = frames} m order t given found outcome same ran found_is is =
     let one : Ran step old closing (in_order m (t ∷ [])) ([] ∷ frames) (t ∷ []) given new =
     subst (λ order. Ran step old closing (in_order m order) ([] ∷ frames) order given new) same ran in
-    record { given = given; ran = one; bound = is ∙ ap (λ found. and_then found (λ b. Gave (with_one frames b))) found_is ∙ given_all given one.run }
+    let rules = (by_rules closing (in_order m (t ∷ [])) ([] ∷ frames) (t ∷ []) one.runs.path).rules in
+    record { given = given; ran = one; bound = is ∙ ap (λ found. and_then found (λ b. Gave (with_one frames b))) found_is ∙ given_all given rules }

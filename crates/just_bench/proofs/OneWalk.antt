@@ -2,7 +2,7 @@
 use Rattle.std.proofs.Common.{◌≡◌, ◌≢◌, ℕ, List, [], ◌∷◌, ◌++◌, Option, Some, None, refl, sym, ap, subst, ◌∙◌, append_assoc, flat_map}
 use Rattle.just_bench.specs.Prelude.{AreLines, BothPrint, Compared, Extends, FirstRefused, Frames, Gave, Goes, HadMemory, Kept, Module, OrderPrints, Outcome}
 use Rattle.just_bench.specs.Prelude.{Refusal, RunResult, Script, SecondRefused, Stopped, Text, Token, Turn, Turns, and_then, block_lines, blocks_in, by_script}
-use Rattle.just_bench.specs.Prelude.{const_refusal_line, dynamically, end_line, events_of, found_by, grown, names_of, order_line, own_frame, recording}
+use Rattle.just_bench.specs.Prelude.{const_refusal_line, dynamically, end_line, found_by, grown, names_of, order_line, own_frame, recording}
 use Rattle.just_bench.specs.Prelude.{refusal_line, taken_in, with_blocks, without_value}
 use Rattle.std.specs.Map.{values_of}
 use Rattle.just_laws.proofs.Decide.{answers_decide}
@@ -20,14 +20,14 @@ extends_here : (h : Script × List Kept) (m : Module) (frames : Frames) (o p : O
     (one : Extends dynamically (recording by_script) h m frames o s) (other : Extends dynamically (recording by_script) h m frames p t)
     → o ≢ Stopped → p ≢ Stopped → (o ≡ p) × (s ≡ t)
 extends_here h m frames o p s t one other here there =
-    let x = one.ran in
-    let y = other.ran in
+    let x = one.ran.runs in
+    let y = other.ran.runs in
     let go = λ (own : Frames). Gave (grown frames (values_of (own_frame own))) in
     let whole : one.given ≢ Stopped = λ e. here (one.bound ∙ ap (λ g. and_then g go) e) in
     let also : other.given ≢ Stopped = λ e. there (other.bound ∙ ap (λ g. and_then g go) e) in
-    let (same, ends) = chains_one (one.given ≡ other.given) h h (events_of x.blocks) (events_of y.blocks) s t refl (run_answered x.run whole)
-    (run_answered y.run also) x.chain y.chain
-    (answers_decide.runs dynamically m ([] ∷ frames) m.assignments.order x.blocks y.blocks one.given other.given x.run y.run whole also) in
+    let (same, ends) = chains_one (one.given ≡ other.given) h h x.events y.events s t refl (run_answered m ([] ∷ frames) m.assignments.order x.path whole)
+    (run_answered m ([] ∷ frames) m.assignments.order y.path also) x.chain y.chain
+    (answers_decide.runs dynamically m ([] ∷ frames) m.assignments.order x.events y.events one.given other.given x.path y.path whole also) in
     (one.bound ∙ ap (λ g. and_then g go) same ∙ sym other.bound, ends)
 
 no_value : {A : Type 0} (v : A) (r : Option Refusal) → Gave v ≡ without_value r → ⊥

@@ -1,7 +1,7 @@
 -- Hosts viewed as other hosts.
 use Rattle.std.proofs.Common.{◌≡◌, inl, inr, List, [], ◌∷◌, ap, subst}
 use Rattle.just_bench.specs.Prelude.{Answer, Asked, Chain, Checked, Closing, Event, Extends, Frames, Kept, Module, Noted, Outcome, Question, Ran}
-use Rattle.just_bench.specs.Prelude.{RecordsAndAsks, Step, Token, events_of, inner_host, recording, records_view}
+use Rattle.just_bench.specs.Prelude.{RecordsAndAsks, Step, Token, inner_host, recording, records_view}
 use Rattle.just_host.specs.declared.recorder.Recorder.{Recorder}
 
 -- a transition of the first host is a transition of the second
@@ -18,7 +18,8 @@ module _ {S T : Type 0} (step : Step S) (other : Step T) (see : S → T) (carrie
   -- a run of the first host is a run of the second
   pub ran_seen : {closing : Closing} {m : Module} {frames : Frames} {names : List Token} {outcome : Outcome Frames} (a b : S)
       → Ran step a closing m frames names outcome b → Ran other (see a) closing m frames names outcome (see b)
-  ran_seen a b r = record { blocks = r.blocks; run = r.run; chain = chain_seen a (events_of r.blocks) b r.chain }
+  ran_seen a b r = let q = r.runs in
+      record { runs = record { events = q.events; path = q.path; chain = chain_seen a q.events b q.chain } }
 
   -- the same for a run whose bindings are added to frames
   pub extends_seen : {closing : Closing} {m : Module} {frames : Frames} {outcome : Outcome Frames} (a b : S) → Extends closing step a m frames outcome b

@@ -7,8 +7,8 @@ pub use Rattle.just_host.specs.Interaction.{Asked, Chain, Checked, Event, Noted,
 pub use Rattle.just_host.specs.Question.{Answer, Blind, CommandOf, ExistsAt, NumberOf, Question, TextOf}
 pub use Rattle.just_host.specs.Recorded.{Kept, RecordsAndAsks}
 pub use Rattle.just_host.specs.View.{config_view, inner_host, justfile_view, recorded_view, records_view, search_view}
-pub use Rattle.just_meaning.specs.Module.{Binds, Block, Closing, Halts, IsResolvedModule, IsResolvedRun, Module}
-pub use Rattle.just_meaning.specs.Module.{Ran, bound_in, dynamically, events_of, lexically}
+pub use Rattle.just_meaning.specs.Module.{Closing, IsResolvedModule, IsResolvedRun, Module, Ran, bound_in}
+pub use Rattle.just_meaning.specs.Module.{dynamically, lexically}
 pub use Rattle.just_meaning.specs.Resolved.{IsResolved, IsResolvedConst}
 pub use Rattle.just_meaning.specs.Stage.{Constants, StageState, Staged, at_start}
 pub use Rattle.just_meaning.specs.View.{is_referenced_in, ordered_view}

@@ -41,5 +41,6 @@ exact m w outer v u readers starts touched first second reading differ all reach
 
 -- the law for equal cones
 pub alike : BlocksAgree → (m w : Module) (outer : Frames) (n : ℕ) → HaveSameCone m w outer n → AreAlikeAt m w outer n
-alike law m w outer n same bs cs o p fixed limit one other r q talk b c at at' number again here there =
-    law.blocks m w outer bs cs o p fixed limit one other r q talk b c at at' (number ∙ sym again) (subst (HaveSameCone m w outer) (sym number) same) here there
+alike law m w outer n same es fs o p fixed limit one other path along talk b c at at' number again here there =
+    law.blocks m w outer es fs o p fixed limit one other path along talk b c at at' (number ∙ sym again) (subst (HaveSameCone m w outer) (sym number) same)
+    here there

@@ -6,7 +6,9 @@ use Rattle.just_syntax.specs.View.{assignment_view, text_numbered}
 use Rattle.just_value.specs.Frames.{Frames}
 use Rattle.just_value.specs.Outcome.{Outcome, Stopped}
 use Rattle.just_host.specs.declared.justfile.Justfile.{Justfile}
-use Rattle.just_meaning.specs.Module.{Module, Block, Run, events_of, lexically, IsResolvedModule}
+use Rattle.just_host.specs.Interaction.{Event, Path, freely}
+use Rattle.just_meaning.specs.Blocks.{Block, blocks_of}
+use Rattle.just_meaning.specs.Module.{Module, run, lexically, IsResolvedModule}
 use Rattle.just_meaning.specs.View.{functions_view}
 use Rattle.just_soundness.specs.Laws.{AreAnsweredAlike, AreSame}
 
@@ -20,9 +22,9 @@ pub record IsOver {A S : Type 0} (justfile : Justfile) (given : HashMap ℕ (Str
 -- by the same questions. The runs are of two resolved modules in one outer scope, with the same fixed context and
 -- limit. Whatever both ask, frames aside, must be answered alike.
 abbrev pub AreAlikeAt : Module → Module → Frames → ℕ → Type 0
-AreAlikeAt m w outer n = (bs cs : List Block) (o p : Outcome Frames)
+AreAlikeAt m w outer n = (es fs : List Event) (o p : Outcome Frames)
     → m.program.fixed ≡ w.program.fixed → m.limit ≡ w.limit → IsResolvedModule m outer → IsResolvedModule w outer
-    → Run lexically m ([] ∷ outer) m.assignments.order bs o → Run lexically w ([] ∷ outer) w.assignments.order cs p
-    → AreAnsweredAlike (events_of bs) (events_of cs)
-    → (b c : Block) → Contains bs b → Contains cs c → b.number ≡ n → c.number ≡ n → b.outcome ≢ Stopped
-    → c.outcome ≢ Stopped → (b.outcome ≡ c.outcome) × AreSame b.events c.events
+    → Path freely (run lexically m ([] ∷ outer) m.assignments.order) es o
+    → Path freely (run lexically w ([] ∷ outer) w.assignments.order) fs p → AreAnsweredAlike es fs
+    → (b c : Block) → Contains (blocks_of es o) b → Contains (blocks_of fs p) c → b.number ≡ n → c.number ≡ n
+    → b.outcome ≢ Stopped → c.outcome ≢ Stopped → (b.outcome ≡ c.outcome) × AreSame b.events c.events

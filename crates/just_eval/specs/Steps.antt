@@ -4,7 +4,8 @@ use Rattle.just_syntax.specs.Plain.{Token}
 use Rattle.just_value.specs.Frames.{Frames}
 use Rattle.just_value.specs.Outcome.{Gave}
 use Rattle.just_value.specs.View.{frames_view}
-use Rattle.just_meaning.specs.Module.{Block, Closing, Module, Run, lexically}
+use Rattle.just_host.specs.Interaction.{Event, Path, freely}
+use Rattle.just_meaning.specs.Module.{Closing, Module, run, lexically}
 use Rattle.just_meaning.specs.View.{module_view}
 use Rattle.just_eval.specs.declared.steps.Steps.{Steps}
 
@@ -23,8 +24,8 @@ frames_of s = frames_view s.scope
 -- Some run of these names, from an empty frame on the outer ones, finds these frames.
 pub record Reached (closing : Closing) (m : Module) (outer : Frames) (done : List Token)
     (frames : Frames) : Type 0 where
-  pub blocks : List Block
-  pub run : Run closing m ([] ∷ outer) done blocks (Gave frames)
+  pub events : List Event
+  pub path : Path freely (run closing m ([] ∷ outer) done) events (Gave frames)
 
 -- The name is the next one of the order, after a run of those before it that finds these frames.
 pub record IsNext (m : Module) (outer : Frames) (done : List Token) (t : Token) (frames : Frames) : Type 0 where

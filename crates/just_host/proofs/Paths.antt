@@ -1,9 +1,30 @@
 -- Composition of paths and runs of interaction trees. A path is a trace of events with an outcome.
-use Rattle.std.proofs.Common.{◌≡◌, Bool, true, false, List, [], ◌∷◌, ◌++◌, refl, sym, subst, Option, Some, None, if◌then◌else◌}
+use Rattle.std.proofs.Common.{◌≡◌, Bool, true, false, List, [], ◌∷◌, ◌++◌, refl, sym, ap, subst, Option, Some, None, if◌then◌else◌}
+use mathlib.Core.Path.{fun_ext}
 use Rattle.just_host.specs.Prelude.{Answer, Asked, Chain, Checked, Checks, Ends, Event, Gave, Noted, Outcome, Question, Refusal, Refused, Rules, Runs, Step}
 use Rattle.just_host.specs.Prelude.{Stopped, Stops, Tree, bind, done, gives, without_value}
 use Rattle.just_value.specs.Outcome.{UnlessStopped}
-use Rattle.just_host.specs.Interaction.{Note, ask, note, Path, Asks, Notes, Shuts}
+use Rattle.just_host.specs.Interaction.{Note, ask, check, note, Path, Asks, Notes, Shuts}
+
+-- ---- the laws of `bind`
+
+pub bind_gives : {A : Type 0} (t : Tree A) → bind t (λ a. gives a) ≡ t
+bind_gives (done (Gave a)) = refl
+bind_gives (done (Refused r)) = refl
+bind_gives (done Stopped) = refl
+bind_gives (ask q next) = ap (ask q) (fun_ext (λ a. bind_gives (next a)))
+bind_gives (note x rest) = ap (note x) (bind_gives rest)
+bind_gives (check p v next) = ap (check p v) (fun_ext (λ a. bind_gives (next a)))
+
+pub bind_bind : {A B C : Type 0} (t : Tree A) (go : A → Tree B) (on : B → Tree C) → bind t (λ a. bind (go a) on) ≡ bind (bind t go) on
+bind_bind (done (Gave a)) go on = refl
+bind_bind (done (Refused r)) go on = refl
+bind_bind (done Stopped) go on = refl
+bind_bind (ask q next) go on = ap (ask q) (fun_ext (λ a. bind_bind (next a) go on))
+bind_bind (note x rest) go on = ap (note x) (bind_bind rest go on)
+bind_bind (check p v next) go on = ap (check p v) (fun_ext (λ a. bind_bind (next a) go on))
+
+-- ---- paths
 
 module _ {rules : Rules} where
   -- a path to a value, continued after the value

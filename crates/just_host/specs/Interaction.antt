@@ -7,11 +7,14 @@ use Rattle.just_value.specs.Outcome.{Outcome, Gave, Refused, Stopped}
 use Rattle.just_host.specs.Question.{Question, Answer, Failed}
 
 -- What evaluation reaches, each with its token: a variable is read, a call is entered, or a command occurs. A command
--- is noted in a dry run too.
+-- is noted in a dry run too. A run marks where the evaluation of an assignment begins and which value it binds, each by
+-- the assignment's number.
 pub data Note : Type 0 where
   Read : Token → ℕ → Note
   Entered : Token → Note
   Command : Token → Note
+  Begins : ℕ → Note
+  Binds : ℕ → Value → Note
 
 -- the verdict of a value check: the value passes; it does not, with a message; or memory ran out
 pub data Verdict : Type 0 where

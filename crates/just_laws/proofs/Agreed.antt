@@ -10,7 +10,8 @@ use Rattle.just_host.specs.Interaction.{Path, Tree, freely}
 use Rattle.just_meaning.specs.Reaches.{function_at, Reaches, Here, Later, Reads}
 use Rattle.just_meaning.specs.Meaning.{eval}
 use Rattle.just_meaning.specs.Closings.{lexical}
-use Rattle.just_meaning.specs.Module.{Module, Block, assigned, events_of, lexically, or_override, situation_at}
+use Rattle.just_meaning.specs.Blocks.{Block, events_of}
+use Rattle.just_meaning.specs.Module.{Module, assigned, lexically, or_override, situation_at}
 use Rattle.just_soundness.specs.Laws.{AreAnsweredAlike, AreSame}
 use Rattle.just_soundness.proofs.Alike.{Alike, Whole, alike_lexical, alike_override, alike_paths}
 use Rattle.just_laws.specs.Cone.{IsEvaluated, assignment_numbered}

@@ -15,11 +15,26 @@ use Rattle.just_value.proofs.Values.{value_innermost}
 use Rattle.just_host.specs.Interaction.{Event, Path, freely}
 use Rattle.just_meaning.specs.Reaches.{Reads}
 use Rattle.just_meaning.specs.Resolved.{AreDistinct, HasValue, AreInOrder}
-use Rattle.just_meaning.specs.Module.{Module, Block, Run, Finished, Stops, Unknown, Passes, Skips, Binds, Breaks, Halts, IsTaken, assigned, events_of}
-use Rattle.just_meaning.specs.Module.{lexically, bound_in}
+use Rattle.just_meaning.specs.Blocks.{Block, blocks_of, events_of}
+use Rattle.just_meaning.specs.Module.{Module, assigned, bound_in, lexically, run}
+use Rattle.just_soundness.specs.Laws.{AreAnsweredAlike}
 use Rattle.just_soundness.proofs.Bound.{bound_put, bound_value, over_put}
+use Rattle.just_soundness.proofs.Marks.{blocks_run, events_within, unmarked_lexically}
+use Rattle.just_soundness.proofs.Running.{IsTaken, Running, Finished, Stops, Unknown, Passes, Skips, Binds, Breaks, Halts}
 use Rattle.just_soundness.proofs.Taken.{AllHave, have_more, have_put, none_taken, order_on}
 use Rattle.just_laws.specs.Cone.{assignment_numbered}
+
+-- ---- the blocks of a trace
+
+-- they follow the rules of a run
+pub by_blocks : (m : Module) (outer : Frames) (order : List Token) {es : List Event} {o : Outcome Frames}
+    → Path freely (run lexically m ([] ∷ outer) order) es o → Running lexically m ([] ∷ outer) order (blocks_of es o) o
+by_blocks m outer order path = blocks_run lexically unmarked_lexically m ([] ∷ outer) order path
+
+-- whatever both ask in their blocks is answered alike
+pub blocks_alike : (es fs : List Event) (o p : Outcome Frames) → AreAnsweredAlike es fs
+    → AreAnsweredAlike (events_of (blocks_of es o)) (events_of (blocks_of fs p))
+blocks_alike es fs o p talk = λ e f i j. talk e f (events_within es o e i) (events_within fs p f j)
 
 -- ---- lists
 
@@ -195,7 +210,7 @@ module _ (m : Module) (outer : Frames) (distinct : AreDistinct (map (λ a. a.num
       (over_put frame (bound_in m a v) k)
 
   met_from : (frame : Frame) (taken : List ℕ) (before : List Block) {left : List Token} {bs : List Block} {o : Outcome Frames} → InOrder taken left
-      → AllHave outer frame taken → AllGiven frame before → Run lexically m (frame ∷ outer) left bs o → AllMet m outer before bs
+      → AllHave outer frame taken → AllGiven frame before → Running lexically m (frame ∷ outer) left bs o → AllMet m outer before bs
   met_from frame taken before h have given Finished = tt
   met_from frame taken before h have given Stops = tt
   met_from frame taken before h have given (Unknown f) = tt
@@ -212,5 +227,5 @@ module _ (m : Module) (outer : Frames) (distinct : AreDistinct (map (λ a. a.num
   met_from frame taken before {left = t ∷ left} h have given (Breaks a es s k p) = (met_here frame taken before t left a es (Refused s) h have given k p, tt)
   met_from frame taken before {left = t ∷ left} h have given (Halts a es k p) = (met_here frame taken before t left a es Stopped h have given k p, tt)
 
-  pub all_met : {left : List Token} {bs : List Block} {o : Outcome Frames} → InOrder [] left → Run lexically m ([] ∷ outer) left bs o → AllMet m outer [] bs
+  pub all_met : {left : List Token} {bs : List Block} {o : Outcome Frames} → InOrder [] left → Running lexically m ([] ∷ outer) left bs o → AllMet m outer [] bs
   all_met h r = met_from [] [] [] h (none_taken (HasValue (value_in ([] ∷ outer))) outer (λ n has. has)) (λ k v given. inl given) r

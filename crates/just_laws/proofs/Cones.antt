@@ -7,15 +7,17 @@ use Rattle.just_syntax.proofs.Lists.{in_of}
 use Rattle.just_value.specs.Frames.{Frames}
 use Rattle.just_value.specs.Outcome.{Outcome, Gave, Stopped}
 use Rattle.just_host.specs.Interaction.{Event, Asked, Checked, Noted}
-use Rattle.just_meaning.specs.Module.{Module, Block, Run, events_of, lexically, IsResolvedModule}
+use Rattle.just_meaning.specs.Blocks.{Block, blocks_of, events_of}
+use Rattle.just_meaning.specs.Module.{IsResolvedModule, Module, lexically}
 use Rattle.just_meaning.specs.Resolved.{IsResolved}
 use Rattle.just_meaning.proofs.Distinct.{distinct_front}
 use Rattle.just_soundness.specs.Laws.{AreAnsweredAlike, AreSame}
+use Rattle.just_soundness.proofs.Running.{Running}
 use Rattle.just_laws.specs.Cone.{BlocksAgree, Cone, HaveSameCone, Itself, ReadBy, events_as, events_for}
 use Rattle.just_laws.specs.Reordered.{IsTakenIn, reordered}
 use Rattle.just_laws.proofs.Agreed.{AreMatched}
 use Rattle.just_laws.proofs.Agreed as agreed
-use Rattle.just_laws.proofs.Blocks.{all_met}
+use Rattle.just_laws.proofs.Blocks.{all_met, blocks_alike, by_blocks}
 use Rattle.just_laws.proofs.Orders.{both, not_stopped, partner}
 
 same_cone : (m w : Module) (outer : Frames) (n : ℕ) → m.program.fixed ≡ w.program.fixed → m.limit ≡ w.limit → HaveSameCone m w outer n
@@ -66,7 +68,7 @@ events_by bs (c ∷ cs) h =
 module _ (m : Module) (order : List Token) (referenced : ℕ → Bool) (outer : Frames) (bs cs : List Block) (frames : Frames) (p : Outcome Frames)
     (one : IsResolvedModule m outer)
     (other : IsResolved m.program.functions (reordered m order referenced).assignments outer)
-    (r : Run lexically m ([] ∷ outer) m.assignments.order bs (Gave frames)) (q : Run lexically (reordered m order referenced) ([] ∷ outer) order cs p)
+    (r : Running lexically m ([] ∷ outer) m.assignments.order bs (Gave frames)) (q : Running lexically (reordered m order referenced) ([] ∷ outer) order cs p)
     (talk : AreAnsweredAlike (events_of bs) (events_of cs)) (within : (n : ℕ) → IsTakenIn (reordered m order referenced) n → IsTakenIn m n)
     (on : p ≢ Stopped) where
   block_same : (c : Block) → IsIn cs c → AreSame (events_for bs c.number) c.events
@@ -79,11 +81,16 @@ module _ (m : Module) (order : List Token) (referenced : ℕ → Bool) (outer : 
 
 pub blocks_agree : BlocksAgree
 blocks_agree = record {
-  blocks = λ m w outer bs cs o p fixed limit one other r q talk b c at at' number same here there.
+  blocks = λ m w outer es fs o p fixed limit one other path along talk b c at at' number same here there.
+      let bs = blocks_of es o in
+      let cs = blocks_of fs p in
       agreed.blocks_agree m w outer (Cone m outer b.number) (same_cone m w outer b.number fixed limit same) bs cs
-      (all_met m outer (distinct_front (map (λ a. a.number) m.assignments.all) _ one.distinct) one.in_order r)
-      (all_met w outer (distinct_front (map (λ a. a.number) w.assignments.all) _ other.distinct) other.in_order q)
-      talk b c (in_of bs b at) (in_of cs c at') Itself number here there;
-  questions = λ m order referenced outer bs cs frames p one other r q talk within on.
-      events_by bs cs (block_same m order referenced outer bs cs frames p one other r q talk within on);
+      (all_met m outer (distinct_front (map (λ a. a.number) m.assignments.all) _ one.distinct) one.in_order (by_blocks m outer m.assignments.order path))
+      (all_met w outer (distinct_front (map (λ a. a.number) w.assignments.all) _ other.distinct) other.in_order (by_blocks w outer w.assignments.order along))
+      (blocks_alike es fs o p talk) b c (in_of bs b at) (in_of cs c at') Itself number here there;
+  questions = λ m order referenced outer es fs frames p one other path along talk within on.
+      let bs = blocks_of es (Gave frames) in
+      let cs = blocks_of fs p in
+      events_by bs cs (block_same m order referenced outer bs cs frames p one other (by_blocks m outer m.assignments.order path)
+      (by_blocks (reordered m order referenced) outer order along) (blocks_alike es fs (Gave frames) p talk) within on);
 }

@@ -15,7 +15,8 @@ use Rattle.just_meaning.specs.Closings.{lexical, inside}
 use Rattle.just_meaning.specs.Constant.{constant, constantly, nowhere, unless_refused}
 use Rattle.just_meaning.specs.Internal.{IfRefused, IsFinal}
 use Rattle.just_meaning.specs.Meaning.{Program, AtLimit, eval}
-use Rattle.just_meaning.specs.Module.{Module, Block, assigned, lexically, or_override, situation_at}
+use Rattle.just_meaning.specs.Blocks.{Block, blocks_of}
+use Rattle.just_meaning.specs.Module.{Module, assigned, lexically, or_override, situation_at}
 use Rattle.just_meaning.specs.Reaches.{Mention, VariableOf, CallOf, Occurs}
 use Rattle.just_meaning.specs.Stage.{Constants, Found, at_start, const_meaning, stage_found}
 use Rattle.just_meaning.proofs.Distinct.{distinct_front}
@@ -25,7 +26,7 @@ use Rattle.just_soundness.proofs.Refused.{refused_override}
 use Rattle.just_laws.specs.Predicted.{AreConstant, AreOfOneModule, ConstAgrees, Predicts, is_found_open, is_shut, whole_found}
 use Rattle.just_laws.specs.Cone.{assignment_numbered}
 use Rattle.just_soundness.proofs.Alike.{Alike, Sight, Done, Both, Same, SameCheck, UpTo, ReadsAlike, alike_eval, alike_override}
-use Rattle.just_laws.proofs.Blocks.{AllMet, IsGiven, Met, all_met, gave_same, met_outside, never_both, some_same}
+use Rattle.just_laws.proofs.Blocks.{AllMet, IsGiven, Met, all_met, by_blocks, gave_same, met_outside, never_both, some_same}
 use Rattle.just_laws.proofs.Agreed.{gave_on}
 use Rattle.just_laws.proofs.Stages as stages
 use Rattle.just_laws.proofs.Stages.{IsFound, MetConst, found_outside, stage_state, staging}
@@ -54,11 +55,13 @@ refused_shut : (is_open : ℕ → Bool) (x : Note) → is_shut is_open x ≡ tru
 refused_shut is_open (Read t n) e = (Variable t, ap (λ b. if b then Some (Const (Variable t)) else None) e)
 refused_shut is_open (Entered t) e = (FunctionCall t, refl)
 refused_shut is_open (Command t) e = (Backtick t, refl)
+refused_shut is_open _ e = absurd (cc)
 
 passed_open : (is_open : ℕ → Bool) (x : Note) → is_shut is_open x ≡ false → constantly is_open x ≡ None
 passed_open is_open (Read t n) e = ap (λ b. if b then Some (Const (Variable t)) else None) e
 passed_open is_open (Entered t) e = absurd (cc)
 passed_open is_open (Command t) e = absurd (cc)
+passed_open is_open _ e = refl
 
 -- up to what the const rules refuse, with the open numbers of each tree
 abbrev UpToShut : (ℕ → Bool) → (ℕ → Bool) → Sight
@@ -178,8 +181,10 @@ const_agrees = record {
   refusals = λ m lists outer r resolved e.
       let f = stages.ends_refused m lists outer (at_start lists outer) resolved.named (staging m (at_start lists outer) m.assignments.order) r e in
       (f.0, of_in (whole_found m lists outer) f.0 f.1, f.2);
-  blocks = λ m lists outer n others names more bs p is same before resolved run f b at at' number on. let fs = stage_found m (at_start lists outer) names in
+  blocks = λ m lists outer n others names more es p is same before resolved path f b at at' number on.
+      let fs = stage_found m (at_start lists outer) names in
+      let bs = blocks_of es p in
       bear_all m lists outer n others same (is_found_open fs) fs (stages.all_met m lists outer names more is before) [] bs (λ c none. absurd none)
-      (all_met n others (distinct_front (map (λ a. a.number) n.assignments.all) _ resolved.distinct) resolved.in_order run) b (in_of bs b at') f
-      (in_of fs f at) number on;
+      (all_met n others (distinct_front (map (λ a. a.number) n.assignments.all) _ resolved.distinct) resolved.in_order
+      (by_blocks n others n.assignments.order path)) b (in_of bs b at') f (in_of fs f at) number on;
 }

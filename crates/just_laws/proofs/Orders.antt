@@ -9,14 +9,16 @@ use Rattle.just_value.specs.Refusal.{Refusal}
 use Rattle.just_value.specs.Outcome.{Outcome, Gave, Refused, Stopped}
 use Rattle.just_meaning.specs.Assignments.{assignment_at}
 use Rattle.just_meaning.specs.Resolved.{HasValue, AreAssignments, AreDistinct, IsResolved}
-use Rattle.just_meaning.specs.Module.{Module, Block, Run, Finished, Stops, Unknown, Passes, Skips, Binds, Breaks, Halts, IsTaken, events_of, lexically}
-use Rattle.just_meaning.specs.Module.{IsResolvedModule, bound_in}
+use Rattle.just_meaning.specs.Blocks.{Block, blocks_of, events_of}
+use Rattle.just_meaning.specs.Module.{IsResolvedModule, Module, bound_in, lexically}
 use Rattle.just_meaning.proofs.Distinct.{distinct_front}
 use Rattle.just_soundness.specs.Laws.{AreAnsweredAlike, AreSame}
 use Rattle.just_soundness.proofs.Bound.{bound_put, bound_value, has_put, over_put}
+use Rattle.just_soundness.proofs.Running.{IsTaken, Running, Finished, Stops, Unknown, Passes, Skips, Binds, Breaks, Halts}
 use Rattle.just_laws.specs.Reordered.{Agree, IsTakenIn, OrdersAgree, reordered}
 use Rattle.just_laws.specs.Cone.{assignment_numbered}
-use Rattle.just_laws.proofs.Blocks.{AllMet, all_met, found_numbered, gave_same, kept_bound, met_outside, never_both, one_met, put_bound, some_same}
+use Rattle.just_laws.proofs.Blocks.{AllMet, all_met, blocks_alike, by_blocks, found_numbered, gave_same, kept_bound, met_outside, never_both, one_met}
+use Rattle.just_laws.proofs.Blocks.{put_bound, some_same}
 use Rattle.just_laws.proofs.Agreed.{AreMatched, blocks_agree, gave_on}
 
 -- the block that made this binding: the assignment of its number, with its value
@@ -53,7 +55,7 @@ taken_here m frames t a at k n number =
     record { name = t; assignment = a; named = of_in m.assignments.order t at; found = k.found; referenced = k.referenced; number = number }
 
 module _ (m : Module) (outer : Frames) where
-  pub not_stopped : (frame : Frame) {left : List Token} {bs : List Block} {o : Outcome Frames} → Run lexically m (frame ∷ outer) left bs o → o ≢ Stopped
+  pub not_stopped : (frame : Frame) {left : List Token} {bs : List Block} {o : Outcome Frames} → Running lexically m (frame ∷ outer) left bs o → o ≢ Stopped
       → (b : Block) → IsIn bs b → b.outcome ≢ Stopped
   not_stopped frame Finished on b at = absurd at
   not_stopped frame Stops on b at = absurd at
@@ -67,7 +69,7 @@ module _ (m : Module) (outer : Frames) where
   not_stopped frame (Halts a es k p) on b at = absurd (on refl)
 
   -- a block that is refused is the last
-  pub refused_last : (frame : Frame) {left : List Token} {bs : List Block} {o : Outcome Frames} → Run lexically m (frame ∷ outer) left bs o
+  pub refused_last : (frame : Frame) {left : List Token} {bs : List Block} {o : Outcome Frames} → Running lexically m (frame ∷ outer) left bs o
       → (b : Block) (r : Refusal) → IsIn bs b → b.outcome ≡ Refused r → o ≡ Refused r
   refused_last frame Finished b r at e = absurd at
   refused_last frame Stops b r at e = absurd at
@@ -82,7 +84,7 @@ module _ (m : Module) (outer : Frames) where
   refused_last frame (Halts a es k p) b r (inr none) e = absurd none
 
   -- if each block has a value, the run finishes
-  all_gave : (frame : Frame) {left : List Token} {bs : List Block} {o : Outcome Frames} → Run lexically m (frame ∷ outer) left bs o
+  all_gave : (frame : Frame) {left : List Token} {bs : List Block} {o : Outcome Frames} → Running lexically m (frame ∷ outer) left bs o
       → AreAssignments m.assignments left → o ≢ Stopped
       → ((b : Block) → IsIn bs b → (v : Value) × (b.outcome ≡ Gave v)) → (last : Frames) × (o ≡ Gave last)
   all_gave frame Finished named on gave = (frame ∷ outer, refl)
@@ -96,7 +98,7 @@ module _ (m : Module) (outer : Frames) where
 
   -- the number of a block is taken
   taken_by : (frame : Frame) {left : List Token} {bs : List Block} {o : Outcome Frames} → ((t : Token) → IsIn left t → IsIn m.assignments.order t)
-      → Run lexically m (frame ∷ outer) left bs o → (b : Block) → IsIn bs b → IsTakenIn m b.number
+      → Running lexically m (frame ∷ outer) left bs o → (b : Block) → IsIn bs b → IsTakenIn m b.number
   taken_by frame within Finished b at = absurd at
   taken_by frame within Stops b at = absurd at
   taken_by frame within (Unknown f) b at = absurd at
@@ -113,8 +115,8 @@ module _ (m : Module) (outer : Frames) where
 
 module _ (m : Module) (outer : Frames) (distinct : AreDistinct (map (λ a. a.number) m.assignments.all)) where
   -- a binding in its own frame was there before, or a block made it
-  pub makes : (frame : Frame) {left : List Token} {bs : List Block} {last : Frames} → Run lexically m (frame ∷ outer) left bs (Gave last) → (n : ℕ) (b : Bound)
-      → bound_at n (own_frame last) ≡ Some b → (bound_at n frame ≡ Some b) ⊎ IsMade m bs n b
+  pub makes : (frame : Frame) {left : List Token} {bs : List Block} {last : Frames} → Running lexically m (frame ∷ outer) left bs (Gave last)
+      → (n : ℕ) (b : Bound) → bound_at n (own_frame last) ≡ Some b → (bound_at n frame ≡ Some b) ⊎ IsMade m bs n b
   makes frame Finished n b h = inl h
   makes frame (Passes a f e r) n b h = makes frame r n b h
   makes frame (Skips a c f e g r) n b h = makes frame r n b h
@@ -142,7 +144,7 @@ module _ (m : Module) (outer : Frames) (distinct : AreDistinct (map (λ a. a.num
           (λ kept. inl (sym kept.1 ∙ old))
           (bound_put frame new n)
 
-  stays_bound : (frame : Frame) {left : List Token} {bs : List Block} {last : Frames} → Run lexically m (frame ∷ outer) left bs (Gave last)
+  stays_bound : (frame : Frame) {left : List Token} {bs : List Block} {last : Frames} → Running lexically m (frame ∷ outer) left bs (Gave last)
       → (n : ℕ) (b : Bound) → bound_at n frame ≡ Some b → bound_at n (own_frame last) ≡ Some b
   stays_bound frame Finished n b h = h
   stays_bound frame (Passes a f e r) n b h = stays_bound frame r n b h
@@ -150,7 +152,7 @@ module _ (m : Module) (outer : Frames) (distinct : AreDistinct (map (λ a. a.num
   stays_bound frame (Binds a es v k p r) n b h = stays_bound _ r n b (kept_bound frame outer (bound_in m a v) n b k.unbound h)
 
   -- a block with a value bound it
-  pub block_bound : (frame : Frame) {left : List Token} {bs : List Block} {last : Frames} → Run lexically m (frame ∷ outer) left bs (Gave last)
+  pub block_bound : (frame : Frame) {left : List Token} {bs : List Block} {last : Frames} → Running lexically m (frame ∷ outer) left bs (Gave last)
       → (b : Block) (v : Value) → IsIn bs b → b.outcome ≡ Gave v
       → (a : Assignment) × (assignment_numbered m.assignments.all b.number ≡ Some a) × (bound_at b.number (own_frame last) ≡ Some (bound_in m a v))
   block_bound frame Finished b v at e = absurd at
@@ -168,7 +170,7 @@ module _ (m : Module) (outer : Frames) (distinct : AreDistinct (map (λ a. a.num
           (stays_bound _ r a.number _ (put_bound frame (bound_in m a u))
           ∙ ap (λ x. Some (bound_in m a x)) (gave_same u v (ap (λ (x : Block). x.outcome) same ∙ e)))
 
-  value_stays : (frame : Frame) {left : List Token} {bs : List Block} {last : Frames} → Run lexically m (frame ∷ outer) left bs (Gave last) → (n : ℕ)
+  value_stays : (frame : Frame) {left : List Token} {bs : List Block} {last : Frames} → Running lexically m (frame ∷ outer) left bs (Gave last) → (n : ℕ)
       → HasValue (value_in (frame ∷ outer)) n → HasValue (value_in last) n
   value_stays frame Finished n h = h
   value_stays frame (Passes a f e r) n h = value_stays frame r n h
@@ -176,7 +178,7 @@ module _ (m : Module) (outer : Frames) (distinct : AreDistinct (map (λ a. a.num
   value_stays frame (Binds a es v k p r) n h = value_stays _ r n (has_put frame (value_in outer) (bound_in m a v) n (inr h))
 
   -- what is taken has a value at the end
-  taken_has : (frame : Frame) {left : List Token} {bs : List Block} {last : Frames} → Run lexically m (frame ∷ outer) left bs (Gave last)
+  taken_has : (frame : Frame) {left : List Token} {bs : List Block} {last : Frames} → Running lexically m (frame ∷ outer) left bs (Gave last)
       → (t : Token) (a : Assignment) → IsIn left t → assignment_at m.assignments t.lexeme ≡ Some a
       → m.assignments.referenced a.number ≡ true → HasValue (value_in last) a.number
   taken_has frame Finished t a at found referenced = absurd at
@@ -196,7 +198,7 @@ module _ (m : Module) (outer : Frames) (distinct : AreDistinct (map (λ a. a.num
   taken_has frame (Binds c es v k p r) t a (inr at) found referenced = taken_has _ r t a at found referenced
 
   -- a value at the end was there before, or a block gave it
-  gives_value : (frame : Frame) {left : List Token} {bs : List Block} {last : Frames} → Run lexically m (frame ∷ outer) left bs (Gave last)
+  gives_value : (frame : Frame) {left : List Token} {bs : List Block} {last : Frames} → Running lexically m (frame ∷ outer) left bs (Gave last)
       → (n : ℕ) (v : Value) → value_in last n ≡ Some v
       → (value_in (frame ∷ outer) n ≡ Some v) ⊎ ((b : Block) × IsIn bs b × (b.number ≡ n) × (b.outcome ≡ Gave v))
   gives_value frame Finished n v h = inl h
@@ -224,8 +226,8 @@ everywhere m order referenced outer = record {
 }
 
 module _ (m : Module) (order : List Token) (referenced : ℕ → Bool) (outer : Frames) (bs cs : List Block) (o p : Outcome Frames) (one : IsResolvedModule m outer)
-    (other : IsResolved m.program.functions (reordered m order referenced).assignments outer) (r : Run lexically m ([] ∷ outer) m.assignments.order bs o)
-    (q : Run lexically (reordered m order referenced) ([] ∷ outer) order cs p)
+    (other : IsResolved m.program.functions (reordered m order referenced).assignments outer) (r : Running lexically m ([] ∷ outer) m.assignments.order bs o)
+    (q : Running lexically (reordered m order referenced) ([] ∷ outer) order cs p)
     (talk : AreAnsweredAlike (events_of bs) (events_of cs)) where
   abbrev w : Module
   w = reordered m order referenced
@@ -260,7 +262,7 @@ module _ (m : Module) (order : List Token) (referenced : ℕ → Bool) (outer : 
           ∙ (both k.block l.block k.among l.among (k.number ∙ sym l.number) (gave_on k.value k.block.outcome k.gave)
           (gave_on l.value l.block.outcome l.gave)).0 ∙ l.gave)
 
-  module _ (frames : Frames) (finished : Run lexically m ([] ∷ outer) m.assignments.order bs (Gave frames)) where
+  module _ (frames : Frames) (finished : Running lexically m ([] ∷ outer) m.assignments.order bs (Gave frames)) where
     -- a finished run binds in its own frame only what its blocks made
     made : (n : ℕ) (b : Bound) → bound_at n (own_frame frames) ≡ Some b → IsMade m bs n b
     made n b h = ⊎_elim (λ none. absurd (cc)) (λ made. made) (makes m outer distinct [] finished n b h)
@@ -303,17 +305,20 @@ module _ (m : Module) (order : List Token) (referenced : ℕ → Bool) (outer : 
     refusals = λ b c s at at' number refused there.
         refused_last w outer [] q c s (in_of cs c at')
         (sym (both b c (in_of bs b at) (in_of cs c at') number (λ e. absurd (let z : Refused s ≡ Stopped = sym refused ∙ e in cc)) there).0 ∙ refused);
-    values = λ frames last n b c e f h k. one_binding n b c (made frames (subst (Run lexically m ([] ∷ outer) m.assignments.order bs) e r) n b h)
-        (other_made last (subst (Run lexically w ([] ∷ outer) order cs) f q) n c k);
+    values = λ frames last n b c e f h k. one_binding n b c (made frames (subst (Running lexically m ([] ∷ outer) m.assignments.order bs) e r) n b h)
+        (other_made last (subst (Running lexically w ([] ∷ outer) order cs) f q) n c k);
     finishes = λ frames e within on.
-        let finished = subst (Run lexically m ([] ∷ outer) m.assignments.order bs) e r in
+        let finished = subst (Running lexically m ([] ∷ outer) m.assignments.order bs) e r in
         let last = end frames finished within on in
-        (last.0, last.1, λ n c h. bound_here frames finished within on n c (other_made last.0 (subst (Run lexically w ([] ∷ outer) order cs) last.1 q) n c h));
+        let other = subst (Running lexically w ([] ∷ outer) order cs) last.1 q in
+        (last.0, last.1, λ n c h. bound_here frames finished within on n c (other_made last.0 other n c h));
   }
     where
-      other_made : (last : Frames) → Run lexically w ([] ∷ outer) order cs (Gave last) → (n : ℕ) (c : Bound)
+      other_made : (last : Frames) → Running lexically w ([] ∷ outer) order cs (Gave last) → (n : ℕ) (c : Bound)
           → bound_at n (own_frame last) ≡ Some c → IsMade w cs n c
       other_made last finished n c h = ⊎_elim (λ none. absurd (cc)) (λ made. made) (makes w outer distinct [] finished n c h)
 
 pub orders_agree : OrdersAgree
-orders_agree m order referenced outer bs cs o p one other r q talk = agree m order referenced outer bs cs o p one other r q talk
+orders_agree m order referenced outer es fs o p one other path along talk =
+    agree m order referenced outer (blocks_of es o) (blocks_of fs p) o p one other (by_blocks m outer m.assignments.order path)
+    (by_blocks (reordered m order referenced) outer order along) (blocks_alike es fs o p talk)

@@ -7,10 +7,13 @@ use Rattle.just_value.specs.Value.{Value}
 use Rattle.just_value.specs.Frames.{Frame, Frames}
 use Rattle.just_value.specs.Refusal.{Refusal}
 use Rattle.just_value.specs.Outcome.{Outcome, Gave, Refused, Stopped}
-use Rattle.just_meaning.specs.Module.{Module, Block, Run, Finished, Stops, Unknown, Passes, Skips, Binds, Breaks, Halts, lexically, IsResolvedModule}
+use Rattle.just_meaning.specs.Blocks.{Block, blocks_of}
+use Rattle.just_meaning.specs.Module.{IsResolvedModule, Module, lexically}
 use Rattle.just_meaning.specs.Resolved.{AreAssignments, AreDistinct}
 use Rattle.just_meaning.proofs.Distinct.{distinct_front}
+use Rattle.just_soundness.proofs.Running.{Running, Finished, Stops, Unknown, Passes, Skips, Binds, Breaks, Halts}
 use Rattle.just_laws.specs.Results.{EndsAsItsBlocks, IsLast, ResultsHaveBlocks}
+use Rattle.just_laws.proofs.Blocks.{by_blocks}
 use Rattle.just_laws.proofs.Orders.{block_bound, makes, not_stopped, refused_last}
 
 later_last : (x : Block) (bs : List Block) (b : Block) → IsLast bs b → IsLast (x ∷ bs) b
@@ -18,7 +21,7 @@ later_last x bs b h = (x ∷ h.0, ap (λ (ys : List Block). x ∷ ys) h.1)
 
 module _ (m : Module) (outer : Frames) where
   -- each block of a finished run gave a value
-  all_gave : (frame : Frame) {left : List Token} {bs : List Block} {last : Frames} → Run lexically m (frame ∷ outer) left bs (Gave last) → (b : Block)
+  all_gave : (frame : Frame) {left : List Token} {bs : List Block} {last : Frames} → Running lexically m (frame ∷ outer) left bs (Gave last) → (b : Block)
       → IsIn bs b → (v : Value) × (b.outcome ≡ Gave v)
   all_gave frame Finished b at = absurd at
   all_gave frame (Passes a f e r) b at = all_gave frame r b at
@@ -27,7 +30,7 @@ module _ (m : Module) (outer : Frames) where
   all_gave frame (Binds a es v k p r) b (inr at) = all_gave _ r b at
 
   -- no block comes after a refused one
-  refused_is_last : (frame : Frame) {left : List Token} {bs : List Block} {o : Outcome Frames} → Run lexically m (frame ∷ outer) left bs o
+  refused_is_last : (frame : Frame) {left : List Token} {bs : List Block} {o : Outcome Frames} → Running lexically m (frame ∷ outer) left bs o
       → (b : Block) (r : Refusal) → IsIn bs b → b.outcome ≡ Refused r → IsLast bs b
   refused_is_last frame Finished b r at e = absurd at
   refused_is_last frame Stops b r at e = absurd at
@@ -43,7 +46,7 @@ module _ (m : Module) (outer : Frames) where
 
   -- a refused run of known names has a block with that refusal
   has_refused : (frame : Frame) {left : List Token} {bs : List Block} {o : Outcome Frames} → AreAssignments m.assignments left
-      → Run lexically m (frame ∷ outer) left bs o
+      → Running lexically m (frame ∷ outer) left bs o
       → (r : Refusal) → o ≡ Refused r → (b : Block) × IsIn bs b × (b.outcome ≡ Refused r)
   has_refused frame named Finished r e = absurd (cc)
   has_refused frame named Stops r e = absurd (cc)
@@ -54,12 +57,12 @@ module _ (m : Module) (outer : Frames) where
   has_refused frame named (Breaks a es s k p) r e = (record { number = a.number; events = es; outcome = Refused s }, inl refl, cc)
   has_refused frame named (Halts a es k p) r e = absurd (cc)
 
-  module _ (bs : List Block) (o : Outcome Frames) (resolved : IsResolvedModule m outer) (run : Run lexically m ([] ∷ outer) m.assignments.order bs o) where
+  module _ (bs : List Block) (o : Outcome Frames) (resolved : IsResolvedModule m outer) (run : Running lexically m ([] ∷ outer) m.assignments.order bs o) where
     distinct : AreDistinct (map (λ a. a.number) m.assignments.all)
     distinct = distinct_front (map (λ a. a.number) m.assignments.all) _ resolved.distinct
 
-    finished : (frames : Frames) → o ≡ Gave frames → Run lexically m ([] ∷ outer) m.assignments.order bs (Gave frames)
-    finished frames e = subst (Run lexically m ([] ∷ outer) m.assignments.order bs) e run
+    finished : (frames : Frames) → o ≡ Gave frames → Running lexically m ([] ∷ outer) m.assignments.order bs (Gave frames)
+    finished frames e = subst (Running lexically m ([] ∷ outer) m.assignments.order bs) e run
 
     ends : EndsAsItsBlocks bs o
     ends = record {
@@ -76,4 +79,4 @@ module _ (m : Module) (outer : Frames) where
     }
 
 pub results_have_blocks : ResultsHaveBlocks
-results_have_blocks m outer bs o resolved run = ends m outer bs o resolved run
+results_have_blocks m outer es o resolved path = ends m outer (blocks_of es o) o resolved (by_blocks m outer m.assignments.order path)

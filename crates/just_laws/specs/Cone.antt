@@ -4,8 +4,9 @@ use Rattle.std.specs.Prelude.{if◌then◌else◌}
 use Rattle.just_syntax.specs.Plain.{Text, Token, Assignment}
 use Rattle.just_value.specs.Frames.{Frames, value_in}
 use Rattle.just_value.specs.Outcome.{Outcome, Gave, Stopped}
-use Rattle.just_host.specs.Interaction.{Event}
-use Rattle.just_meaning.specs.Module.{Module, Block, Run, events_of, lexically, IsResolvedModule}
+use Rattle.just_host.specs.Interaction.{Event, Path, freely}
+use Rattle.just_meaning.specs.Blocks.{Block, blocks_of, events_of}
+use Rattle.just_meaning.specs.Module.{Module, run, lexically, IsResolvedModule}
 use Rattle.just_meaning.specs.Reaches.{Reaches, Reads, function_at}
 use Rattle.just_soundness.specs.Laws.{AreAnsweredAlike, AreSame}
 use Rattle.just_laws.specs.Reordered.{IsTakenIn, reordered}
@@ -50,18 +51,20 @@ events_as bs (c ∷ cs) = events_for bs c.number ++ events_as bs cs
 -- Locality: an edit outside of what a variable reaches changes neither its value nor its questions.
 pub record BlocksAgree : Type 0 where
   -- two resolved modules in one outer scope, with the same fixed context and limit
-  pub blocks : (m w : Module) (outer : Frames) (bs cs : List Block) (o p : Outcome Frames)
+  pub blocks : (m w : Module) (outer : Frames) (es fs : List Event) (o p : Outcome Frames)
       → m.program.fixed ≡ w.program.fixed → m.limit ≡ w.limit → IsResolvedModule m outer → IsResolvedModule w outer
-      → Run lexically m ([] ∷ outer) m.assignments.order bs o → Run lexically w ([] ∷ outer) w.assignments.order cs p
-      → AreAnsweredAlike (events_of bs) (events_of cs)
-      → (b c : Block) → Contains bs b → Contains cs c → b.number ≡ c.number → HaveSameCone m w outer b.number
-      → b.outcome ≢ Stopped → c.outcome ≢ Stopped → (b.outcome ≡ c.outcome) × AreSame b.events c.events
+      → Path freely (run lexically m ([] ∷ outer) m.assignments.order) es o
+      → Path freely (run lexically w ([] ∷ outer) w.assignments.order) fs p → AreAnsweredAlike es fs
+      → (b c : Block) → Contains (blocks_of es o) b → Contains (blocks_of fs p) c → b.number ≡ c.number
+      → HaveSameCone m w outer b.number → b.outcome ≢ Stopped → c.outcome ≢ Stopped
+      → (b.outcome ≡ c.outcome) × AreSame b.events c.events
   -- One module in two orders. If one run finishes, and the other takes nothing else and is not stopped, then the other
   -- asks what the first asked for its variables, in its own order.
-  pub questions : (m : Module) (order : List Token) (referenced : ℕ → Bool) (outer : Frames) (bs cs : List Block)
+  pub questions : (m : Module) (order : List Token) (referenced : ℕ → Bool) (outer : Frames) (es fs : List Event)
       (frames : Frames) (p : Outcome Frames)
       → let w = reordered m order referenced in
       IsResolvedModule m outer → IsResolvedModule w outer
-      → Run lexically m ([] ∷ outer) m.assignments.order bs (Gave frames) → Run lexically w ([] ∷ outer) order cs p
-      → AreAnsweredAlike (events_of bs) (events_of cs)
-      → ((n : ℕ) → IsTakenIn w n → IsTakenIn m n) → p ≢ Stopped → AreSame (events_as bs cs) (events_of cs)
+      → Path freely (run lexically m ([] ∷ outer) m.assignments.order) es (Gave frames)
+      → Path freely (run lexically w ([] ∷ outer) order) fs p → AreAnsweredAlike es fs
+      → ((n : ℕ) → IsTakenIn w n → IsTakenIn m n) → p ≢ Stopped
+      → AreSame (events_as (blocks_of es (Gave frames)) (blocks_of fs p)) (events_of (blocks_of fs p))

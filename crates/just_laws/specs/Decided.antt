@@ -7,7 +7,7 @@ use Rattle.just_value.specs.Outcome.{Outcome, Stopped}
 use Rattle.just_host.specs.Interaction.{Event, Asked, Checked, Noted, Path, freely}
 use Rattle.just_meaning.specs.Line.{line}
 use Rattle.just_meaning.specs.Meaning.{Program, Situation, Deeper, eval}
-use Rattle.just_meaning.specs.Module.{Module, Block, Closing, Run, events_of}
+use Rattle.just_meaning.specs.Module.{Module, Closing, run}
 use Rattle.just_meaning.specs.Parameters.{Arguments, parameters}
 
 -- The events are equal to the end, where this holds, or the first difference is another answer to the same question or
@@ -37,7 +37,7 @@ pub record AnswersDecide : Type 0 where
       → Path freely (parameters (eval c d) s recipe ps arguments) es o
       → Path freely (parameters (eval c d) s recipe ps arguments) fs p → o ≢ Stopped → p ≢ Stopped
       → AgreeUpToAnswers es fs (o ≡ p)
-  pub runs : (closing : Closing) (m : Module) (frames : Frames) (names : List Token) (bs cs : List Block)
+  pub runs : (closing : Closing) (m : Module) (frames : Frames) (names : List Token) (es fs : List Event)
       (o p : Outcome Frames)
-      → Run closing m frames names bs o → Run closing m frames names cs p → o ≢ Stopped → p ≢ Stopped
-      → AgreeUpToAnswers (events_of bs) (events_of cs) (o ≡ p)
+      → Path freely (run closing m frames names) es o → Path freely (run closing m frames names) fs p → o ≢ Stopped
+      → p ≢ Stopped → AgreeUpToAnswers es fs (o ≡ p)

@@ -6,8 +6,9 @@ use Rattle.just_value.specs.Value.{Value}
 use Rattle.just_value.specs.Frames.{Bound, Frames, bound_at, own_frame, value_in}
 use Rattle.just_value.specs.Refusal.{Refusal, Const}
 use Rattle.just_value.specs.Outcome.{Outcome, Gave, Refused, Stopped}
-use Rattle.just_host.specs.Interaction.{Note, Read, Entered, Command, Event, Noted}
-use Rattle.just_meaning.specs.Module.{Module, Block, Run, lexically, IsResolvedModule}
+use Rattle.just_host.specs.Interaction.{Note, Read, Entered, Command, Event, Noted, Path, freely}
+use Rattle.just_meaning.specs.Blocks.{Block, blocks_of}
+use Rattle.just_meaning.specs.Module.{Module, run, lexically, IsResolvedModule}
 use Rattle.just_meaning.specs.Resolved.{IsResolvedConst}
 use Rattle.just_meaning.specs.Stage.{Constants, StageState, Found, at_start, stage, stage_found}
 
@@ -16,6 +17,7 @@ abbrev pub is_shut : (ℕ → Bool) → Note → Bool
 is_shut is_open (Read t n) = is_open n
 is_shut is_open (Entered t) = true
 is_shut is_open (Command t) = true
+is_shut is_open _ = false
 
 -- one of these is among the events
 abbrev pub ReachShut : (ℕ → Bool) → List Event → Type 0
@@ -80,9 +82,9 @@ pub record ConstAgrees : Type 0 where
       → whole_stage m lists outer ≡ Refused r → (f : Found) × Contains (whole_found m lists outer) f
       × (f.outcome ≡ Refused r)
   pub blocks : (m : Constants) (lists : Bool) (outer : Frames) (n : Module) (others : Frames) (names more : List Token)
-      (bs : List Block) (p : Outcome Frames)
+      (es : List Event) (p : Outcome Frames)
       → let fs = stage_found m (at_start lists outer) names in
       m.assignments.order ≡ names ++ more → AreOfOneModule m lists outer n others → IsResolvedConst m.assignments outer
-      → IsResolvedModule n others → Run lexically n ([] ∷ others) n.assignments.order bs p
-      → (f : Found) (b : Block) → Contains fs f → Contains bs b → f.number ≡ b.number → b.outcome ≢ Stopped
-      → Predicts (is_found_open fs) f.outcome b
+      → IsResolvedModule n others → Path freely (run lexically n ([] ∷ others) n.assignments.order) es p
+      → (f : Found) (b : Block) → Contains fs f → Contains (blocks_of es p) b → f.number ≡ b.number
+      → b.outcome ≢ Stopped → Predicts (is_found_open fs) f.outcome b

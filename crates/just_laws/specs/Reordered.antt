@@ -4,8 +4,10 @@ use Rattle.just_syntax.specs.Plain.{Token, Assignment}
 use Rattle.just_value.specs.Frames.{Bound, Frames, bound_at, own_frame}
 use Rattle.just_value.specs.Refusal.{Refusal}
 use Rattle.just_value.specs.Outcome.{Outcome, Gave, Refused, Stopped}
+use Rattle.just_host.specs.Interaction.{Event, Path, freely}
 use Rattle.just_meaning.specs.Assignments.{assignment_at}
-use Rattle.just_meaning.specs.Module.{Module, Block, Run, events_of, lexically, IsResolvedModule}
+use Rattle.just_meaning.specs.Blocks.{Block, blocks_of}
+use Rattle.just_meaning.specs.Module.{Module, run, lexically, IsResolvedModule}
 use Rattle.just_soundness.specs.Laws.{AreAnsweredAlike, AreSame}
 
 -- the module in another order, with other references
@@ -43,9 +45,10 @@ pub record Agree (m w : Module) (bs cs : List Block) (o p : Outcome Frames) : Ty
 -- Confluence of orders. Two resolved runs of one module in two orders, or with two sets of references, agree if
 -- whatever both ask, frames aside, is answered alike.
 abbrev pub OrdersAgree : Type 0
-OrdersAgree = (m : Module) (order : List Token) (referenced : ℕ → Bool) (outer : Frames) (bs cs : List Block)
+OrdersAgree = (m : Module) (order : List Token) (referenced : ℕ → Bool) (outer : Frames) (es fs : List Event)
     (o p : Outcome Frames)
     → let w = reordered m order referenced in
     IsResolvedModule m outer → IsResolvedModule w outer
-    → Run lexically m ([] ∷ outer) m.assignments.order bs o → Run lexically w ([] ∷ outer) order cs p
-    → AreAnsweredAlike (events_of bs) (events_of cs) → Agree m w bs cs o p
+    → Path freely (run lexically m ([] ∷ outer) m.assignments.order) es o
+    → Path freely (run lexically w ([] ∷ outer) order) fs p → AreAnsweredAlike es fs
+    → Agree m w (blocks_of es o) (blocks_of fs p) o p

@@ -3,7 +3,9 @@ use Rattle.std.specs.Prelude.{◌≡◌, ◌≢◌, ℕ, Contains, List, [], ◌
 use Rattle.just_value.specs.Frames.{Bound, Frames, bound_at, own_frame}
 use Rattle.just_value.specs.Refusal.{Refusal}
 use Rattle.just_value.specs.Outcome.{Outcome, Gave, Refused, Stopped}
-use Rattle.just_meaning.specs.Module.{Module, Block, Run, lexically, IsResolvedModule}
+use Rattle.just_host.specs.Interaction.{Event, Path, freely}
+use Rattle.just_meaning.specs.Blocks.{Block, blocks_of}
+use Rattle.just_meaning.specs.Module.{Module, run, lexically, IsResolvedModule}
 
 -- no block comes after this one
 abbrev pub IsLast : List Block → Block → Type 0
@@ -27,5 +29,5 @@ pub record EndsAsItsBlocks (bs : List Block) (o : Outcome Frames) : Type 0 where
 
 -- The end of a run of a resolved module agrees with its blocks.
 abbrev pub ResultsHaveBlocks : Type 0
-ResultsHaveBlocks = (m : Module) (outer : Frames) (bs : List Block) (o : Outcome Frames) → IsResolvedModule m outer
-    → Run lexically m ([] ∷ outer) m.assignments.order bs o → EndsAsItsBlocks bs o
+ResultsHaveBlocks = (m : Module) (outer : Frames) (es : List Event) (o : Outcome Frames) → IsResolvedModule m outer
+    → Path freely (run lexically m ([] ∷ outer) m.assignments.order) es o → EndsAsItsBlocks (blocks_of es o) o

@@ -12,6 +12,7 @@ abbrev pub constantly : (ℕ → Bool) → Rules
 constantly is_open (Read t n) = if is_open n then Some (Const (Variable t)) else None
 constantly is_open (Entered t) = Some (Const (FunctionCall t))
 constantly is_open (Command t) = Some (Const (Backtick t))
+constantly is_open _ = None
 
 abbrev pub unless_refused : {A : Type 0} → Option Refusal → Outcome A → Outcome A
 unless_refused (Some r) o = Refused r

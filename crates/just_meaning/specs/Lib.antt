@@ -8,6 +8,7 @@ pub mod Meaning
 pub mod Closings
 pub mod Constant
 pub mod Module
+pub mod Blocks
 pub mod Stage
 pub mod Settings
 pub mod Line

@@ -1,11 +1,13 @@
 -- What a run over a module's assignments means.
-use Rattle.std.specs.Prelude.{◌≡◌, ℕ, Bool, true, false, ◌||◌, ◌-◌, List, [], ◌∷◌, ◌++◌, map, Option, Some, None}
+use Rattle.std.specs.Prelude.{ℕ, Bool, false, ◌&&◌, ◌||◌, ◌-◌, not, List, [], ◌∷◌, map, Option, Some, None}
+use Rattle.std.specs.Prelude.{if◌then◌else◌}
+use Rattle.std.specs.Option.{is_some}
 use Rattle.just_syntax.specs.Plain.{Text, Token, Assignment, Expr, StringLiteral}
 use Rattle.just_value.specs.Value.{Value}
 use Rattle.just_value.specs.Frames.{Bound, Frames, innermost, value_in, bound_innermost}
-use Rattle.just_value.specs.Refusal.{Refusal, Internal}
-use Rattle.just_value.specs.Outcome.{Outcome, Gave, Refused, Stopped}
-use Rattle.just_host.specs.Interaction.{Event, Tree, gives, Path, Chain, freely, Step}
+use Rattle.just_value.specs.Refusal.{Internal}
+use Rattle.just_value.specs.Outcome.{Outcome}
+use Rattle.just_host.specs.Interaction.{Begins, Binds, Tree, bind, note, gives, refuses, Runs, freely, Step}
 use Rattle.just_meaning.specs.Assignments.{Assignments, assignment_at}
 use Rattle.just_meaning.specs.Messages.{unknown_assignment_text}
 use Rattle.just_meaning.specs.Meaning.{Program, Situation, Deeper, eval}
@@ -92,58 +94,30 @@ assigned closing m frames a =
     or_override (m.overrides a.number)
     (eval m.program (closing m frames) (situation_at m.program.fixed.settings.lists frames) a.value)
 
--- one assignment that was evaluated: its number, its events, and how it ended
-pub record Block : Type 0 where
-  pub number : ℕ
-  pub events : List Event
-  pub outcome : Outcome Value
+-- an assignment is taken if it is referenced and no frame binds its number
+abbrev pub is_taken : Module → Frames → Assignment → Bool
+is_taken m frames a = m.assignments.referenced a.number && not (is_some (innermost a.number frames))
 
-abbrev pub events_of : List Block → List Event
-events_of [] = []
-events_of (b ∷ bs) = b.events ++ events_of bs
+-- An assignment is evaluated, and its value is bound. Two notes mark where this begins and ends.
+abbrev pub evaluated : Closing → Module → Frames → Assignment → Tree Frames
+evaluated closing m frames a =
+    note (Begins a.number) (bind (assigned closing m frames a)
+    (λ v. note (Binds a.number v) (gives (bound_innermost frames (bound_in m a v)))))
 
--- the name is that of an assignment that is referenced and not bound
-pub record IsTaken (m : Module) (frames : Frames) (t : Token) (a : Assignment) : Type 0 where
-  pub found : assignment_at m.assignments t.lexeme ≡ Some a
-  pub referenced : m.assignments.referenced a.number ≡ true
-  pub unbound : innermost a.number frames ≡ None
+-- the turn of a name: that of no assignment is refused, and an assignment that is not taken changes nothing
+abbrev pub turn_of : Closing → Module → Frames → Token → Option Assignment → Tree Frames
+turn_of closing m frames t None = refuses (Internal (unknown_assignment_text t.lexeme) t)
+turn_of closing m frames t (Some a) = if is_taken m frames a then evaluated closing m frames a else gives frames
 
--- A run of the assignments with these names from these frames: a block for each one that is evaluated, and the frames
--- at the end. If memory runs out, it may stop at any point.
-pub data Run (closing : Closing) (m : Module) : Frames → List Token → List Block → Outcome Frames → Type 0 where
-  Finished : {frames : Frames} → Run closing m frames [] [] (Gave frames)
-  Stops : {frames : Frames} {left : List Token} → Run closing m frames left [] Stopped
-  -- there is no such assignment
-  Unknown : {frames : Frames} {t : Token} {left : List Token} → assignment_at m.assignments t.lexeme ≡ None
-      → Run closing m frames (t ∷ left) [] (Refused (Internal (unknown_assignment_text t.lexeme) t))
-  -- it is not referenced
-  Passes : {frames : Frames} {t : Token} {left : List Token} {bs : List Block} {o : Outcome Frames} → (a : Assignment)
-      → assignment_at m.assignments t.lexeme ≡ Some a → m.assignments.referenced a.number ≡ false
-      → Run closing m frames left bs o → Run closing m frames (t ∷ left) bs o
-  -- it is already bound
-  Skips : {frames : Frames} {t : Token} {left : List Token} {bs : List Block} {o : Outcome Frames}
-      → (a : Assignment) (b : Bound) → assignment_at m.assignments t.lexeme ≡ Some a → m.assignments.referenced a.number
-      ≡ true → innermost a.number frames ≡ Some b → Run closing m frames left bs o
-      → Run closing m frames (t ∷ left) bs o
-  -- its value is bound
-  Binds : {frames : Frames} {t : Token} {left : List Token} {bs : List Block} {o : Outcome Frames}
-      → (a : Assignment) (es : List Event) (v : Value) → IsTaken m frames t a
-      → Path freely (assigned closing m frames a) es (Gave v)
-      → Run closing m (bound_innermost frames (bound_of m.program.fixed.settings.export a v)) left bs o
-      → Run closing m frames (t ∷ left) (record { number = a.number; events = es; outcome = Gave v } ∷ bs) o
-  -- it is refused
-  Breaks : {frames : Frames} {t : Token} {left : List Token} → (a : Assignment) (es : List Event) (r : Refusal)
-      → IsTaken m frames t a → Path freely (assigned closing m frames a) es (Refused r)
-      → Run closing m frames (t ∷ left) (record { number = a.number; events = es; outcome = Refused r } ∷ [])
-      (Refused r)
-  -- it is stopped
-  Halts : {frames : Frames} {t : Token} {left : List Token} → (a : Assignment) (es : List Event) → IsTaken m frames t a
-      → Path freely (assigned closing m frames a) es Stopped
-      → Run closing m frames (t ∷ left) (record { number = a.number; events = es; outcome = Stopped } ∷ []) Stopped
+abbrev pub turn : Closing → Module → Frames → Token → Tree Frames
+turn closing m frames t = turn_of closing m frames t (assignment_at m.assignments t.lexeme)
 
--- Some blocks form a run to the outcome, and their questions take the host's state from `old` to `new`.
+-- a run of the assignments with these names from these frames: it gives the frames at the end
+abbrev pub run : Closing → Module → Frames → List Token → Tree Frames
+run closing m frames [] = gives frames
+run closing m frames (t ∷ left) = bind (turn closing m frames t) (λ next. run closing m next left)
+
+-- The run may behave like this: it comes to the outcome, and its questions take the host's state from `old` to `new`.
 pub record Ran {S : Type 0} (step : Step S) (old : S) (closing : Closing) (m : Module) (frames : Frames)
     (names : List Token) (outcome : Outcome Frames) (new : S) : Type 0 where
-  pub blocks : List Block
-  pub run : Run closing m frames names blocks outcome
-  pub chain : Chain step old (events_of blocks) new
+  pub runs : Runs freely step old (run closing m frames names) outcome new

@@ -1,20 +1,21 @@
 -- Evaluation reaches no more than what is listed: expressions, and runs over the assignments of a module.
-use Rattle.std.proofs.Common.{◌≡◌, ◌⊎◌, inl, inr, ⊎_elim, ◌-◌, Bool, true, false, cond, List, [], ◌∷◌, Option, Some, None, refl, subst, sym}
+use Rattle.std.proofs.Common.{◌≡◌, ◌⊎◌, inl, inr, ◌-◌, Bool, true, false, ◌&&◌, not, cond, if◌then◌else◌, List, [], ◌∷◌, Option, Some, None, refl, subst, sym}
+use Rattle.std.specs.Option.{is_some}
 use Rattle.std.specs.Str.{bytes_eq}
 use Rattle.just_syntax.specs.Plain.{Assignment, Expr, Text, Token}
 use Rattle.just_syntax.specs.Keyed.{value_at}
 use Rattle.just_syntax.specs.Lists.{IsIn}
-use Rattle.just_syntax.proofs.Lists.{in_append}
-use Rattle.just_value.specs.Frames.{Frames, value_in}
-use Rattle.just_value.specs.Outcome.{Gave, Outcome, Refused, Stopped}
+use Rattle.just_value.specs.Frames.{Bound, Frames, innermost, value_in}
+use Rattle.just_value.specs.Outcome.{Outcome}
 use Rattle.just_value.specs.Value.{Value}
-use Rattle.just_host.specs.Interaction.{Asked, Event, Path, freely}
+use Rattle.just_host.specs.Interaction as note
+use Rattle.just_host.specs.Interaction.{Asked, Event, Noted, Path, freely, gives}
 use Rattle.just_host.specs.Question.{Question}
 use Rattle.just_builtins.specs.Shape.{builtin_of}
 use Rattle.just_meaning.specs.Meaning.{Deeper, Program, Situation, eval}
-use Rattle.just_meaning.specs.Module.{Binds, Block, Breaks, Closing, Finished, Halts, IsTaken, Module, Passes, Run, Skips, Stops, Unknown, assigned}
-use Rattle.just_meaning.specs.Module.{dynamically, events_of, lexically, or_override, situation_at}
-use Rattle.just_reach.specs.Law.{ByBuiltIn, ByCommand, ComesFrom, Dynamically, IsScoped, Lexically, MayAsk, ReachesNoMore}
+use Rattle.just_meaning.specs.Assignments.{assignment_at}
+use Rattle.just_meaning.specs.Module.{Closing, Module, assigned, dynamically, evaluated, lexically, or_override, run, situation_at, turn, turn_of}
+use Rattle.just_reach.specs.Law.{ByBuiltIn, ByCommand, ComesFrom, ComesFromRun, Dynamically, IsScoped, Lexically, MayAsk, ReachesNoMore}
 use Rattle.just_reach.specs.Asking.{IsCommand, may_ask, may_run_command}
 use Rattle.just_reach.specs.Member.{PlainMember}
 use Rattle.just_reach.specs.Reached.{IsReached, IsReachedInRun}
@@ -22,7 +23,7 @@ use Rattle.just_reach.proofs.Asking.{IsAskedBy, IsQuestion, built_in_asks}
 use Rattle.just_reach.proofs.Recipe.{line_reaches, parameters_reach}
 use Rattle.just_reach.proofs.Covered.{scoped_covered}
 use Rattle.just_reach.proofs.Reaching.{closed, closed_in_run}
-use Rattle.just_reach.proofs.Within.{Within, within_path}
+use Rattle.just_reach.proofs.Within.{Within, within_alike, within_bind, within_path}
 
 expression_reaches : (c : Program) (d : Deeper) → IsScoped c d → (s : Situation) (e : Expr) (es : List Event) (o : Outcome Value)
     → Path freely (eval c d s e) es o → (x : Event) → IsIn es x → ComesFrom c s.environment (IsReached c.functions e) x
@@ -67,25 +68,39 @@ module _ (closing : Closing) (scoping : IsScoping closing) (m : Module) where
           (scoping m frames) (situation_at m.program.fixed.settings.lists frames) refl a.value
           (λ y occurs. record { assignment = a; among = among; referenced = referenced; reached = inl occurs })
 
-  block_comes : (frames : Frames) (t : Token) (a : Assignment) → IsTaken m frames t a → (es : List Event) (o : Outcome Value)
-      → Path freely (assigned closing m frames a) es o → (x : Event) → IsIn es x → Comes x
-  block_comes frames t a taken es o path x i =
-      within_path Comes path (value_covered frames a (assignment_in m.assignments.all t.lexeme a taken.found) taken.referenced) x i
+  -- the same with the marks
+  abbrev ComesOrMarks : Event → Type 0
+  ComesOrMarks = ComesFromRun m.program Reached
 
-  run_comes : {frames : Frames} {names : List Token} {bs : List Block} {o : Outcome Frames} → Run closing m frames names bs o → (x : Event)
-      → IsIn (events_of bs) x
-      → Comes x
-  run_comes Finished x i = absurd i
-  run_comes Stops x i = absurd i
-  run_comes (Unknown none) x i = absurd i
-  run_comes (Passes a found unreferenced rest) x i = run_comes rest x i
-  run_comes (Skips a b found referenced bound rest) x i = run_comes rest x i
-  run_comes (Binds {frames = frames} {t = t} {bs = bs} a es v taken path rest) x i =
-      ⊎_elim (λ k. block_comes frames t a taken es (Gave v) path x k) (λ k. run_comes rest x k) ((in_append es (events_of bs) x).0 i)
-  run_comes (Breaks {frames = frames} {t = t} a es r taken path) x i =
-      ⊎_elim (λ k. block_comes frames t a taken es (Refused r) path x k) (λ k. absurd k) ((in_append es [] x).0 i)
-  run_comes (Halts {frames = frames} {t = t} a es taken path) x i =
-      ⊎_elim (λ k. block_comes frames t a taken es Stopped path x k) (λ k. absurd k) ((in_append es [] x).0 i)
+  or_marks : (x : Event) → Comes x → ComesOrMarks x
+  or_marks (Noted (note.Begins n)) h = tt
+  or_marks (Noted (note.Binds n v)) h = tt
+  or_marks x h = h
+
+  evaluated_covered : (frames : Frames) (a : Assignment) → IsIn m.assignments.all a → m.assignments.referenced a.number ≡ true
+      → Within ComesOrMarks (evaluated closing m frames a)
+  evaluated_covered frames a among referenced = (
+    tt,
+    within_bind ComesOrMarks (assigned closing m frames a) _
+        (within_alike ComesOrMarks Comes or_marks (assigned closing m frames a) (value_covered frames a among referenced)) (λ v. (tt, tt)),
+  )
+
+  turn_covered : (frames : Frames) (t : Token) (x : Option Assignment) → assignment_at m.assignments t.lexeme ≡ x
+      → Within ComesOrMarks (turn_of closing m frames t x)
+  turn_covered frames t None found = tt
+  turn_covered frames t (Some a) found = by (m.assignments.referenced a.number) refl (innermost a.number frames)
+    where
+      by : (r : Bool) → m.assignments.referenced a.number ≡ r → (b : Option Bound)
+          → Within ComesOrMarks (if r && not (is_some b) then evaluated closing m frames a else gives frames)
+      by false e b = tt
+      by true e (Some b) = tt
+      by true e None = evaluated_covered frames a (assignment_in m.assignments.all t.lexeme a found) e
+
+  run_covered : (frames : Frames) (names : List Token) → Within ComesOrMarks (run closing m frames names)
+  run_covered frames [] = tt
+  run_covered frames (t ∷ left) =
+      within_bind ComesOrMarks (turn closing m frames t) _ (turn_covered frames t (assignment_at m.assignments t.lexeme) refl)
+      (λ next. run_covered next left)
 
 -- ---- questions
 
@@ -101,5 +116,7 @@ reaches_no_more = record {
   lines = line_reaches;
   parameters = parameters_reach;
   questions = λ c environment q m h. member_asks c environment q h;
-  runs = λ closing either m frames names bs o run x i. run_comes closing (is_scoping closing either) m run x i;
+  runs = λ closing either m frames names es o path x i.
+      within_path (ComesFromRun m.program (IsReachedInRun m.program.functions m.assignments.all m.assignments.referenced)) path
+      (run_covered closing (is_scoping closing either) m frames names) x i;
 }

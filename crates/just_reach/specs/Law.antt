@@ -13,7 +13,7 @@ use Rattle.just_meaning.specs.Closings.{dynamic, lexical}
 use Rattle.just_meaning.specs.Here.{attribute_expressions, parameter_expressions}
 use Rattle.just_meaning.specs.Line.{line, line_expressions}
 use Rattle.just_meaning.specs.Meaning.{Deeper, Program, Situation, built_in_call, eval}
-use Rattle.just_meaning.specs.Module.{Block, Closing, Module, Run, dynamically, events_of, lexically}
+use Rattle.just_meaning.specs.Module.{Closing, Module, run, dynamically, lexically}
 use Rattle.just_meaning.specs.Parameters.{Arguments, parameters}
 use Rattle.just_reach.specs.Asking.{IsCommand, may_ask, may_run_command}
 use Rattle.just_reach.specs.Member.{PlainMember, BuiltIn, Call, Command, Unknown, Variable}
@@ -58,6 +58,12 @@ abbrev pub ComesFromRecipe : Program → List Parameter → (PlainMember → Typ
 ComesFromRecipe c ps reached (Checked p v a) = IsIn ps p
 ComesFromRecipe c ps reached x = (environment : List (Text × Text)) × ComesFrom c environment reached x
 
+-- The same for a run, which also marks where each assignment begins and what it binds.
+abbrev pub ComesFromRun : Program → (PlainMember → Type 0) → Event → Type 0
+ComesFromRun c reached (Noted (note.Begins n)) = Unit {0}
+ComesFromRun c reached (Noted (note.Binds n v)) = Unit {0}
+ComesFromRun c reached x = ComesFrom c [] reached x
+
 -- what a call may still do, under lexical or under dynamic scope
 pub data IsScoped (c : Program) : Deeper → Type 0 where
   Lexically : (base : Names) (n : ℕ) → IsScoped c (lexical c base n)
@@ -79,8 +85,8 @@ pub record ReachesNoMore : Type 0 where
       → ComesFromRecipe c ps (IsReachedByOne c.functions (attribute_expressions recipe.attributes
       ++ parameter_expressions ps)) x
   pub runs : (closing : Closing) → (closing ≡ lexically) ⊎ (closing ≡ dynamically) → (m : Module) (frames : Frames)
-      (names : List Token) (bs : List Block) (o : Outcome Frames) → Run closing m frames names bs o → (x : Event)
-      → IsIn (events_of bs) x
-      → ComesFrom m.program [] (IsReachedInRun m.program.functions m.assignments.all m.assignments.referenced) x
+      (names : List Token) (es : List Event) (o : Outcome Frames) → Path freely (run closing m frames names) es o
+      → (x : Event) → IsIn es x
+      → ComesFromRun m.program (IsReachedInRun m.program.functions m.assignments.all m.assignments.referenced) x
   pub questions : (c : Program) (environment : List (Text × Text)) (q : Question) (m : PlainMember)
       → MayAsk c environment q m → (may_ask m ≡ true) × (IsCommand q.blind → may_run_command m ≡ true)

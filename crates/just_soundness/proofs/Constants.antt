@@ -105,6 +105,7 @@ shut_such P const is_open (Read t n) s e = by (is_open n) e
     by false e = absurd (cc)
 shut_such P const is_open (Entered t) s e = subst (OfSome P) e (const (constants.FunctionCall t))
 shut_such P const is_open (Command t) s e = subst (OfSome P) e (const (constants.Backtick t))
+shut_such P const is_open _ s e = absurd (cc)
 
 named_alike : (is_open : ℕ → Bool) (t : Token) (o : Option Value) → AllConst IsConstEval is_open (done (named t o))
 named_alike is_open t None = tt

@@ -4,14 +4,16 @@ use Rattle.just_syntax.specs.Plain.{Text, Token, Function, Expr}
 use Rattle.just_value.specs.Value.{Value}
 use Rattle.just_value.specs.Frames.{Frames, value_in}
 use Rattle.just_value.specs.Outcome.{Outcome}
-use Rattle.just_host.specs.Interaction.{Tree}
+use Rattle.just_host.specs.Interaction.{Event, Path, Tree, freely}
 use Rattle.just_meaning.specs.Callee.{Callee, Defined, BuiltIn, LeftOut, Unknown, accepts, callee}
 use Rattle.just_meaning.specs.Closings.{dynamic, inside}
 use Rattle.just_meaning.specs.Internal.{IfRefused, IsFinal}
 use Rattle.just_meaning.specs.Meaning.{Program, Situation, Deeper, AtLimit, WithinLimit, Row, as_it_is, called, eval, named}
-use Rattle.just_meaning.specs.Module.{Module, Block, Run, Finished, Stops, Unknown as NoAssignment, Passes, Skips, Binds, Breaks, Halts, assigned, dynamically}
+use Rattle.just_meaning.specs.Blocks.{Block}
+use Rattle.just_meaning.specs.Module.{Module, assigned, dynamically, run}
 use Rattle.just_meaning.specs.Reaches.{Mention, VariableOf, CallOf}
 use Rattle.just_soundness.proofs.Ends.{ends_path}
+use Rattle.just_soundness.proofs.Running.{Running, Finished, Stops, Unknown as NoAssignment, Passes, Skips, Binds, Breaks, Halts, by_rules}
 use Rattle.just_soundness.proofs.Refused.{AllRefused, Fits, IsRowRefused, Permits, refused_bind, refused_built_in, refused_eval, refused_if, refused_override}
 
 -- no outcome of the tree is a refusal of the const rules
@@ -61,16 +63,20 @@ pub final_dynamic : (c : Program) (n : ℕ) → IsFinalDeeper (dynamic c n)
 final_dynamic c zero = tt
 final_dynamic c (suc n) = λ f s vs. final_eval c (inside (value_in s.below) s f vs) (dynamic c n) (final_dynamic c n) f.body
 
--- a run under dynamic scope, of any module
-pub run_is_final : (m : Module) {frames : Frames} {left : List Token} {bs : List Block} {o : Outcome Frames} → Run dynamically m frames left bs o
-    → IfRefused IsFinal o
-run_is_final m Finished = tt
-run_is_final m Stops = tt
-run_is_final m (NoAssignment f) = tt
-run_is_final m (Passes a f e r) = run_is_final m r
-run_is_final m (Skips a b f e g r) = run_is_final m r
-run_is_final m (Binds a es v k p r) = run_is_final m r
-run_is_final m {frames = frames} (Breaks a es s k p) =
-    ends_path (IfRefused IsFinal) tt (assigned dynamically m frames a)
-    (refused_override IsFinal (m.overrides a.number) _ (final_eval m.program _ (dynamically m frames) (final_dynamic m.program (m.limit - 1)) a.value)) p
-run_is_final m (Halts a es k p) = tt
+module _ (m : Module) where
+  rules_final : {frames : Frames} {left : List Token} {bs : List Block} {o : Outcome Frames} → Running dynamically m frames left bs o → IfRefused IsFinal o
+  rules_final Finished = tt
+  rules_final Stops = tt
+  rules_final (NoAssignment f) = tt
+  rules_final (Passes a f e r) = rules_final r
+  rules_final (Skips a b f e g r) = rules_final r
+  rules_final (Binds a es v k p r) = rules_final r
+  rules_final {frames = frames} (Breaks a es s k p) =
+      ends_path (IfRefused IsFinal) tt (assigned dynamically m frames a)
+      (refused_override IsFinal (m.overrides a.number) _ (final_eval m.program _ (dynamically m frames) (final_dynamic m.program (m.limit - 1)) a.value)) p
+  rules_final (Halts a es k p) = tt
+
+  -- a run under dynamic scope, of any module
+  pub run_is_final : (frames : Frames) (names : List Token) {es : List Event} {o : Outcome Frames} → Path freely (run dynamically m frames names) es o
+      → IfRefused IsFinal o
+  run_is_final frames names path = rules_final (by_rules dynamically m frames names path).rules

@@ -17,12 +17,13 @@ use Rattle.just_meaning.specs.Resolved.{IsKnown, AllKnown, HasValue, AreAssignme
 use Rattle.just_meaning.specs.Messages.{miscounted_text}
 use Rattle.just_meaning.specs.Meaning.{Program, Situation, Deeper, AtLimit, WithinLimit, Row, as_it_is, built_in_call, called, eval, named, texts_of}
 use Rattle.just_meaning.specs.Closings.{inside, lexical}
-use Rattle.just_meaning.specs.Module.{Module, Block, Run, Finished, Stops, Unknown, Passes, Skips, Binds, Breaks, Halts, assigned, lexically, situation_at}
-use Rattle.just_meaning.specs.Module.{IsResolvedModule, bound_in}
+use Rattle.just_meaning.specs.Blocks.{Block}
+use Rattle.just_meaning.specs.Module.{IsResolvedModule, Module, assigned, bound_in, lexically, situation_at}
 use Rattle.just_meaning.specs.Internal.{IsNotInternal}
 use Rattle.just_meaning.proofs.Callees.{callable}
 use Rattle.just_soundness.proofs.Ends.{AllEnd, HasCount, ends_path}
 use Rattle.just_soundness.proofs.Bound.{bound_value}
+use Rattle.just_soundness.proofs.Running.{Running, Finished, Stops, Unknown, Passes, Skips, Binds, Breaks, Halts}
 use Rattle.just_soundness.proofs.ConstInternal.{IsOther}
 use Rattle.just_soundness.proofs.Overlays.{parameters_have}
 use Rattle.just_soundness.proofs.Taken.{AllHave, have_more, have_put, none_taken, order_on}
@@ -151,7 +152,8 @@ module _ (m : Module) (outer : Frames) (resolved : IsResolvedModule m outer) whe
       (λ n h. have n (reads n (inl h))) (λ n h. have n (reads n (inr h))))
 
   run_not : (frame : Frame) (taken : List ℕ) {left : List Token} {bs : List Block} {o : Outcome Frames} → AreAssignments m.assignments left
-      → AreInOrder m.program.functions m.assignments outer taken left → AllHave outer frame taken → Run lexically m (frame ∷ outer) left bs o → IsNotInternal o
+      → AreInOrder m.program.functions m.assignments outer taken left → AllHave outer frame taken → Running lexically m (frame ∷ outer) left bs o
+      → IsNotInternal o
   run_not frame taken named h have Finished = tt
   run_not frame taken named h have Stops = tt
   run_not frame taken named h have (Unknown f) = let some = named.0.1 in absurd (cc)
@@ -171,6 +173,6 @@ module _ (m : Module) (outer : Frames) (resolved : IsResolvedModule m outer) whe
 
 -- a run of a resolved module is not refused as Internal
 pub lexical_run_is_never_internal : (m : Module) (outer : Frames) (bs : List Block) (o : Outcome Frames) → IsResolvedModule m outer
-    → Run lexically m ([] ∷ outer) m.assignments.order bs o → IsNotInternal o
+    → Running lexically m ([] ∷ outer) m.assignments.order bs o → IsNotInternal o
 lexical_run_is_never_internal m outer bs o resolved r =
     run_not m outer resolved [] [] resolved.named resolved.in_order (none_taken (HasValue (value_in ([] ∷ outer))) outer (λ n has. has)) r

@@ -20,11 +20,12 @@ use Rattle.just_meaning.specs.Resolved.{IsResolved, AreInOrder, parameter_number
 use Rattle.just_meaning.specs.Messages.{miscounted_text}
 use Rattle.just_meaning.specs.Meaning.{Program, Situation, Deeper, Row, as_it_is, called, eval, eval_row, named, variable}
 use Rattle.just_meaning.specs.Closings.{lexical, dynamic, inside}
-use Rattle.just_meaning.specs.Module.{IsResolvedModule, Module, Block, Run, Finished, Stops, Unknown, Passes, Skips, Binds, Breaks, Halts}
-use Rattle.just_meaning.specs.Module.{assigned, dynamically, lexically, or_override, situation_at}
+use Rattle.just_meaning.specs.Blocks.{Block}
+use Rattle.just_meaning.specs.Module.{IsResolvedModule, Module, assigned, dynamically, lexically, or_override, situation_at}
 use Rattle.just_soundness.proofs.Ends.{AllEnd, HasCount, row_counts, ends_same}
 use Rattle.just_soundness.proofs.Forms.{AreRowsRelated, equality, related_eval}
 use Rattle.just_soundness.proofs.Overlays.{parameters_other, parameters_same}
+use Rattle.just_soundness.proofs.Running.{Running, Finished, Stops, Unknown, Passes, Skips, Binds, Breaks, Halts}
 use Rattle.just_meaning.proofs.Reached.{reaches_on}
 use Rattle.just_soundness.proofs.Reached.{among_all, apart_numbers, taken_assigned}
 
@@ -172,7 +173,7 @@ module _ (m : Module) where
       ap (or_override (m.overrides a.number)) (dynamic_is_lexical m.program _ (situation_at m.program.fixed.settings.lists frames) a.value apart)
 
   pub run_lexical : {frames : Frames} {left : List Token} {bs : List Block} {o : Outcome Frames} → AreApart m.program.functions m.assignments left
-      → Run dynamically m frames left bs o → Run lexically m frames left bs o
+      → Running dynamically m frames left bs o → Running lexically m frames left bs o
   run_lexical h Finished = Finished
   run_lexical h Stops = Stops
   run_lexical h (Unknown f) = Unknown f
@@ -187,6 +188,6 @@ module _ (m : Module) where
 
 -- a run of a resolved module under dynamic scope is one under lexical scope
 pub dynamic_run_is_lexical : (m : Module) (outer : Frames) (bs : List Block) (o : Outcome Frames) → IsResolvedModule m outer
-    → Run dynamically m ([] ∷ outer) m.assignments.order bs o → Run lexically m ([] ∷ outer) m.assignments.order bs o
+    → Running dynamically m ([] ∷ outer) m.assignments.order bs o → Running lexically m ([] ∷ outer) m.assignments.order bs o
 dynamic_run_is_lexical m outer bs o resolved r =
     run_lexical m (are_apart m.program.functions m.assignments outer resolved [] m.assignments.order (λ n none. absurd none) resolved.in_order) r

@@ -3,6 +3,8 @@ pub mod Forms
 pub mod Refused
 pub mod Bound
 pub mod Taken
+pub mod Running
+pub mod Marks
 pub mod Ready
 pub mod Overlays
 pub mod Reached

@@ -8,12 +8,13 @@ use Rattle.just_value.specs.Value.{Value}
 use Rattle.just_host.specs.Interaction.{Event, Path, freely}
 use Rattle.just_meaning.specs.Assignments.{assignment_at}
 use Rattle.just_meaning.specs.Meaning.{Deeper, Program, Situation, eval}
-use Rattle.just_meaning.specs.Module.{Module, Block, Closing, IsTaken, Run, Finished, Stops, Unknown, Passes, Skips, Binds, Breaks, Halts, assigned, bound_of}
-use Rattle.just_meaning.specs.Module.{dynamically, lexically, or_override, overridden, with_override, with_overrides}
+use Rattle.just_meaning.specs.Blocks.{Block}
+use Rattle.just_meaning.specs.Module.{Closing, Module, assigned, bound_in, dynamically, lexically, or_override, overridden, with_override, with_overrides}
 use Rattle.just_meaning.proofs.Overridden.{found_after, found_before}
 use Rattle.just_soundness.specs.Laws.{PendingCallsDoNotMatter, ResolvedIsNeverInternal}
 use Rattle.just_soundness.proofs.Internal.{lexical_run_is_never_internal}
 use Rattle.just_soundness.proofs.Lexical.{dynamic_run_is_lexical}
+use Rattle.just_soundness.proofs.Running.{IsTaken, Running, Finished, Stops, Unknown, Passes, Skips, Binds, Breaks, Halts, by_rules, traces_on}
 
 -- the module with literals in place of what is overridden
 abbrev pub with_literals : Module → Module
@@ -49,8 +50,8 @@ module _ (closing : Closing) (m : Module) (same : (frames : Frames) → closing 
 
   -- ---- from the module to literals
 
-  pub to_literals : {frames : Frames} {left : List Token} {bs : List Block} {o : Outcome Frames} → Run closing m frames left bs o
-      → Run closing n frames left bs o
+  pub to_literals : {frames : Frames} {left : List Token} {bs : List Block} {o : Outcome Frames} → Running closing m frames left bs o
+      → Running closing n frames left bs o
   to_literals Finished = Finished
   to_literals Stops = Stops
   to_literals {left = t ∷ left} (Unknown f) = Unknown (after t None f)
@@ -67,7 +68,7 @@ module _ (closing : Closing) (m : Module) (same : (frames : Frames) → closing 
 
   module _ (frames : Frames) (t : Token) (left : List Token) where
     passes : (a b : Assignment) {bs : List Block} {o : Outcome Frames} → assignment_at m.assignments t.lexeme ≡ Some a → literal a ≡ b
-        → m.assignments.referenced b.number ≡ false → Run closing m frames left bs o → Run closing m frames (t ∷ left) bs o
+        → m.assignments.referenced b.number ≡ false → Running closing m frames left bs o → Running closing m frames (t ∷ left) bs o
     passes a b f is e r = Passes a f (ap (λ (c : Assignment). m.assignments.referenced c.number) is ∙ e) r
 
     taken_before : (a b : Assignment) → assignment_at m.assignments t.lexeme ≡ Some a → literal a ≡ b → IsTaken n frames t b → IsTaken m frames t a
@@ -84,33 +85,33 @@ module _ (closing : Closing) (m : Module) (same : (frames : Frames) → closing 
 
     binds : (a b : Assignment) (es : List Event) (v : Value) {bs : List Block} {o : Outcome Frames} → assignment_at m.assignments t.lexeme ≡ Some a
         → literal a ≡ b → IsTaken n frames t b → Path freely (assigned closing n frames b) es (Gave v)
-        → Run closing m (bound_innermost frames (bound_of m.program.fixed.settings.export b v)) left bs o
-        → Run closing m frames (t ∷ left) (record { number = b.number; events = es; outcome = Gave v } ∷ bs) o
+        → Running closing m (bound_innermost frames (bound_in m b v)) left bs o
+        → Running closing m frames (t ∷ left) (record { number = b.number; events = es; outcome = Gave v } ∷ bs) o
     binds a b es v {bs} {o} f is taken p r =
-        subst (λ (c : Assignment). Run closing m frames (t ∷ left) (record { number = c.number; events = es; outcome = Gave v } ∷ bs) o) is
+        subst (λ (c : Assignment). Running closing m frames (t ∷ left) (record { number = c.number; events = es; outcome = Gave v } ∷ bs) o) is
         (Binds a es v (taken_before a b f is taken) (path_before a b is p)
-        (subst (λ (c : Assignment). Run closing m (bound_innermost frames (bound_of m.program.fixed.settings.export c v)) left bs o) (sym is) r))
+        (subst (λ (c : Assignment). Running closing m (bound_innermost frames (bound_in m c v)) left bs o) (sym is) r))
 
     breaks : (a b : Assignment) (es : List Event) (s : Refusal) → assignment_at m.assignments t.lexeme ≡ Some a → literal a ≡ b → IsTaken n frames t b
         → Path freely (assigned closing n frames b) es (Refused s)
-        → Run closing m frames (t ∷ left) (record { number = b.number; events = es; outcome = Refused s } ∷ []) (Refused s)
+        → Running closing m frames (t ∷ left) (record { number = b.number; events = es; outcome = Refused s } ∷ []) (Refused s)
     breaks a b es s f is taken p =
-        subst (λ (c : Assignment). Run closing m frames (t ∷ left) (record { number = c.number; events = es; outcome = Refused s } ∷ []) (Refused s)) is
+        subst (λ (c : Assignment). Running closing m frames (t ∷ left) (record { number = c.number; events = es; outcome = Refused s } ∷ []) (Refused s)) is
         (Breaks a es s (taken_before a b f is taken) (path_before a b is p))
 
     halts : (a b : Assignment) (es : List Event) → assignment_at m.assignments t.lexeme ≡ Some a → literal a ≡ b → IsTaken n frames t b
         → Path freely (assigned closing n frames b) es Stopped
-        → Run closing m frames (t ∷ left) (record { number = b.number; events = es; outcome = Stopped } ∷ []) Stopped
+        → Running closing m frames (t ∷ left) (record { number = b.number; events = es; outcome = Stopped } ∷ []) Stopped
     halts a b es f is taken p =
-        subst (λ (c : Assignment). Run closing m frames (t ∷ left) (record { number = c.number; events = es; outcome = Stopped } ∷ []) Stopped) is
+        subst (λ (c : Assignment). Running closing m frames (t ∷ left) (record { number = c.number; events = es; outcome = Stopped } ∷ []) Stopped) is
         (Halts a es (taken_before a b f is taken) (path_before a b is p))
 
     unknown : (o : Option Assignment) → assignment_at m.assignments t.lexeme ≡ o → option_map literal o ≡ None → assignment_at m.assignments t.lexeme ≡ None
     unknown None f none = f
     unknown (Some a) f none = absurd (let bad : Some (literal a) ≡ None = none in cc)
 
-  pub from_literals : {frames : Frames} {left : List Token} {bs : List Block} {o : Outcome Frames} → Run closing n frames left bs o
-      → Run closing m frames left bs o
+  pub from_literals : {frames : Frames} {left : List Token} {bs : List Block} {o : Outcome Frames} → Running closing n frames left bs o
+      → Running closing m frames left bs o
   from_literals Finished = Finished
   from_literals Stops = Stops
   from_literals {frames = frames} {left = t ∷ left} (Unknown f) =
@@ -129,9 +130,12 @@ module _ (closing : Closing) (m : Module) (same : (frames : Frames) → closing 
       let a = before t b taken.found in halts frames t left a.0 b es a.1 a.2 taken p
 
 pub pending_calls_do_not_matter : PendingCallsDoNotMatter
-pending_calls_do_not_matter m outer bs o resolved r = from_literals lexically m (λ frames. refl)
-    (dynamic_run_is_lexical (with_literals m) outer bs o resolved (to_literals dynamically m (λ frames. refl) r))
+pending_calls_do_not_matter m outer es o resolved path = traces_on dynamically lexically m m ([] ∷ outer) m.assignments.order
+    (λ bs r. from_literals lexically m (λ frames. refl)
+    (dynamic_run_is_lexical (with_literals m) outer bs o resolved (to_literals dynamically m (λ frames. refl) r)))
+    path
 
 pub resolved_is_never_internal : ResolvedIsNeverInternal
-resolved_is_never_internal m outer bs o resolved r =
-    lexical_run_is_never_internal (with_literals m) outer bs o resolved (to_literals lexically m (λ frames. refl) r)
+resolved_is_never_internal m outer es o resolved path =
+    let k = by_rules lexically m ([] ∷ outer) m.assignments.order path in
+    lexical_run_is_never_internal (with_literals m) outer k.blocks o resolved (to_literals lexically m (λ frames. refl) k.rules)

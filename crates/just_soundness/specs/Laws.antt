@@ -9,7 +9,7 @@ use Rattle.just_host.specs.Interaction.{Event, Asked, Checked, Noted, Path, free
 use Rattle.just_meaning.specs.Meaning.{Program, Situation, eval}
 use Rattle.just_meaning.specs.Closings.{lexical}
 use Rattle.just_meaning.specs.Internal.{IsNotInternal}
-use Rattle.just_meaning.specs.Module.{Module, Block, Run, dynamically, lexically, IsResolvedRun}
+use Rattle.just_meaning.specs.Module.{Module, run, dynamically, lexically, IsResolvedRun}
 
 -- ---- questions and answers, frames aside
 
@@ -54,13 +54,13 @@ FramesDoNotMatter = (c : Program) (base : Names) (calls : ℕ) (s : Situation) (
 
 -- ---- runs of resolved modules, whatever the expressions of overridden assignments read
 
--- Soundness of lexical scoping: a run under dynamic scope is a run under lexical scope.
+-- Soundness of lexical scoping: a trace of a run under dynamic scope is one of the run under lexical scope.
 abbrev pub PendingCallsDoNotMatter : Type 0
-PendingCallsDoNotMatter = (m : Module) (outer : Frames) (bs : List Block) (o : Outcome Frames)
-    → IsResolvedRun m outer → Run dynamically m ([] ∷ outer) m.assignments.order bs o
-    → Run lexically m ([] ∷ outer) m.assignments.order bs o
+PendingCallsDoNotMatter = (m : Module) (outer : Frames) (es : List Event) (o : Outcome Frames)
+    → IsResolvedRun m outer → Path freely (run dynamically m ([] ∷ outer) m.assignments.order) es o
+    → Path freely (run lexically m ([] ∷ outer) m.assignments.order) es o
 
 -- Progress: a run meets none of the refusals that only an unresolved module meets.
 abbrev pub ResolvedIsNeverInternal : Type 0
-ResolvedIsNeverInternal = (m : Module) (outer : Frames) (bs : List Block) (o : Outcome Frames)
-    → IsResolvedRun m outer → Run lexically m ([] ∷ outer) m.assignments.order bs o → IsNotInternal o
+ResolvedIsNeverInternal = (m : Module) (outer : Frames) (es : List Event) (o : Outcome Frames)
+    → IsResolvedRun m outer → Path freely (run lexically m ([] ∷ outer) m.assignments.order) es o → IsNotInternal o

@@ -10,7 +10,7 @@ returns-in_ok-first_binding-in-Ok g c =
     let own = frames_view c.in-Ok.bound in (
       Gave own,
       c.in-Ok.ensures.dynamic,
-      ap Gave (c.in_ok-first_binding-in-Ok.ensures ∙ first_given (frames_view c.args.scope.now) own c.in-Ok.ensures.dynamic.run),
+      ap Gave (c.in_ok-first_binding-in-Ok.ensures ∙ first_given (frames_view c.args.scope.now) own c.in-Ok.ensures.dynamic),
     )
 
 pub returns-in-Err : goal.returns-in-Err

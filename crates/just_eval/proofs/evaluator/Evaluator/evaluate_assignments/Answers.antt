@@ -1,7 +1,5 @@
 use Rattle.just_eval.specs.Prelude.{frames_view}
-use Rattle.just_soundness.proofs.Final.{run_is_final}
-use Rattle.just_soundness.proofs.Overridden.{resolved_is_never_internal}
-use Rattle.just_eval.proofs.Module.{ran_lexical}
+use Rattle.just_eval.proofs.Module.{ran_final, ran_lexical, ran_never_internal}
 use Rattle.just_eval.proofs.evaluator.Evaluator.evaluate_assignments.Goals as goal
 
 pub returns-clause-headline : goal.returns-clause-headline
@@ -10,10 +8,10 @@ returns-clause-headline g c = λ resolved. ran_lexical _ (frames_view c.args.par
 pub returns-clause-never_internal : goal.returns-clause-never_internal
 returns-clause-never_internal g c = λ resolved.
     let outer = frames_view c.args.parent.now in
-    resolved_is_never_internal _ outer _ _ resolved (ran_lexical _ outer _ resolved (rw c.deref.ensures.value at c.run.ensures)).run
+    ran_never_internal _ outer _ resolved (ran_lexical _ outer _ resolved (rw c.deref.ensures.value at c.run.ensures))
 
 pub returns-clause-never_const : goal.returns-clause-never_const
-returns-clause-never_const g c = run_is_final _ c.run.ensures.run
+returns-clause-never_const g c = ran_final c.run.ensures
 
 pub returns-clause-dynamic : goal.returns-clause-dynamic
 returns-clause-dynamic g c = rw c.deref.ensures.value at c.run.ensures

@@ -1,0 +1,233 @@
+-- A run by rules, one name after another: the traces of a run are exactly what follows these rules.
+use Rattle.std.proofs.Common.{◌≡◌, ℕ, Bool, true, false, ◌&&◌, not, List, [], ◌∷◌, ◌++◌, Option, Some, None, if◌then◌else◌, refl, sym, ap, subst}
+use Rattle.std.proofs.lemmas.List.{append-nil}
+use Rattle.std.specs.Option.{is_some}
+use Rattle.just_syntax.specs.Plain.{Token, Assignment, Parameter}
+use Rattle.just_value.specs.Value.{Value}
+use Rattle.just_value.specs.Frames.{Bound, Frames, bound_innermost, innermost}
+use Rattle.just_value.specs.Refusal.{Refusal, Internal}
+use Rattle.just_value.specs.Outcome.{Outcome, Gave, Refused, Stopped}
+use Rattle.just_host.specs.Interaction.{Asked, Begins, Checked, Event, Note, Noted, Path, Ends, Asks, Notes, Checks, Shuts, Tree, Verdict, ask, bind, check}
+use Rattle.just_host.specs.Interaction.{done, freely, gives, note}
+use Rattle.just_host.specs.Question.{Answer, Question}
+use Rattle.just_host.specs.Interaction as interaction
+use Rattle.just_host.proofs.Paths.{path_ends}
+use Rattle.just_meaning.specs.Assignments.{assignment_at}
+use Rattle.just_meaning.specs.Blocks.{Block}
+use Rattle.just_meaning.specs.Messages.{unknown_assignment_text}
+use Rattle.just_meaning.specs.Module.{Module, Closing, assigned, bound_in, evaluated, is_taken, run, turn_of}
+
+-- the name is that of an assignment that is referenced and not bound
+pub record IsTaken (m : Module) (frames : Frames) (t : Token) (a : Assignment) : Type 0 where
+  pub found : assignment_at m.assignments t.lexeme ≡ Some a
+  pub referenced : m.assignments.referenced a.number ≡ true
+  pub unbound : innermost a.number frames ≡ None
+
+-- A run of the assignments with these names from these frames: a block for each one that is evaluated, and the frames
+-- at the end. If memory runs out, it may stop at any point.
+pub data Running (closing : Closing) (m : Module) : Frames → List Token → List Block → Outcome Frames → Type 0 where
+  Finished : {frames : Frames} → Running closing m frames [] [] (Gave frames)
+  Stops : {frames : Frames} {left : List Token} → Running closing m frames left [] Stopped
+  -- there is no such assignment
+  Unknown : {frames : Frames} {t : Token} {left : List Token} → assignment_at m.assignments t.lexeme ≡ None
+      → Running closing m frames (t ∷ left) [] (Refused (Internal (unknown_assignment_text t.lexeme) t))
+  -- it is not referenced
+  Passes : {frames : Frames} {t : Token} {left : List Token} {bs : List Block} {o : Outcome Frames} → (a : Assignment)
+      → assignment_at m.assignments t.lexeme ≡ Some a → m.assignments.referenced a.number ≡ false
+      → Running closing m frames left bs o → Running closing m frames (t ∷ left) bs o
+  -- it is already bound
+  Skips : {frames : Frames} {t : Token} {left : List Token} {bs : List Block} {o : Outcome Frames} → (a : Assignment) (b : Bound)
+      → assignment_at m.assignments t.lexeme ≡ Some a → m.assignments.referenced a.number ≡ true → innermost a.number frames ≡ Some b
+      → Running closing m frames left bs o → Running closing m frames (t ∷ left) bs o
+  -- its value is bound
+  Binds : {frames : Frames} {t : Token} {left : List Token} {bs : List Block} {o : Outcome Frames}
+      → (a : Assignment) (es : List Event) (v : Value) → IsTaken m frames t a → Path freely (assigned closing m frames a) es (Gave v)
+      → Running closing m (bound_innermost frames (bound_in m a v)) left bs o
+      → Running closing m frames (t ∷ left) (record { number = a.number; events = es; outcome = Gave v } ∷ bs) o
+  -- it is refused
+  Breaks : {frames : Frames} {t : Token} {left : List Token} → (a : Assignment) (es : List Event) (r : Refusal)
+      → IsTaken m frames t a → Path freely (assigned closing m frames a) es (Refused r)
+      → Running closing m frames (t ∷ left) (record { number = a.number; events = es; outcome = Refused r } ∷ []) (Refused r)
+  -- it is stopped
+  Halts : {frames : Frames} {t : Token} {left : List Token} → (a : Assignment) (es : List Event) → IsTaken m frames t a
+      → Path freely (assigned closing m frames a) es Stopped
+      → Running closing m frames (t ∷ left) (record { number = a.number; events = es; outcome = Stopped } ∷ []) Stopped
+
+-- ---- blocks with their marks
+
+-- the mark at the end of a block, if it has a value
+abbrev end_mark : ℕ → Outcome Value → List Event
+end_mark n (Gave v) = Noted (interaction.Binds n v) ∷ []
+end_mark n (Refused r) = []
+end_mark n Stopped = []
+
+-- the events of blocks, with the marks
+abbrev pub marked : List Block → List Event
+marked [] = []
+marked (b ∷ bs) = Noted (Begins b.number) ∷ (b.events ++ (end_mark b.number b.outcome ++ marked bs))
+
+-- ---- one assignment
+
+-- a value is bound, and then the run goes on
+abbrev valued : ℕ → (Value → Frames) → (Frames → Tree Frames) → Tree Value → Tree Frames
+valued n after go t = bind (bind t (λ v. note (interaction.Binds n v) (gives (after v)))) go
+
+-- A trace of this is a trace to no value, or one to a value, with its mark and a trace of what follows.
+data Valued (n : ℕ) (after : Value → Frames) (go : Frames → Tree Frames) (t : Tree Value) : List Event → Outcome Frames → Type 0 where
+  Broken : {es : List Event} → (r : Refusal) → Path freely t es (Refused r) → Valued n after go t es (Refused r)
+  Halted : {es : List Event} → Path freely t es Stopped → Valued n after go t es Stopped
+  Made : {es fs : List Event} {o : Outcome Frames} → (v : Value) → Path freely t es (Gave v) → Path freely (go (after v)) fs o
+      → Valued n after go t (es ++ (Noted (interaction.Binds n v) ∷ fs)) o
+
+module _ (n : ℕ) (after : Value → Frames) (go : Frames → Tree Frames) where
+  valued_ask : (q : Question) (next : Answer → Tree Value) (a : Answer) {es : List Event} {o : Outcome Frames} → Valued n after go (next a) es o
+      → Valued n after go (ask q next) (Asked q a ∷ es) o
+  valued_ask q next a (Broken r p) = Broken r (Asks p)
+  valued_ask q next a (Halted p) = Halted (Asks p)
+  valued_ask q next a (Made v p k) = Made v (Asks p) k
+
+  valued_note : (x : Note) (rest : Tree Value) {es : List Event} {o : Outcome Frames} → Valued n after go rest es o
+      → Valued n after go (note x rest) (Noted x ∷ es) o
+  valued_note x rest (Broken r p) = Broken r (Notes refl p)
+  valued_note x rest (Halted p) = Halted (Notes refl p)
+  valued_note x rest (Made v p k) = Made v (Notes refl p) k
+
+  valued_check : (p : Parameter) (v : Value) (next : Verdict → Tree Value) (a : Verdict) {es : List Event} {o : Outcome Frames}
+      → Valued n after go (next a) es o → Valued n after go (check p v next) (Checked p v a ∷ es) o
+  valued_check p v next a (Broken r q) = Broken r (Checks q)
+  valued_check p v next a (Halted q) = Halted (Checks q)
+  valued_check p v next a (Made w q k) = Made w (Checks q) k
+
+  value_parts : (t : Tree Value) {es : List Event} {o : Outcome Frames} → Path freely (valued n after go t) es o → Valued n after go t es o
+  value_parts (done (Gave v)) (Notes e p) = Made v Ends p
+  value_parts (done (Gave v)) interaction.Stops = Halted interaction.Stops
+  value_parts (done (Gave v)) (Shuts e) = absurd (cc)
+  value_parts (done (Refused r)) Ends = Broken r Ends
+  value_parts (done (Refused r)) interaction.Stops = Halted interaction.Stops
+  value_parts (done Stopped) Ends = Halted Ends
+  value_parts (done Stopped) interaction.Stops = Halted Ends
+  value_parts (ask q next) (Asks {a = a} p) = valued_ask q next a (value_parts (next a) p)
+  value_parts (ask q next) interaction.Stops = Halted interaction.Stops
+  value_parts (note x rest) (Notes e p) = valued_note x rest (value_parts rest p)
+  value_parts (note x rest) interaction.Stops = Halted interaction.Stops
+  value_parts (note x rest) (Shuts e) = absurd (cc)
+  value_parts (check p v next) (Checks {a = a} q) = valued_check p v next a (value_parts (next a) q)
+  value_parts (check p v next) interaction.Stops = Halted interaction.Stops
+
+  -- and back
+  value_path : {t : Tree Value} {es fs : List Event} {v : Value} {o : Outcome Frames} → Path freely t es (Gave v) → Path freely (go (after v)) fs o
+      → Path freely (valued n after go t) (es ++ (Noted (interaction.Binds n v) ∷ fs)) o
+  value_path Ends q = Notes refl q
+  value_path (Asks p) q = Asks (value_path p q)
+  value_path (Notes e p) q = Notes e (value_path p q)
+  value_path (Checks p) q = Checks (value_path p q)
+
+-- ---- traces follow the rules
+
+-- Blocks whose events, with the marks, are these follow the rules.
+pub record ByRules (closing : Closing) (m : Module) (frames : Frames) (names : List Token) (es : List Event) (o : Outcome Frames) : Type 0 where
+  pub blocks : List Block
+  pub rules : Running closing m frames names blocks o
+  pub same : marked blocks ≡ es
+
+module _ (closing : Closing) (m : Module) where
+  -- the rest of a run
+  abbrev going : List Token → Frames → Tree Frames
+  going left next = run closing m next left
+
+  -- an assignment or not, after its name
+  abbrev choice : Frames → List Token → Assignment → Bool → Option Bound → Tree Frames
+  choice frames left a referenced bound =
+      bind (if referenced && not (is_some bound) then evaluated closing m frames a else gives frames) (going left)
+
+  abbrev AllByRules : List Token → Type 0
+  AllByRules left = (next : Frames) (es : List Event) (o : Outcome Frames) → Path freely (run closing m next left) es o → ByRules closing m next left es o
+
+  module _ (frames : Frames) (t : Token) (left : List Token) (a : Assignment) where
+    -- the frames with the value of the assignment
+    abbrev with_value : Value → Frames
+    with_value v = bound_innermost frames (bound_in m a v)
+
+    taken_rules : IsTaken m frames t a → AllByRules left → {es : List Event} {o : Outcome Frames}
+        → Valued a.number with_value (going left) (assigned closing m frames a) es o
+        → ByRules closing m frames (t ∷ left) (Noted (Begins a.number) ∷ es) o
+    taken_rules taken rest {es = es} (Broken r p) = record {
+      blocks = record { number = a.number; events = es; outcome = Refused r } ∷ [];
+      rules = Breaks a es r taken p;
+      same = ap (λ fs. Noted (Begins a.number) ∷ fs) (append-nil es);
+    }
+    taken_rules taken rest {es = es} (Halted p) = record {
+      blocks = record { number = a.number; events = es; outcome = Stopped } ∷ [];
+      rules = Halts a es taken p;
+      same = ap (λ fs. Noted (Begins a.number) ∷ fs) (append-nil es);
+    }
+    taken_rules taken rest {o = o} (Made {es = es} {fs = fs} v p q) =
+        let on = rest (with_value v) fs o q in
+        record {
+          blocks = record { number = a.number; events = es; outcome = Gave v } ∷ on.blocks;
+          rules = Binds a es v taken p on.rules;
+          same = ap (λ gs. Noted (Begins a.number) ∷ (es ++ (Noted (interaction.Binds a.number v) ∷ gs))) on.same;
+        }
+
+    choice_rules : assignment_at m.assignments t.lexeme ≡ Some a → AllByRules left → (r : Bool) → m.assignments.referenced a.number ≡ r
+        → (b : Option Bound) → innermost a.number frames ≡ b → {es : List Event} {o : Outcome Frames} → Path freely (choice frames left a r b) es o
+        → ByRules closing m frames (t ∷ left) es o
+    choice_rules found rest false e b g path =
+        let on = rest frames _ _ path in record { blocks = on.blocks; rules = Passes a found e on.rules; same = on.same }
+    choice_rules found rest true e (Some b) g path =
+        let on = rest frames _ _ path in record { blocks = on.blocks; rules = Skips a b found e g on.rules; same = on.same }
+    choice_rules found rest true e None g interaction.Stops = record { blocks = []; rules = Stops; same = refl }
+    choice_rules found rest true e None g (Shuts s) = absurd (cc)
+    choice_rules found rest true e None g (Notes s path) =
+        taken_rules (record { found = found; referenced = e; unbound = g }) rest
+        (value_parts a.number with_value (going left) (assigned closing m frames a) path)
+
+  named_rules : (frames : Frames) (t : Token) (left : List Token) → AllByRules left → (x : Option Assignment) → assignment_at m.assignments t.lexeme ≡ x
+      → {es : List Event} {o : Outcome Frames} → Path freely (bind (turn_of closing m frames t x) (going left)) es o
+      → ByRules closing m frames (t ∷ left) es o
+  named_rules frames t left rest None e Ends = record { blocks = []; rules = Unknown e; same = refl }
+  named_rules frames t left rest None e interaction.Stops = record { blocks = []; rules = Stops; same = refl }
+  named_rules frames t left rest (Some a) found path =
+      choice_rules frames t left a found rest (m.assignments.referenced a.number) refl (innermost a.number frames) refl path
+
+  pub by_rules : (frames : Frames) (names : List Token) {es : List Event} {o : Outcome Frames} → Path freely (run closing m frames names) es o
+      → ByRules closing m frames names es o
+  by_rules frames [] Ends = record { blocks = []; rules = Finished; same = refl }
+  by_rules frames [] interaction.Stops = record { blocks = []; rules = Stops; same = refl }
+  by_rules frames (t ∷ left) path =
+      named_rules frames t left (λ next es o p. by_rules next left p) (assignment_at m.assignments t.lexeme) refl path
+
+  -- ---- and what follows the rules is a trace
+
+  -- no events come after those of the last block
+  last_events : (es : List Event) {t : Tree Frames} {o : Outcome Frames} → Path freely t es o → Path freely t (es ++ []) o
+  last_events es {t} {o} p = subst (λ fs. Path freely t fs o) (sym (append-nil es)) p
+
+  -- the name is that of this assignment
+  at_name : (frames : Frames) (t : Token) (left : List Token) (a : Assignment) {r : Bool} {b : Option Bound} {es : List Event} {o : Outcome Frames}
+      → assignment_at m.assignments t.lexeme ≡ Some a → m.assignments.referenced a.number ≡ r → innermost a.number frames ≡ b
+      → Path freely (choice frames left a r b) es o → Path freely (run closing m frames (t ∷ left)) es o
+  at_name frames t left a found referenced bound p = rw (found, referenced, bound) p
+
+  pub trace_of : {frames : Frames} {left : List Token} {bs : List Block} {o : Outcome Frames} → Running closing m frames left bs o
+      → Path freely (run closing m frames left) (marked bs) o
+  trace_of Finished = Ends
+  trace_of Stops = interaction.Stops
+  trace_of {frames = frames} {left = t ∷ left} (Unknown f) =
+      subst (λ x. Path freely (bind (turn_of closing m frames t x) (going left)) [] (Refused (Internal (unknown_assignment_text t.lexeme) t))) (sym f) Ends
+  trace_of {frames = frames} {left = t ∷ left} (Passes a f e r) = at_name frames t left a f e refl (trace_of r)
+  trace_of {frames = frames} {left = t ∷ left} (Skips a b f e g r) = at_name frames t left a f e g (trace_of r)
+  trace_of {frames = frames} {left = t ∷ left} (Binds a es v k p r) =
+      at_name frames t left a k.found k.referenced k.unbound
+      (Notes refl (value_path a.number (with_value frames t left a) (going left) p (trace_of r)))
+  trace_of {frames = frames} {left = t ∷ left} (Breaks a es s k p) =
+      at_name frames t left a k.found k.referenced k.unbound (Notes refl (last_events es (path_ends (going left) (Some s) (path_ends _ (Some s) p))))
+  trace_of {frames = frames} {left = t ∷ left} (Halts a es k p) =
+      at_name frames t left a k.found k.referenced k.unbound (Notes refl (last_events es (path_ends (going left) None (path_ends _ None p))))
+
+-- a run whose rules follow from those of another has the other's traces
+pub traces_on : (closing other : Closing) (m w : Module) (frames : Frames) (names : List Token) {es : List Event} {o : Outcome Frames}
+    → ((bs : List Block) → Running closing m frames names bs o → Running other w frames names bs o)
+    → Path freely (run closing m frames names) es o → Path freely (run other w frames names) es o
+traces_on closing other m w frames names {o = o} on p = let k = by_rules closing m frames names p in
+    subst (λ es. Path freely (run other w frames names) es o) k.same (trace_of other w (on k.blocks k.rules))
