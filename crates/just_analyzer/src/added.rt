@@ -1,4 +1,4 @@
-// Items, one after another.
+// Items, one after another. A refused item is dropped by a call, so that no function has code of its own for this.
 
 ghost use Rattle.std.specs.Prelude.{IfErr, OnOk, ◌≡◌};
 ghost use Rattle.std.specs.Option.{is_some};
@@ -84,6 +84,7 @@ impl<'src> Analysis<'src> {
     {
         let name = assignment.name;
         if !allowed.variables && self.has_variable(name) {
+            drop(assignment);
             return Err(fault(Fault::DuplicateVariable, name));
         }
         allocated(self.justfile.assign(assignment))
@@ -101,6 +102,7 @@ impl<'src> Analysis<'src> {
     {
         let name = function.name;
         if self.has_function(name) {
+            drop(function);
             return Err(fault(Fault::DuplicateFunction, name));
         }
         allocated(self.justfile.define(function))
@@ -139,6 +141,7 @@ impl<'src> Analysis<'src> {
     {
         let name = set.name;
         if self.has_set(name) {
+            drop(set);
             return Err(fault(Fault::DuplicateSet, name));
         }
         inserted(&mut self.sets, set)
