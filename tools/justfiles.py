@@ -1,9 +1,9 @@
 #!/usr/bin/env python3
 """tools/justfiles.py: writes stored cases as justfiles, and compares what the built program `just_explain` makes of them with their answers.
 
-A case is written if its run needs nothing that a command line cannot say: each command has one answer, and each question is a command or an
-environment variable. Expressions get parentheses where their trees need them. Compared are the values of the variables, the questions in
-their order, and whether the run is refused. The last line is 'N justfiles, M wrong'; the status is 1 if M is not 0."""
+A case is written if each of its commands has one answer, and each of its questions is a command or an environment variable. Expressions get
+parentheses where their trees need them. Compared are the values of the variables, the questions in their order, and whether the run is
+refused. The last line is 'N justfiles, M wrong'; the status is 1 if M is not 0."""
 
 import concurrent.futures
 import glob
