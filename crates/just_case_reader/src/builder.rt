@@ -49,14 +49,16 @@ impl<'src> Builder<'src> {
     {
         // An assignment has two lines or more, and few cases have more names than this number.
         let names = (lines / 2).min(512);
+        let numbering = Numbering::with_capacity(alloc, names)?;
+        // A line pushes one expression at most, and few cases leave more than this number on the stack.
+        let stack = Stack::with_capacity(alloc, lines.min(4096))?;
         Ok(Builder {
             case: Case::with_capacity(alloc, names)?,
             is_over: false,
             last_command: None,
-            numbering: Numbering::with_capacity(alloc, names)?,
+            numbering,
             order: None,
-            // A line pushes one expression at most, and few cases leave more than this number on the stack.
-            stack: Stack::with_capacity(alloc, lines.min(4096))?,
+            stack,
         })
     }
 

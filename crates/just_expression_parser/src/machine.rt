@@ -17,7 +17,7 @@ use crate::cursor::Cursor;
 use crate::frame::{Elements, Frame, State};
 use crate::literal::{backtick, string};
 use crate::operator::{OR, Operator, SUM, VALUE, operator_at};
-use crate::outcome::{allocated, followed, pushed};
+use crate::outcome::{allocated, followed, pushed, pushed_twice};
 use crate::parse_error::{Fault, ParseError};
 use just_lexer::kind::TokenKind;
 use just_syntax::expression::Expression;
@@ -143,10 +143,7 @@ impl<'src> Machine<'_, 'src> {
         ensures { GoesOn (waits self.old (state_view state.entry)
             (frame_view inner.entry ∷ frame_view outer.entry ∷ [])) result self.new }
     {
-        match followed((inner, state), pushed(&mut self.frames, outer)) {
-            Ok((inner, state)) => self.wait(inner, state),
-            Err(refusal) => Err(refusal),
-        }
+        followed(state, pushed_twice(&mut self.frames, outer, inner))
     }
 
     // The start of an expression.

@@ -50,6 +50,21 @@ pub(crate) fn pushed<'src, T: Drop>(items: &mut Vec<T>, item: T) -> Result<(), P
     }
 }
 
+/// Adds two items at the end of those that wait.
+pub(crate) fn pushed_twice<'src, T: Drop>(
+    items: &mut Vec<T>,
+    first: T,
+    second: T,
+) -> Result<(), ParseError<'src>>
+    ensures ok { OnOk result (items.new.items ≡ (items.old.items ++ first ∷ []) ++ second ∷ []) }
+    ensures refused { IfErr result (λ refusal. refusal ≡ ParseError.OutOfMemory) }
+{
+    match followed(second, pushed(items, first)) {
+        Ok(second) => pushed(items, second),
+        Err(refusal) => Err(refusal),
+    }
+}
+
 /// The items with one more.
 pub(crate) fn with_item<'src, T: Drop>(
     mut items: Vec<T>,

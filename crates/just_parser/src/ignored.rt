@@ -22,7 +22,10 @@ impl<'src> Parser<'_, 'src> {
         if self.cursor.is_at(0, TokenKind::Colon) {
             self.one(TokenKind::Colon)?;
             return match self.value() {
-                Ok(_) => Ok(()),
+                Ok(value) => {
+                    drop(value);
+                    Ok(())
+                }
                 Err(refusal) => Err(refusal),
             };
         }
@@ -95,7 +98,10 @@ impl<'src> Parser<'_, 'src> {
         ensures refused { IfErr result (IsRefused (ignored (left self.old))) }
     {
         match self.expression() {
-            Ok(_) => Ok(()),
+            Ok(expression) => {
+                drop(expression);
+                Ok(())
+            }
             Err(refusal) => Err(refusal),
         }
     }

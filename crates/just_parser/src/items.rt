@@ -132,19 +132,10 @@ impl<'src> Parser<'_, 'src> {
             Start::Assignment => self.assigned(private, false, false),
             Start::Eager => self.assigned_after_keyword(private, true, false),
             Start::Export => self.assigned_after_keyword(private, false, true),
-            Start::Function => match self.function() {
-                Ok(function) => Ok(Item::Function(function)),
-                Err(refusal) => Err(refusal),
-            },
+            Start::Function => self.function().map(Item::Function),
             Start::Other => Err(self.unexpected(Fault::ExpectedItem)),
-            Start::Recipe => match self.recipe(attributes) {
-                Ok(recipe) => Ok(Item::Recipe(recipe)),
-                Err(refusal) => Err(refusal),
-            },
-            Start::Set => match self.set() {
-                Ok(set) => Ok(Item::Set(set)),
-                Err(refusal) => Err(refusal),
-            },
+            Start::Recipe => self.recipe(attributes).map(Item::Recipe),
+            Start::Set => self.set().map(Item::Set),
             Start::Unexport => self.unexport(),
             Start::Unsupported => Err(self.unexpected(Fault::Unsupported)),
         }
@@ -176,10 +167,8 @@ impl<'src> Parser<'_, 'src> {
             (λ i. assigns private eager export (left self.old) ≡ Read (item_view i) (left self.new)) }
         ensures refused { IfErr result (IsRefused (assigns private eager export (left self.old))) }
     {
-        match self.assignment(private, eager, export) {
-            Ok(assignment) => Ok(Item::Assignment(assignment)),
-            Err(refusal) => Err(refusal),
-        }
+        self.assignment(private, eager, export)
+            .map(Item::Assignment)
     }
 }
 

@@ -94,9 +94,16 @@ impl<'src> Parser<'_, 'src> {
         let name = self.name()?;
         match self.default() {
             Ok(default) => {
-                let mut parameter = Parameter::new(name, Number::new(0), kind);
-                parameter.default = default;
-                parameter.export = export;
+                let parameter = Parameter {
+                    default,
+                    export,
+                    flag: false,
+                    kind,
+                    multiple: false,
+                    name,
+                    number: Number::new(0),
+                    value: None,
+                };
                 pushed(into, parameter)
             }
             Err(refusal) => Err(refusal),

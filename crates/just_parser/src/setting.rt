@@ -140,10 +140,14 @@ impl<'src> Parser<'_, 'src> {
         };
         let otherwise = self.unexpected(Fault::ExpectedIndentation);
         match self.value() {
-            Ok(value) => match found(indentation_of(&value), otherwise) {
-                Ok(indentation) => Ok(Setting::Indentation(token, indentation)),
-                Err(refusal) => Err(refusal),
-            },
+            Ok(value) => {
+                let indentation = found(indentation_of(&value), otherwise);
+                drop(value);
+                match indentation {
+                    Ok(indentation) => Ok(Setting::Indentation(token, indentation)),
+                    Err(refusal) => Err(refusal),
+                }
+            }
             Err(refusal) => Err(refusal),
         }
     }

@@ -16,7 +16,10 @@ pub(crate) fn interpreter_of<'src>(value: Expression<'src>) -> Option<Interprete
 {
     match value {
         Expression::List { elements, .. } => first_and_rest(elements),
-        _ => None,
+        other => {
+            drop(other);
+            None
+        }
     }
 }
 
@@ -38,7 +41,10 @@ pub(crate) fn literal_of<'src>(value: Expression<'src>) -> Option<StringLiteral<
 {
     match value {
         Expression::StringLiteral { string_literal } => Some(string_literal),
-        _ => None,
+        other => {
+            drop(other);
+            None
+        }
     }
 }
 
