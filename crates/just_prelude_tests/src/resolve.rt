@@ -345,7 +345,7 @@ fn numbers_in<'src>(
     let set = names.set_parameters(&pairs(rt, alloc, "p 3"));
     set.expect(rt, "no memory");
     let all = module.assignments.get("all").expect(rt, "`all`");
-    let copy = numbered(alloc, &all.value, &names).expect(rt, "no memory");
+    let copy = numbered(&all.value, &names).expect(rt, "no memory");
     are_printed_alike(&all.value, &copy, rt, alloc);
     let numbers = read_numbers(&copy, rt, alloc);
     drop(copy);

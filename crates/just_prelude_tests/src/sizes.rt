@@ -127,7 +127,7 @@ fn renumber_thousand<'src>(
     let mut names = Names::of(alloc, module, outer).expect(rt, "no memory");
     let set = names.set_parameters(&pairs(rt, alloc, others));
     set.expect(rt, "no memory");
-    let copy = numbered(alloc, &all.value, &names).expect(rt, "no memory");
+    let copy = numbered(&all.value, &names).expect(rt, "no memory");
     is_from(&all.value, rt, alloc, 1000);
     is_from(&copy, rt, alloc, 2000);
     drop(copy);

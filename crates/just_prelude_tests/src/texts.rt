@@ -110,7 +110,7 @@ fn copied<'src>(
     rt: &impl Abort,
     alloc: Global,
 ) -> Expression<'src> {
-    numbered(alloc, expression, names).expect(rt, "no memory")
+    numbered(expression, names).expect(rt, "no memory")
 }
 
 // The number that a name is declared with.

@@ -150,7 +150,7 @@ fn numbered_attribute<'src>(
 {
     match attribute {
         Attribute::Env(key, value) => {
-            let (key, value) = paired(numbered(alloc, key, names)?, numbered(alloc, value, names))?;
+            let (key, value) = paired(numbered(key, names)?, numbered(value, names))?;
             Ok(Attribute::Env(key, value))
         }
         Attribute::Other => Ok(Attribute::Other),
@@ -218,7 +218,7 @@ fn numbered_option<'src>(
         ≡ option_map (λ e. numbered (named names.now) (view e.now)) expression.entry) }
 {
     match expression {
-        Some(expression) => match numbered(alloc, expression, names) {
+        Some(expression) => match numbered(expression, names) {
             Ok(copy) => Ok(Some(copy)),
             Err(_) => Err(OutOfMemory),
         },
@@ -271,7 +271,7 @@ fn numbered_fragment<'src>(
 {
     match fragment {
         Fragment::Text { token } => Ok(Fragment::Text { token: *token }),
-        Fragment::Interpolation { expression } => match numbered(alloc, expression, names) {
+        Fragment::Interpolation { expression } => match numbered(expression, names) {
             Ok(expression) => Ok(Fragment::Interpolation { expression }),
             Err(_) => Err(OutOfMemory),
         },
@@ -290,7 +290,7 @@ fn add_dependencies<'src>(
 {
     for dependency in dependencies {
         let mut arguments = Vec::new(alloc);
-        let added = add_numbered(alloc, &dependency.arguments, names, &mut arguments);
+        let added = add_numbered(&dependency.arguments, names, &mut arguments);
         let arguments = followed(arguments, added)?;
         let recipe = dependency.recipe;
         pushed(copies, Dependency { arguments, recipe })?;

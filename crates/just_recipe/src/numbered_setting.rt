@@ -40,7 +40,7 @@ pub fn numbered_setting<'src>(
         | Setting::DotenvPath(value)
         | Setting::Tempdir(value)
         | Setting::WorkingDirectory(value) => {
-            let value = numbered(alloc, value, names)?;
+            let value = numbered(value, names)?;
             Ok(Setting::of_expression(setting.name(), value))
         }
         Setting::ScriptInterpreter(value) | Setting::Shell(value) | Setting::WindowsShell(value) =>
@@ -62,9 +62,9 @@ fn numbered_interpreter<'src>(
         ≡ numbered_interpreter (named names.now) (expression_interpreter_view interpreter.now)) }
 {
     let mut arguments = Vec::new(alloc);
-    let added = add_numbered(alloc, &interpreter.arguments, names, &mut arguments);
+    let added = add_numbered(&interpreter.arguments, names, &mut arguments);
     let arguments = followed(arguments, added);
-    let command = numbered(alloc, &interpreter.command, names);
+    let command = numbered(&interpreter.command, names);
     interpreter_of(command, arguments)
 }
 
@@ -81,7 +81,6 @@ fn interpreter_of<T: Drop>(
 
 // Adds copies of expressions, with the numbers of names in them.
 pub(crate) fn add_numbered<'src>(
-    alloc: Global,
     expressions: &[Expression<'src>],
     names: &Names<'src>,
     copies: &mut Vec<Expression<'src>>,
@@ -90,7 +89,7 @@ pub(crate) fn add_numbered<'src>(
         ++ map (numbered (named names.now)) (map view expressions.now)) }
 {
     for expression in expressions {
-        pushed(copies, numbered(alloc, expression, names)?)?;
+        pushed(copies, numbered(expression, names)?)?;
     }
     Ok(())
 }

@@ -1,5 +1,4 @@
 pub mod Appending
-pub mod Copies
 pub mod Depending
 pub mod Faulted
 pub mod Indexing

@@ -18,12 +18,16 @@ use Rattle.just_meaning.specs.Reaches.{CallOf, IsAmong, Occurs, OccursIn, Occurs
 use Rattle.just_resolution.proofs.Faults.{numbers_alone}
 use Rattle.just_resolve.specs.Prelude.{Assignment, Expr, Frames, Function, HasValue, IsIn, IsRenumbered, IsRenumberedAssignment, IsRenumberedFunction, Pairwise}
 use Rattle.just_resolve.specs.Prelude.{Text, Token, bound_names, bound_view, first_named, frame_names, frame_view, frames_view, numbered, numbered_assignments}
-use Rattle.just_resolve.specs.Prelude.{numbered_pieces, numbered_row, value_in, visible}
+use Rattle.just_resolve.specs.Prelude.{value_in, visible}
+use Rattle.just_syntax.specs.Renumbered.{Numbering, renumbered_pieces, renumbered_row}
 use Rattle.just_resolve.proofs.Lookups.{found_there}
 
 -- ---- numbers of names
 
 module _ (names : Text → Option ℕ) (P : ℕ → Type 0) (given : (t : Text) (n : ℕ) → names t ≡ Some n → P n) where
+  abbrev by_name : Numbering
+  by_name t number = names t
+
   mutual
     -- each number that is read is that of a name
     pub number_read : (e : Expr) (n : ℕ) → Occurs (numbered names e) (VariableOf (Some n)) → P n
@@ -32,7 +36,7 @@ module _ (names : Text → Option ℕ) (P : ℕ → Type 0) (given : (t : Text) 
     number_read (AssertOnly e t) n h = number_read e n h
     number_read (Backtick text t) n h = absurd h
     number_read (Call t es) n h =
-        ⊎_elim (λ k. absurd (let bad : CallOf t.lexeme (count (numbered_row names es)) ≡ VariableOf (Some n) = k in cc)) (λ k. row_read es n k) h
+        ⊎_elim (λ k. absurd (let bad : CallOf t.lexeme (count (renumbered_row by_name es)) ≡ VariableOf (Some n) = k in cc)) (λ k. row_read es n k) h
     number_read (Comparison l o r t) n h = ⊎_elim (λ k. number_read l n k) (λ k. number_read r n k) h
     number_read (Concatenation l t r) n h = ⊎_elim (λ k. number_read l n k) (λ k. number_read r n k) h
     number_read (Conditional e a b) n h =
@@ -50,11 +54,11 @@ module _ (names : Text → Option ℕ) (P : ℕ → Type 0) (given : (t : Text) 
     number_read (Variable t number) n h =
         let is : VariableOf (names t.lexeme) ≡ VariableOf (Some n) = h in let same : names t.lexeme ≡ Some n = cc in given t.lexeme n same
 
-    row_read : (es : Exprs) (n : ℕ) → OccursIn (numbered_row names es) (VariableOf (Some n)) → P n
+    row_read : (es : Exprs) (n : ℕ) → OccursIn (renumbered_row by_name es) (VariableOf (Some n)) → P n
     row_read Nil n h = absurd h
     row_read (Cons e es) n h = ⊎_elim (λ k. number_read e n k) (λ k. row_read es n k) h
 
-    pieces_read : (pieces : Pieces) (n : ℕ) → OccursInPieces (numbered_pieces names pieces) (VariableOf (Some n)) → P n
+    pieces_read : (pieces : Pieces) (n : ℕ) → OccursInPieces (renumbered_pieces by_name pieces) (VariableOf (Some n)) → P n
     pieces_read NoPiece n h = absurd h
     pieces_read (Piece e literal pieces) n h = ⊎_elim (λ k. number_read e n k) (λ k. pieces_read pieces n k) h
 

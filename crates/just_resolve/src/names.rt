@@ -31,7 +31,7 @@ impl<'src> Names<'src> {
     /// ```rust
     /// resolve(alloc, &mut module, &outer)?;
     /// let names = Names::of(alloc, &module, &outer)?;
-    /// let shell = numbered(alloc, &shell, &names)?;
+    /// let shell = numbered(&shell, &names)?;
     /// ```
     ///
     /// # Errors

@@ -172,7 +172,7 @@ fn with_number<'src>(
         name: assignment.name,
         number,
         private: assignment.private,
-        value: numbered(alloc, &assignment.value, names)?,
+        value: numbered(&assignment.value, names)?,
     })
 }
 
@@ -217,7 +217,7 @@ fn function_with_numbers<'src>(
 {
     let parameters = parameters(alloc, &function.parameters, outer, free)?;
     names.set_parameters(&parameters)?;
-    let body = numbered(alloc, &function.body, names)?;
+    let body = numbered(&function.body, names)?;
     Ok(FunctionDefinition::new(function.name, parameters, body))
 }
 

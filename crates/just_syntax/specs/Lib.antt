@@ -7,6 +7,7 @@ pub mod Enclosure
 pub mod SettingName
 pub mod Keyed
 pub mod Printed
+pub mod Renumbered
 pub mod OutOfMemory
 pub mod Variables
 pub mod View

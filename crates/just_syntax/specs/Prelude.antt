@@ -9,6 +9,7 @@ pub use Rattle.just_syntax.specs.Place.{placed, start_of}
 pub use Rattle.just_syntax.specs.Plain.{Assignment, Call, FormatString, ListOf, Text}
 pub use Rattle.just_syntax.specs.Printed.{between, comparison_text, printed, printed_assertion, printed_call}
 pub use Rattle.just_syntax.specs.Printed.{printed_conditional, printed_join, printed_pieces, printed_row}
+pub use Rattle.just_syntax.specs.Renumbered.{as_before, renumbered, renumbered_pieces, renumbered_row}
 pub use Rattle.just_syntax.specs.SettingName.{expression_named, flag_named, interpreter_named, setting_name}
 pub use Rattle.just_syntax.specs.StringContext.{token}
 pub use Rattle.just_syntax.specs.Unindented.{common_indentation, is_gap, lines, unindented_lines}

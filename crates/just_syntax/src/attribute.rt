@@ -3,6 +3,7 @@
 ghost use Rattle.std.specs.Prelude.{◌≡◌};
 ghost use Rattle.just_syntax.specs.Prelude.{attribute_view};
 
+use crate::both::both;
 use crate::expression::Expression;
 use std::alloc::AllocError;
 
@@ -21,7 +22,10 @@ impl Clone for Attribute<'_> {
 
     fn clone(&self) -> Result<Self, AllocError> {
         match self {
-            Attribute::Env(key, value) => Ok(Attribute::Env(key.clone()?, value.clone()?)),
+            Attribute::Env(key, value) => {
+                let (key, value) = both(key, value)?;
+                Ok(Attribute::Env(key, value))
+            }
             Attribute::Other => Ok(Attribute::Other),
         }
     }

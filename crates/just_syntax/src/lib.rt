@@ -6,6 +6,7 @@
 pub mod assignment;
 pub mod attribute;
 pub mod attribute_set;
+mod both;
 pub mod condition;
 pub mod conditional_operator;
 pub mod enclosure;
@@ -20,6 +21,7 @@ pub mod list_operator;
 pub mod name;
 pub mod number;
 pub mod number_set;
+pub mod numbers;
 pub mod numerator;
 pub mod out_of_memory;
 pub mod parameter;

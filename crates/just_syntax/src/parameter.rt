@@ -3,6 +3,7 @@
 ghost use Rattle.std.specs.Prelude.{None, false, ◌≡◌};
 ghost use Rattle.just_syntax.specs.Prelude.{name_view, recipe_parameter_view};
 
+use crate::both::both;
 use crate::expression::Expression;
 use crate::name::Name;
 use crate::number::Number;
@@ -58,7 +59,7 @@ impl Clone for Parameter<'_> {
     ghost is_clone = { λ parameter copy. recipe_parameter_view copy ≡ recipe_parameter_view parameter };
 
     fn clone(&self) -> Result<Self, AllocError> {
-        let default = self.default.clone()?;
+        let (default, value) = both(&self.default, &self.value)?;
         Ok(Parameter {
             default,
             export: self.export,
@@ -67,7 +68,7 @@ impl Clone for Parameter<'_> {
             multiple: self.multiple,
             name: self.name,
             number: self.number,
-            value: self.value.clone()?,
+            value,
         })
     }
 }

@@ -113,7 +113,10 @@ impl<'src> Setting<'src> {
             "script-interpreter" => Some(Setting::ScriptInterpreter(value)),
             "shell" => Some(Setting::Shell(value)),
             "windows-shell" => Some(Setting::WindowsShell(value)),
-            _ => None,
+            _ => {
+                drop(value);
+                None
+            }
         }
     }
 
@@ -165,11 +168,11 @@ impl Clone for Setting<'_> {
             Setting::AllowDuplicateVariables(value) => Ok(Setting::AllowDuplicateVariables(*value)),
             Setting::DefaultList(value) => Ok(Setting::DefaultList(*value)),
             Setting::DefaultScript(value) => Ok(Setting::DefaultScript(*value)),
-            Setting::DotenvCommand(value) => Ok(Setting::DotenvCommand(value.clone()?)),
-            Setting::DotenvFilename(value) => Ok(Setting::DotenvFilename(value.clone()?)),
+            Setting::DotenvCommand(value) => value.clone().map(Setting::DotenvCommand),
+            Setting::DotenvFilename(value) => value.clone().map(Setting::DotenvFilename),
             Setting::DotenvLoad(value) => Ok(Setting::DotenvLoad(*value)),
             Setting::DotenvOverride(value) => Ok(Setting::DotenvOverride(*value)),
-            Setting::DotenvPath(value) => Ok(Setting::DotenvPath(value.clone()?)),
+            Setting::DotenvPath(value) => value.clone().map(Setting::DotenvPath),
             Setting::DotenvRequired(value) => Ok(Setting::DotenvRequired(*value)),
             Setting::Export(value) => Ok(Setting::Export(*value)),
             Setting::Fallback(value) => Ok(Setting::Fallback(*value)),
@@ -178,18 +181,18 @@ impl Clone for Setting<'_> {
             Setting::Indentation(token, value) => Ok(Setting::Indentation(*token, *value)),
             Setting::Lazy(value) => Ok(Setting::Lazy(*value)),
             Setting::Lists(value) => Ok(Setting::Lists(*value)),
-            Setting::MinimumVersion(value) => Ok(Setting::MinimumVersion(value.clone()?)),
+            Setting::MinimumVersion(value) => value.clone().map(Setting::MinimumVersion),
             Setting::NoCd(value) => Ok(Setting::NoCd(*value)),
             Setting::NoExitMessage(value) => Ok(Setting::NoExitMessage(*value)),
             Setting::PositionalArguments(value) => Ok(Setting::PositionalArguments(*value)),
             Setting::Quiet(value) => Ok(Setting::Quiet(*value)),
-            Setting::ScriptInterpreter(value) => Ok(Setting::ScriptInterpreter(value.clone()?)),
-            Setting::Shell(value) => Ok(Setting::Shell(value.clone()?)),
-            Setting::Tempdir(value) => Ok(Setting::Tempdir(value.clone()?)),
+            Setting::ScriptInterpreter(value) => value.clone().map(Setting::ScriptInterpreter),
+            Setting::Shell(value) => value.clone().map(Setting::Shell),
+            Setting::Tempdir(value) => value.clone().map(Setting::Tempdir),
             Setting::Unstable(value) => Ok(Setting::Unstable(*value)),
             Setting::WindowsPowerShell(value) => Ok(Setting::WindowsPowerShell(*value)),
-            Setting::WindowsShell(value) => Ok(Setting::WindowsShell(value.clone()?)),
-            Setting::WorkingDirectory(value) => Ok(Setting::WorkingDirectory(value.clone()?)),
+            Setting::WindowsShell(value) => value.clone().map(Setting::WindowsShell),
+            Setting::WorkingDirectory(value) => value.clone().map(Setting::WorkingDirectory),
         }
     }
 }

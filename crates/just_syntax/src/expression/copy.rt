@@ -1,15 +1,29 @@
-// Copies of expressions. `Clone` is written out, since the recursion has to end before the stack does.
+// Copies of expressions. They are written out, since the recursion has to end before the stack does.
 
 ghost use Rattle.std.specs.Prelude.{IfOk, OnOk, [], map, option_map, ◌++◌, ◌∷◌, ◌≡◌};
 ghost use Rattle.just_syntax.specs.Plain as plain;
-ghost use Rattle.just_syntax.specs.Prelude.{literal_view, name_view, piece_view, piece_views, token_view, view, views};
+ghost use Rattle.just_syntax.specs.Prelude.{as_before, literal_view, name_view, piece_view, piece_views};
+ghost use Rattle.just_syntax.specs.Prelude.{renumbered, renumbered_pieces, renumbered_row, token_view, view, views};
 
 use crate::expression::Expression;
 use crate::name::Name;
+use crate::number::Number;
+use crate::numbers::Numbers;
 use crate::stack::MOST_COPIED_LEVELS;
 use crate::string_literal::StringLiteral;
 use crate::token::Token;
 use std::alloc::{AllocError, Global};
+
+// The numbers that the variables have.
+struct AsBefore;
+
+impl Numbers for AsBefore {
+    ghost number_of = { λ _. as_before };
+
+    fn number(&self, _: &str, number: Option<Number>) -> Option<Number> {
+        number
+    }
+}
 
 /// A copy, whose parts are allocated where those of the expression were. `AllocError`, if an allocation fails, or if
 /// the expression has more than `stack::MOST_COPIED_LEVELS` levels: the copy of a deeper one does not fit on a stack of
@@ -18,14 +32,27 @@ impl Clone for Expression<'_> {
     ghost is_clone = { λ expression copy. view copy ≡ view expression };
 
     fn clone(&self) -> Result<Self, AllocError> {
-        copy(self, MOST_COPIED_LEVELS)
+        self.with_numbers(&AsBefore)
+    }
+}
+
+impl<'src> Expression<'src> {
+    /// A copy in which the variables have other numbers, and else as `clone` makes it, with its errors.
+    pub fn with_numbers<N: Numbers>(&self, numbers: &N) -> Result<Expression<'src>, AllocError>
+        ensures { IfOk result (λ e. view e ≡ renumbered (N.number_of numbers.now) (view self.now)) }
+    {
+        copy(self, numbers, MOST_COPIED_LEVELS)
     }
 }
 
 // A copy, if the expression has at most as many levels.
 #[cycle(copy)]
-fn copy<'src>(expression: &Expression<'src>, levels: usize) -> Result<Expression<'src>, AllocError>
-    ensures { IfOk result (λ e. view e ≡ view expression.now) }
+fn copy<'src, N: Numbers>(
+    expression: &Expression<'src>,
+    numbers: &N,
+    levels: usize,
+) -> Result<Expression<'src>, AllocError>
+    ensures { IfOk result (λ e. view e ≡ renumbered (N.number_of numbers.now) (view expression.now)) }
 {
     if levels == 0 {
         return Err(AllocError);
@@ -33,7 +60,7 @@ fn copy<'src>(expression: &Expression<'src>, levels: usize) -> Result<Expression
     let levels = levels - 1;
     match expression {
         Expression::And { lhs, rhs } => {
-            let (lhs, rhs) = boxed_pair(lhs, rhs, levels)?;
+            let (lhs, rhs) = boxed_pair(lhs, rhs, numbers, levels)?;
             Ok(Expression::And { lhs, rhs })
         }
         Expression::Assert {
@@ -41,7 +68,7 @@ fn copy<'src>(expression: &Expression<'src>, levels: usize) -> Result<Expression
             message,
             name,
         } => {
-            let (condition, message) = boxed_with(condition, message.as_ref(), levels)?;
+            let (condition, message) = boxed_with(condition, message.as_ref(), numbers, levels)?;
             Ok(Expression::Assert {
                 condition,
                 message,
@@ -52,14 +79,14 @@ fn copy<'src>(expression: &Expression<'src>, levels: usize) -> Result<Expression
             contents: contents.clone()?,
             token: *token,
         }),
-        Expression::Call { arguments, name } => call(name, arguments, levels),
+        Expression::Call { arguments, name } => call(name, arguments, numbers, levels),
         Expression::Comparison {
             lhs,
             operator,
             rhs,
             token,
         } => {
-            let (lhs, rhs) = boxed_pair(lhs, rhs, levels)?;
+            let (lhs, rhs) = boxed_pair(lhs, rhs, numbers, levels)?;
             Ok(Expression::Comparison {
                 lhs,
                 operator: *operator,
@@ -68,7 +95,7 @@ fn copy<'src>(expression: &Expression<'src>, levels: usize) -> Result<Expression
             })
         }
         Expression::Concatenation { lhs, operator, rhs } => {
-            let (lhs, rhs) = boxed_pair(lhs, rhs, levels)?;
+            let (lhs, rhs) = boxed_pair(lhs, rhs, numbers, levels)?;
             Ok(Expression::Concatenation {
                 lhs,
                 operator: *operator,
@@ -80,8 +107,13 @@ fn copy<'src>(expression: &Expression<'src>, levels: usize) -> Result<Expression
             consequence,
             otherwise,
         } => {
-            let condition = boxed(condition, levels)?;
-            let (consequence, otherwise) = boxed_with(consequence, otherwise.as_ref(), levels)?;
+            let condition = boxed(condition, numbers, levels)?;
+            let (consequence, otherwise) = boxed_with(
+                consequence,
+                otherwise.as_ref(),
+                numbers,
+                levels,
+            )?;
             Ok(Expression::Conditional {
                 condition,
                 consequence,
@@ -89,22 +121,22 @@ fn copy<'src>(expression: &Expression<'src>, levels: usize) -> Result<Expression
             })
         }
         Expression::FormatString { start, expressions } => {
-            format_string(start, expressions, levels)
+            format_string(start, expressions, numbers, levels)
         }
         Expression::Group { contents } => Ok(Expression::Group {
-            contents: boxed(contents, levels)?,
+            contents: boxed(contents, numbers, levels)?,
         }),
         Expression::Join { lhs, operator, rhs } => {
-            let (rhs, lhs) = boxed_with(rhs, lhs.as_ref(), levels)?;
+            let (rhs, lhs) = boxed_with(rhs, lhs.as_ref(), numbers, levels)?;
             Ok(Expression::Join {
                 lhs,
                 operator: *operator,
                 rhs,
             })
         }
-        Expression::List { elements, token } => list(elements, token, levels),
+        Expression::List { elements, token } => list(elements, token, numbers, levels),
         Expression::ListConcatenation { lhs, operator, rhs } => {
-            let (lhs, rhs) = boxed_pair(lhs, rhs, levels)?;
+            let (lhs, rhs) = boxed_pair(lhs, rhs, numbers, levels)?;
             Ok(Expression::ListConcatenation {
                 lhs,
                 operator: *operator,
@@ -112,10 +144,10 @@ fn copy<'src>(expression: &Expression<'src>, levels: usize) -> Result<Expression
             })
         }
         Expression::Not { operand } => Ok(Expression::Not {
-            operand: boxed(operand, levels)?,
+            operand: boxed(operand, numbers, levels)?,
         }),
         Expression::Or { lhs, rhs } => {
-            let (lhs, rhs) = boxed_pair(lhs, rhs, levels)?;
+            let (lhs, rhs) = boxed_pair(lhs, rhs, numbers, levels)?;
             Ok(Expression::Or { lhs, rhs })
         }
         Expression::StringLiteral { string_literal } => Ok(Expression::StringLiteral {
@@ -123,53 +155,56 @@ fn copy<'src>(expression: &Expression<'src>, levels: usize) -> Result<Expression
         }),
         Expression::Variable { name, number } => Ok(Expression::Variable {
             name: *name,
-            number: *number,
+            number: numbers.number(name.lexeme(), *number),
         }),
     }
 }
 
 // A boxed copy, allocated where the part was.
 #[cycle(copy)]
-fn boxed<'src>(
+fn boxed<'src, N: Numbers>(
     part: &Box<Expression<'src>>,
+    numbers: &N,
     levels: usize,
 ) -> Result<Box<Expression<'src>>, AllocError>
-    ensures { IfOk result (λ b. view b.value ≡ view part.now.value) }
+    ensures { IfOk result (λ b. view b.value ≡ renumbered (N.number_of numbers.now) (view part.now.value)) }
 {
-    let copy = copy(part, levels)?;
+    let copy = copy(part, numbers, levels)?;
     box_of(*Box::allocator(part), copy)
 }
 
 // Boxed copies of two parts.
 #[cycle(copy)]
-fn boxed_pair<'src>(
+fn boxed_pair<'src, N: Numbers>(
     first: &Box<Expression<'src>>,
     second: &Box<Expression<'src>>,
+    numbers: &N,
     levels: usize,
 ) -> Result<(Box<Expression<'src>>, Box<Expression<'src>>), AllocError>
-    ensures first { IfOk result (λ b. view b.0.value ≡ view first.now.value) }
-    ensures second { IfOk result (λ b. view b.1.value ≡ view second.now.value) }
+    ensures first { IfOk result (λ b. view b.0.value ≡ renumbered (N.number_of numbers.now) (view first.now.value)) }
+    ensures second { IfOk result (λ b. view b.1.value ≡ renumbered (N.number_of numbers.now) (view second.now.value)) }
 {
-    let first = boxed(first, levels)?;
-    let second = boxed(second, levels)?;
+    let first = boxed(first, numbers, levels)?;
+    let second = boxed(second, numbers, levels)?;
     Ok((first, second))
 }
 
 // Boxed copies of a part, and of one that may be left out.
 #[cycle(copy)]
-fn boxed_with<'src>(
+fn boxed_with<'src, N: Numbers>(
     part: &Box<Expression<'src>>,
     option: Option<&Box<Expression<'src>>>,
+    numbers: &N,
     levels: usize,
 ) -> Result<(Box<Expression<'src>>, Option<Box<Expression<'src>>>), AllocError>
-    ensures part { IfOk result (λ b. view b.0.value ≡ view part.now.value) }
+    ensures part { IfOk result (λ b. view b.0.value ≡ renumbered (N.number_of numbers.now) (view part.now.value)) }
     ensures option { IfOk result (λ b. option_map (λ o. view o.value) b.1
-        ≡ option_map (λ e. view e.now.value) option.entry) }
+        ≡ option_map (λ e. renumbered (N.number_of numbers.now) (view e.now.value)) option.entry) }
 {
-    let part = boxed(part, levels)?;
+    let part = boxed(part, numbers, levels)?;
     match option {
         Some(option) => {
-            let option = boxed(option, levels)?;
+            let option = boxed(option, numbers, levels)?;
             Ok((part, Some(option)))
         }
         None => Ok((part, None)),
@@ -178,56 +213,63 @@ fn boxed_with<'src>(
 
 // A copy of a call.
 #[cycle(copy)]
-fn call<'src>(
+fn call<'src, N: Numbers>(
     name: &Name<'src>,
     arguments: &Vec<Expression<'src>>,
+    numbers: &N,
     levels: usize,
 ) -> Result<Expression<'src>, AllocError>
-    ensures { IfOk result (λ e. view e ≡ plain.Call (name_view name.now) (views arguments.now.items)) }
+    ensures { IfOk result (λ e. view e ≡ plain.Call (name_view name.now)
+        (renumbered_row (N.number_of numbers.now) (views arguments.now.items))) }
 {
-    let copies = row(arguments, levels)?;
+    let copies = row(arguments, numbers, levels)?;
     Ok(Expression::call(*name, copies))
 }
 
 // A copy of a list.
 #[cycle(copy)]
-fn list<'src>(
+fn list<'src, N: Numbers>(
     elements: &Vec<Expression<'src>>,
     token: &Token<'src>,
+    numbers: &N,
     levels: usize,
 ) -> Result<Expression<'src>, AllocError>
-    ensures { IfOk result (λ e. view e ≡ plain.ListOf (views elements.now.items) (token_view token.now)) }
+    ensures { IfOk result (λ e. view e
+        ≡ plain.ListOf (renumbered_row (N.number_of numbers.now) (views elements.now.items)) (token_view token.now)) }
 {
-    let copies = row(elements, levels)?;
+    let copies = row(elements, numbers, levels)?;
     Ok(Expression::list(copies, *token))
 }
 
 // A copy of a format string.
 #[cycle(copy)]
-fn format_string<'src>(
+fn format_string<'src, N: Numbers>(
     start: &StringLiteral<'src>,
     expressions: &Vec<(Expression<'src>, StringLiteral<'src>)>,
+    numbers: &N,
     levels: usize,
 ) -> Result<Expression<'src>, AllocError>
-    ensures { IfOk result (λ e. view e
-        ≡ plain.FormatString (literal_view start.now) (piece_views expressions.now.items)) }
+    ensures { IfOk result (λ e. view e ≡ plain.FormatString (literal_view start.now)
+        (renumbered_pieces (N.number_of numbers.now) (piece_views expressions.now.items))) }
 {
     let start = start.clone()?;
-    let copies = pieces(expressions, levels)?;
+    let copies = pieces(expressions, numbers, levels)?;
     Ok(Expression::format_string(start, copies))
 }
 
 // Copies of expressions.
 #[cycle(copy)]
-fn row<'src>(
+fn row<'src, N: Numbers>(
     expressions: &Vec<Expression<'src>>,
+    numbers: &N,
     levels: usize,
 ) -> Result<Vec<Expression<'src>>, AllocError>
-    ensures { IfOk result (λ copies. map view copies.items ≡ map view expressions.now.items) }
+    ensures { IfOk result (λ copies. map view copies.items
+        ≡ map (λ e. renumbered (N.number_of numbers.now) (view e)) expressions.now.items) }
 {
     let mut copies = Vec::with_capacity(*expressions.allocator(), expressions.len())?;
     for expression in expressions {
-        let copy = copy(expression, levels)?;
+        let copy = copy(expression, numbers, levels)?;
         push(&mut copies, copy)?;
     }
     Ok(copies)
@@ -235,16 +277,18 @@ fn row<'src>(
 
 // Copies of interpolations, each with the text after it.
 #[cycle(copy)]
-fn pieces<'src>(
+fn pieces<'src, N: Numbers>(
     expressions: &Vec<(Expression<'src>, StringLiteral<'src>)>,
+    numbers: &N,
     levels: usize,
 ) -> Result<Vec<(Expression<'src>, StringLiteral<'src>)>, AllocError>
-    ensures { IfOk result (λ copies. map piece_view copies.items ≡ map piece_view expressions.now.items) }
+    ensures { IfOk result (λ copies. map piece_view copies.items
+        ≡ map (λ p. (renumbered (N.number_of numbers.now) (view p.0), literal_view p.1)) expressions.now.items) }
 {
     let mut copies = Vec::with_capacity(*expressions.allocator(), expressions.len())?;
     for (expression, text) in expressions {
         let text = text.clone()?;
-        let copy = copy(expression, levels)?;
+        let copy = copy(expression, numbers, levels)?;
         push(&mut copies, (copy, text))?;
     }
     Ok(copies)

@@ -1,4 +1,4 @@
-use Rattle.std.proofs.Common.{◌≡◌, IsOk, OnOk, Ok, Err, Result, ap, false, map, sym, true, ◌∙◌}
+use Rattle.std.proofs.Common.{◌≡◌, ap, map, sym, ◌∙◌}
 use mathlib.Core.Path.{fun_ext}
 use Rattle.std.proofs.lemmas.Result.{IfOk-weaker}
 use Rattle.just_syntax.specs.View.{name_view, recipe_parameter_view}
@@ -8,12 +8,8 @@ use Rattle.just_resolve.specs.Prelude.{parameter_view, variable_named}
 use Rattle.just_resolve.proofs.Appending.{map_map}
 use Rattle.just_parser.specs.View.{recipe_definition_view}
 use Rattle.just_recipe.specs.Numbered.{numbered_recipe, numbered_recipe_view}
+use Rattle.just_recipe.proofs.Copying.{of_ok}
 use Rattle.just_recipe.proofs.numbering.Numbering.number.Goals as goal
-
--- what holds of a success
-of_ok : {T E P : Type 0} (r : Result T E) → IsOk r → OnOk r P → P
-of_ok (Ok x) is h = h
-of_ok (Err e) is h = absurd (let bad : false ≡ true = is in cc)
 
 pub returns-clause-copy : goal.returns-clause-copy
 returns-clause-copy c =
