@@ -5,7 +5,7 @@ use Rattle.just_bench.specs.Prelude.{RunPrints, Script, Step, Text, Whole, Writt
 use Rattle.just_case_reader.specs.Case.{Run, Const}
 use Rattle.just_bench.specs.Written.{Nothing}
 use Rattle.just_bench.proofs.BlocksSeen.{blocks_seen}
-use Rattle.just_bench.proofs.Seen.{Carries, beside, ran_seen, recording_carried}
+use Rattle.just_bench.proofs.Seen.{Carries, behaves_seen, beside, recording_carried}
 
 module _ {S T : Type 0} (step : Step S) (other : Step T) (see : S → T) (carried : Carries step other see) where
   run_prints_seen : {old : S} {m : Module} {outer : Frames} {printed : Text} {status : ℕ} → RunPrints step old m outer printed status
@@ -16,9 +16,9 @@ module _ {S T : Type 0} (step : Step S) (other : Step T) (see : S → T) (carrie
     kept = r.kept;
     outcome = r.outcome;
     new = see r.new;
-    lexical = λ resolved. ran_seen (recording step) (recording other) (beside see) (recording_carried step other see carried) (old, []) (r.new, r.kept)
+    lexical = λ resolved. behaves_seen (recording step) (recording other) (beside see) (recording_carried step other see carried) (old, []) (r.new, r.kept)
         (r.lexical resolved);
-    dynamic = ran_seen (recording step) (recording other) (beside see) (recording_carried step other see carried) (old, []) (r.new, r.kept) r.dynamic;
+    dynamic = behaves_seen (recording step) (recording other) (beside see) (recording_carried step other see carried) (old, []) (r.new, r.kept) r.dynamic;
     text = r.text;
     ends = r.ends;
   }

@@ -4,8 +4,8 @@ use Rattle.std.proofs.lemmas.List.Elements.{All-head, All-nil}
 use Rattle.std.proofs.lemmas.Map.Views.{All-values-insert_entry}
 use Rattle.std.specs.Map.{values_of}
 use Rattle.std.specs.Ordering.{nat_cmp}
-use Rattle.just_bench.specs.Prelude.{Bound, Closing, Frames, Gave, Module, Outcome, Ran, Refused, Step, Stopped, Token, bound_in, bound_innermost}
-use Rattle.just_bench.specs.Prelude.{first_bound, own_frame, without_attributes}
+use Rattle.just_bench.specs.Prelude.{Behaves, Bound, Closing, Frames, Gave, Module, Outcome, Refused, Step, Stopped, Token, bound_in, bound_innermost}
+use Rattle.just_bench.specs.Prelude.{first_bound, freely, own_frame, run, unchecked, without_attributes}
 use Rattle.just_meaning.specs.Blocks.{Block}
 use Rattle.just_soundness.proofs.Running.{Running, Finished, Stops, Unknown, Passes, Skips, Binds, Breaks, Halts, by_rules}
 
@@ -40,8 +40,8 @@ first_none [] h = refl
 first_none (b ∷ bs) h = ap (λ attributes. Some (record b { attributes = attributes })) (sym (All-head HasNone b bs h))
 
 -- removing the attributes from the first binding of a run in an empty scope does not change it
-pub first_given : {closing : Closing} {S : Type 0} {step : Step S} {old new : S} {m : Module} (outer : Frames) {left : List Token} (given : Frames)
-    → Ran step old closing m ([] ∷ outer) left (Gave given) new → option_map without_attributes (first_bound (values_of (own_frame given)))
-    ≡ first_bound (values_of (own_frame given))
-first_given {closing = closing} {m = m} outer {left = left} given r =
-    first_none (values_of (own_frame given)) (given_none (All-nil HasNone) (by_rules closing m ([] ∷ outer) left r.runs.path).rules)
+pub first_given : {S : Type 0} {step : Step S} {old new : S} (closing : Closing) (m : Module) (outer : Frames) (left : List Token) (given : Frames)
+    → Behaves freely step unchecked old (run closing m ([] ∷ outer) left) (Gave given) new
+    → option_map without_attributes (first_bound (values_of (own_frame given))) ≡ first_bound (values_of (own_frame given))
+first_given closing m outer left given r =
+    first_none (values_of (own_frame given)) (given_none (All-nil HasNone) (by_rules closing m ([] ∷ outer) left r.path).rules)

@@ -1,7 +1,7 @@
 -- A scripted host determines a run.
 use Rattle.std.proofs.Common.{◌≡◌, ◌≢◌, inl, inr, Option, Some, None, List, [], ◌∷◌, refl, sym, subst, ◌∙◌}
 use Rattle.just_bench.specs.Prelude.{Answer, AnswersByScript, Asked, Blind, Chain, Checked, CommandOf, Event, ExistsAt, Kept, NoMemory, Noted, NumberOf}
-use Rattle.just_bench.specs.Prelude.{Question, Script, Text, TextOf, by_script, recording}
+use Rattle.just_bench.specs.Prelude.{Question, Script, Text, TextOf, by_script, recording, unchecked}
 use Rattle.just_host.specs.Question.{Failed, UnlessNoMemory}
 use Rattle.just_script.specs.Script.{AnswersCommand, AnswersNext, text_for}
 use Rattle.just_laws.specs.Decided.{AgreeUpToAnswers}
@@ -43,7 +43,7 @@ recorded_one old q a b (s, k) (t, l) (inl (p, kept)) (inl (r, also)) here there 
 
 -- Two chains from the same state that agree up to answers end in the same state, if no answer is `NoMemory`.
 pub chains_one : (E : Type 0) (x y : Script × List Kept) (es fs : List Event) (s t : Script × List Kept) → x ≡ y → AllAnswered es → AllAnswered fs
-    → Chain (recording by_script) x es s → Chain (recording by_script) y fs t → AgreeUpToAnswers es fs E → E × (s ≡ t)
+    → Chain (recording by_script) unchecked x es s → Chain (recording by_script) unchecked y fs t → AgreeUpToAnswers es fs E → E × (s ≡ t)
 chains_one E x y [] [] s t from here there p q agree = (agree, sym p ∙ from ∙ q)
 chains_one E x y (Asked i a ∷ es) (Asked j b ∷ fs) s t from (here, on) (there, more) (m, p, c) (n, q, d) (same, inl other) =
     absurd (other (recorded_one y i a b m n (subst (λ z. recording by_script z i a m) from p) (subst (λ k. recording by_script y k b n) (sym same) q) here
@@ -52,8 +52,8 @@ chains_one E x y (Asked i a ∷ es) (Asked j b ∷ fs) s t from (here, on) (ther
     chains_one E m n es fs s t (recorded_one y i a b m n (subst (λ z. recording by_script z i a m) from p)
     (subst (λ k. recording by_script y k b n) (sym same) q) here there).1 on more c d rest
 chains_one E x y (Noted i ∷ es) (Noted j ∷ fs) s t from here there p q (same, rest) = chains_one E x y es fs s t from here there p q rest
-chains_one E x y (Checked i v a ∷ es) fs s t from here there p q agree = absurd p
-chains_one E x y es (Checked i v a ∷ fs) s t from here there p q agree = absurd q
+chains_one E x y (Checked i v a ∷ es) fs s t from here there p q agree = absurd p.0
+chains_one E x y es (Checked i v a ∷ fs) s t from here there p q agree = absurd q.0
 chains_one E x y [] (Asked j b ∷ fs) s t from here there p q agree = absurd agree
 chains_one E x y [] (Noted j ∷ fs) s t from here there p q agree = absurd agree
 chains_one E x y (Asked i a ∷ es) [] s t from here there p q agree = absurd agree

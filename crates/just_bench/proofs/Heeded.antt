@@ -1,5 +1,5 @@
 -- A question answered by `NoMemory` stops the one who asked it.
-use Rattle.std.proofs.Common.{◌≡◌, ◌≢◌, ◌-◌, ℕ, zero, suc, Bool, true, false, List, [], ◌∷◌, ◌++◌, Option, Some, None, Result, Ok, Err, if◌then◌else◌, map}
+use Rattle.std.proofs.Common.{◌≡◌, ◌≢◌, ◌-◌, ℕ, zero, suc, Bool, true, false, List, [], ◌∷◌, Option, Some, None, Result, Ok, Err, if◌then◌else◌, map}
 use Rattle.std.proofs.Common.{length, nat_eq, slice_get, refl, ap, subst, ◌∙◌}
 use Rattle.just_bench.specs.Prelude.{Answer, Assignment, Blind, Event, Frames, Gave, Module, NoMemory, Outcome, Refused, Stopped, Text, Token, Value}
 use Rattle.just_bench.specs.Prelude.{dynamically}

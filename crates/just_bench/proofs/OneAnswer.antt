@@ -42,8 +42,8 @@ unstopped_is Stopped w is on = absurd (on refl)
 runs_one : (s u : Script) (m : Module) (outer : Frames) (p q : Text) (i j : ℕ) (from : s ≡ u) → RunPrints by_script s m outer p i
     → RunPrints by_script u m outer q j → HadMemory p → HadMemory q → (p ≡ q) × (i ≡ j)
 runs_one s u m outer p q i j from one other had also =
-    let x = one.dynamic.runs in
-    let y = other.dynamic.runs in
+    let x = one.dynamic in
+    let y = other.dynamic in
     let here = run_whole p one had in
     let there = run_whole q other also in
     let (same, ends) = chains_one (one.outcome ≡ other.outcome) (s, []) (u, []) x.events y.events (one.new, one.kept)
@@ -58,8 +58,8 @@ stages_one : (c : Case) (outer : Frames) (p q : Text) (i j : ℕ) → ConstPrint
     → (p ≡ q) × (i ≡ j)
 stages_one c outer p q i j one other had also =
     let resolved = flags_one _ one.resolved other.resolved one.test other.test in
-    let same : one.outcome ≡ other.outcome = unstopped_is one.outcome _ one.staged.comes (stage_whole p one had)
-    ∙ sym (unstopped_is other.outcome _ other.staged.comes (stage_whole q other also)) in
+    let same : one.outcome ≡ other.outcome = unstopped_is one.outcome _ one.staged.ends (stage_whole p one had)
+    ∙ sym (unstopped_is other.outcome _ other.staged.ends (stage_whole q other also)) in
     (one.text ∙ rw (resolved, same) (sym other.text), one.ends ∙ rw same (sym other.ends))
 
 abbrev Starts : Script → Script → Type 0

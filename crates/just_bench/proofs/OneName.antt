@@ -1,8 +1,8 @@
 -- A run of one name in an empty scope binds nothing, or one number.
 use Rattle.std.proofs.Common.{◌≡◌, ◌⊎◌, inl, inr, List, [], ◌∷◌, Option, Some, None, refl, ap, ◌∙◌, sym, subst}
 use Rattle.std.specs.Map.{values_of}
-use Rattle.just_bench.specs.Prelude.{Bound, Closing, Extends, Frames, Gave, Module, Outcome, Ran, Refused, Step, Stopped, Token, and_then}
-use Rattle.just_bench.specs.Prelude.{bound_in, bound_innermost, first_bound, first_given, grown, in_order, own_frame}
+use Rattle.just_bench.specs.Prelude.{Behaves, Bound, Closing, Extends, Frames, Gave, Module, Outcome, Refused, Step, Stopped, Token, and_then}
+use Rattle.just_bench.specs.Prelude.{bound_in, bound_innermost, first_bound, first_given, freely, grown, in_order, own_frame, run, unchecked}
 use Rattle.just_meaning.specs.Blocks.{Block}
 use Rattle.just_soundness.proofs.Running.{Running, Finished, Passes, Skips, Binds, by_rules}
 
@@ -37,10 +37,10 @@ given_all Stopped run = refl
 -- adding the first binding of the run to the frames adds all its bindings
 pub extends_first : {closing : Closing} {S : Type 0} {step : Step S} {old new : S} {frames : Frames} (m : Module) (order : List Token) (t : Token)
     (given : Outcome Frames) (found : Outcome (Option Bound)) (outcome : Outcome Frames) → order ≡ t ∷ []
-    → Ran step old closing (in_order m order) ([] ∷ frames) order given new → found ≡ first_given given
+    → Behaves freely step unchecked old (run closing (in_order m order) ([] ∷ frames) order) given new → found ≡ first_given given
     → outcome ≡ and_then found (λ b. Gave (with_one frames b)) → Extends closing step old (in_order m (t ∷ [])) frames outcome new
 extends_first {closing = closing} {step = step} {old = old} {new = new} {frames = frames} m order t given found outcome same ran found_is is =
-    let one : Ran step old closing (in_order m (t ∷ [])) ([] ∷ frames) (t ∷ []) given new =
-    subst (λ order. Ran step old closing (in_order m order) ([] ∷ frames) order given new) same ran in
-    let rules = (by_rules closing (in_order m (t ∷ [])) ([] ∷ frames) (t ∷ []) one.runs.path).rules in
+    let one : Behaves freely step unchecked old (run closing (in_order m (t ∷ [])) ([] ∷ frames) (t ∷ [])) given new =
+    subst (λ order. Behaves freely step unchecked old (run closing (in_order m order) ([] ∷ frames) order) given new) same ran in
+    let rules = (by_rules closing (in_order m (t ∷ [])) ([] ∷ frames) (t ∷ []) one.path).rules in
     record { given = given; ran = one; bound = is ∙ ap (λ found. and_then found (λ b. Gave (with_one frames b))) found_is ∙ given_all given rules }

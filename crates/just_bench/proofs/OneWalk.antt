@@ -20,8 +20,8 @@ extends_here : (h : Script × List Kept) (m : Module) (frames : Frames) (o p : O
     (one : Extends dynamically (recording by_script) h m frames o s) (other : Extends dynamically (recording by_script) h m frames p t)
     → o ≢ Stopped → p ≢ Stopped → (o ≡ p) × (s ≡ t)
 extends_here h m frames o p s t one other here there =
-    let x = one.ran.runs in
-    let y = other.ran.runs in
+    let x = one.ran in
+    let y = other.ran in
     let go = λ (own : Frames). Gave (grown frames (values_of (own_frame own))) in
     let whole : one.given ≢ Stopped = λ e. here (one.bound ∙ ap (λ g. and_then g go) e) in
     let also : other.given ≢ Stopped = λ e. there (other.bound ∙ ap (λ g. and_then g go) e) in

@@ -1,8 +1,9 @@
 -- The output of a run.
 use Rattle.std.proofs.Common.{◌≡◌, ◌↔◌, ℕ, Bool, IsTrue, List, [], ◌∷◌, ◌++◌, Result, Ok, Err, IfOk, OnOk, append_assoc, refl, subst, ◌∙◌, ap}
-use Rattle.just_bench.specs.Prelude.{Added, Case, CaseRuns, Frames, IsResolvedModule, Kept, MadeOf, Module, Outcome, Ran, RunPrints, ScriptedHost, Step, Text}
-use Rattle.just_bench.specs.Prelude.{case_module, case_script, dynamically, lexically, outcome_lines, question_lines, recording, script_view, status_of}
-use Rattle.just_bench.specs.Prelude.{unresolved_line, without_answers}
+use Rattle.just_bench.specs.Prelude.{Added, Behaves, Case, CaseRuns, Frames, IsResolvedModule, Kept, MadeOf, Module, Outcome, RunPrints, ScriptedHost, Step}
+use Rattle.just_bench.specs.Prelude.{Text}
+use Rattle.just_bench.specs.Prelude.{case_module, case_script, dynamically, freely, lexically, outcome_lines, question_lines, recording, run, script_view}
+use Rattle.just_bench.specs.Prelude.{status_of, unchecked, unresolved_line, without_answers}
 
 -- three texts in a row
 pub three : (a b c d x y z : Text) → b ≡ a ++ x → c ≡ b ++ y → d ≡ c ++ z → d ≡ a ++ (x ++ (y ++ z))
@@ -12,8 +13,9 @@ three a b c d x y z p q r = r ∙ ap (λ t. t ++ z) (q ∙ ap (λ t. t ++ y) p) 
 pub run_printed : {E S : Type 0} (step : Step S) (old : S) (m : Module) (outer : Frames) (resolved : Bool) (kept : List Kept) (outcome : Outcome Frames)
     (new : S) (asked : List Kept) (a b c d : Text) (result : Result ℕ E)
     → (IsTrue resolved ↔ IsResolvedModule m outer)
-    → (IsResolvedModule m outer → Ran (recording step) (old, []) lexically m ([] ∷ outer) m.assignments.order outcome (new, kept))
-    → Ran (recording step) (old, []) dynamically m ([] ∷ outer) m.assignments.order outcome (new, kept)
+    → (IsResolvedModule m outer
+    → Behaves freely (recording step) unchecked (old, []) (run lexically m ([] ∷ outer) m.assignments.order) outcome (new, kept))
+    → Behaves freely (recording step) unchecked (old, []) (run dynamically m ([] ∷ outer) m.assignments.order) outcome (new, kept)
     → b ≡ a ++ unresolved_line resolved → c ≡ b ++ question_lines asked → asked ≡ kept → OnOk result (d ≡ c ++ outcome_lines outcome)
     → IfOk result (λ status. status ≡ status_of outcome)
     → IfOk result (λ status. Added a d (λ printed. RunPrints step old m outer printed status))

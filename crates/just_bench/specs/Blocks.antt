@@ -11,9 +11,9 @@ use Rattle.just_value.specs.Outcome.{Outcome, Gave, Refused, Stopped, and_then, 
 use Rattle.just_value.specs.Refusal.{Refusal}
 use Rattle.just_value.specs.Value.{is_same}
 use Rattle.just_host.specs.Recorded.{Kept}
-use Rattle.just_host.specs.Interaction.{Step}
+use Rattle.just_host.specs.Interaction.{Behaves, Step, freely, unchecked}
 use Rattle.just_case_reader.specs.Case.{Case}
-use Rattle.just_meaning.specs.Module.{Closing, Module, Ran, dynamically, lexically, IsResolvedModule}
+use Rattle.just_meaning.specs.Module.{Closing, Module, run, dynamically, lexically, IsResolvedModule}
 use Rattle.just_script.specs.Script.{Script}
 use Rattle.just_bench.specs.Printed.{with_newline, order_line, question_lines, refusal_line}
 use Rattle.just_bench.specs.Hosts.{case_script}
@@ -36,7 +36,7 @@ grown frames (b ∷ bs) = grown (bound_innermost frames b) bs
 pub record Extends (closing : Closing) {S : Type 0} (step : Step S) (old : S) (m : Module) (frames : Frames)
     (outcome : Outcome Frames) (new : S) : Type 0 where
   pub given : Outcome Frames
-  pub ran : Ran step old closing m ([] ∷ frames) m.assignments.order given new
+  pub ran : Behaves freely step unchecked old (run closing m ([] ∷ frames) m.assignments.order) given new
   pub bound : outcome ≡ and_then given (λ own. Gave (grown frames (values_of (own_frame own))))
 
 -- ---- a name-by-name run

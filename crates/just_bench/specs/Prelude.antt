@@ -3,11 +3,12 @@ pub use Rattle.just_case_reader.specs.Case.{Blocks, Case, Evaluation}
 pub use Rattle.just_case_reader.specs.Reading.{BadLine, Described, Describes}
 pub use Rattle.just_case_reader.specs.View.{case_view, number_set_view, reply_view}
 pub use Rattle.just_eval.specs.View.{stage_state_of}
-pub use Rattle.just_host.specs.Interaction.{Asked, Chain, Checked, Event, Noted, Step}
+pub use Rattle.just_host.specs.Interaction.{Asked, Behaves, Chain, Checked, Event, Noted, Rules, Step, Tree, freely}
+pub use Rattle.just_host.specs.Interaction.{unchecked}
 pub use Rattle.just_host.specs.Question.{Answer, Blind, CommandOf, ExistsAt, NumberOf, Question, TextOf}
 pub use Rattle.just_host.specs.Recorded.{Kept, RecordsAndAsks}
 pub use Rattle.just_host.specs.View.{config_view, inner_host, justfile_view, recorded_view, records_view, search_view}
-pub use Rattle.just_meaning.specs.Module.{Closing, IsResolvedModule, IsResolvedRun, Module, Ran, bound_in}
+pub use Rattle.just_meaning.specs.Module.{Closing, IsResolvedModule, IsResolvedRun, Module, bound_in, run}
 pub use Rattle.just_meaning.specs.Module.{dynamically, lexically}
 pub use Rattle.just_meaning.specs.Resolved.{IsResolved, IsResolvedConst}
 pub use Rattle.just_meaning.specs.Stage.{Constants, StageState, Staged, at_start}

@@ -6,8 +6,8 @@ use Rattle.just_value.specs.Frames.{Frames, own_frame}
 use Rattle.just_value.specs.Outcome.{Outcome, Gave, Refused, Stopped}
 use Rattle.just_case_reader.specs.Case.{Case}
 use Rattle.just_host.specs.Recorded.{Kept, RecordsAndAsks}
-use Rattle.just_host.specs.Interaction.{Step}
-use Rattle.just_meaning.specs.Module.{Module, Ran, dynamically, lexically, IsResolvedModule}
+use Rattle.just_host.specs.Interaction.{Behaves, Step, freely, unchecked}
+use Rattle.just_meaning.specs.Module.{Module, run, dynamically, lexically, IsResolvedModule}
 use Rattle.just_script.specs.Script.{Script, AnswersByScript}
 use Rattle.just_bench.specs.Printed.{binding_lines, question_lines, refusal_line}
 use Rattle.just_bench.specs.Hosts.{case_script}
@@ -49,8 +49,10 @@ pub record RunPrints {S : Type 0} (step : Step S) (old : S) (m : Module) (outer 
   pub outcome : Outcome Frames
   pub new : S
   pub lexical : IsTrue resolved
-      → Ran (recording step) (old, []) lexically m ([] ∷ outer) m.assignments.order outcome (new, kept)
-  pub dynamic : Ran (recording step) (old, []) dynamically m ([] ∷ outer) m.assignments.order outcome (new, kept)
+      → Behaves freely (recording step) unchecked (old, []) (run lexically m ([] ∷ outer) m.assignments.order) outcome
+      (new, kept)
+  pub dynamic : Behaves freely (recording step) unchecked (old, []) (run dynamically m ([] ∷ outer) m.assignments.order)
+      outcome (new, kept)
   pub text : printed ≡ unresolved_line resolved ++ (question_lines kept ++ outcome_lines outcome)
   pub ends : status ≡ status_of outcome
 

@@ -1,10 +1,10 @@
 // Runs of a case's module, with any host and in any scope.
 
 ghost use Rattle.std.specs.Prelude.{IfOk, IsTrue, OnOk, [], map, option_map, ◌↔◌, ◌∷◌, ◌≡◌};
-ghost use Rattle.just_bench.specs.Prelude.{Extends, IsResolved, IsResolvedModule, IsResolvedRun, Outcome, Ran};
+ghost use Rattle.just_bench.specs.Prelude.{Behaves, Extends, IsResolved, IsResolvedModule, IsResolvedRun, Outcome};
 ghost use Rattle.just_bench.specs.Prelude.{bound_view, case_module, case_view, dynamically, ended, first_bound};
-ghost use Rattle.just_bench.specs.Prelude.{first_given, frames_view, in_order, lexically, name_view, own_frame};
-ghost use Rattle.just_bench.specs.Prelude.{run_view, without_attributes};
+ghost use Rattle.just_bench.specs.Prelude.{first_given, frames_view, freely, in_order, lexically, name_view, own_frame};
+ghost use Rattle.just_bench.specs.Prelude.{run, run_view, unchecked, without_attributes};
 ghost use Rattle.std.specs.Map.{values_of};
 
 use crate::context::{case_config, case_module, case_search};
@@ -101,9 +101,11 @@ impl<'src> ModuleRun<'src> {
     ) -> Result<Scope<'src, 'run>, Error<'src>>
         ensures headline { let m = run_view self.entry.now in let outer = frames_view parent.entry.now in
             IsResolvedRun m outer
-            → Ran H.step host.old lexically m ([] ∷ outer) m.assignments.order (ended frames_view result) host.new }
+            → Behaves freely H.step unchecked host.old (run lexically m ([] ∷ outer) m.assignments.order)
+            (ended frames_view result) host.new }
         ensures dynamic { let m = run_view self.entry.now in
-            Ran H.step host.old dynamically m ([] ∷ frames_view parent.entry.now) m.assignments.order
+            Behaves freely H.step unchecked host.old
+            (run dynamically m ([] ∷ frames_view parent.entry.now) m.assignments.order)
             (ended frames_view result) host.new }
     {
         Evaluator::evaluate_assignments(
@@ -152,8 +154,9 @@ impl<'src> ModuleRun<'src> {
         host: &mut H,
         scope: &Scope<'src, '_>,
     ) -> Result<Result<Option<Binding<'src>>, Error<'src>>, OutOfMemory>
-        ensures { IfOk result (λ found. (given : Outcome _) × Ran H.step host.old dynamically (run_view self.now)
-            ([] ∷ frames_view scope.now) (run_view self.now).assignments.order given host.new
+        ensures { IfOk result (λ found. (given : Outcome _) × Behaves freely H.step unchecked host.old
+            (run dynamically (run_view self.now) ([] ∷ frames_view scope.now) (run_view self.now).assignments.order)
+            given host.new
             × (ended (option_map bound_view) found ≡ first_given given)) }
     {
         match self.evaluate(alloc, host, scope) {

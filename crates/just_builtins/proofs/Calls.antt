@@ -2,7 +2,8 @@
 use Rattle.std.proofs.Common.{◌≡◌, ◌≢◌, ℕ, refl, sym, List, [], ◌∷◌, Option, Some, None, Result, Ok, Err, string_bytes, subst, inl, inr}
 use Rattle.std.specs.List.{AllByRecursion}
 use Rattle.just_builtins.specs.Prelude.{Answer, Asked, AskedBy, AskedOr, Asks, AsksOnce, Called, Context, Frames, Gave, GivesOr, Internal, IsExpected, IsReply}
-use Rattle.just_builtins.specs.Prelude.{IsUnnamed, Replies, RepliesAmong, Reply, Returned, Runs, Step, Text, TextOf, Value, asks_text, builtin_of, frameless}
+use Rattle.just_builtins.specs.Prelude.{Behaves, IsUnnamed, Replies, RepliesAmong, Reply, Returned, Step, Text, TextOf, Value, asks_text, builtin_of}
+use Rattle.just_builtins.specs.Prelude.{frameless, unchecked}
 use Rattle.just_builtins.specs.Prelude.{frames_view, freely, function_context_view, outcome, reply, text_answered, tree}
 use Rattle.just_value.specs.Refusal.{NoMemory}
 use Rattle.just_host.specs.Question.{Blind, Failed, TextQuestion}
@@ -50,10 +51,10 @@ module _ {S : Type 0} {step : Step S} where
   unasked shown reply result is = (record { events = []; path = path shown reply result is; chain = refl }, named reply result is)
 
   -- memory runs out before the first question
-  pub at_once : {h : S} {t : Tree Called} (result : Result Value CallFault) → result ≡ Err OutOfMemory → Runs freely step h t (outcome result) h
+  pub at_once : {h : S} {t : Tree Called} (result : Result Value CallFault) → result ≡ Err OutOfMemory → Behaves freely step unchecked h t (outcome result) h
       × (result ≢ Err Internal)
   at_once {h = h} {t = t} result is =
-      (subst (λ r. Runs freely step h t (outcome r) h) (sym is) (record { events = []; path = Stops; chain = refl }), λ e. absurd (cc))
+      (subst (λ r. Behaves freely step unchecked h t (outcome r) h) (sym is) (record { events = []; path = Stops; chain = refl }), λ e. absurd (cc))
 
   pub unasked_by : {h : S} (f : Function) (shown : Frames) (reply : Reply) (result : Result Value CallFault) → Replies f reply result
       → AskedBy f step h shown reply result h
@@ -100,7 +101,7 @@ module _ {S : Type 0} {step : Step S} where
   pub of_builtin : {old new : S} (f : Function) (b other : Builtin) (c : Context) (vs : List Value) (shown : Frames) (result : Result Value CallFault)
       → b ≡ other → Asked step old shown (reply other c vs) result new → AskedBy f step old shown (reply b c vs) result new
   of_builtin {old = old} {new = new} f b other c vs shown result is (run, not_internal) =
-      (subst (λ x. Runs freely step old (tree shown (reply x c vs)) (outcome result) new) (sym is) run, λ e. absurd (not_internal e))
+      (subst (λ x. Behaves freely step unchecked old (tree shown (reply x c vs)) (outcome result) new) (sym is) run, λ e. absurd (not_internal e))
 
   -- a function without a name
   pub internal : {h : S} (f : Function) (shown : Frames) (reply : Reply) → IsUnnamed f → AskedBy f step h shown reply (Err Internal) h

@@ -6,7 +6,7 @@ use Rattle.just_value.specs.Value.{Value}
 use Rattle.just_value.specs.Frames.{Frames}
 use Rattle.just_value.specs.Outcome.{Outcome, Gave, Stopped}
 use Rattle.just_host.specs.Question.{Blind, CommandOf}
-use Rattle.just_host.specs.Interaction.{Tree, done, ask, gives, Runs, freely, Step}
+use Rattle.just_host.specs.Interaction.{Tree, done, ask, gives, freely, Step, Behaves, unchecked}
 use Rattle.just_builtins.specs.declared.builtin.Builtin.{Builtin}
 use Rattle.just_builtins.specs.declared.call_fault.CallFault.{CallFault}
 use Rattle.just_builtins.specs.declared.call_fault.CallFault.TheVariants.{Internal, Message, OutOfMemory}
@@ -72,17 +72,19 @@ GivesOr reply (Err Internal) = ⊥
 -- the call is a run of the reply's interaction tree, and its result is not `Internal`
 abbrev pub Asked : {S : Type 0} → Step S → S → Frames → Reply → Result Value CallFault → S → Type 0
 Asked step old shown reply result new =
-    Runs freely step old (tree shown reply) (outcome result) new × (result ≢ Err Internal)
+    Behaves freely step unchecked old (tree shown reply) (outcome result) new × (result ≢ Err Internal)
 
 -- the same, but it is `Internal` if the function has no name; then nothing is asked
 abbrev pub AskedBy : {S : Type 0} → Function → Step S → S → Frames → Reply → Result Value CallFault → S → Type 0
 AskedBy f step old shown reply result new =
-    Runs freely step old (tree shown reply) (outcome result) new × (result ≡ Err Internal → IsUnnamed f × (new ≡ old))
+    Behaves freely step unchecked old (tree shown reply) (outcome result) new
+    × (result ≡ Err Internal → IsUnnamed f × (new ≡ old))
 
 -- If there is a result, it is the reply's. If there is none yet, any run of `rest` from here is a run of the reply.
 abbrev pub AskedOr : {S : Type 0} → Step S → S → Frames → (Reply → Reply) → Result (Option Value) CallFault → S → Type 0
 AskedOr step old shown reply (Ok (Some v)) new =
-    (rest : Reply) → Runs freely step old (tree shown (reply rest)) (Gave (Returned v)) new
+    (rest : Reply) → Behaves freely step unchecked old (tree shown (reply rest)) (Gave (Returned v)) new
 AskedOr {S} step old shown reply (Ok None) new = (rest : Reply) (o : Outcome Called) (last : S)
-    → Runs freely step new (tree shown rest) o last → Runs freely step old (tree shown (reply rest)) o last
+    → Behaves freely step unchecked new (tree shown rest) o last
+    → Behaves freely step unchecked old (tree shown (reply rest)) o last
 AskedOr step old shown reply (Err e) new = (rest : Reply) → Asked step old shown (reply rest) (Err e) new

@@ -1,7 +1,7 @@
 -- The names that the contracts and proofs of this crate share, passed on from one place. Declares nothing.
 pub use Rattle.just_host.specs.Fixed.{working_directory}
 pub use Rattle.just_host.specs.Function.{Context}
-pub use Rattle.just_host.specs.Interaction.{AsksOnce, Runs, Step, freely}
+pub use Rattle.just_host.specs.Interaction.{AsksOnce, Step, freely, Behaves, unchecked}
 pub use Rattle.just_host.specs.Question.{Answer, ExistsAt, TextOf, Which, frameless}
 pub use Rattle.just_host.specs.View.{existence_answer, fixed_view, function_context_view, number_answer, replied}
 pub use Rattle.just_host.specs.View.{text_question_view, text_replied}

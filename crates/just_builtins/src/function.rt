@@ -2,7 +2,8 @@
 
 ghost use Rattle.std.specs.Prelude.{Err, IsTrue, false, length, map, ◌≡◌};
 ghost use Rattle.std.specs.Range.{range_inclusive_end, range_inclusive_exhausted, range_inclusive_start};
-ghost use Rattle.just_builtins.specs.Prelude.{AskedBy, HasTexts, Internal, IsExpected, IsUnnamed, Runs, Text};
+ghost use Rattle.just_builtins.specs.Prelude.{AskedBy, Behaves, HasTexts, Internal, IsExpected, IsUnnamed, Text};
+ghost use Rattle.just_builtins.specs.Prelude.{unchecked};
 ghost use Rattle.just_builtins.specs.Prelude.{builtin_of, entry_view, fewest_arguments, find_in, frames_view, freely};
 ghost use Rattle.just_builtins.specs.Prelude.{function_context_view, function_named, is_left_out, is_text};
 ghost use Rattle.just_builtins.specs.Prelude.{most_arguments, outcome, reply, rises, tree};
@@ -134,7 +135,8 @@ impl Function {
         requires count { IsExpected self (length arguments.now) }
         requires texts { HasTexts self arguments.now }
         ensures replied { let answer = reply (builtin_of self) (function_context_view context.now) arguments.now in
-            Runs freely H.step host.old (tree (frames_view context.now.scope.now) answer) (outcome result) host.new }
+            Behaves freely H.step unchecked host.old (tree (frames_view context.now.scope.now) answer)
+            (outcome result) host.new }
         ensures internal { result ≡ Err Internal → IsUnnamed self × (host.new ≡ host.old) }
     {
         self.answer(alloc, host, context, arguments)

@@ -2,7 +2,7 @@
 use Rattle.std.proofs.Common.{◌≡◌, Bool, true, List, Option, Some, None, refl, sym, ap, ◌∙◌, subst, Bor, is_some, option_map, Result}
 use Rattle.std.specs.Fn.{Shared}
 use Rattle.just_syntax.specs.Plain as plain
-use Rattle.just_eval.specs.Prelude.{Expr, Frames, Gave, GivesVerdict, IsJudged, IsSameButScopeAndEnvironment, Outcome, Rules, Runs, RunsChecked, Situation}
+use Rattle.just_eval.specs.Prelude.{Behaves, Expr, Frames, Gave, GivesVerdict, IsJudged, IsSameButScopeAndEnvironment, Outcome, Rules, Situation, unchecked}
 use Rattle.just_eval.specs.Prelude.{Step, Text, Tree, Value, below_of, checked, frames_view, judged, name_view, pairs_view, seeing, situation_of, value_in}
 use Rattle.just_eval.specs.Prelude.{valued}
 use Rattle.just_syntax.specs.declared.name.Name.{Name}
@@ -11,7 +11,7 @@ use Rattle.just_syntax.specs.declared.recipe.Recipe.{Recipe}
 use Rattle.just_value.specs.declared.check_fault.CheckFault.{CheckFault}
 use Rattle.just_value.specs.declared.scope.Scope.{Scope}
 use Rattle.just_host.specs.Interaction.{check, done}
-use Rattle.just_host.proofs.Checked.{checked_check, checked_on, unchecked}
+use Rattle.just_host.proofs.Paths.{runs_check, runs_on, runs_checked}
 use Rattle.just_eval.specs.declared.evaluator.Evaluator.{Evaluator}
 
 -- ---- situations
@@ -55,9 +55,9 @@ situation_bound e f frames same env based is = situation_but e f same ∙ by e.b
 pub checked_value : {S F : Type 0} {rules : Rules} {step : Step S} {old mid : S} {calls : Shared F (Bor Recipe × (Bor Parameter × (Bor Value × Unit {0})))
     (Result Unit CheckFault)} {f : F} {r : Recipe}
     (means : Expr → Tree Value) (is_dependency : Bool) (recipe : Text) (p : plain.Parameter) (argument v : Value) (o : Outcome Value)
-    → Runs rules step old (valued means is_dependency recipe p argument) (Gave v) mid → IsJudged calls f r p v o
-    → RunsChecked rules step (GivesVerdict calls f r) old (checked means is_dependency recipe p argument) o mid
+    → Behaves rules step unchecked old (valued means is_dependency recipe p argument) (Gave v) mid → IsJudged calls f r p v o
+    → Behaves rules step (GivesVerdict calls f r) old (checked means is_dependency recipe p argument) o mid
 checked_value {rules = rules} {step = step} {mid = mid} {calls = calls} {f = f} {r = r} means is_dependency recipe p argument v o run judgement =
-    checked_on (valued means is_dependency recipe p argument) _ (unchecked run)
-    (subst (λ x. RunsChecked rules step (GivesVerdict calls f r) mid (check p v (λ a. done (judged p v a))) x mid) (sym judgement.outcome_is)
-    (checked_check p v judgement.verdict (judged p v) judgement.given))
+    runs_on (valued means is_dependency recipe p argument) _ (runs_checked run)
+    (subst (λ x. Behaves rules step (GivesVerdict calls f r) mid (check p v (λ a. done (judged p v a))) x mid) (sym judgement.outcome_is)
+    (runs_check p v judgement.verdict (judged p v) judgement.given))

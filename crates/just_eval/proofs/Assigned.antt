@@ -4,9 +4,9 @@ use Rattle.std.specs.List.{list_any}
 use Rattle.std.specs.Option.{ForSome}
 use mathlib.Core.Path.{fun_ext}
 use Rattle.just_eval.specs.Prelude.{Assigned, Assignment, Closing, Const, ConstRefusal, Constants, Frames, Gave, IsBound, IsConstEval, IsFinal, IsSameButScope}
-use Rattle.just_eval.specs.Prelude.{Module, OpensOrEnds, Outcome, Ran, Refusal, Refused, Rules, Runs, StageState, Staged, Step, Stopped, Token, Tree}
+use Rattle.just_eval.specs.Prelude.{Behaves, Module, OpensOrEnds, Outcome, Refusal, Refused, Rules, StageState, Staged, Step, Stopped, Token, Tree}
 use Rattle.just_eval.specs.Prelude.{UnlessStopped, Value, WasBound, assigned, assignment_at, at_start, compile_refusal, const_ended, const_meaning, constantly}
-use Rattle.just_eval.specs.Prelude.{ended, frames_view, freely, innermost, or_override, refusal, stage_state_of, with_open, without_value}
+use Rattle.just_eval.specs.Prelude.{ended, frames_view, freely, innermost, or_override, refusal, stage_state_of, turn, unchecked, with_open, without_value}
 use Rattle.just_syntax.proofs.Maps.{number_with}
 use Rattle.just_value.specs.declared.compile_error.CompileError.{CompileError}
 use Rattle.just_value.specs.declared.error.Error.{Error}
@@ -15,11 +15,11 @@ use Rattle.just_expression.proofs.Exits.{exit_is}
 use Rattle.just_soundness.proofs.Constants.{HasConstOutcome, OfSome, const_override, const_outcome, eval_alike}
 use Rattle.just_eval.specs.View.{IsRefused, IsStopped, Opens, Ends}
 use Rattle.just_eval.specs.declared.evaluator.Evaluator.{Evaluator}
-use Rattle.just_eval.proofs.Module.{ran_binds, ran_fails, ran_skips}
+use Rattle.just_eval.proofs.Module.{turn_binds, turn_fails, turn_skips}
 use Rattle.just_eval.proofs.Stages.{staged_breaks, staged_opens, staged_settles, staged_skips, staged_stops}
 
 module _ {S : Type 0} {rules : Rules} {step : Step S} {old new : S} {tree : Tree Value} {export : Bool} {a : Assignment} {frames : Frames} where
-  pub assigned_none : (e : Option Refusal) → innermost a.number frames ≡ None → Runs rules step old tree (without_value e) new
+  pub assigned_none : (e : Option Refusal) → innermost a.number frames ≡ None → Behaves rules step unchecked old tree (without_value e) new
       → Assigned rules step old tree export a frames (without_value e) new
   assigned_none (Some r) u runs = IsRefused r u runs
   assigned_none None u runs = IsStopped u runs
@@ -30,20 +30,23 @@ module _ {S : Type 0} {rules : Rules} {step : Step S} {old new : S} {tree : Tree
   assigned_exit f r e is h = rw (exit_is f r e is) h
 
   -- memory runs out after the value
-  pub assigned_cut : (v : Value) → innermost a.number frames ≡ None → Runs rules step old tree (Gave v) new
+  pub assigned_cut : (v : Value) → innermost a.number frames ≡ None → Behaves rules step unchecked old tree (Gave v) new
       → Assigned rules step old tree export a frames Stopped new
   assigned_cut v u r = IsStopped u (record { events = r.events; path = path_cut r.path; chain = r.chain })
 
 -- ---- in a run
 
-module _ {S : Type 0} {step : Step S} {closing : Closing} {m : Module} where
-  pub ran_assigned : {old new : S} (frames : Frames) (t : Token) (a : Assignment) {o : Outcome Frames} → assignment_at m.assignments t.lexeme ≡ Some a
-      → m.assignments.referenced a.number ≡ true →
-      Assigned freely step old (assigned closing m frames a) m.program.fixed.settings.export a frames o new → Ran step old closing m frames (t ∷ []) o new
-  ran_assigned frames t a found referenced (WasBound b e) = ran_skips frames t a found b referenced e
-  ran_assigned frames t a found referenced (IsBound v u r) = ran_binds frames t a (record { found = found; referenced = referenced; unbound = u }) v _ refl r
-  ran_assigned frames t a found referenced (IsRefused s u r) = ran_fails frames t a (record { found = found; referenced = referenced; unbound = u }) (Some s) r
-  ran_assigned frames t a found referenced (IsStopped u r) = ran_fails frames t a (record { found = found; referenced = referenced; unbound = u }) None r
+pub turn_assigned : {S : Type 0} {step : Step S} {old new : S} (closing : Closing) (m : Module) (frames : Frames) (t : Token) (a : Assignment)
+    {o : Outcome Frames} → assignment_at m.assignments t.lexeme ≡ Some a → m.assignments.referenced a.number ≡ true
+    → Assigned freely step old (assigned closing m frames a) m.program.fixed.settings.export a frames o new
+    → Behaves freely step unchecked old (turn closing m frames t) o new
+turn_assigned closing m frames t a found referenced (WasBound b e) = turn_skips closing m frames t a found b referenced e
+turn_assigned closing m frames t a found referenced (IsBound v u r) =
+    turn_binds closing m frames t a (record { found = found; referenced = referenced; unbound = u }) v _ refl r
+turn_assigned closing m frames t a found referenced (IsRefused s u r) =
+    turn_fails closing m frames t a (record { found = found; referenced = referenced; unbound = u }) (Some s) r
+turn_assigned closing m frames t a found referenced (IsStopped u r) =
+    turn_fails closing m frames t a (record { found = found; referenced = referenced; unbound = u }) None r
 
 -- ---- in a const stage
 
@@ -55,7 +58,8 @@ abbrev pub InStage : {S : Type 0} → Step S → Constants → StageState → As
 InStage step m s a old new o = Assigned (constantly s.is_open) step old (own m s a) false a s.frames o new
 
 module _ {S : Type 0} {step : Step S} (m : Constants) (s : StageState) (a : Assignment) where
-  determined : {old new : S} (o : Outcome Value) → Runs (constantly s.is_open) step old (own m s a) o new → HasConstOutcome s.is_open (own m s a) o old new
+  determined : {old new : S} (o : Outcome Value) → Behaves (constantly s.is_open) step unchecked old (own m s a) o new
+      → HasConstOutcome s.is_open (own m s a) o old new
   determined o r = const_outcome s.is_open _ o (const_override IsConstEval s.is_open (m.overrides a.number) _ (eval_alike s.is_open _ _ _ a.value)) r
 
   -- such a refusal is one of constant evaluation

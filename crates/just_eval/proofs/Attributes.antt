@@ -1,6 +1,7 @@
 -- Evaluating the rest of a recipe's attributes.
 use Rattle.std.proofs.Common.{◌≡◌, List, [], ◌∷◌, length, map, refl, ap, sym, subst, ◌∙◌, Option}
-use Rattle.just_eval.specs.Prelude.{Expr, Gave, IsSameButScopeAndEnvironment, Meanings, Outcome, Refusal, Runs, Step, Stopped, Text, Token, Tree, Value, bind}
+use Rattle.just_eval.specs.Prelude.{Behaves, Expr, Gave, IsSameButScopeAndEnvironment, Meanings, Outcome, Refusal, Step, Stopped, Text, Token, Tree, Value}
+use Rattle.just_eval.specs.Prelude.{bind, unchecked}
 use Rattle.just_eval.specs.Prelude.{dynamic_meaning, dynamic_meanings, environment, name_view, named_attribute_view, pairs_view, rules_of, situation_of, string}
 use Rattle.just_eval.specs.Prelude.{view, with_variable, without_value}
 use Rattle.just_syntax.specs.Plain.{Attribute, Env, Other}
@@ -43,8 +44,9 @@ pub record AttributesLeft {S : Type 0} (step : Step S) (start : S) (e : Evaluato
     (left : List (Attribute × Token)) (here : S) : Type 0 where
   pub same : IsSameButScopeAndEnvironment e f
   pub scope : f.scope ≡ e.scope
-  pub rest : (o : Outcome (List (Text × Text))) (new : S) → Runs (rules_of e) step here (environment (dynamic_meanings e.context) (situation_of f) left) o new
-      → Runs (rules_of e) step start (environment (dynamic_meanings e.context) (situation_of e) all) o new
+  pub rest : (o : Outcome (List (Text × Text))) (new : S)
+      → Behaves (rules_of e) step unchecked here (environment (dynamic_meanings e.context) (situation_of f) left) o new
+      → Behaves (rules_of e) step unchecked start (environment (dynamic_meanings e.context) (situation_of e) all) o new
 
 module _ {S : Type 0} {step : Step S} {start : S} {e : Evaluator} {all : List (Attribute × Token)} where
   pub attributes_start : {left : List (Attribute × Token)} → left ≡ all → AttributesLeft step start e all e left start
@@ -60,10 +62,11 @@ module _ {S : Type 0} {step : Step S} {start : S} {e : Evaluator} {all : List (A
 
     -- how all of them end
     abbrev Whole : Outcome (List (Text × Text)) → S → Type 0
-    Whole o new = Runs (rules_of e) step start (environment means (situation_of e) all) o new
+    Whole o new = Behaves (rules_of e) step unchecked start (environment means (situation_of e) all) o new
 
     pub attributes_all : left ≡ [] → Whole (Gave (pairs_view f.env)) here
-    attributes_all is = from.rest _ here (subst (λ l. Runs (rules_of e) step here (environment means (situation_of f) l) (Gave (pairs_view f.env)) here)
+    attributes_all is = from.rest _ here (subst
+        (λ l. Behaves (rules_of e) step unchecked here (environment means (situation_of f) l) (Gave (pairs_view f.env)) here)
         (sym is) (runs_gives (pairs_view f.env)))
 
     -- any other attribute sets nothing
@@ -71,7 +74,7 @@ module _ {S : Type 0} {step : Step S} {start : S} {e : Evaluator} {all : List (A
     other_next is = record {
       same = from.same;
       scope = from.scope;
-      rest = λ o new r. from.rest o new (subst (λ l. Runs (rules_of e) step here (environment means (situation_of f) l) o new) (sym is) r);
+      rest = λ o new r. from.rest o new (subst (λ l. Behaves (rules_of e) step unchecked here (environment means (situation_of f) l) o new) (sym is) r);
     }
 
     module _ {key value : Expr} {name : Token} {more : List (Attribute × Token)} (is : left ≡ (Env key value, name) ∷ more) where
@@ -81,30 +84,32 @@ module _ {S : Type 0} {step : Step S} {start : S} {e : Evaluator} {all : List (A
           bind (means (situation_of f) value) (λ v. environment means (record (situation_of f) { environment = with_variable (pairs_view f.env) k v }) more)
 
       fronted : (o : Outcome (List (Text × Text))) (new : S)
-          → Runs (rules_of e) step here (bind (string (means (situation_of f)) (EnvKey name) key) after_key) o new → Whole o new
-      fronted o new r = from.rest o new (subst (λ l. Runs (rules_of e) step here (environment means (situation_of f) l) o new) (sym is) r)
+          → Behaves (rules_of e) step unchecked here (bind (string (means (situation_of f)) (EnvKey name) key) after_key) o new → Whole o new
+      fronted o new r = from.rest o new (subst (λ l. Behaves (rules_of e) step unchecked here (environment means (situation_of f) l) o new) (sym is) r)
 
-      pub key_ends : {new : S} (r : Option Refusal) → Runs (rules_of f) step here (string (dynamic_meaning f) (EnvKey name) key) (without_value r) new
+      pub key_ends : {new : S} (r : Option Refusal)
+          → Behaves (rules_of f) step unchecked here (string (dynamic_meaning f) (EnvKey name) key) (without_value r) new
           → Whole (without_value r) new
       key_ends r q =
           fronted (without_value r) _ (runs_ends (string (means (situation_of f)) (EnvKey name) key) after_key r
           (runs_same e f from.same (λ m. string m (EnvKey name) key) q))
 
-      module _ {mid : S} {k : Text} (first : Runs (rules_of f) step here (string (dynamic_meaning f) (EnvKey name) key) (Gave k) mid) where
-        keyed : {o : Outcome (List (Text × Text))} {new : S} → Runs (rules_of e) step mid (after_key k) o new → Whole o new
+      module _ {mid : S} {k : Text} (first : Behaves (rules_of f) step unchecked here (string (dynamic_meaning f) (EnvKey name) key) (Gave k) mid) where
+        keyed : {o : Outcome (List (Text × Text))} {new : S} → Behaves (rules_of e) step unchecked mid (after_key k) o new → Whole o new
         keyed r = fronted _ _ (runs_on (string (means (situation_of f)) (EnvKey name) key) after_key
             (runs_same e f from.same (λ m. string m (EnvKey name) key) first) r)
 
-        pub value_ends : {new : S} (r : Option Refusal) → Runs (rules_of f) step mid (dynamic_meaning f value) (without_value r) new
+        pub value_ends : {new : S} (r : Option Refusal) → Behaves (rules_of f) step unchecked mid (dynamic_meaning f value) (without_value r) new
             → Whole (without_value r) new
         value_ends r q =
             keyed (runs_ends (means (situation_of f) value)
             (λ v. environment means (record (situation_of f) { environment = with_variable (pairs_view f.env) k v }) more) r
             (runs_same e f from.same (λ m. m value) q))
 
-        module _ {new : S} {v : Value} (second : Runs (rules_of f) step mid (dynamic_meaning f value) (Gave v) new) where
+        module _ {new : S} {v : Value} (second : Behaves (rules_of f) step unchecked mid (dynamic_meaning f value) (Gave v) new) where
           valued : {o : Outcome (List (Text × Text))} {last : S}
-              → Runs (rules_of e) step new (environment means (record (situation_of f) { environment = with_variable (pairs_view f.env) k v }) more) o last
+              → Behaves (rules_of e) step unchecked new
+              (environment means (record (situation_of f) { environment = with_variable (pairs_view f.env) k v }) more) o last
               → Whole o last
           valued r = keyed
               (runs_on (means (situation_of f) value) (λ v. environment means (record (situation_of f) { environment = with_variable (pairs_view f.env) k v })
@@ -120,6 +125,6 @@ module _ {S : Type 0} {step : Step S} {start : S} {e : Evaluator} {all : List (A
             same = same_on e f g from.same but;
             scope = scope ∙ from.scope;
             rest = λ o last r.
-                valued (subst (λ s. Runs (rules_of e) step new (environment means s more) o last) (situation_set f g but scope
+                valued (subst (λ s. Behaves (rules_of e) step unchecked new (environment means s more) o last) (situation_set f g but scope
                 ∙ ap (λ v. record (situation_of f) { environment = v }) set) r);
           }

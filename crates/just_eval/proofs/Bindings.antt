@@ -1,14 +1,15 @@
 -- Binding the rest of a recipe's parameters.
 use Rattle.std.proofs.Common.{◌≡◌, inl, inr, ◌⊎◌, true, List, [], ◌∷◌, ◌++◌, length, map, refl, sym, subst, Option, Result, Bor, is_some}
 use Rattle.std.specs.Fn.{Shared}
-use Rattle.just_eval.specs.Prelude.{Arguments, Gave, GivesVerdict, IsJudged, IsSameButScopeAndEnvironment, Meanings, Outcome, Parameter, Refusal, Runs}
-use Rattle.just_eval.specs.Prelude.{RunsChecked, Step, Stopped, Text, Tree, Value, Verdict, bind, bindings, bound_innermost, checked, dynamic_meaning}
+use Rattle.just_eval.specs.Prelude.{Arguments, Behaves, Gave, GivesVerdict, IsJudged, IsSameButScopeAndEnvironment, Meanings, Outcome, Parameter, Refusal}
+use Rattle.just_eval.specs.Prelude.{unchecked}
+use Rattle.just_eval.specs.Prelude.{Step, Stopped, Text, Tree, Value, Verdicts, bind, bindings, bound_innermost, checked, dynamic_meaning}
 use Rattle.just_eval.specs.Prelude.{dynamic_meanings, frames_view, gives, pairs_view, parameter_bound, recipe_view, rules_of, seeing, situation_of, valued}
 use Rattle.just_eval.specs.Prelude.{without_value, words_of}
 use Rattle.just_syntax.specs.declared.parameter.Parameter.{Parameter as Declared}
 use Rattle.just_syntax.specs.declared.recipe.Recipe.{Recipe}
 use Rattle.just_value.specs.declared.check_fault.CheckFault.{CheckFault}
-use Rattle.just_host.proofs.Checked.{checked_ends, checked_gives, checked_on, checked_stopped, unchecked}
+use Rattle.just_host.proofs.Paths.{runs_ends, runs_gives, runs_on, runs_stopped, runs_checked}
 use Rattle.just_eval.specs.declared.evaluator.Evaluator.{Evaluator}
 use Rattle.just_eval.proofs.Arguments.{checked_value, situation_bound}
 use Rattle.just_eval.proofs.Same.{runs_same, same_on}
@@ -27,8 +28,8 @@ pub record ParametersLeft {S F : Type 0} (step : Step S) (calls : Shared F (Bor 
     (f : Evaluator) (words : List Text) (left : List Parameter) (arguments : List Value) (here : S) : Type 0 where
   pub same : IsSameButScopeAndEnvironment e f
   pub rest : (o : Outcome Arguments) (new : S)
-      → RunsChecked (rules_of e) step (GivesVerdict calls check recipe) here (rest_of e recipe f words left arguments) o new
-      → RunsChecked (rules_of e) step (GivesVerdict calls check recipe) start (rest_of e recipe e [] all given) o new
+      → Behaves (rules_of e) step (GivesVerdict calls check recipe) here (rest_of e recipe f words left arguments) o new
+      → Behaves (rules_of e) step (GivesVerdict calls check recipe) start (rest_of e recipe e [] all given) o new
 
 module _ {S F : Type 0} {step : Step S} {calls : Shared F (Bor Recipe × (Bor Declared × (Bor Value × Unit {0}))) (Result Unit CheckFault)} {check : F}
     {recipe : Recipe} {start : S} {e : Evaluator} {all : List Parameter} {given : List Value} where
@@ -47,19 +48,19 @@ module _ {S F : Type 0} {step : Step S} {calls : Shared F (Bor Recipe × (Bor De
     abbrev name : Text
     name = (recipe_view recipe).name.lexeme
 
-    abbrev says : Parameter → Value → Verdict → Type 0
+    abbrev says : Verdicts
     says = GivesVerdict calls check recipe
 
     -- how all of them end
     abbrev Whole : Outcome Arguments → S → Type 0
-    Whole o new = RunsChecked (rules_of e) step says start (bindings means name (situation_of e) [] all given) o new
+    Whole o new = Behaves (rules_of e) step says start (bindings means name (situation_of e) [] all given) o new
 
     abbrev made : Arguments
     made = record { frames = frames_view f.scope; words = words; environment = pairs_view f.env }
 
     pub parameters_all : (length left ≡ 0) ⊎ (length arguments ≡ 0) → Whole (Gave made) here
     parameters_all none =
-        from.rest (Gave made) here (subst (λ t. RunsChecked (rules_of e) step says here t (Gave made) here) (sym (by left arguments none)) (checked_gives made))
+        from.rest (Gave made) here (subst (λ t. Behaves (rules_of e) step says here t (Gave made) here) (sym (by left arguments none)) (runs_gives made))
       where
         by : (ps : List Parameter) (vs : List Value) → (length ps ≡ 0) ⊎ (length vs ≡ 0) → bindings means name (situation_of f) words ps vs ≡ gives made
         by [] vs h = refl
@@ -77,28 +78,30 @@ module _ {S F : Type 0} {step : Step S} {calls : Shared F (Bor Recipe × (Bor De
       after v = bindings means name (seeing (bound_innermost (frames_view f.scope) (parameter_bound f.lists p v)) (situation_of f))
           (words ++ words_of p v) more further
 
-      fronted : {o : Outcome Arguments} {new : S} → RunsChecked (rules_of e) step says here (bind first after) o new → Whole o new
+      fronted : {o : Outcome Arguments} {new : S} → Behaves (rules_of e) step says here (bind first after) o new → Whole o new
       fronted {o = o} {new = new} r =
-          from.rest o new (subst (λ vs. RunsChecked (rules_of e) step says here (bindings means name (situation_of f) words left vs) o new) (sym has)
-          (subst (λ ps. RunsChecked (rules_of e) step says here (bindings means name (situation_of f) words ps (argument ∷ further)) o new) (sym is) r))
+          from.rest o new (subst (λ vs. Behaves (rules_of e) step says here (bindings means name (situation_of f) words left vs) o new) (sym has)
+          (subst (λ ps. Behaves (rules_of e) step says here (bindings means name (situation_of f) words ps (argument ∷ further)) o new) (sym is) r))
 
       pub parameter_ends : {new : S} (r : Option Refusal)
-          → Runs (rules_of f) step here (valued (dynamic_meaning f) f.is_dependency name p argument) (without_value r) new → Whole (without_value r) new
+          → Behaves (rules_of f) step unchecked here (valued (dynamic_meaning f) f.is_dependency name p argument) (without_value r) new
+          → Whole (without_value r) new
       parameter_ends r q =
-          fronted (checked_ends first after r (checked_ends (valued (means (situation_of f)) f.is_dependency name p argument) _ r
-          (unchecked (runs_same e f from.same (λ m. valued m f.is_dependency name p argument) q))))
+          fronted (runs_ends first after r (runs_ends (valued (means (situation_of f)) f.is_dependency name p argument) _ r
+          (runs_checked (runs_same e f from.same (λ m. valued m f.is_dependency name p argument) q))))
 
-      module _ {mid : S} {v : Value} (q : Runs (rules_of f) step here (valued (dynamic_meaning f) f.is_dependency name p argument) (Gave v) mid) where
-        judged_here : (o : Outcome Value) → IsJudged calls check recipe p v o → RunsChecked (rules_of e) step says here first o mid
+      module _ {mid : S} {v : Value} (q : Behaves (rules_of f) step unchecked here (valued (dynamic_meaning f) f.is_dependency name p argument)
+          (Gave v) mid) where
+        judged_here : (o : Outcome Value) → IsJudged calls check recipe p v o → Behaves (rules_of e) step says here first o mid
         judged_here o j = checked_value (means (situation_of f)) f.is_dependency name p argument v o
             (runs_same e f from.same (λ m. valued m f.is_dependency name p argument) q) j
 
         pub check_ends : (r : Option Refusal) → IsJudged calls check recipe p v (without_value r) → Whole (without_value r) mid
-        check_ends r j = fronted (checked_ends first after r (judged_here (without_value r) j))
+        check_ends r j = fronted (runs_ends first after r (judged_here (without_value r) j))
 
         module _ {w : Value} (j : IsJudged calls check recipe p v (Gave w)) where
           pub parameter_stops : Whole Stopped mid
-          parameter_stops = fronted (checked_on first after (judged_here (Gave w) j) (checked_stopped (after w)))
+          parameter_stops = fronted (runs_on first after (judged_here (Gave w) j) (runs_stopped (after w)))
 
           -- the parameter is bound
           pub parameter_next : {g : Evaluator} → IsSameButScopeAndEnvironment f g → g.env ≡ f.env → is_some e.base ≡ true
@@ -108,7 +111,7 @@ module _ {S F : Type 0} {step : Step S} {calls : Shared F (Bor Recipe × (Bor De
               let on_base : is_some f.base ≡ true = subst (λ base. is_some base ≡ true) (sym from.same.base) based in
               record {
                 same = same_on e f g from.same but;
-                rest = λ o last r. fronted (checked_on first after (judged_here (Gave w) j)
-                    (subst (λ s. RunsChecked (rules_of e) step says mid (bindings means name s (words ++ words_of p w) more further) o last)
+                rest = λ o last r. fronted (runs_on first after (judged_here (Gave w) j)
+                    (subst (λ s. Behaves (rules_of e) step says mid (bindings means name s (words ++ words_of p w) more further) o last)
                     (situation_bound f g (bound_innermost (frames_view f.scope) (parameter_bound f.lists p w)) but env on_base bound) r));
               }

@@ -2,7 +2,8 @@
 use Rattle.std.proofs.Common.{◌≡◌, ℕ, ◌+◌, ◌<◌, ◌≤◌, Bool, List, [], ◌∷◌, length, get_or, drop, map, ap, sym, subst, ◌∙◌, Option}
 use Rattle.std.specs.List.{AllByRecursion}
 use Rattle.std.proofs.lemmas.List.{drop_all}
-use Rattle.just_eval.specs.Prelude.{Expr, Gave, Outcome, Refusal, Runs, Step, Stopped, Text, Tree, Value, bind, commands, commands_of, dynamic_meaning, gives}
+use Rattle.just_eval.specs.Prelude.{Behaves, Expr, Gave, Outcome, Refusal, Step, Stopped, Text, Tree, Value, bind, commands, commands_of, dynamic_meaning}
+use Rattle.just_eval.specs.Prelude.{gives, unchecked}
 use Rattle.just_eval.specs.Prelude.{line, line_expressions, line_view, lines_expressions, rules_of, unjoined, with_line, without_value}
 use Rattle.just_syntax.specs.Plain.{Fragment}
 use Rattle.just_syntax.specs.declared.line.Line.{Line}
@@ -48,8 +49,8 @@ commands_in e j ls = commands_after (dynamic_meaning e) j (map line_view ls)
 
 -- Of these lines those from an index on are left, after those that are joined.
 pub record LinesLeft {S : Type 0} (step : Step S) (e : Evaluator) (start : S) (ls : List Line) (i : ℕ) (here : S) (j : Joined) : Type 0 where
-  pub rest : (o : Outcome (List Text)) (last : S) → Runs (rules_of e) step here (commands_in e j (drop i ls)) o last
-      → Runs (rules_of e) step start (commands_in e unjoined ls) o last
+  pub rest : (o : Outcome (List Text)) (last : S) → Behaves (rules_of e) step unchecked here (commands_in e j (drop i ls)) o last
+      → Behaves (rules_of e) step unchecked start (commands_in e unjoined ls) o last
 
 module _ {S : Type 0} {step : Step S} {e : Evaluator} {start : S} {ls : List Line} where
   pub lines_start : LinesLeft step e start ls 0 start unjoined
@@ -57,14 +58,14 @@ module _ {S : Type 0} {step : Step S} {e : Evaluator} {start : S} {ls : List Lin
 
   module _ {i : ℕ} {here : S} {j : Joined} (left : LinesLeft step e start ls i here j) where
     -- after the last line
-    pub lines_end : length ls ≤ i → (o : Outcome (List Text)) → Runs (rules_of e) step here (gives (commands_of j)) o here
-        → Runs (rules_of e) step start (commands_in e unjoined ls) o here
-    lines_end over o r = left.rest o here (subst (λ gs. Runs (rules_of e) step here (commands_in e j gs) o here) (sym (drop_all i ls over)) r)
+    pub lines_end : length ls ≤ i → (o : Outcome (List Text)) → Behaves (rules_of e) step unchecked here (gives (commands_of j)) o here
+        → Behaves (rules_of e) step unchecked start (commands_in e unjoined ls) o here
+    lines_end over o r = left.rest o here (subst (λ gs. Behaves (rules_of e) step unchecked here (commands_in e j gs) o here) (sym (drop_all i ls over)) r)
 
-    pub lines_all : length ls ≤ i → Runs (rules_of e) step start (commands_in e unjoined ls) (Gave (commands_of j)) here
+    pub lines_all : length ls ≤ i → Behaves (rules_of e) step unchecked start (commands_in e unjoined ls) (Gave (commands_of j)) here
     lines_all over = lines_end over (Gave (commands_of j)) (runs_gives (commands_of j))
 
-    pub lines_cut_off : length ls ≤ i → Runs (rules_of e) step start (commands_in e unjoined ls) Stopped here
+    pub lines_cut_off : length ls ≤ i → Behaves (rules_of e) step unchecked start (commands_in e unjoined ls) Stopped here
     lines_cut_off over = lines_end over Stopped (runs_stopped (gives (commands_of j)))
 
     module _ {l : Line} (fits : i < length ls) (is : l ≡ get_or ls i l) where
@@ -74,20 +75,20 @@ module _ {S : Type 0} {step : Step S} {e : Evaluator} {start : S} {ls : List Lin
       abbrev more : Text → Tree (List Text)
       more text = commands_in e (with_line j (line_view l) text) (drop (i + 1) ls)
 
-      fronted : {o : Outcome (List Text)} {last : S} → Runs (rules_of e) step here (bind first more) o last
-          → Runs (rules_of e) step start (commands_in e unjoined ls) o last
+      fronted : {o : Outcome (List Text)} {last : S} → Behaves (rules_of e) step unchecked here (bind first more) o last
+          → Behaves (rules_of e) step unchecked start (commands_in e unjoined ls) o last
       fronted {o = o} {last = last} r =
           let split = front line_view ls i l fits ∙ ap (λ g. line_view g ∷ map line_view (drop (i + 1) ls)) (sym is) in
-          left.rest o last (subst (λ gs. Runs (rules_of e) step here (commands_after (dynamic_meaning e) j gs) o last) (sym split) r)
+          left.rest o last (subst (λ gs. Behaves (rules_of e) step unchecked here (commands_after (dynamic_meaning e) j gs) o last) (sym split) r)
 
-      pub lines_next : {mid : S} (text : Text) → Runs (rules_of e) step here first (Gave text) mid
+      pub lines_next : {mid : S} (text : Text) → Behaves (rules_of e) step unchecked here first (Gave text) mid
           → LinesLeft step e start ls (i + 1) mid (with_line j (line_view l) text)
       lines_next text r = record { rest = λ o last q. fronted (runs_on first more r q) }
 
-      pub lines_ends : {new : S} (r : Option Refusal) → Runs (rules_of e) step here first (without_value r) new
-          → Runs (rules_of e) step start (commands_in e unjoined ls) (without_value r) new
+      pub lines_ends : {new : S} (r : Option Refusal) → Behaves (rules_of e) step unchecked here first (without_value r) new
+          → Behaves (rules_of e) step unchecked start (commands_in e unjoined ls) (without_value r) new
       lines_ends r q = fronted (runs_ends first more r q)
 
-      pub lines_cut : {new : S} (text : Text) → Runs (rules_of e) step here first (Gave text) new
-          → Runs (rules_of e) step start (commands_in e unjoined ls) Stopped new
+      pub lines_cut : {new : S} (text : Text) → Behaves (rules_of e) step unchecked here first (Gave text) new
+          → Behaves (rules_of e) step unchecked start (commands_in e unjoined ls) Stopped new
       lines_cut text r = fronted (runs_on first more r (runs_stopped (more text)))

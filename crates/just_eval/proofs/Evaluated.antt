@@ -3,11 +3,11 @@ use Rattle.std.proofs.Common.{◌≡◌, Bool, true, false, List, [], length, na
 use Rattle.std.proofs.lemmas.Bool.Decides.{nat_tests}
 use Rattle.std.proofs.lemmas.List.{length-map}
 use Rattle.just_eval.specs.Prelude.{Arguments, Gave, Internal, IsSameButScopeAndEnvironment, Meanings, Outcome, Parameter, Recipe, Refusal, Refused}
-use Rattle.just_eval.specs.Prelude.{RefusesWith, Runs, RunsChecked, Situation, Step, Text, Tree, UnlessStopped, Value, Verdict, bindings, dynamic_meanings}
+use Rattle.just_eval.specs.Prelude.{Behaves, RefusesWith, Situation, Step, Text, Tree, UnlessStopped, Value, Verdicts, bindings, dynamic_meanings, unchecked}
 use Rattle.just_eval.specs.Prelude.{environment, freely, pairs_view, parameters, rules_in, rules_of, situation_of, stage_state_of, without_value}
 use Rattle.just_host.specs.Interaction.{refuses}
 use Rattle.just_host.specs.declared.execution_context.ExecutionContext.{ExecutionContext}
-use Rattle.just_host.proofs.Checked.{checked_ends, checked_on, unchecked}
+use Rattle.just_host.proofs.Paths.{runs_ends, runs_on, runs_checked}
 use Rattle.just_host.proofs.Paths.{runs_done}
 use Rattle.just_meaning.specs.Messages.{mismatched_text}
 use Rattle.just_eval.specs.declared.evaluator.Evaluator.{Evaluator}
@@ -39,39 +39,41 @@ module _ (c : ExecutionContext) (s : Situation) (recipe : Recipe) (ps : List Par
 
   module _ {S : Type 0} {step : Step S} {old : S} (e : Evaluator) (context : e.context ≡ Some c) (situation : situation_of e ≡ s) where
     attributes_run : {o : Outcome (List (Text × Text))} {new : S}
-        → Runs (rules_of e) step old (environment (dynamic_meanings e.context) (situation_of e) recipe.attributes) o new
-        → Runs freely step old (environment means s recipe.attributes) o new
+        → Behaves (rules_of e) step unchecked old (environment (dynamic_meanings e.context) (situation_of e) recipe.attributes) o new
+        → Behaves freely step unchecked old (environment means s recipe.attributes) o new
     attributes_run {o = o} {new = new} r =
-        subst (λ at. Runs freely step old (environment means at recipe.attributes) o new) situation
-        (subst (λ x. Runs (rules_in x (stage_state_of e).is_open) step old (environment (dynamic_meanings x) (situation_of e) recipe.attributes) o new) context
+        subst (λ at. Behaves freely step unchecked old (environment means at recipe.attributes) o new) situation
+        (subst (λ x. Behaves (rules_in x (stage_state_of e).is_open) step unchecked old
+        (environment (dynamic_meanings x) (situation_of e) recipe.attributes) o new) context
         r)
 
-    pub attributes_end : {says : Parameter → Value → Verdict → Type 0} {new : S} (r : Option Refusal)
-        → Runs (rules_of e) step old (environment (dynamic_meanings e.context) (situation_of e) recipe.attributes) (without_value r) new
-        → RunsChecked freely step says old (parameters means s recipe ps arguments) (without_value r) new
-    attributes_end r q = checked_ends (environment means s recipe.attributes) after r (unchecked (attributes_run q))
+    pub attributes_end : {says : Verdicts} {new : S} (r : Option Refusal)
+        → Behaves (rules_of e) step unchecked old (environment (dynamic_meanings e.context) (situation_of e) recipe.attributes) (without_value r) new
+        → Behaves freely step says old (parameters means s recipe ps arguments) (without_value r) new
+    attributes_end r q = runs_ends (environment means s recipe.attributes) after r (runs_checked (attributes_run q))
 
     module _ {f : Evaluator} (same : IsSameButScopeAndEnvironment e f) (scope : f.scope ≡ e.scope) {mid : S}
-        (q : Runs (rules_of e) step old (environment (dynamic_meanings e.context) (situation_of e) recipe.attributes) (Gave (pairs_view f.env)) mid) where
+        (q : Behaves (rules_of e) step unchecked old (environment (dynamic_meanings e.context) (situation_of e) recipe.attributes)
+        (Gave (pairs_view f.env)) mid) where
       set : situation_of f ≡ record s { environment = pairs_view f.env }
       set = situation_set e f same scope ∙ ap (λ (at : Situation). record at { environment = pairs_view f.env }) situation
 
-      on : {says : Parameter → Value → Verdict → Type 0} {o : Outcome Arguments} {new : S} (b : Bool) → nat_eq (length arguments) (length ps) ≡ b
-          → RunsChecked freely step says mid (counted (pairs_view f.env) b) o new
-          → RunsChecked freely step says old (parameters means s recipe ps arguments) o new
-      on {says = says} {o = o} {new = new} b is r = checked_on (environment means s recipe.attributes) after (unchecked (attributes_run q))
-          (subst (λ x. RunsChecked freely step says mid (counted (pairs_view f.env) x) o new) (sym is) r)
+      on : {says : Verdicts} {o : Outcome Arguments} {new : S} (b : Bool) → nat_eq (length arguments) (length ps) ≡ b
+          → Behaves freely step says mid (counted (pairs_view f.env) b) o new
+          → Behaves freely step says old (parameters means s recipe ps arguments) o new
+      on {says = says} {o = o} {new = new} b is r = runs_on (environment means s recipe.attributes) after (runs_checked (attributes_run q))
+          (subst (λ x. Behaves freely step says mid (counted (pairs_view f.env) x) o new) (sym is) r)
 
-      pub miscounted : {says : Parameter → Value → Verdict → Type 0} → nat_eq (length arguments) (length ps) ≡ false → (r : Option Refusal)
+      pub miscounted : {says : Verdicts} → nat_eq (length arguments) (length ps) ≡ false → (r : Option Refusal)
           → RefusesWith r (Internal mismatched_text recipe.name)
-          → RunsChecked freely step says old (parameters means s recipe ps arguments) (without_value r) mid
-      miscounted off r h = on false off (unchecked (runs_done _ _ (said r (Internal mismatched_text recipe.name) h)))
+          → Behaves freely step says old (parameters means s recipe ps arguments) (without_value r) mid
+      miscounted off r h = on false off (runs_checked (runs_done _ _ (said r (Internal mismatched_text recipe.name) h)))
 
-      pub bound : {says : Parameter → Value → Verdict → Type 0} {o : Outcome Arguments} {new : S} → nat_eq (length arguments) (length ps) ≡ true
-          → RunsChecked (rules_of f) step says mid (bindings (dynamic_meanings f.context) recipe.name.lexeme (situation_of f) [] ps arguments) o new
-          → RunsChecked freely step says old (parameters means s recipe ps arguments) o new
+      pub bound : {says : Verdicts} {o : Outcome Arguments} {new : S} → nat_eq (length arguments) (length ps) ≡ true
+          → Behaves (rules_of f) step says mid (bindings (dynamic_meanings f.context) recipe.name.lexeme (situation_of f) [] ps arguments) o new
+          → Behaves freely step says old (parameters means s recipe ps arguments) o new
       bound {says = says} {o = o} {new = new} same_count r =
           on true same_count
-          (subst (λ at. RunsChecked freely step says mid (bindings means recipe.name.lexeme at [] ps arguments) o new) set
-          (subst (λ x. RunsChecked (rules_in x (stage_state_of f).is_open) step says mid
+          (subst (λ at. Behaves freely step says mid (bindings means recipe.name.lexeme at [] ps arguments) o new) set
+          (subst (λ x. Behaves (rules_in x (stage_state_of f).is_open) step says mid
           (bindings (dynamic_meanings x) recipe.name.lexeme (situation_of f) [] ps arguments) o new) (same.context ∙ context) r))

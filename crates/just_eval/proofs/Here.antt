@@ -2,7 +2,8 @@
 use Rattle.std.proofs.Common.{◌≡◌, ℕ, Bool, true, false, List, [], ◌∷◌, map, string_bytes, Option, Some, None, refl, sym, subst, is_some, option_map}
 use Rattle.std.specs.List.{AllByRecursion}
 use Rattle.just_eval.specs.Prelude.{AllKnown, AllReadable, AllResolvedOn, Assigned, Assignment, Expr, Frames, GoesByAnswers, HasValue, IfRefused, IsAtStart}
-use Rattle.just_eval.specs.Prelude.{IsConst, IsConstEval, IsFinal, IsInRun, IsNotInternal, IsResolvedIn, Outcome, Refusal, Resolves, Runs, Situation}
+use Rattle.just_eval.specs.Prelude.{Behaves, IsConst, IsConstEval, IsFinal, IsInRun, IsNotInternal, IsResolvedIn, Outcome, Refusal, Resolves, Situation}
+use Rattle.just_eval.specs.Prelude.{unchecked}
 use Rattle.just_eval.specs.Prelude.{StageState, Step, Text, Tree, UnlessStopped, Value, below_of, calls_left_in, const_meaning, constant, constantly}
 use Rattle.just_eval.specs.Prelude.{IsResolvedOn, const_value}
 use Rattle.just_eval.specs.Prelude.{dynamic_meaning, dynamic_meanings, eval, exports_all, frames_view, freely, functions_view, lexical, lexical_meaning, line}
@@ -104,13 +105,13 @@ module _ (e : Evaluator) {A : Type 0} (make : (Expr → Tree Value) → Tree A) 
   resolved_never (Some c) resolved = made.never _ (each_never c e es resolved es resolved.known resolved.readable)
   resolved_never None resolved = absurd resolved
 
-  module _ {S : Type 0} {step : Step S} {old new : S} {o : Outcome A} (r : Runs (rules_of e) step old (make (dynamic_meaning e)) o new) where
-    freely_run : IsInRun e → Runs freely step old (make (dynamic_meaning e)) o new
-    freely_run h = subst (λ rules. Runs rules step old (make (dynamic_meaning e)) o new) (free e.context (stage_state_of e).is_open h) r
+  module _ {S : Type 0} {step : Step S} {old new : S} {o : Outcome A} (r : Behaves (rules_of e) step unchecked old (make (dynamic_meaning e)) o new) where
+    freely_run : IsInRun e → Behaves freely step unchecked old (make (dynamic_meaning e)) o new
+    freely_run h = subst (λ rules. Behaves rules step unchecked old (make (dynamic_meaning e)) o new) (free e.context (stage_state_of e).is_open h) r
 
-    pub headline : Resolves e es → Runs freely step old (make (lexical_meaning e)) o new
+    pub headline : Resolves e es → Behaves freely step unchecked old (make (lexical_meaning e)) o new
     headline resolved =
-        subst (λ t. Runs freely step old t o new) (resolved_same e.context resolved) (freely_run (in_run e.context (situation_of e) es resolved))
+        subst (λ t. Behaves freely step unchecked old t o new) (resolved_same e.context resolved) (freely_run (in_run e.context (situation_of e) es resolved))
 
     pub never_internal : Resolves e es → IsNotInternal o
     never_internal resolved = ends_path IsNotInternal tt (make (lexical_meaning e)) (resolved_never e.context resolved) (headline resolved).path
@@ -175,12 +176,12 @@ each_resolved s [] h = tt
 each_resolved s (x ∷ xs) h = (resolved_const s x h.0, each_resolved s xs h.1)
 
 module _ (e : Evaluator) {A : Type 0} (make : (Expr → Tree Value) → Tree A) (es : List Expr) (made : IsMadeOf make es) (before : IsConst e) {S : Type 0}
-    {step : Step S} {old new : S} {o : Outcome A} (r : Runs (rules_of e) step old (make (dynamic_meaning e)) o new) where
-  const_run : Runs (constantly (stage_state_of e).is_open) step old (make (const_meaning (stage_state_of e))) o new
+    {step : Step S} {old new : S} {o : Outcome A} (r : Behaves (rules_of e) step unchecked old (make (dynamic_meaning e)) o new) where
+  const_run : Behaves (constantly (stage_state_of e).is_open) step unchecked old (make (const_meaning (stage_state_of e))) o new
   const_run =
-      subst (λ context. Runs (rules_in context (stage_state_of e).is_open) step old
+      subst (λ context. Behaves (rules_in context (stage_state_of e).is_open) step unchecked old
       (make (dynamic_meanings context (situation_at e.lists (frames_view e.scope)))) o new) before.context
-      (subst (λ s. Runs (rules_of e) step old (make (dynamic_meanings e.context s)) o new) (situation_start e before.start) r)
+      (subst (λ s. Behaves (rules_of e) step unchecked old (make (dynamic_meanings e.context s)) o new) (situation_start e before.start) r)
 
   determined : HasConstOutcome (stage_state_of e).is_open (make (const_meaning (stage_state_of e))) o old new
   determined =
@@ -206,7 +207,7 @@ module _ (e : Evaluator) {A : Type 0} (make : (Expr → Tree Value) → Tree A) 
 
 -- by the const rules, from any evaluator
 module _ (s : StageState) (x : Expr) {S : Type 0} {step : Step S} {old new : S} {o : Outcome Value}
-    (r : Runs (constantly s.is_open) step old (const_meaning s x) o new) where
+    (r : Behaves (constantly s.is_open) step unchecked old (const_meaning s x) o new) where
   constant_determined : HasConstOutcome s.is_open (const_meaning s x) o old new
   constant_determined = const_outcome s.is_open _ o (eval_alike s.is_open _ _ _ x) r
 

@@ -1,7 +1,8 @@
 -- Evaluating the rest of a line.
 use Rattle.std.proofs.Common.{◌≡◌, ℕ, ◌+◌, ◌<◌, ◌≤◌, Bool, false, List, [], ◌∷◌, ◌++◌, length, get_or, drop, map, ap, sym, subst, ◌∙◌, Option}
 use Rattle.std.proofs.lemmas.List.{drop_all}
-use Rattle.just_eval.specs.Prelude.{Gave, Refusal, Runs, Step, Stopped, Text, Tree, bind, dynamic_meaning, fragment_view, gives, line, rules_of, without_value}
+use Rattle.just_eval.specs.Prelude.{Behaves, Gave, Refusal, Step, Stopped, Text, Tree, bind, dynamic_meaning, fragment_view, gives, line, rules_of, unchecked}
+use Rattle.just_eval.specs.Prelude.{without_value}
 use Rattle.just_syntax.specs.declared.fragment.Fragment.{Fragment}
 use Rattle.just_host.proofs.Left.{Left, left_all, left_cut, left_ends, left_next, left_none}
 use Rattle.just_meaning.specs.Line.{fragment}
@@ -22,7 +23,7 @@ module _ {S : Type 0} {step : Step S} {e : Evaluator} {start : S} {continued : B
   line_start = record { rest = left_all (fragments_of e continued fs) }
 
   module _ {continues : Bool} {i : ℕ} {here : S} {made : Text} (left : LineLeft step e start continued fs continues i here made) where
-    pub line_all : length fs ≤ i → Runs (rules_of e) step start (fragments_of e continued fs) (Gave made) here
+    pub line_all : length fs ≤ i → Behaves (rules_of e) step unchecked start (fragments_of e continued fs) (Gave made) here
     line_all over =
         left_none (fragments_of e continued fs) made
         (subst (λ gs. Left (rules_of e) step (fragments_of e continued fs) start (fragments_of e continues gs) here made) (drop_all i fs over) left.rest)
@@ -36,14 +37,14 @@ module _ {S : Type 0} {step : Step S} {e : Evaluator} {start : S} {continued : B
       fronted = subst (λ gs. Left (rules_of e) step (fragments_of e continued fs) start (line (dynamic_meaning e) continues gs) here made)
           (front fragment_view fs i f fits ∙ ap (λ g. fragment_view g ∷ map fragment_view (drop (i + 1) fs)) (sym is)) left.rest
 
-      pub line_next : {mid : S} (text : Text) → Runs (rules_of e) step here first (Gave text) mid
+      pub line_next : {mid : S} (text : Text) → Behaves (rules_of e) step unchecked here first (Gave text) mid
           → LineLeft step e start continued fs false (i + 1) mid (made ++ text)
       line_next text r = record { rest = left_next (fragments_of e continued fs) first _ (λ text. text) made fronted text r }
 
-      pub line_ends : {new : S} (r : Option Refusal) → Runs (rules_of e) step here first (without_value r) new
-          → Runs (rules_of e) step start (fragments_of e continued fs) (without_value r) new
+      pub line_ends : {new : S} (r : Option Refusal) → Behaves (rules_of e) step unchecked here first (without_value r) new
+          → Behaves (rules_of e) step unchecked start (fragments_of e continued fs) (without_value r) new
       line_ends r q = left_ends (fragments_of e continued fs) first _ (λ text. text) made fronted r q
 
-      pub line_cut : {new : S} (text : Text) → Runs (rules_of e) step here first (Gave text) new
-          → Runs (rules_of e) step start (fragments_of e continued fs) Stopped new
+      pub line_cut : {new : S} (text : Text) → Behaves (rules_of e) step unchecked here first (Gave text) new
+          → Behaves (rules_of e) step unchecked start (fragments_of e continued fs) Stopped new
       line_cut text r = left_cut (fragments_of e continued fs) first _ (λ text. text) made fronted text r

@@ -2,7 +2,7 @@
 use Rattle.std.proofs.Common.{◌≡◌, ℕ, Bool, false, List, [], ◌∷◌, ◌++◌, length, Option, Some, Result, Ok, Err, refl, sym, subst, IfOk, ◌↔◌}
 use Rattle.std.specs.List.{AllByRecursion}
 use Rattle.just_eval.specs.Prelude.{AllKnown, AllReadable, Arguments, Expr, Frames, GoesByAnswers, HasValue, HaveOneElement, IfRefused, IsFinal, IsNotInternal}
-use Rattle.just_eval.specs.Prelude.{IsResolvedIn, IsResolvedWith, Meanings, Outcome, Parameter, Recipe, Resolves, RunsChecked, Step, Text, Value, Verdict}
+use Rattle.just_eval.specs.Prelude.{Behaves, IsResolvedIn, IsResolvedWith, Meanings, Outcome, Parameter, Recipe, Resolves, Step, Text, Value, Verdicts}
 use Rattle.just_eval.specs.Prelude.{calls_left_in, dynamic_meanings, ended, eval, frames_view, freely, functions_view, lexical, meanings, own_frame, parameters}
 use Rattle.just_eval.specs.Prelude.{program_view, recipe_in, situation_of, value_in}
 use Rattle.just_syntax.specs.Plain.{Function}
@@ -11,7 +11,7 @@ use Rattle.just_syntax.proofs.Lists.{all_append, all_front, all_after, all_alike
 use Rattle.just_value.specs.Value.{Names}
 use Rattle.just_value.specs.declared.error.Error.{Error}
 use Rattle.just_host.specs.declared.execution_context.ExecutionContext.{ExecutionContext}
-use Rattle.just_host.proofs.Checked.{answers_of}
+use Rattle.just_host.proofs.Paths.{answers_of}
 use Rattle.just_meaning.specs.Here.{AreReadableInTurn, Here, IsReadable, attribute_expressions, expressions_of, parameter_expressions}
 use Rattle.just_meaning.specs.Resolved.{MentionsKnown}
 use Rattle.just_soundness.proofs.Ends.{ends_path}
@@ -89,11 +89,11 @@ module _ (c : ExecutionContext) (is_dependency : Bool) (outer : Frames) (recipe 
           (all_safe (parameter_expressions ps) (all_after (MentionsKnown functions) (attribute_expressions recipe.attributes) (parameter_expressions ps)
           both_known)) resolved.in_turn
 
-  module _ (arguments : List Value) {S : Type 0} {step : Step S} {says : Parameter → Value → Verdict → Type 0} {old new : S} {o : Outcome Arguments}
-      (r : RunsChecked freely step says old (parameters dynamically start.situation recipe ps arguments) o new) where
+  module _ (arguments : List Value) {S : Type 0} {step : Step S} {says : Verdicts} {old new : S} {o : Outcome Arguments}
+      (r : Behaves freely step says old (parameters dynamically start.situation recipe ps arguments) o new) where
     pub headline : IsResolvedWith c ([] ∷ outer) recipe.attributes ps []
-        → RunsChecked freely step says old (parameters lexically start.situation recipe ps arguments) o new
-    headline resolved = subst (λ t. RunsChecked freely step says old t o new) (is_lexical resolved arguments) r
+        → Behaves freely step says old (parameters lexically start.situation recipe ps arguments) o new
+    headline resolved = subst (λ t. Behaves freely step says old t o new) (is_lexical resolved arguments) r
 
     pub never_internal : IsResolvedWith c ([] ∷ outer) recipe.attributes ps [] → length arguments ≡ length ps → IsNotInternal o
     never_internal resolved count =

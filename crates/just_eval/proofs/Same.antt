@@ -1,7 +1,8 @@
 -- Evaluators that differ only in their scope and environment.
 use Rattle.std.proofs.Common.{◌∙◌, subst, sym, nat_eq}
 use Rattle.std.specs.List.{list_any}
-use Rattle.just_eval.specs.Prelude.{Expr, IsSameButScopeAndEnvironment, MayCall, MayCallIn, Outcome, Runs, Step, Tree, Value, dynamic_meaning, dynamic_meanings}
+use Rattle.just_eval.specs.Prelude.{Behaves, Expr, IsSameButScopeAndEnvironment, MayCall, MayCallIn, Outcome, Step, Tree, Value, dynamic_meaning}
+use Rattle.just_eval.specs.Prelude.{dynamic_meanings, unchecked}
 use Rattle.just_eval.specs.Prelude.{rules_in, rules_of, situation_of, stage_state_of}
 use Rattle.just_eval.specs.declared.evaluator.Evaluator.{Evaluator}
 
@@ -21,8 +22,11 @@ module _ (e f : Evaluator) (same : IsSameButScopeAndEnvironment e f) where
 
   -- such an evaluator runs trees by the same rules
   pub runs_same : {S A : Type 0} {step : Step S} {old new : S} {o : Outcome A} (make : (Expr → Tree Value) → Tree A)
-      → Runs (rules_of f) step old (make (dynamic_meaning f)) o new → Runs (rules_of e) step old (make (dynamic_meanings e.context (situation_of f))) o new
+      → Behaves (rules_of f) step unchecked old (make (dynamic_meaning f)) o new
+      → Behaves (rules_of e) step unchecked old (make (dynamic_meanings e.context (situation_of f))) o new
   runs_same {step = step} {old = old} {new = new} {o = o} make r =
-      subst (λ set. Runs (rules_in e.context (λ n. list_any (nat_eq n) set.keys)) step old (make (dynamic_meanings e.context (situation_of f))) o new)
+      subst (λ set. Behaves (rules_in e.context (λ n. list_any (nat_eq n) set.keys)) step unchecked old
+      (make (dynamic_meanings e.context (situation_of f))) o new)
       same.open_numbers
-      (subst (λ context. Runs (rules_in context (stage_state_of f).is_open) step old (make (dynamic_meanings context (situation_of f))) o new) same.context r)
+      (subst (λ context. Behaves (rules_in context (stage_state_of f).is_open) step unchecked old
+      (make (dynamic_meanings context (situation_of f))) o new) same.context r)

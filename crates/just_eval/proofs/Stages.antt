@@ -22,21 +22,21 @@ module _ {m : Constants} where
   pub staged_then : {s mid : StageState} {left more : List Token} {o : Outcome StageState} → Staged m s left (Gave mid) → Staged m mid more o
       → Staged m s (left ++ more) o
   staged_then {s = s} {left = left} {more = more} {o = o} r q = record {
-    comes = subst (UnlessStopped o) (ap (λ w. and_then w (λ mid. stage m mid more)) r.comes ∙ sym (stage_append m s left more)) q.comes;
+    ends = subst (UnlessStopped o) (ap (λ w. and_then w (λ mid. stage m mid more)) r.ends ∙ sym (stage_append m s left more)) q.ends;
   }
 
   pub staged_finished : (s : StageState) → Staged m s [] (Gave s)
-  staged_finished s = record { comes = refl }
+  staged_finished s = record { ends = refl }
 
   pub staged_stops : (s : StageState) (left : List Token) → Staged m s left Stopped
-  staged_stops s left = record { comes = tt }
+  staged_stops s left = record { ends = tt }
 
   -- a stage that ended is also a stage of more assignments, with its outcome
   pub staged_ends : {s : StageState} {left : List Token} (more : List Token) (e : Option Refusal) → Staged m s left (without_value e)
       → Staged m s (left ++ more) (without_value e)
   staged_ends {s = s} {left = left} more (Some r) q =
-      record { comes = ap (λ w. and_then w (λ mid. stage m mid more)) q.comes ∙ sym (stage_append m s left more) }
-  staged_ends more None q = record { comes = tt }
+      record { ends = ap (λ w. and_then w (λ mid. stage m mid more)) q.ends ∙ sym (stage_append m s left more) }
+  staged_ends more None q = record { ends = tt }
 
   -- the exit of a `?`
   pub staged_exit : {X : Type 0} {s : StageState} {left : List Token} (f : X → StageState) (r : Result X CompileError) (e : CompileError)
@@ -49,29 +49,29 @@ module _ {m : Constants} where
   module _ (s : StageState) (t : Token) where
     pub staged_unknown : (r : Option Refusal) → assignment_at m.assignments t.lexeme ≡ None → RefusesWith r (Internal (unknown_assignment_text t.lexeme) t)
         → Staged m s (t ∷ []) (without_value r)
-    staged_unknown None f is = record { comes = tt }
-    staged_unknown (Some r) f is = record { comes = rw (is, f) refl }
+    staged_unknown None f is = record { ends = tt }
+    staged_unknown (Some r) f is = record { ends = rw (is, f) refl }
 
     module _ (a : Assignment) (found : assignment_at m.assignments t.lexeme ≡ Some a) where
       pub staged_passes : m.assignments.referenced a.number ≡ false → Staged m s (t ∷ []) (Gave s)
-      staged_passes e = record { comes = rw (found, e) refl }
+      staged_passes e = record { ends = rw (found, e) refl }
 
       module _ (referenced : m.assignments.referenced a.number ≡ true) where
         pub staged_open : s.is_open a.number ≡ true → Staged m s (t ∷ []) (Gave s)
-        staged_open e = record { comes = rw (found, referenced, e, and-false (not (is_some (innermost a.number s.frames)))) refl }
+        staged_open e = record { ends = rw (found, referenced, e, and-false (not (is_some (innermost a.number s.frames)))) refl }
 
         pub staged_skips : (b : Bound) → innermost a.number s.frames ≡ Some b → Staged m s (t ∷ []) (Gave s)
-        staged_skips b e = record { comes = rw (found, referenced, e) refl }
+        staged_skips b e = record { ends = rw (found, referenced, e) refl }
 
     module _ (a : Assignment) (new : IsDue m s t a) where
       pub staged_settles : (v : Value) → const_assigned m s a ≡ Gave v → Staged m s (t ∷ []) (Gave (with_settled s (bound_of false a v)))
-      staged_settles v e = record { comes = rw (new.found, new.referenced, new.unbound, new.unopened, e) refl }
+      staged_settles v e = record { ends = rw (new.found, new.referenced, new.unbound, new.unopened, e) refl }
 
       pub staged_opens : (c : ConstRefusal) → const_assigned m s a ≡ Refused (Const c) → Staged m s (t ∷ []) (Gave (with_open s a.number))
-      staged_opens c e = record { comes = rw (new.found, new.referenced, new.unbound, new.unopened, e) refl }
+      staged_opens c e = record { ends = rw (new.found, new.referenced, new.unbound, new.unopened, e) refl }
 
       pub staged_breaks : (r : Refusal) → IsFinal r → const_assigned m s a ≡ Refused r → Staged m s (t ∷ []) (Refused r)
-      staged_breaks r final e = record { comes = rw (new.found, new.referenced, new.unbound, new.unopened, e) (ends r final) }
+      staged_breaks r final e = record { ends = rw (new.found, new.referenced, new.unbound, new.unopened, e) (ends r final) }
         where
           ends : (r : Refusal) → IsFinal r → Refused r ≡ and_then (after_outcome s a (Refused r)) (λ next. Gave next)
           ends (Const c) final = absurd final

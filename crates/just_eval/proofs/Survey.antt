@@ -42,8 +42,8 @@ module _ (m : Constants) (outer : Frames) (resolved : IsResolvedConst m.assignme
   -- no refusal of a survey is Internal
   survey_not : {s end : StageState} {left : List Token} {rs : List (Token × Refusal)} → IsReady m outer s left → Survey m s left rs end → AreNotInternal rs
   survey_not ready Finished = tt
-  survey_not {s = s} {left = t ∷ left} ready (Passes {mid = mid} h q) = survey_not (ready_after_one m outer resolved s t left ready (Gave mid) h.comes) q
-  survey_not {s = s} {left = t ∷ left} ready (Refuses r h q) = let (not, next) = ready_after_one m outer resolved s t left ready (Refused r) h.comes in
+  survey_not {s = s} {left = t ∷ left} ready (Passes {mid = mid} h q) = survey_not (ready_after_one m outer resolved s t left ready (Gave mid) h.ends) q
+  survey_not {s = s} {left = t ∷ left} ready (Refuses r h q) = let (not, next) = ready_after_one m outer resolved s t left ready (Refused r) h.ends in
       (not, survey_not (subst (λ x. IsReady m outer (opened_for s x) left) (sym ready.named.0.1) next) q)
 
   pub survey_never_internal : (lists : Bool) (rs : List (Token × Refusal)) (end : StageState) → Survey m (at_start lists outer) m.assignments.order rs end

@@ -1,8 +1,8 @@
 -- The names that the contracts and proofs of this crate share, passed on from one place. Declares nothing.
 pub use Rattle.just_expression.specs.Call.{RefusesWith}
 pub use Rattle.just_expression.specs.View.{meaning, program, program_of, rules, rules_in, situation}
-pub use Rattle.just_host.specs.Interaction.{AsksOnce, GoesByAnswers, Rules, Runs, RunsChecked, Step, Tree, Verdict}
-pub use Rattle.just_host.specs.Interaction.{bind, freely, gives}
+pub use Rattle.just_host.specs.Interaction.{AsksOnce, Behaves, GoesByAnswers, Rules, Step, Tree, Verdict, Verdicts}
+pub use Rattle.just_host.specs.Interaction.{bind, freely, gives, unchecked}
 pub use Rattle.just_host.specs.Question.{command_question}
 pub use Rattle.just_host.specs.View.{fixed_view, replied, settings_view}
 pub use Rattle.just_meaning.specs.Assignments.{assignment_at}
@@ -14,8 +14,8 @@ pub use Rattle.just_meaning.specs.Line.{fragment as fragment_tree, fragment_text
 pub use Rattle.just_meaning.specs.Line.{line_expressions, string}
 pub use Rattle.just_meaning.specs.Meaning.{Situation, eval}
 pub use Rattle.just_meaning.specs.Messages.{unknown_assignment_text}
-pub use Rattle.just_meaning.specs.Module.{Closing, IsResolvedRun, Module, Ran, assigned, bound_of, dynamically}
-pub use Rattle.just_meaning.specs.Module.{lexically, or_override}
+pub use Rattle.just_meaning.specs.Module.{Closing, IsResolvedRun, Module, assigned, bound_of, dynamically}
+pub use Rattle.just_meaning.specs.Module.{lexically, or_override, run, turn}
 pub use Rattle.just_meaning.specs.Parameters.{Arguments, HaveOneElement, Meanings, bindings, checked, environment}
 pub use Rattle.just_meaning.specs.Parameters.{judged, none_or_refused, parameter_bound, parameters, repeated, seeing}
 pub use Rattle.just_meaning.specs.Parameters.{valued, with_variable, words_of}

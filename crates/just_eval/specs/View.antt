@@ -17,7 +17,7 @@ use Rattle.just_value.specs.Refusal.{Refusal, Const}
 use Rattle.just_value.specs.Outcome.{Outcome, Gave, Refused, Stopped, UnlessStopped, without_value}
 use Rattle.just_value.specs.View.{frames_view}
 use Rattle.just_value.specs.declared.scope.Scope.{Scope}
-use Rattle.just_host.specs.Interaction.{Rules, Runs, Tree, Step}
+use Rattle.just_host.specs.Interaction.{Rules, Tree, Step, Behaves, unchecked}
 use Rattle.just_host.specs.declared.execution_context.ExecutionContext.{ExecutionContext}
 use Rattle.just_meaning.specs.Closings.{dynamic}
 use Rattle.just_meaning.specs.Meaning.{Situation, eval}
@@ -168,11 +168,13 @@ pub data Assigned {S : Type 0} (rules : Rules) (step : Step S) (old : S) (tree :
     (a : Assignment) (frames : Frames) : Outcome Frames → S → Type 0 where
   WasBound : (b : Bound) → innermost a.number frames ≡ Some b
       → Assigned rules step old tree export a frames (Gave frames) old
-  IsBound : {new : S} → (v : Value) → innermost a.number frames ≡ None → Runs rules step old tree (Gave v) new
+  IsBound : {new : S} → (v : Value) → innermost a.number frames ≡ None
+      → Behaves rules step unchecked old tree (Gave v) new
       → Assigned rules step old tree export a frames (Gave (bound_innermost frames (bound_of export a v))) new
-  IsRefused : {new : S} → (r : Refusal) → innermost a.number frames ≡ None → Runs rules step old tree (Refused r) new
+  IsRefused : {new : S} → (r : Refusal) → innermost a.number frames ≡ None
+      → Behaves rules step unchecked old tree (Refused r) new
       → Assigned rules step old tree export a frames (Refused r) new
-  IsStopped : {new : S} → innermost a.number frames ≡ None → Runs rules step old tree Stopped new
+  IsStopped : {new : S} → innermost a.number frames ≡ None → Behaves rules step unchecked old tree Stopped new
       → Assigned rules step old tree export a frames Stopped new
 
 -- How a stage goes on after a refused assignment. If only a run can lift the refusal, the number is open; any other

@@ -4,12 +4,12 @@ ghost use Rattle.std.specs.Prelude.{IfErr, OnErr, Some, [], false, is_some, map,
 ghost use Rattle.std.specs.Option.{ForSome};
 ghost use Rattle.just_eval.specs.Prelude.{Assigned, GoesByAnswers, IfRefused, IsAtStart, IsConst, IsConstEval, IsFinal};
 ghost use Rattle.just_eval.specs.Prelude.{IsInRun, IsNotInternal, IsResolvedRun, IsResolvedOn, IsSameButScope};
-ghost use Rattle.just_eval.specs.Prelude.{MayCall, MayCallIn, Ran, Resolves, Runs, UnlessStopped, assignment_view};
+ghost use Rattle.just_eval.specs.Prelude.{Behaves, MayCall, MayCallIn, Resolves, UnlessStopped, assignment_view};
 ghost use Rattle.just_eval.specs.Prelude.{bound_of, bound_view, calls_left_of, const_value, dynamic_meaning};
 ghost use Rattle.just_eval.specs.Prelude.{dynamically, ended, exports_all, frames_view, freely, innermost};
 ghost use Rattle.just_eval.specs.Prelude.{lexical_meaning, lexically, module_view, name_view, or_override, program};
 ghost use Rattle.just_eval.specs.Prelude.{program_of, refusal, rules, rules_of, run_of, situation, situation_of};
-ghost use Rattle.just_eval.specs.Prelude.{stage_state_of, text_numbered, view, with_limit};
+ghost use Rattle.just_eval.specs.Prelude.{run, stage_state_of, text_numbered, turn, unchecked, view, with_limit};
 
 mod commands;
 mod constants;
@@ -97,7 +97,8 @@ impl<'src, 'run> Evaluator<'src, 'run> {
             search.entry recursion_limit variable_references.entry in
             let outer = frames_view parent.entry.now in
             IsResolvedRun m outer
-            → Ran H.step host.old lexically m ([] ∷ outer) m.assignments.order (ended frames_view result) host.new }
+            → Behaves freely H.step unchecked host.old (run lexically m ([] ∷ outer) m.assignments.order)
+            (ended frames_view result) host.new }
         ensures never_internal { let m = run_of config.entry dotenv.entry «module».entry overrides.entry parent.entry
             search.entry recursion_limit variable_references.entry in
             IsResolvedRun m (frames_view parent.entry.now) → IsNotInternal (ended frames_view result) }
@@ -106,7 +107,8 @@ impl<'src, 'run> Evaluator<'src, 'run> {
         // module's.
         ensures dynamic { let m = run_of config.entry dotenv.entry «module».entry overrides.entry parent.entry
             search.entry recursion_limit variable_references.entry in
-            Ran H.step host.old dynamically m ([] ∷ frames_view parent.entry.now) m.assignments.order
+            Behaves freely H.step unchecked host.old
+            (run dynamically m ([] ∷ frames_view parent.entry.now) m.assignments.order)
             (ended frames_view result) host.new }
 
         // On any module the refusal is never `Const`, and only answered questions change the host's state.
@@ -141,8 +143,9 @@ impl<'src, 'run> Evaluator<'src, 'run> {
         names: &[Name<'src>],
     ) -> Result<Scope<'src, 'run>, Error<'src>>
         requires may_call { 0 < context.now.recursion_limit }
-        ensures { Ran H.step host.old dynamically (module_view context.now references.entry)
-            ([] ∷ frames_view context.now.scope.now) (map name_view names.entry.now)
+        ensures { Behaves freely H.step unchecked host.old
+            (run dynamically (module_view context.now references.entry) ([] ∷ frames_view context.now.scope.now)
+            (map name_view names.entry.now))
             (ended frames_view result) host.new }
     {
         let bindings = most_bound(references, names);
@@ -166,8 +169,9 @@ impl<'src, 'run> Evaluator<'src, 'run> {
         name: &Name<'src>,
     ) -> Result<(), Error<'src>>
         ensures kept { OnErr result (frames_view scope.new ≡ frames_view scope.old) }
-        ensures ran { Ran H.step host.old dynamically (module_view context.now references.entry) (frames_view scope.old)
-            (name_view name.now ∷ []) (ended (λ _. frames_view scope.new) result) host.new }
+        ensures ran { Behaves freely H.step unchecked host.old
+            (turn dynamically (module_view context.now references.entry) (frames_view scope.old) (name_view name.now))
+            (ended (λ _. frames_view scope.new) result) host.new }
     {
         let context = with_some_limit(context);
         let own = mem::replace(scope, context.scope.child(alloc)?);
@@ -194,9 +198,10 @@ impl<'src, 'run> Evaluator<'src, 'run> {
         requires lists { self.old.lists ≡ context.now.«module».now.settings.lists }
         ensures same { IsSameButScope self.old self.new × IsAtStart self.new }
         ensures kept { OnErr result (frames_view self.new.scope ≡ frames_view self.old.scope) }
-        ensures ran { Ran H.step host.old dynamically (module_view context.now references.entry)
-            (frames_view self.old.scope) (name_view name.now ∷ []) (ended (λ _. frames_view self.new.scope) result)
-            host.new }
+        ensures ran { Behaves freely H.step unchecked host.old
+            (turn dynamically (module_view context.now references.entry) (frames_view self.old.scope)
+            (name_view name.now))
+            (ended (λ _. frames_view self.new.scope) result) host.new }
     {
         let Some(assignment) = context.module.assignments.get(name.lexeme()) else {
             return Err(Reason::UnknownAssignment.error_at(alloc, name));
@@ -255,12 +260,13 @@ impl<'src, 'run> Evaluator<'src, 'run> {
         // In a run, if everything reached is resolved, the value or the refusal, and the questions asked, are those of
         // lexical scope.
         ensures headline { Resolves self.now (view expression.now ∷ [])
-            → Runs freely H.step host.old (lexical_meaning self.now (view expression.now))
+            → Behaves freely H.step unchecked host.old (lexical_meaning self.now (view expression.now))
             (ended (λ v. v) result) host.new }
         ensures never_internal { Resolves self.now (view expression.now ∷ []) → IsNotInternal (ended (λ v. v) result) }
 
         // Resolved or not, they are those of dynamic scope.
-        ensures dynamic { Runs (rules_of self.now) H.step host.old (dynamic_meaning self.now (view expression.now))
+        ensures dynamic { Behaves (rules_of self.now) H.step unchecked host.old
+            (dynamic_meaning self.now (view expression.now))
             (ended (λ v. v) result) host.new }
 
         // Resolved or not, the refusal in a run is never `Const`, and only answered questions change the host's state.
@@ -322,7 +328,7 @@ impl<'src, 'run> Evaluator<'src, 'run> {
         assignment: &Assignment<'src>,
     ) -> Result<Value, Error<'src>>
         requires start { IsAtStart self.now }
-        ensures { Runs (rules_of self.now) H.step host.old
+        ensures { Behaves (rules_of self.now) H.step unchecked host.old
             (or_override (text_numbered overrides.now assignment.now.number)
             (dynamic_meaning self.now (view assignment.now.value))) (ended (λ v. v) result) host.new }
     {
@@ -340,7 +346,7 @@ impl<'src, 'run> Evaluator<'src, 'run> {
         expression: &Expression<'src>,
     ) -> Result<Value, Error<'src>>
         requires may_call { MayCall self.now }
-        ensures { Runs (rules_of self.now) H.step host.old (dynamic_meaning self.now (view expression.now))
+        ensures { Behaves (rules_of self.now) H.step unchecked host.old (dynamic_meaning self.now (view expression.now))
             (ended (λ v. v) result) host.new }
     {
         let budget = host.stack_budget();

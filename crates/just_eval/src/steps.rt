@@ -1,9 +1,10 @@
 // Evaluation of a module's assignments, one at a time.
 
 ghost use Rattle.std.specs.Prelude.{IfOk, List, OnErr, OnOk, [], ◌++◌, ◌∷◌, ◌≡◌};
-ghost use Rattle.just_eval.specs.Prelude.{GoesByAnswers, IfRefused, IsFinal, IsIn, IsNext, IsNotInternal};
-ghost use Rattle.just_eval.specs.Prelude.{IsResolvedRun, Ran, Reached, Token, dynamically, ended, frames_of};
-ghost use Rattle.just_eval.specs.Prelude.{frames_view, lexically, module_of, module_view, name_view, outer_of};
+ghost use Rattle.just_eval.specs.Prelude.{Behaves, GoesByAnswers, IfRefused, IsFinal, IsIn, IsNext, IsNotInternal};
+ghost use Rattle.just_eval.specs.Prelude.{IsResolvedRun, Reached, Token, dynamically, ended, frames_of, frames_view};
+ghost use Rattle.just_eval.specs.Prelude.{freely, lexically, module_of, module_view, name_view, outer_of, turn};
+ghost use Rattle.just_eval.specs.Prelude.{unchecked};
 
 use crate::evaluator::Evaluator;
 use just_host::execution_context::ExecutionContext;
@@ -82,8 +83,8 @@ impl<'src, 'run> Steps<'src, 'run> {
         // On a resolved module a step of its order is one of lexical scope.
         ensures headline { let m = module_of self.old in let t = name_view name.now in
             IsResolvedRun m (outer_of self.old) → IsIn m.assignments.order t
-            → Ran H.step host.old lexically m (frames_of self.old) (t ∷ []) (ended (λ _. frames_of self.new) result)
-            host.new }
+            → Behaves freely H.step unchecked host.old (turn lexically m (frames_of self.old) t)
+            (ended (λ _. frames_of self.new) result) host.new }
 
         // If the names are those of the order so far, the bindings are those of a run of these names.
         ensures reached { let m = module_of self.old in let outer = outer_of self.old in let t = name_view name.now in
@@ -95,8 +96,9 @@ impl<'src, 'run> Steps<'src, 'run> {
             → IsNotInternal (ended (λ _. frames_of self.new) result) }
 
         // On any module a step is one of dynamic scope.
-        ensures dynamic { Ran H.step host.old dynamically (module_of self.old) (frames_of self.old)
-            (name_view name.now ∷ []) (ended (λ _. frames_of self.new) result) host.new }
+        ensures dynamic { Behaves freely H.step unchecked host.old
+            (turn dynamically (module_of self.old) (frames_of self.old) (name_view name.now))
+            (ended (λ _. frames_of self.new) result) host.new }
         ensures kept { OnErr result (frames_of self.new ≡ frames_of self.old) }
         ensures of_context { module_of self.new ≡ module_of self.old }
         ensures outer { outer_of self.new ≡ outer_of self.old }

@@ -2,10 +2,10 @@
 use Rattle.std.proofs.Common.{◌≡◌, ◌⊎◌, inl, inr, ℕ, Bool, List, [], ◌∷◌, Option, Some, None, append-nil, refl, sym, subst, ◌∙◌}
 use Rattle.just_value.specs.Frames.{Bound, Frames, bound_at, own_frame}
 use Rattle.just_value.specs.Outcome.{Gave}
-use Rattle.just_host.specs.Interaction.{Event, Path, Step, freely}
+use Rattle.just_host.specs.Interaction.{Behaves, Event, Path, Step, freely, unchecked}
 use Rattle.just_eval_tests.specs.Prelude.{IsResolvedConst, IsResolvedModule, KeepsConstants}
 use Rattle.just_meaning.specs.Blocks.{blocks_of}
-use Rattle.just_meaning.specs.Module.{Module, Ran, lexically, run}
+use Rattle.just_meaning.specs.Module.{Module, lexically, run}
 use Rattle.just_meaning.specs.Stage.{Constants, Staged, StageState, at_start}
 use Rattle.just_laws.specs.Predicted.{AreOfOneModule, ConstAgrees, Predicts, is_found_open, whole_found, whole_stage}
 use Rattle.just_laws.specs.Results.{EndsAsItsBlocks, ResultsHaveBlocks}
@@ -42,7 +42,8 @@ module _ (agrees : ConstAgrees) (results : ResultsHaveBlocks) (m : Constants) (l
 pub keeps_staged : (agrees : ConstAgrees) (results : ResultsHaveBlocks) (m : Constants) (lists : Bool) (outer : Frames) (n : Module)
     → AreOfOneModule m lists outer n outer → IsResolvedConst m.assignments outer → IsResolvedModule n outer
     → {S : Type 0} {step : Step S} {old new : S} (s : StageState) (frames : Frames)
-    → Staged m (at_start lists outer) m.assignments.order (Gave s) → Ran step old lexically n ([] ∷ outer) n.assignments.order (Gave frames) new
+    → Staged m (at_start lists outer) m.assignments.order (Gave s)
+    → Behaves freely step unchecked old (run lexically n ([] ∷ outer) n.assignments.order) (Gave frames) new
     → KeepsConstants s.is_open s.frames frames
 keeps_staged agrees results m lists outer n same before resolved s frames stage ran =
-    keeps agrees results m lists outer n outer same before resolved s (sym stage.comes) ran.runs.events frames ran.runs.path
+    keeps agrees results m lists outer n outer same before resolved s (sym stage.ends) ran.events frames ran.path

@@ -1,7 +1,8 @@
 -- The runs of calls.
 use Rattle.std.proofs.Common.{◌≡◌, ℕ, List, [], ◌∷◌, length, Bor, Option, Some, None, sym, ap, ◌∙◌, refl, subst, option_copied}
 use Rattle.just_syntax.specs.declared.expression.Expression.{Expression}
-use Rattle.just_expression.specs.Prelude.{EndsBefore, Entered, Enters, Frames, Function, Gave, Outcome, Program, Refusal, Rules, Runs, Step, Token, Tree, Value}
+use Rattle.just_expression.specs.Prelude.{Behaves, EndsBefore, Entered, Enters, Frames, Function, Gave, Outcome, Program, Refusal, Rules, Step, Token, Tree}
+use Rattle.just_expression.specs.Prelude.{Value, unchecked}
 use Rattle.just_expression.specs.Prelude.{bind, called, callee, context_of, deeper, dynamic, eval, inside, is_non_const, look, note, program, program_view, row}
 use Rattle.just_expression.specs.Prelude.{rules, situation, value_in, with_parameters, without_value}
 use Rattle.just_syntax.specs.Plain.{Expr}
@@ -30,9 +31,10 @@ inside_is inner s own f vs e is = is ∙ rw e refl
 
 -- a body runs in its own situation
 pub body_runs : {rules : Rules} {S : Type 0} {step : Step S} {old new : S} (p : Program) (calls : ℕ) (inner own : Situation) (e : Expr) (o : Outcome Value)
-    → inner ≡ own → Runs rules step old (eval p (dynamic p calls) inner e) o new → Runs rules step old (eval p (dynamic p calls) own e) o new
+    → inner ≡ own → Behaves rules step unchecked old (eval p (dynamic p calls) inner e) o new
+    → Behaves rules step unchecked old (eval p (dynamic p calls) own e) o new
 body_runs {rules = rules} {step = step} {old = old} {new = new} p calls inner own e o is r =
-    subst (λ i. Runs rules step old (eval p (dynamic p calls) i e) o new) is r
+    subst (λ i. Behaves rules step unchecked old (eval p (dynamic p calls) i e) o new) is r
 
 -- the runs of a call, in a context
 module _ {S : Type 0} (step : Step S) (e : ExpressionEvaluator) (c : Bor ExecutionContext) (is : e.context ≡ Some c) (t : Token) (xs : List Expression) where
@@ -42,16 +44,17 @@ module _ {S : Type 0} (step : Step S) (e : ExpressionEvaluator) (c : Bor Executi
   abbrev call : Tree Value
   call = called (program e) t (callee (program e).functions t.lexeme) (deeper e) (situation e) (length xs) (row e xs)
 
-  entering : {old new : S} (o : Outcome Value) → Runs (rules e) step old call o new → Runs (rules e) step old (note (Entered t) call) o new
+  entering : {old new : S} (o : Outcome Value) → Behaves (rules e) step unchecked old call o new
+      → Behaves (rules e) step unchecked old (note (Entered t) call) o new
   entering o r = runs_note (passes (context_of e) (is_non_const e) c.now (Entered t) given) r
 
   -- it ends before its arguments are evaluated
   pub call_refused : {h : S} (r : Option Refusal) → EndsBefore (program_view c.now) t (callee (program_view c.now).functions t.lexeme) e.calls_left (length xs)
-      r → Runs (rules e) step h (note (Entered t) call) (without_value r) h
+      r → Behaves (rules e) step unchecked h (note (Entered t) call) (without_value r) h
   call_refused None ends = entering _ (runs_stopped call)
   call_refused {h = h} (Some r) ends =
       let here = subst (λ o. EndsBefore (program_of o) t (callee (program_of o).functions t.lexeme) e.calls_left (length xs) (Some r)) (sym given) ends in
-      entering _ (subst (λ x. Runs (rules e) step h x (without_value (Some r)) h) (sym (here (situation e) (row e xs))) (runs_done _ _ refl))
+      entering _ (subst (λ x. Behaves (rules e) step unchecked h x (without_value (Some r)) h) (sym (here (situation e) (row e xs))) (runs_done _ _ refl))
 
   module _ (r : Reached) (enters : Enters (program_view c.now) t (callee (program_view c.now).functions t.lexeme) e.calls_left (length xs) r) where
     call_enters : call ≡ bind (row e xs (look r t)) (entered (program e) (situation e) t r)
@@ -59,17 +62,19 @@ module _ {S : Type 0} (step : Step S) (e : ExpressionEvaluator) (c : Bor Executi
         subst (λ o. Enters (program_of o) t (callee (program_of o).functions t.lexeme) e.calls_left (length xs) r) (sym given) enters (situation e) (row e xs)
 
     -- an argument ends it
-    pub call_ends : {old new : S} (o : Option Refusal) → Runs (rules e) step old (row e xs (look r t)) (without_value o) new
-        → Runs (rules e) step old (note (Entered t) call) (without_value o) new
-    call_ends {old = old} {new = new} o q = entering _ (subst (λ x. Runs (rules e) step old x (without_value o) new) (sym call_enters) (runs_ends _ _ o q))
+    pub call_ends : {old new : S} (o : Option Refusal) → Behaves (rules e) step unchecked old (row e xs (look r t)) (without_value o) new
+        → Behaves (rules e) step unchecked old (note (Entered t) call) (without_value o) new
+    call_ends {old = old} {new = new} o q = entering _
+        (subst (λ x. Behaves (rules e) step unchecked old x (without_value o) new) (sym call_enters) (runs_ends _ _ o q))
 
     -- the callee runs after the arguments
-    pub call_runs : {old mid new : S} (vs : List Value) (o : Outcome Value) → Runs (rules e) step old (row e xs (look r t)) (Gave vs) mid
-        → Runs (rules e) step mid (entered (program e) (situation e) t r vs) o new → Runs (rules e) step old (note (Entered t) call) o new
-    call_runs {old = old} {new = new} vs o q b = entering _ (subst (λ x. Runs (rules e) step old x o new) (sym call_enters) (runs_on _ _ q b))
+    pub call_runs : {old mid new : S} (vs : List Value) (o : Outcome Value) → Behaves (rules e) step unchecked old (row e xs (look r t)) (Gave vs) mid
+        → Behaves (rules e) step unchecked mid (entered (program e) (situation e) t r vs) o new
+        → Behaves (rules e) step unchecked old (note (Entered t) call) o new
+    call_runs {old = old} {new = new} vs o q b = entering _ (subst (λ x. Behaves (rules e) step unchecked old x o new) (sym call_enters) (runs_on _ _ q b))
 
 -- an argument's value, and what is derived from it without a question
 pub looked_at : {rules : Rules} {S : Type 0} {step : Step S} {old new : S} (t : Tree Value) (look : ℕ → Value → Tree Value) (i k : ℕ) (v : Value)
-    (w : Outcome Value) → i ≡ k → Runs rules step old t (Gave v) new → look i v ≡ done w → Runs rules step old (bind t (look k)) w new
+    (w : Outcome Value) → i ≡ k → Behaves rules step unchecked old t (Gave v) new → look i v ≡ done w → Behaves rules step unchecked old (bind t (look k)) w new
 looked_at {rules = rules} {step = step} {old = old} {new = new} t look i k v w same r is =
-    runs_on t (look k) r (subst (λ x. Runs rules step new x w new) (sym is ∙ ap (λ j. look j v) same) (runs_done w w (itself w w refl)))
+    runs_on t (look k) r (subst (λ x. Behaves rules step unchecked new x w new) (sym is ∙ ap (λ j. look j v) same) (runs_done w w (itself w w refl)))

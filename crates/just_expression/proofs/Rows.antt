@@ -4,7 +4,8 @@ use Rattle.std.proofs.lemmas.List.{append-nil, append_assoc, drop_all}
 use Rattle.just_syntax.specs.declared.expression.Expression.{Expression}
 use Rattle.just_syntax.specs.declared.expression.Expression.TheViews as expressions
 use Rattle.just_syntax.specs.declared.string_literal.StringLiteral.{StringLiteral as Written}
-use Rattle.just_expression.specs.Prelude.{Entered, Gave, Refusal, Runs, Step, Stopped, Text, Tree, Value, as_it_is, bind, called, callee, deeper, eval_pieces}
+use Rattle.just_expression.specs.Prelude.{Behaves, Entered, Gave, Refusal, Step, Stopped, Text, Tree, Value, as_it_is, bind, called, callee, deeper}
+use Rattle.just_expression.specs.Prelude.{eval_pieces, unchecked}
 use Rattle.just_expression.specs.Prelude.{flatten, formatted, gives, joined, literal_view, meaning, name_view, note, piece_views, program, row, rules}
 use Rattle.just_expression.specs.Prelude.{situation, view, without_value}
 use Rattle.just_syntax.specs.View.{views}
@@ -49,7 +50,7 @@ module _ {S : Type 0} {step : Step S} {e : ExpressionEvaluator} {start : S} {loo
   row_start = record { rest = left_all (row e xs look) }
 
   module _ {i : ℕ} {here : S} {made : List Value} (left : RowLeft step e start look xs i here made) where
-    pub row_all : length xs ≤ i → Runs (rules e) step start (row e xs look) (Gave made) here
+    pub row_all : length xs ≤ i → Behaves (rules e) step unchecked start (row e xs look) (Gave made) here
     row_all over =
         left_none (row e xs look) made (subst (λ ys. Left (rules e) step (row e xs look) start (row_from e look i ys) here made) (drop_all i xs over) left.rest)
 
@@ -67,14 +68,16 @@ module _ {S : Type 0} {step : Step S} {e : ExpressionEvaluator} {start : S} {loo
           here made
       fronted = subst (λ t. Left (rules e) step (row e xs look) start t here made) front left.rest
 
-      pub row_next : {mid : S} (v : Value) → Runs (rules e) step here first (Gave v) mid → RowLeft step e start look xs (i + 1) mid (made ++ v ∷ [])
+      pub row_next : {mid : S} (v : Value) → Behaves (rules e) step unchecked here first (Gave v) mid
+          → RowLeft step e start look xs (i + 1) mid (made ++ v ∷ [])
       row_next v r = record { rest = left_next (row e xs look) first _ (λ v. v ∷ []) made fronted v r }
 
-      pub row_ends : {new : S} (r : Option Refusal) → Runs (rules e) step here first (without_value r) new
-          → Runs (rules e) step start (row e xs look) (without_value r) new
+      pub row_ends : {new : S} (r : Option Refusal) → Behaves (rules e) step unchecked here first (without_value r) new
+          → Behaves (rules e) step unchecked start (row e xs look) (without_value r) new
       row_ends r q = left_ends (row e xs look) first _ (λ v. v ∷ []) made fronted r q
 
-      pub row_cut : {new : S} (v : Value) → Runs (rules e) step here first (Gave v) new → Runs (rules e) step start (row e xs look) Stopped new
+      pub row_cut : {new : S} (v : Value) → Behaves (rules e) step unchecked here first (Gave v) new
+          → Behaves (rules e) step unchecked start (row e xs look) Stopped new
       row_cut v r = left_cut (row e xs look) first _ (λ v. v ∷ []) made fronted v r
 
 -- what the interpolations of a format string mean
@@ -91,7 +94,7 @@ module _ {S : Type 0} {step : Step S} {e : ExpressionEvaluator} {start : S} {ps 
   pieces_start = record { rest = left_all (pieces e ps) }
 
   module _ {i : ℕ} {here : S} {made : Text} (left : PiecesLeft step e start ps i here made) where
-    pub pieces_all : length ps ≤ i → Runs (rules e) step start (pieces e ps) (Gave made) here
+    pub pieces_all : length ps ≤ i → Behaves (rules e) step unchecked start (pieces e ps) (Gave made) here
     pieces_all over =
         left_none (pieces e ps) made (subst (λ qs. Left (rules e) step (pieces e ps) start (pieces e qs) here made) (drop_all i ps over) left.rest)
 
@@ -104,14 +107,14 @@ module _ {S : Type 0} {step : Step S} {e : ExpressionEvaluator} {start : S} {ps 
       fronted_pieces = subst (λ t. Left (rules e) step (pieces e ps) start t here made)
           (ap (eval_pieces (program e) (deeper e) (situation e)) (pieces_front ps i p fits is)) left.rest
 
-      pub pieces_next : {mid : S} (v : Value) → Runs (rules e) step here (meaning e (view p.0)) (Gave v) mid
+      pub pieces_next : {mid : S} (v : Value) → Behaves (rules e) step unchecked here (meaning e (view p.0)) (Gave v) mid
           → PiecesLeft step e start ps (i + 1) mid (made ++ text v)
       pieces_next v r = record { rest = left_next (pieces e ps) (meaning e (view p.0)) _ text made fronted_pieces v r }
 
-      pub pieces_end : {new : S} (r : Option Refusal) → Runs (rules e) step here (meaning e (view p.0)) (without_value r) new
-          → Runs (rules e) step start (pieces e ps) (without_value r) new
+      pub pieces_end : {new : S} (r : Option Refusal) → Behaves (rules e) step unchecked here (meaning e (view p.0)) (without_value r) new
+          → Behaves (rules e) step unchecked start (pieces e ps) (without_value r) new
       pieces_end r q = left_ends (pieces e ps) (meaning e (view p.0)) _ text made fronted_pieces r q
 
-      pub pieces_cut : {new : S} (v : Value) → Runs (rules e) step here (meaning e (view p.0)) (Gave v) new
-          → Runs (rules e) step start (pieces e ps) Stopped new
+      pub pieces_cut : {new : S} (v : Value) → Behaves (rules e) step unchecked here (meaning e (view p.0)) (Gave v) new
+          → Behaves (rules e) step unchecked start (pieces e ps) Stopped new
       pieces_cut v r = left_cut (pieces e ps) (meaning e (view p.0)) _ text made fronted_pieces v r

@@ -4,7 +4,8 @@ pub use Rattle.just_builtins.specs.Called.{tree}
 pub use Rattle.just_builtins.specs.Meaning.{reply}
 pub use Rattle.just_builtins.specs.Shape.{builtin_of}
 unfoldable pub use Rattle.just_builtins.specs.Table.{function_named}
-pub use Rattle.just_host.specs.Interaction.{Entered, Rules, Runs, Step, Tree, bind, freely, gives, note, refuses}
+pub use Rattle.just_host.specs.Interaction.{Entered, Rules, Step, Tree, bind, freely, gives, note, refuses, Behaves}
+pub use Rattle.just_host.specs.Interaction.{unchecked}
 pub use Rattle.just_host.specs.View.{fixed_view, function_context_view}
 pub use Rattle.just_meaning.specs.Callee.{accepts, callee, undefined}
 pub use Rattle.just_meaning.specs.Closings.{dynamic, inside, with_parameters}

@@ -10,7 +10,7 @@ use Rattle.just_value.specs.Frames.{value_in}
 use Rattle.just_value.specs.Value.{Value}
 use Rattle.just_value.specs.View.{ended, frames_view}
 use Rattle.just_value.specs.declared.error.Error.{Error}
-use Rattle.just_host.specs.Interaction.{Rules, Runs, Tree, freely, Step}
+use Rattle.just_host.specs.Interaction.{Rules, Tree, freely, Step, Behaves, unchecked}
 use Rattle.just_host.specs.declared.execution_context.ExecutionContext.{ExecutionContext}
 use Rattle.just_meaning.specs.Closings.{dynamic}
 use Rattle.just_meaning.specs.Constant.{constantly, nowhere}
@@ -78,4 +78,4 @@ operand_view (Own value) = value
 
 -- The result is the outcome of a run of the tree, whose questions take the host's state from `old` to `new`.
 abbrev pub RunsTo : {S : Type 0} → ExpressionEvaluator → Step S → S → Tree Value → Result Value Error → S → Type 0
-RunsTo e step old tree result new = Runs (rules e) step old tree (ended (λ v. v) result) new
+RunsTo e step old tree result new = Behaves (rules e) step unchecked old tree (ended (λ v. v) result) new

@@ -2,7 +2,8 @@
 
 ghost use Rattle.std.specs.Prelude.{Some, length, ◌≡◌};
 ghost use Rattle.just_syntax.specs.StringContext as contexts;
-ghost use Rattle.just_expression.specs.Prelude.{HasTexts, IsExpected, ListInStringContext, Refused, Runs, bind};
+ghost use Rattle.just_expression.specs.Prelude.{Behaves, HasTexts, IsExpected, ListInStringContext, Refused, bind};
+ghost use Rattle.just_expression.specs.Prelude.{unchecked};
 ghost use Rattle.just_expression.specs.Prelude.{builtin_of, ended, frames_view, freely, function_context_view};
 ghost use Rattle.just_expression.specs.Prelude.{function_named, name_view, reply, returned, tree};
 
@@ -38,7 +39,7 @@ pub(crate) fn call<'call, 'src, H: Host>(
     requires count { IsExpected function (length arguments.now) }
     requires texts { HasTexts function arguments.now }
     ensures { let answer = reply (builtin_of function) (function_context_view context.now) arguments.now in
-        Runs freely H.step host.old (bind (tree (frames_view context.now.scope.now) answer)
+        Behaves freely H.step unchecked host.old (bind (tree (frames_view context.now.scope.now) answer)
         (returned (name_view context.now.name))) (ended (λ v. v) result) host.new }
 {
     match function.call(alloc, host, &*context, arguments) {

@@ -1,7 +1,8 @@
 // The values of command expressions.
 
 ghost use Rattle.std.specs.Prelude.{◌≡◌};
-ghost use Rattle.just_expression.specs.Prelude.{Runs, command_value, ended, fault_view, faulted, fixed_view};
+ghost use Rattle.just_expression.specs.Prelude.{Behaves, command_value, ended, fault_view, faulted, fixed_view};
+ghost use Rattle.just_expression.specs.Prelude.{unchecked};
 ghost use Rattle.just_expression.specs.Prelude.{frames_view, freely, pairs_view, refusal, token_view, without_value};
 
 use just_host::ask::ask_command;
@@ -24,7 +25,7 @@ pub(crate) fn command_value<'call, 'src, 'run, H: Host>(
     contents: &str,
     token: &Token<'src>,
 ) -> Result<Value, Error<'src>>
-    ensures { Runs freely H.step host.old (command_value (fixed_view context.now) (pairs_view env.now)
+    ensures { Behaves freely H.step unchecked host.old (command_value (fixed_view context.now) (pairs_view env.now)
         (frames_view scope.now) contents.now (token_view token.now)) (ended (λ v. v) result) host.new }
 {
     if context.config.dry_run {

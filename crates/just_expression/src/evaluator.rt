@@ -1,7 +1,8 @@
 // Evaluates expressions, in the order of their parts.
 
 ghost use Rattle.std.specs.Prelude.{[], option_map, ◌∷◌};
-ghost use Rattle.just_expression.specs.Prelude.{Join, Runs, RunsTo, assertion, assertion_text, branch, choice};
+ghost use Rattle.just_expression.specs.Prelude.{Behaves, Join, RunsTo, assertion, assertion_text, branch, choice};
+ghost use Rattle.just_expression.specs.Prelude.{unchecked};
 ghost use Rattle.just_expression.specs.Prelude.{combination, comparison, conjunction, deeper, disjunction};
 ghost use Rattle.just_expression.specs.Prelude.{ended, gives};
 ghost use Rattle.just_expression.specs.Prelude.{meaning, name_view, negation, operand_view, program, rules, situation};
@@ -180,7 +181,7 @@ impl<'src, 'run, 'here> ExpressionEvaluator<'src, 'run, 'here> {
         operand: &'parts Expression<'src>,
         budget: usize,
     ) -> Result<Operand<'parts>, Error<'src>>
-        ensures { Runs (rules self.now) H.step host.old (meaning self.now (view operand.now))
+        ensures { Behaves (rules self.now) H.step unchecked host.old (meaning self.now (view operand.now))
             (ended operand_view result) host.new }
     {
         if let Some(texts) = self.texts_in_place(&*host, operand) {

@@ -1,10 +1,12 @@
 -- Composition of paths and runs of interaction trees. A path is a trace of events with an outcome.
 use Rattle.std.proofs.Common.{◌≡◌, Bool, true, false, List, [], ◌∷◌, ◌++◌, refl, sym, ap, subst, Option, Some, None, if◌then◌else◌}
 use mathlib.Core.Path.{fun_ext}
-use Rattle.just_host.specs.Prelude.{Answer, Asked, Chain, Checked, Checks, Ends, Event, Gave, Noted, Outcome, Question, Refusal, Refused, Rules, Runs, Step}
+use Rattle.just_host.specs.Prelude.{Answer, Asked, Behaves, Chain, Checked, Checks, Ends, Event, Gave, Noted, Outcome, Question, Refusal, Refused, Rules, Step}
 use Rattle.just_host.specs.Prelude.{Stopped, Stops, Tree, bind, done, gives, without_value}
 use Rattle.just_value.specs.Outcome.{UnlessStopped}
-use Rattle.just_host.specs.Interaction.{Note, ask, check, note, Path, Asks, Notes, Shuts}
+use Rattle.just_host.specs.Interaction.{GoesByAnswers, Note, Verdict, Verdicts, ask, check, note, Path, Asks, Notes, Shuts, unchecked}
+use Rattle.just_syntax.specs.Plain.{Parameter}
+use Rattle.just_value.specs.Value.{Value}
 
 -- ---- the laws of `bind`
 
@@ -63,54 +65,80 @@ module _ {rules : Rules} where
   path_cut (Notes e p) = Notes e (path_cut p)
   path_cut (Checks p) = Checks (path_cut p)
 
-module _ {S : Type 0} (step : Step S) where
-  pub chain_append : (a b : S) (es fs : List Event) (c : S) → Chain step a es b → Chain step b fs c → Chain step a (es ++ fs) c
-  chain_append a b [] fs c p q = subst (λ x. Chain step x fs c) (sym p) q
+module _ {S : Type 0} (step : Step S) (says : Verdicts) where
+  pub chain_append : (a b : S) (es fs : List Event) (c : S) → Chain step says a es b → Chain step says b fs c → Chain step says a (es ++ fs) c
+  chain_append a b [] fs c p q = subst (λ x. Chain step says x fs c) (sym p) q
   chain_append a b (Asked x y ∷ es) fs c (m, s, p) q = (m, s, chain_append m b es fs c p q)
   chain_append a b (Noted x ∷ es) fs c p q = chain_append a b es fs c p q
-  chain_append a b (Checked x v y ∷ es) fs c p q = absurd p
+  chain_append a b (Checked x v y ∷ es) fs c (h, p) q = (h, chain_append a b es fs c p q)
 
-module _ {rules : Rules} {S : Type 0} {step : Step S} where
+  -- only answered questions change the host's state
+  chain_answers : (a b : S) (es : List Event) → Chain step says a es b → GoesByAnswers step a b
+  chain_answers a b [] p = record { events = []; chain = p }
+  chain_answers a b (Asked q x ∷ es) (m, s, p) = let rest = chain_answers m b es p in record { events = Asked q x ∷ rest.events; chain = (m, s, rest.chain) }
+  chain_answers a b (Noted x ∷ es) p = chain_answers a b es p
+  chain_answers a b (Checked x v y ∷ es) (h, p) = chain_answers a b es p
+
+  -- an execution that checks nothing is one with any verdicts
+  chain_checked : (a b : S) (es : List Event) → Chain step unchecked a es b → Chain step says a es b
+  chain_checked a b [] p = p
+  chain_checked a b (Asked q x ∷ es) (m, s, p) = (m, s, chain_checked m b es p)
+  chain_checked a b (Noted x ∷ es) p = chain_checked a b es p
+  chain_checked a b (Checked x v y ∷ es) (h, p) = absurd h
+
+module _ {rules : Rules} {S : Type 0} {step : Step S} {says : Verdicts} where
   -- a run without questions
-  pub runs_done : {A : Type 0} {h : S} (w o : Outcome A) → UnlessStopped o w → Runs rules step h (done w) o h
-  runs_done {h = h} w (Gave a) u = subst (λ x. Runs rules step h (done x) (Gave a) h) u (record { events = []; path = Ends; chain = refl })
-  runs_done {h = h} w (Refused r) u = subst (λ x. Runs rules step h (done x) (Refused r) h) u (record { events = []; path = Ends; chain = refl })
+  pub runs_done : {A : Type 0} {h : S} (w o : Outcome A) → UnlessStopped o w → Behaves rules step says h (done w) o h
+  runs_done {h = h} w (Gave a) u = subst (λ x. Behaves rules step says h (done x) (Gave a) h) u (record { events = []; path = Ends; chain = refl })
+  runs_done {h = h} w (Refused r) u = subst (λ x. Behaves rules step says h (done x) (Refused r) h) u (record { events = []; path = Ends; chain = refl })
   runs_done w Stopped u = record { events = []; path = Stops; chain = refl }
 
-  pub runs_gives : {A : Type 0} {h : S} (a : A) → Runs rules step h (gives a) (Gave a) h
+  pub runs_gives : {A : Type 0} {h : S} (a : A) → Behaves rules step says h (gives a) (Gave a) h
   runs_gives a = record { events = []; path = Ends; chain = refl }
 
-  pub runs_stopped : {A : Type 0} {h : S} (t : Tree A) → Runs rules step h t Stopped h
+  pub runs_stopped : {A : Type 0} {h : S} (t : Tree A) → Behaves rules step says h t Stopped h
   runs_stopped t = record { events = []; path = Stops; chain = refl }
 
   -- sequencing after a value
-  pub runs_on : {A B : Type 0} {old mid new : S} (t : Tree A) (go : A → Tree B) {a : A} {o : Outcome B} → Runs rules step old t (Gave a) mid
-      → Runs rules step mid (go a) o new → Runs rules step old (bind t go) o new
+  pub runs_on : {A B : Type 0} {old mid new : S} (t : Tree A) (go : A → Tree B) {a : A} {o : Outcome B} → Behaves rules step says old t (Gave a) mid
+      → Behaves rules step says mid (go a) o new → Behaves rules step says old (bind t go) o new
   runs_on t go r q =
-      record { events = r.events ++ q.events; path = path_on go r.path q.path; chain = chain_append step _ _ r.events q.events _ r.chain q.chain }
+      record { events = r.events ++ q.events; path = path_on go r.path q.path; chain = chain_append step says _ _ r.events q.events _ r.chain q.chain }
 
   -- an end without a value
-  pub runs_ends : {A B : Type 0} {old new : S} (t : Tree A) (go : A → Tree B) (e : Option Refusal) → Runs rules step old t (without_value e) new
-      → Runs rules step old (bind t go) (without_value e) new
+  pub runs_ends : {A B : Type 0} {old new : S} (t : Tree A) (go : A → Tree B) (e : Option Refusal) → Behaves rules step says old t (without_value e) new
+      → Behaves rules step says old (bind t go) (without_value e) new
   runs_ends t go e r = record { events = r.events; path = path_ends go e r.path; chain = r.chain }
 
   pub runs_ask : {A : Type 0} {old mid new : S} (q : Question) (next : Answer → Tree A) (a : Answer) {o : Outcome A} → step old q a mid
-      → Runs rules step mid (next a) o new → Runs rules step old (ask q next) o new
+      → Behaves rules step says mid (next a) o new → Behaves rules step says old (ask q next) o new
   runs_ask q next a s r = record { events = Asked q a ∷ r.events; path = Asks r.path; chain = (_, s, r.chain) }
 
   -- a note that the rules allow, and one that they refuse
-  pub runs_note : {A : Type 0} {old new : S} {x : Note} {t : Tree A} {o : Outcome A} → rules x ≡ None → Runs rules step old t o new
-      → Runs rules step old (note x t) o new
+  pub runs_note : {A : Type 0} {old new : S} {x : Note} {t : Tree A} {o : Outcome A} → rules x ≡ None → Behaves rules step says old t o new
+      → Behaves rules step says old (note x t) o new
   runs_note {x = x} e r = record { events = Noted x ∷ r.events; path = Notes e r.path; chain = r.chain }
 
-  pub runs_shut : {A : Type 0} {h : S} {x : Note} {t : Tree A} {r : Refusal} → rules x ≡ Some r → Runs rules step h (note x t) (Refused r) h
+  pub runs_shut : {A : Type 0} {h : S} {x : Note} {t : Tree A} {r : Refusal} → rules x ≡ Some r → Behaves rules step says h (note x t) (Refused r) h
   runs_shut e = record { events = []; path = Shuts e; chain = refl }
 
   -- the first branch, or the second
-  pub runs_then : {A : Type 0} {old new : S} {o : Outcome A} (b : Bool) (x y : Tree A) → b ≡ true → Runs rules step old x o new
-      → Runs rules step old (if b then x else y) o new
-  runs_then {old = old} {new = new} {o = o} b x y e r = subst (λ t. Runs rules step old (if t then x else y) o new) (sym e) r
+  pub runs_then : {A : Type 0} {old new : S} {o : Outcome A} (b : Bool) (x y : Tree A) → b ≡ true → Behaves rules step says old x o new
+      → Behaves rules step says old (if b then x else y) o new
+  runs_then {old = old} {new = new} {o = o} b x y e r = subst (λ t. Behaves rules step says old (if t then x else y) o new) (sym e) r
 
-  pub runs_else : {A : Type 0} {old new : S} {o : Outcome A} (b : Bool) (x y : Tree A) → b ≡ false → Runs rules step old y o new
-      → Runs rules step old (if b then x else y) o new
-  runs_else {old = old} {new = new} {o = o} b x y e r = subst (λ t. Runs rules step old (if t then x else y) o new) (sym e) r
+  pub runs_else : {A : Type 0} {old new : S} {o : Outcome A} (b : Bool) (x y : Tree A) → b ≡ false → Behaves rules step says old y o new
+      → Behaves rules step says old (if b then x else y) o new
+  runs_else {old = old} {new = new} {o = o} b x y e r = subst (λ t. Behaves rules step says old (if t then x else y) o new) (sym e) r
+
+  -- one check, and the outcome for its verdict
+  pub runs_check : {A : Type 0} {h : S} (p : Parameter) (v : Value) (a : Verdict) (next : Verdict → Outcome A) → says p v a
+      → Behaves rules step says h (check p v (λ b. done (next b))) (next a) h
+  runs_check p v a next given = record { events = Checked p v a ∷ []; path = Checks Ends; chain = (given, refl) }
+
+  -- a run that checks nothing
+  pub runs_checked : {A : Type 0} {old new : S} {t : Tree A} {o : Outcome A} → Behaves rules step unchecked old t o new → Behaves rules step says old t o new
+  runs_checked {old = old} {new = new} r = record { events = r.events; path = r.path; chain = chain_checked step says old new r.events r.chain }
+
+  pub answers_of : {A : Type 0} {old new : S} {t : Tree A} {o : Outcome A} → Behaves rules step says old t o new → GoesByAnswers step old new
+  answers_of {old = old} {new = new} r = chain_answers step says old new r.events r.chain

@@ -77,41 +77,35 @@ pub data Path {A : Type 0} (rules : Rules) : Tree A → List Event → Outcome A
 abbrev pub Step : Type 0 → Type 1
 Step S = S → Question → Answer → S → Type 0
 
+-- which verdicts a check of a parameter's value may give
+abbrev pub Verdicts : Type 1
+Verdicts = Parameter → Value → Verdict → Type 0
+
+-- none: no value is checked
+abbrev pub unchecked : Verdicts
+unchecked p v a = ⊥
+
 -- An execution of the transition relation `step`, labelled with questions and answers: those among the events take a
--- host's state from `old` to `new`, one after another. Nothing else is asked, and no value is checked.
-abbrev pub Chain : {S : Type 0} → Step S → S → List Event → S → Type 0
-Chain step old [] new = old ≡ new
-Chain {S} step old (Asked q a ∷ events) new = (mid : S) × step old q a mid × Chain step mid events new
-Chain step old (Noted x ∷ events) new = Chain step old events new
-Chain step old (Checked p v a ∷ events) new = ⊥
+-- host's state from `old` to `new`, one after another, and nothing else is asked. The verdict of each value check is
+-- one that it may give, and the host is not asked for it.
+abbrev pub Chain : {S : Type 0} → Step S → Verdicts → S → List Event → S → Type 0
+Chain step verdicts old [] new = old ≡ new
+Chain {S} step verdicts old (Asked q a ∷ events) new = (mid : S) × step old q a mid × Chain step verdicts mid events new
+Chain step verdicts old (Noted x ∷ events) new = Chain step verdicts old events new
+Chain step verdicts old (Checked p v a ∷ events) new = verdicts p v a × Chain step verdicts old events new
 
--- The same with a value check: each verdict is one that the check may give, and the host is not asked for it.
-abbrev pub CheckedChain : {S : Type 0} → Step S → (Parameter → Value → Verdict → Type 0) → S → List Event → S → Type 0
-CheckedChain step gives old [] new = old ≡ new
-CheckedChain {S} step gives old (Asked q a ∷ events) new =
-    (mid : S) × step old q a mid × CheckedChain step gives mid events new
-CheckedChain step gives old (Noted x ∷ events) new = CheckedChain step gives old events new
-CheckedChain step gives old (Checked p v a ∷ events) new = gives p v a × CheckedChain step gives old events new
-
--- The tree may behave like this: some events are a trace of it to the outcome, and their questions take the host's
--- state from `old` to `new`.
-pub record Runs {S A : Type 0} (rules : Rules) (step : Step S) (old : S) (tree : Tree A) (outcome : Outcome A)
-    (new : S) : Type 0 where
+-- The tree may behave like this: some events are a trace of it to the outcome, their questions take the host's state
+-- from `old` to `new`, and their checks have verdicts that they may give.
+pub record Behaves {S A : Type 0} (rules : Rules) (step : Step S) (verdicts : Verdicts) (old : S) (tree : Tree A)
+    (outcome : Outcome A) (new : S) : Type 0 where
   pub events : List Event
   pub path : Path rules tree events outcome
-  pub chain : Chain step old events new
-
--- The same with a value check.
-pub record RunsChecked {S A : Type 0} (rules : Rules) (step : Step S) (gives : Parameter → Value → Verdict → Type 0)
-    (old : S) (tree : Tree A) (outcome : Outcome A) (new : S) : Type 0 where
-  pub events : List Event
-  pub path : Path rules tree events outcome
-  pub chain : CheckedChain step gives old events new
+  pub chain : Chain step verdicts old events new
 
 -- Only answered questions take the host's state from `old` to `new`.
 pub record GoesByAnswers {S : Type 0} (step : Step S) (old new : S) : Type 0 where
   pub events : List Event
-  pub chain : Chain step old events new
+  pub chain : Chain step unchecked old events new
 
 -- The question and its answer take the host's state from `old` to `new`. Or memory runs out before it is asked, and the
 -- answer says so.

@@ -9,7 +9,8 @@ pub use Rattle.just_host.specs.Exports.{ComeToTheSame, Removes, after, exports, 
 pub use Rattle.just_host.specs.Exports.{framewise}
 pub use Rattle.just_host.specs.Fault.{fault_text}
 pub use Rattle.just_host.specs.Fixed.{base_directory, working_directory}
-pub use Rattle.just_host.specs.Interaction.{Asked, AsksOnce, Chain, Checked, Checks, Ends, Event, Noted, Rules, Runs}
+pub use Rattle.just_host.specs.Interaction.{Asked, AsksOnce, Chain, Checked, Checks, Ends, Event, Noted, Rules}
+pub use Rattle.just_host.specs.Interaction.{Behaves, unchecked}
 pub use Rattle.just_host.specs.Interaction.{Step, Stops, Tree, bind, done, gives}
 pub use Rattle.just_host.specs.Justfile.{empty_root, with_assignment, with_function}
 pub use Rattle.just_host.specs.NoHost.{not_run}

@@ -6,7 +6,7 @@ use Rattle.just_value.specs.Value.{Value}
 use Rattle.just_value.specs.Frames.{Bound, Frames, bound_at, own_frame, value_in}
 use Rattle.just_value.specs.Refusal.{Refusal, Const}
 use Rattle.just_value.specs.Outcome.{Outcome, Gave, Refused, Stopped}
-use Rattle.just_host.specs.Interaction.{Note, Read, Entered, Command, Event, Noted, Path, freely}
+use Rattle.just_host.specs.Interaction.{Note, Read, Entered, Command, Begins, Binds, Event, Noted, Path, freely}
 use Rattle.just_meaning.specs.Blocks.{Block, blocks_of}
 use Rattle.just_meaning.specs.Module.{Module, run, lexically, IsResolvedModule}
 use Rattle.just_meaning.specs.Resolved.{IsResolvedConst}
@@ -17,7 +17,8 @@ abbrev pub is_shut : (ℕ → Bool) → Note → Bool
 is_shut is_open (Read t n) = is_open n
 is_shut is_open (Entered t) = true
 is_shut is_open (Command t) = true
-is_shut is_open _ = false
+is_shut is_open (Begins n) = false
+is_shut is_open (Binds n v) = false
 
 -- one of these is among the events
 abbrev pub ReachShut : (ℕ → Bool) → List Event → Type 0
@@ -73,8 +74,8 @@ pub record AreOfOneModule (m : Constants) (lists : Bool) (outer : Frames) (n : M
   pub values : (k : ℕ) → value_in outer k ≡ value_in others k
 
 -- Soundness of constant evaluation. If both are resolved, what the stage over the first names of its order finds for an
--- assignment foretells its block in a run that reaches it and is not stopped in it. The standing of a stage that finishes
--- is what it found, and the refusal of any other is one that it found.
+-- assignment foretells its block in a run that reaches it and is not stopped in it. The standing of a stage that
+-- finishes is what it found, and the refusal of any other is one that it found.
 pub record ConstAgrees : Type 0 where
   pub states : (m : Constants) (lists : Bool) (outer : Frames) (s : StageState) → whole_stage m lists outer ≡ Gave s
       → IsWhatWasFound (whole_found m lists outer) s

@@ -2,7 +2,7 @@
 use Rattle.std.specs.Prelude.{ℕ, List, [], ◌∷◌, ◌++◌}
 use Rattle.just_value.specs.Value.{Value}
 use Rattle.just_value.specs.Frames.{Frames}
-use Rattle.just_value.specs.Outcome.{Outcome, Gave, Stopped, and_then}
+use Rattle.just_value.specs.Outcome.{Outcome, Gave, Refused, Stopped}
 use Rattle.just_host.specs.Interaction.{Event, Noted, Begins, Binds}
 
 -- one assignment that was evaluated: its number, its events, and how it ended
@@ -18,10 +18,15 @@ up_to_mark (Noted (Begins n) ∷ es) = []
 up_to_mark (Noted (Binds n v) ∷ es) = []
 up_to_mark (e ∷ es) = e ∷ up_to_mark es
 
--- How the block whose events these are ends: with the value that is bound next, or as the trace does. At the end of a
--- finished trace no block is open.
+-- how a block that is open where a trace ends does; a finished trace has no such block
+abbrev pub at_end : Outcome Frames → Outcome Value
+at_end (Gave frames) = Stopped
+at_end (Refused r) = Refused r
+at_end Stopped = Stopped
+
+-- how the block whose events these are ends: with the value that is bound next, or as the trace does
 abbrev pub ending : List Event → Outcome Frames → Outcome Value
-ending [] o = and_then o (λ frames. Stopped)
+ending [] o = at_end o
 ending (Noted (Binds n v) ∷ es) o = Gave v
 ending (e ∷ es) o = ending es o
 

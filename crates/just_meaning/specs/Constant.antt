@@ -3,7 +3,7 @@ use Rattle.std.specs.Prelude.{ℕ, Bool, false, [], Option, Some, None, if◌the
 use Rattle.just_value.specs.ConstRefusal.{Backtick, FunctionCall, Variable}
 use Rattle.just_value.specs.Refusal.{Refusal, Const}
 use Rattle.just_value.specs.Outcome.{Outcome, Refused, Stopped}
-use Rattle.just_host.specs.Interaction.{Rules, Read, Entered, Command, Tree, done, ask, note, check}
+use Rattle.just_host.specs.Interaction.{Rules, Read, Entered, Command, Begins, Binds, Tree, done, ask, note, check}
 use Rattle.just_host.specs.Settings.{unset}
 use Rattle.just_meaning.specs.Meaning.{Program}
 
@@ -12,7 +12,8 @@ abbrev pub constantly : (ℕ → Bool) → Rules
 constantly is_open (Read t n) = if is_open n then Some (Const (Variable t)) else None
 constantly is_open (Entered t) = Some (Const (FunctionCall t))
 constantly is_open (Command t) = Some (Const (Backtick t))
-constantly is_open _ = None
+constantly is_open (Begins n) = None
+constantly is_open (Binds n v) = None
 
 abbrev pub unless_refused : {A : Type 0} → Option Refusal → Outcome A → Outcome A
 unless_refused (Some r) o = Refused r

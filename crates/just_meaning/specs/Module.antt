@@ -6,8 +6,7 @@ use Rattle.just_syntax.specs.Plain.{Text, Token, Assignment, Expr, StringLiteral
 use Rattle.just_value.specs.Value.{Value}
 use Rattle.just_value.specs.Frames.{Bound, Frames, innermost, value_in, bound_innermost}
 use Rattle.just_value.specs.Refusal.{Internal}
-use Rattle.just_value.specs.Outcome.{Outcome}
-use Rattle.just_host.specs.Interaction.{Begins, Binds, Tree, bind, note, gives, refuses, Runs, freely, Step}
+use Rattle.just_host.specs.Interaction.{Begins, Binds, Tree, bind, note, gives, refuses}
 use Rattle.just_meaning.specs.Assignments.{Assignments, assignment_at}
 use Rattle.just_meaning.specs.Messages.{unknown_assignment_text}
 use Rattle.just_meaning.specs.Meaning.{Program, Situation, Deeper, eval}
@@ -116,8 +115,3 @@ turn closing m frames t = turn_of closing m frames t (assignment_at m.assignment
 abbrev pub run : Closing → Module → Frames → List Token → Tree Frames
 run closing m frames [] = gives frames
 run closing m frames (t ∷ left) = bind (turn closing m frames t) (λ next. run closing m next left)
-
--- The run may behave like this: it comes to the outcome, and its questions take the host's state from `old` to `new`.
-pub record Ran {S : Type 0} (step : Step S) (old : S) (closing : Closing) (m : Module) (frames : Frames)
-    (names : List Token) (outcome : Outcome Frames) (new : S) : Type 0 where
-  pub runs : Runs freely step old (run closing m frames names) outcome new

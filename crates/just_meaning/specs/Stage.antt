@@ -97,4 +97,4 @@ stage_found m s (t ∷ left) = let a = assignment_at m.assignments t.lexeme in
 
 -- A const stage over these names ends with this outcome. If memory runs out, it may stop at any point.
 pub record Staged (m : Constants) (s : StageState) (names : List Token) (o : Outcome StageState) : Type 0 where
-  pub comes : UnlessStopped o (stage m s names)
+  pub ends : UnlessStopped o (stage m s names)

@@ -2,7 +2,7 @@
 
 ghost use Rattle.std.specs.Prelude.{IfOk, Some, [], false, length, map, ◌<◌, ◌∷◌, ◌≡◌};
 ghost use Rattle.just_eval.specs.Prelude.{GivesVerdict, GoesByAnswers, HaveOneElement, IfRefused, IsFinal};
-ghost use Rattle.just_eval.specs.Prelude.{IsNotInternal, IsResolvedWith, RunsChecked, arguments_view, dynamic_meanings};
+ghost use Rattle.just_eval.specs.Prelude.{Behaves, IsNotInternal, IsResolvedWith, arguments_view, dynamic_meanings};
 ghost use Rattle.just_eval.specs.Prelude.{ended, frames_view, freely, meanings, own_frame, recipe_parameter_view};
 ghost use Rattle.just_eval.specs.Prelude.{recipe_start, recipe_view};
 ghost use Rattle.just_meaning.specs.Parameters as meant;
@@ -47,7 +47,7 @@ impl<'call, 'src> RecipeCall<'call, 'src> {
             let h = recipe_start context.entry.now c.is_dependency c.recipe.now context.entry.now.scope.now in
             IsResolvedWith context.entry.now h.situation.shown (recipe_view c.recipe.now).attributes
             (map recipe_parameter_view c.parameters.now) []
-            → RunsChecked freely H.step (GivesVerdict C.Fn check.entry.now c.recipe.now) host.old
+            → Behaves freely H.step (GivesVerdict C.Fn check.entry.now c.recipe.now) host.old
             (meant.parameters (meanings h) h.situation (recipe_view c.recipe.now)
             (map recipe_parameter_view c.parameters.now) c.arguments.items)
             (ended arguments_view result) host.new }
@@ -57,7 +57,7 @@ impl<'call, 'src> RecipeCall<'call, 'src> {
             → length c.arguments.items ≡ length c.parameters.now → IsNotInternal (ended arguments_view result) }
         ensures dynamic { let c = self.entry.now in
             let h = recipe_start context.entry.now c.is_dependency c.recipe.now context.entry.now.scope.now in
-            RunsChecked freely H.step (GivesVerdict C.Fn check.entry.now c.recipe.now) host.old
+            Behaves freely H.step (GivesVerdict C.Fn check.entry.now c.recipe.now) host.old
             (meant.parameters (dynamic_meanings (Some context.entry.now)) h.situation (recipe_view c.recipe.now)
             (map recipe_parameter_view c.parameters.now) c.arguments.items)
             (ended arguments_view result) host.new }

@@ -1,11 +1,11 @@
 // Runs of modules, with their options.
 
 ghost use Rattle.std.specs.Prelude.{IfOk, None, [], map, option_map, string_bytes, ℕ, ◌<◌, ◌∷◌, ◌≡◌};
-ghost use Rattle.just_eval.specs.Prelude.{AreNotInternal, GoesByAnswers, IfRefused, IsConst, IsFinal};
-ghost use Rattle.just_eval.specs.Prelude.{IsNotInternal, IsResolvedConst, IsResolvedRun, Ran, Staged, Survey};
-ghost use Rattle.just_eval.specs.Prelude.{assignment_view, at_start};
-ghost use Rattle.just_eval.specs.Prelude.{dynamically, ended, fixed_view, frames_view, lexically, pairs_view};
-ghost use Rattle.just_eval.specs.Prelude.{refused_view, stage_outcome, stage_state_of, text_numbered};
+ghost use Rattle.just_eval.specs.Prelude.{AreNotInternal, Behaves, GoesByAnswers, IfRefused, IsConst, IsFinal};
+ghost use Rattle.just_eval.specs.Prelude.{IsNotInternal, IsResolvedConst, IsResolvedRun, Staged, Survey};
+ghost use Rattle.just_eval.specs.Prelude.{assignment_view, at_start, dynamically, ended, fixed_view, frames_view};
+ghost use Rattle.just_eval.specs.Prelude.{freely, lexically, pairs_view, refused_view, run, stage_outcome};
+ghost use Rattle.just_eval.specs.Prelude.{stage_state_of, text_numbered, unchecked};
 ghost use Rattle.just_host.specs.Prelude.{called_in, config_view, search_view};
 ghost use Rattle.just_run.specs.Run.{constants_view, run_view, value_of_name};
 
@@ -91,11 +91,13 @@ impl<'src, 'run> Run<'src, 'run> {
         requires may_call { 0 < self.now.recursion_limit }
         ensures headline { let m = run_view self.entry.now in let frames = frames_view outer.entry.now in
             IsResolvedRun m frames
-            → Ran H.step host.old lexically m ([] ∷ frames) m.assignments.order (ended frames_view result) host.new }
+            → Behaves freely H.step unchecked host.old (run lexically m ([] ∷ frames) m.assignments.order)
+            (ended frames_view result) host.new }
         ensures never_internal { IsResolvedRun (run_view self.entry.now) (frames_view outer.entry.now)
             → IsNotInternal (ended frames_view result) }
         ensures dynamic { let m = run_view self.entry.now in
-            Ran H.step host.old dynamically m ([] ∷ frames_view outer.entry.now) m.assignments.order
+            Behaves freely H.step unchecked host.old
+            (run dynamically m ([] ∷ frames_view outer.entry.now) m.assignments.order)
             (ended frames_view result) host.new }
         ensures never_const { IfRefused IsFinal (ended frames_view result) }
         ensures answered { GoesByAnswers H.step host.old host.new }

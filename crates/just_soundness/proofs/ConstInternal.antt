@@ -99,4 +99,4 @@ module _ (m : Constants) (outer : Frames) (resolved : IsResolvedConst m.assignme
 pub resolved_stage_is_never_internal : (m : Constants) (lists : Bool) (outer : Frames) (o : Outcome StageState) → IsResolvedConst m.assignments outer
     → Staged m (at_start lists outer) m.assignments.order o → IsNotInternal o
 resolved_stage_is_never_internal m lists outer o resolved staged =
-    unless_such IsOther o _ staged.comes (stage_not m outer resolved (at_start lists outer) m.assignments.order (ready_start m lists outer resolved))
+    unless_such IsOther o _ staged.ends (stage_not m outer resolved (at_start lists outer) m.assignments.order (ready_start m lists outer resolved))

@@ -8,7 +8,7 @@ use Rattle.just_value.specs.Value.{Value, Names}
 use Rattle.just_value.specs.Refusal.{Refusal, Const}
 use Rattle.just_value.specs.Outcome.{Outcome, Gave, Refused, Stopped, UnlessStopped}
 use Rattle.just_host.specs.Interaction.{Note, Event, Read, Entered, Command, Tree, done, ask, note, check, bind, Path, Ends, Stops, Asks, Notes, Checks, Shuts}
-use Rattle.just_host.specs.Interaction.{Chain, Runs, Step}
+use Rattle.just_host.specs.Interaction.{Chain, Step, Behaves, unchecked}
 use Rattle.just_meaning.specs.Constant.{constant, constantly, unless_refused}
 use Rattle.just_meaning.specs.Internal.{IfRefused}
 use Rattle.just_meaning.specs.Reaches.{Mention, VariableOf, CallOf, Occurs}
@@ -77,7 +77,7 @@ module _ (P : Refusal → Type 0) (is_open : ℕ → Bool) where
   const_path (note x rest) h (Shuts {r = r} e) = subst (λ s. UnlessStopped (Refused r) (unless_refused s (constant is_open rest))) (sym e) refl
 
   pub const_asks_nothing : {A S : Type 0} (step : Step S) (old new : S) (t : Tree A) {es : List Event} {o : Outcome A} → AllConst P is_open t
-      → Path (constantly is_open) t es o → Chain step old es new → old ≡ new
+      → Path (constantly is_open) t es o → Chain step unchecked old es new → old ≡ new
   const_asks_nothing step old new t h Ends chain = chain
   const_asks_nothing step old new t h Stops chain = chain
   const_asks_nothing step old new (ask q next) h (Asks p) chain = absurd h
@@ -132,7 +132,7 @@ unless_such P (Refused r) w e h = subst (IfRefused P) (sym e) h
 unless_such P Stopped w e h = tt
 
 pub const_outcome : {S A : Type 0} {step : Step S} {old new : S} (is_open : ℕ → Bool) (t : Tree A) (o : Outcome A) → AllConst IsConstEval is_open t
-    → Runs (constantly is_open) step old t o new → HasConstOutcome is_open t o old new
+    → Behaves (constantly is_open) step unchecked old t o new → HasConstOutcome is_open t o old new
 const_outcome {step = step} {old = old} {new = new} is_open t o h r =
     let determined = const_path IsConstEval is_open t h r.path in
     record {

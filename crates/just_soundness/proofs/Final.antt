@@ -1,6 +1,6 @@
 -- A run meets none of the refusals of constant evaluation.
-use Rattle.std.proofs.Common.{ℕ, zero, suc, ◌-◌, List, length, nat_eq, Option, Some, None}
-use Rattle.just_syntax.specs.Plain.{Text, Token, Function, Expr}
+use Rattle.std.proofs.Common.{ℕ, zero, suc, ◌-◌, List, [], ◌∷◌, length, nat_eq, Option, Some, None}
+use Rattle.just_syntax.specs.Plain.{Text, Token, Assignment, Function, Expr}
 use Rattle.just_value.specs.Value.{Value}
 use Rattle.just_value.specs.Frames.{Frames, value_in}
 use Rattle.just_value.specs.Outcome.{Outcome}
@@ -9,11 +9,10 @@ use Rattle.just_meaning.specs.Callee.{Callee, Defined, BuiltIn, LeftOut, Unknown
 use Rattle.just_meaning.specs.Closings.{dynamic, inside}
 use Rattle.just_meaning.specs.Internal.{IfRefused, IsFinal}
 use Rattle.just_meaning.specs.Meaning.{Program, Situation, Deeper, AtLimit, WithinLimit, Row, as_it_is, called, eval, named}
-use Rattle.just_meaning.specs.Blocks.{Block}
-use Rattle.just_meaning.specs.Module.{Module, assigned, dynamically, run}
+use Rattle.just_meaning.specs.Assignments.{assignment_at}
+use Rattle.just_meaning.specs.Module.{Module, assigned, dynamically, evaluated, is_taken, run, turn, turn_of}
 use Rattle.just_meaning.specs.Reaches.{Mention, VariableOf, CallOf}
 use Rattle.just_soundness.proofs.Ends.{ends_path}
-use Rattle.just_soundness.proofs.Running.{Running, Finished, Stops, Unknown as NoAssignment, Passes, Skips, Binds, Breaks, Halts, by_rules}
 use Rattle.just_soundness.proofs.Refused.{AllRefused, Fits, IsRowRefused, Permits, refused_bind, refused_built_in, refused_eval, refused_if, refused_override}
 
 -- no outcome of the tree is a refusal of the const rules
@@ -63,20 +62,28 @@ pub final_dynamic : (c : Program) (n : ℕ) → IsFinalDeeper (dynamic c n)
 final_dynamic c zero = tt
 final_dynamic c (suc n) = λ f s vs. final_eval c (inside (value_in s.below) s f vs) (dynamic c n) (final_dynamic c n) f.body
 
-module _ (m : Module) where
-  rules_final : {frames : Frames} {left : List Token} {bs : List Block} {o : Outcome Frames} → Running dynamically m frames left bs o → IfRefused IsFinal o
-  rules_final Finished = tt
-  rules_final Stops = tt
-  rules_final (NoAssignment f) = tt
-  rules_final (Passes a f e r) = rules_final r
-  rules_final (Skips a b f e g r) = rules_final r
-  rules_final (Binds a es v k p r) = rules_final r
-  rules_final {frames = frames} (Breaks a es s k p) =
-      ends_path (IfRefused IsFinal) tt (assigned dynamically m frames a)
-      (refused_override IsFinal (m.overrides a.number) _ (final_eval m.program _ (dynamically m frames) (final_dynamic m.program (m.limit - 1)) a.value)) p
-  rules_final (Halts a es k p) = tt
+-- ---- a run under dynamic scope, of any module
 
-  -- a run under dynamic scope, of any module
+module _ (m : Module) where
+  final_evaluated : (frames : Frames) (a : Assignment) → AllFinal (evaluated dynamically m frames a)
+  final_evaluated frames a =
+      refused_bind IsFinal (assigned dynamically m frames a) _ (refused_override IsFinal (m.overrides a.number) _
+      (final_eval m.program _ (dynamically m frames) (final_dynamic m.program (m.limit - 1)) a.value)) (λ v. tt)
+
+  final_turn : (frames : Frames) (t : Token) (x : Option Assignment) → AllFinal (turn_of dynamically m frames t x)
+  final_turn frames t None = tt
+  final_turn frames t (Some a) = refused_if IsFinal (is_taken m frames a) _ _ (final_evaluated frames a) tt
+
+  final_run : (frames : Frames) (names : List Token) → AllFinal (run dynamically m frames names)
+  final_run frames [] = tt
+  final_run frames (t ∷ left) =
+      refused_bind IsFinal (turn dynamically m frames t) _ (final_turn frames t (assignment_at m.assignments t.lexeme)) (λ next. final_run next left)
+
+  pub turn_is_final : (frames : Frames) (t : Token) {es : List Event} {o : Outcome Frames} → Path freely (turn dynamically m frames t) es o
+      → IfRefused IsFinal o
+  turn_is_final frames t path =
+      ends_path (IfRefused IsFinal) tt (turn dynamically m frames t) (final_turn frames t (assignment_at m.assignments t.lexeme)) path
+
   pub run_is_final : (frames : Frames) (names : List Token) {es : List Event} {o : Outcome Frames} → Path freely (run dynamically m frames names) es o
       → IfRefused IsFinal o
-  run_is_final frames names path = rules_final (by_rules dynamically m frames names path).rules
+  run_is_final frames names path = ends_path (IfRefused IsFinal) tt (run dynamically m frames names) (final_run frames names) path

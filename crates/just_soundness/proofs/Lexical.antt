@@ -1,15 +1,15 @@
 -- Soundness of lexical scoping: on a resolved module dynamic scope means what lexical scope does, so pending calls do
 -- not matter.
-use Rattle.std.proofs.Common.{◌≡◌, ⊎_elim, inr, ℕ, zero, suc, Bool, true, false, List, [], ◌∷◌, length, map, Option, Some, None, nat_eq, if◌then◌else◌, refl}
-use Rattle.std.proofs.Common.{sym, ap, ◌∙◌, subst, arith}
+use Rattle.std.proofs.Common.{◌≡◌, ⊎_elim, inl, inr, ℕ, zero, suc, Bool, true, false, List, [], ◌∷◌, length, map, Option, Some, None, nat_eq, if◌then◌else◌}
+use Rattle.std.proofs.Common.{◌&&◌, not, refl, sym, ap, ◌∙◌, subst, arith}
+use Rattle.std.specs.Option.{is_some}
 use Rattle.std.proofs.lemmas.Bool.Decides.{nat_tests}
 use Rattle.just_syntax.specs.Plain.{Text, Token, Assignment, Function, Expr, Call, Exprs, count}
 use Rattle.just_syntax.specs.Lists.{IsIn}
 use Rattle.just_value.specs.Value.{Value, Names}
-use Rattle.just_value.specs.Frames.{Frames, value_in}
+use Rattle.just_value.specs.Frames.{Frames, innermost, value_in}
 use Rattle.just_value.specs.Refusal.{Internal}
-use Rattle.just_value.specs.Outcome.{Outcome, Gave, Refused, Stopped}
-use Rattle.just_host.specs.Interaction.{Read, Entered, Path, done, note, bind, refuses, freely}
+use Rattle.just_host.specs.Interaction.{Read, Entered, done, note, bind, refuses}
 use Rattle.just_builtins.specs.Table.{function_named, is_left_out}
 use Rattle.just_builtins.specs.declared.function.Function as built_in
 use Rattle.just_meaning.specs.Callee.{Callee, Defined, BuiltIn, LeftOut, built_in_or_unknown, callee, defined_or, undefined}
@@ -20,12 +20,11 @@ use Rattle.just_meaning.specs.Resolved.{IsResolved, AreInOrder, parameter_number
 use Rattle.just_meaning.specs.Messages.{miscounted_text}
 use Rattle.just_meaning.specs.Meaning.{Program, Situation, Deeper, Row, as_it_is, called, eval, eval_row, named, variable}
 use Rattle.just_meaning.specs.Closings.{lexical, dynamic, inside}
-use Rattle.just_meaning.specs.Blocks.{Block}
-use Rattle.just_meaning.specs.Module.{IsResolvedModule, Module, assigned, dynamically, lexically, or_override, situation_at}
+use Rattle.just_meaning.specs.Module.{IsResolvedModule, Module, assigned, dynamically, lexically, or_override, situation_at, turn, turn_of}
 use Rattle.just_soundness.proofs.Ends.{AllEnd, HasCount, row_counts, ends_same}
 use Rattle.just_soundness.proofs.Forms.{AreRowsRelated, equality, related_eval}
 use Rattle.just_soundness.proofs.Overlays.{parameters_other, parameters_same}
-use Rattle.just_soundness.proofs.Running.{Running, Finished, Stops, Unknown, Passes, Skips, Binds, Breaks, Halts}
+use Rattle.just_soundness.proofs.Turns.{turn_by}
 use Rattle.just_meaning.proofs.Reached.{reaches_on}
 use Rattle.just_soundness.proofs.Reached.{among_all, apart_numbers, taken_assigned}
 
@@ -151,43 +150,44 @@ dynamic_is_lexical c k s e apart =
 
 -- ---- a run
 
--- each taken assignment reads no parameter through a body of another function
-abbrev pub AreApart : List Function → Assignments → List Token → Type 0
-AreApart functions assignments [] = Unit {0}
-AreApart functions assignments (t ∷ left) = ((a : Assignment) → assignment_at assignments t.lexeme ≡ Some a → assignments.referenced a.number ≡ true
-    → IsApart functions a.value) × AreApart functions assignments left
+-- the assignment with this name, if it is referenced, reads no parameter through a body of another function
+abbrev pub IsApartAt : List Function → Assignments → Token → Type 0
+IsApartAt functions assignments t = (a : Assignment) → assignment_at assignments t.lexeme ≡ Some a → assignments.referenced a.number ≡ true
+    → IsApart functions a.value
 
 module _ (functions : List Function) (assignments : Assignments) (outer : Frames) (resolved : IsResolved functions assignments outer) where
-  pub are_apart : (taken : List ℕ) (left : List Token) → ((n : ℕ) → IsIn taken n → IsIn (map (λ a. a.number) assignments.all) n)
-      → AreInOrder functions assignments outer taken left → AreApart functions assignments left
-  are_apart taken [] assigned h = tt
-  are_apart taken (t ∷ left) assigned h = (
-    λ a found referenced n beyond parameter. ⊎_elim (λ one. apart_numbers _ _ n resolved.distinct (assigned n one) parameter)
-        (λ bound. resolved.unbound n parameter bound) (h.0 a found referenced n (inr beyond)),
-    are_apart (with_taken assignments (assignment_at assignments t.lexeme) taken) left (λ n one. taken_assigned assignments t.lexeme taken n assigned one) h.1,
-  )
+  are_apart : (taken : List ℕ) (left : List Token) → ((n : ℕ) → IsIn taken n → IsIn (map (λ a. a.number) assignments.all) n)
+      → AreInOrder functions assignments outer taken left → (t : Token) → IsIn left t → IsApartAt functions assignments t
+  are_apart taken [] assigned h t none = absurd none
+  are_apart taken (u ∷ left) assigned h t (inl same) =
+      subst (IsApartAt functions assignments) same
+      (λ a found referenced n beyond parameter. ⊎_elim (λ one. apart_numbers _ _ n resolved.distinct (assigned n one) parameter)
+      (λ bound. resolved.unbound n parameter bound) (h.0 a found referenced n (inr beyond)))
+  are_apart taken (u ∷ left) assigned h t (inr later) =
+      are_apart (with_taken assignments (assignment_at assignments u.lexeme) taken) left (λ n one. taken_assigned assignments u.lexeme taken n assigned one)
+      h.1 t later
 
 module _ (m : Module) where
   assigned_same : (frames : Frames) (a : Assignment) → IsApart m.program.functions a.value → assigned dynamically m frames a ≡ assigned lexically m frames a
   assigned_same frames a apart =
       ap (or_override (m.overrides a.number)) (dynamic_is_lexical m.program _ (situation_at m.program.fixed.settings.lists frames) a.value apart)
 
-  pub run_lexical : {frames : Frames} {left : List Token} {bs : List Block} {o : Outcome Frames} → AreApart m.program.functions m.assignments left
-      → Running dynamically m frames left bs o → Running lexically m frames left bs o
-  run_lexical h Finished = Finished
-  run_lexical h Stops = Stops
-  run_lexical h (Unknown f) = Unknown f
-  run_lexical h (Passes a f e r) = Passes a f e (run_lexical h.1 r)
-  run_lexical h (Skips a b f e g r) = Skips a b f e g (run_lexical h.1 r)
-  run_lexical {frames = frames} h (Binds a es v t p r) =
-      Binds a es v t (subst (λ u. Path freely u es (Gave v)) (assigned_same frames a (h.0 a t.found t.referenced)) p) (run_lexical h.1 r)
-  run_lexical {frames = frames} h (Breaks a es s t p) =
-      Breaks a es s t (subst (λ u. Path freely u es (Refused s)) (assigned_same frames a (h.0 a t.found t.referenced)) p)
-  run_lexical {frames = frames} h (Halts a es t p) =
-      Halts a es t (subst (λ u. Path freely u es Stopped) (assigned_same frames a (h.0 a t.found t.referenced)) p)
+  turn_same : (frames : Frames) (t : Token) (x : Option Assignment) → ((a : Assignment) → x ≡ Some a → m.assignments.referenced a.number ≡ true
+      → IsApart m.program.functions a.value) → turn_of dynamically m frames t x ≡ turn_of lexically m frames t x
+  turn_same frames t None apart = refl
+  turn_same frames t (Some a) apart = by (m.assignments.referenced a.number) refl
+    where
+      taken : Bool → Bool
+      taken r = r && not (is_some (innermost a.number frames))
 
--- a run of a resolved module under dynamic scope is one under lexical scope
-pub dynamic_run_is_lexical : (m : Module) (outer : Frames) (bs : List Block) (o : Outcome Frames) → IsResolvedModule m outer
-    → Running dynamically m ([] ∷ outer) m.assignments.order bs o → Running lexically m ([] ∷ outer) m.assignments.order bs o
-dynamic_run_is_lexical m outer bs o resolved r =
-    run_lexical m (are_apart m.program.functions m.assignments outer resolved [] m.assignments.order (λ n none. absurd none) resolved.in_order) r
+      by : (r : Bool) → m.assignments.referenced a.number ≡ r
+          → turn_by m frames a (taken r) (assigned dynamically m frames a) ≡ turn_by m frames a (taken r) (assigned lexically m frames a)
+      by true e = ap (turn_by m frames a (taken true)) (assigned_same frames a (apart a refl e))
+      by false e = refl
+
+-- the turns of a resolved module are the same under dynamic and under lexical scope
+pub resolved_turn : (m : Module) (outer : Frames) → IsResolvedModule m outer → (t : Token) → IsIn m.assignments.order t → (frames : Frames)
+    → turn dynamically m frames t ≡ turn lexically m frames t
+resolved_turn m outer resolved t among frames =
+    turn_same m frames t (assignment_at m.assignments t.lexeme)
+    (are_apart m.program.functions m.assignments outer resolved [] m.assignments.order (λ n none. absurd none) resolved.in_order t among)

@@ -3,6 +3,7 @@ pub mod Forms
 pub mod Refused
 pub mod Bound
 pub mod Taken
+pub mod Turns
 pub mod Running
 pub mod Marks
 pub mod Ready

@@ -174,7 +174,7 @@ first_block n es fs o h none = λ i.
 
 module _ (closing : Closing) (unmarked : IsUnmarkedClosing closing) (m : Module) where
   -- the blocks of what follows the rules, with the marks, are its blocks
-  pub blocks_marked : {frames : Frames} {left : List Token} {bs : List Block} {o : Outcome Frames} → Running closing m frames left bs o
+  blocks_marked : {frames : Frames} {left : List Token} {bs : List Block} {o : Outcome Frames} → Running closing m frames left bs o
       → blocks_of (marked bs) o ≡ bs
   blocks_marked Finished = refl
   blocks_marked running.Stops = refl

@@ -1,5 +1,5 @@
--- A run by rules, one name after another: the traces of a run are exactly what follows these rules.
-use Rattle.std.proofs.Common.{◌≡◌, ℕ, Bool, true, false, ◌&&◌, not, List, [], ◌∷◌, ◌++◌, Option, Some, None, if◌then◌else◌, refl, sym, ap, subst}
+-- A run by rules, one name after another: each trace of a run follows them.
+use Rattle.std.proofs.Common.{◌≡◌, ℕ, Bool, true, false, ◌&&◌, not, List, [], ◌∷◌, ◌++◌, Option, Some, None, if◌then◌else◌, refl, ap}
 use Rattle.std.proofs.lemmas.List.{append-nil}
 use Rattle.std.specs.Option.{is_some}
 use Rattle.just_syntax.specs.Plain.{Token, Assignment, Parameter}
@@ -11,11 +11,10 @@ use Rattle.just_host.specs.Interaction.{Asked, Begins, Checked, Event, Note, Not
 use Rattle.just_host.specs.Interaction.{done, freely, gives, note}
 use Rattle.just_host.specs.Question.{Answer, Question}
 use Rattle.just_host.specs.Interaction as interaction
-use Rattle.just_host.proofs.Paths.{path_ends}
 use Rattle.just_meaning.specs.Assignments.{assignment_at}
 use Rattle.just_meaning.specs.Blocks.{Block}
 use Rattle.just_meaning.specs.Messages.{unknown_assignment_text}
-use Rattle.just_meaning.specs.Module.{Module, Closing, assigned, bound_in, evaluated, is_taken, run, turn_of}
+use Rattle.just_meaning.specs.Module.{Module, Closing, assigned, bound_in, evaluated, run, turn_of}
 
 -- the name is that of an assignment that is referenced and not bound
 pub record IsTaken (m : Module) (frames : Frames) (t : Token) (a : Assignment) : Type 0 where
@@ -114,14 +113,6 @@ module _ (n : ℕ) (after : Value → Frames) (go : Frames → Tree Frames) wher
   value_parts (check p v next) (Checks {a = a} q) = valued_check p v next a (value_parts (next a) q)
   value_parts (check p v next) interaction.Stops = Halted interaction.Stops
 
-  -- and back
-  value_path : {t : Tree Value} {es fs : List Event} {v : Value} {o : Outcome Frames} → Path freely t es (Gave v) → Path freely (go (after v)) fs o
-      → Path freely (valued n after go t) (es ++ (Noted (interaction.Binds n v) ∷ fs)) o
-  value_path Ends q = Notes refl q
-  value_path (Asks p) q = Asks (value_path p q)
-  value_path (Notes e p) q = Notes e (value_path p q)
-  value_path (Checks p) q = Checks (value_path p q)
-
 -- ---- traces follow the rules
 
 -- Blocks whose events, with the marks, are these follow the rules.
@@ -196,38 +187,3 @@ module _ (closing : Closing) (m : Module) where
   by_rules frames [] interaction.Stops = record { blocks = []; rules = Stops; same = refl }
   by_rules frames (t ∷ left) path =
       named_rules frames t left (λ next es o p. by_rules next left p) (assignment_at m.assignments t.lexeme) refl path
-
-  -- ---- and what follows the rules is a trace
-
-  -- no events come after those of the last block
-  last_events : (es : List Event) {t : Tree Frames} {o : Outcome Frames} → Path freely t es o → Path freely t (es ++ []) o
-  last_events es {t} {o} p = subst (λ fs. Path freely t fs o) (sym (append-nil es)) p
-
-  -- the name is that of this assignment
-  at_name : (frames : Frames) (t : Token) (left : List Token) (a : Assignment) {r : Bool} {b : Option Bound} {es : List Event} {o : Outcome Frames}
-      → assignment_at m.assignments t.lexeme ≡ Some a → m.assignments.referenced a.number ≡ r → innermost a.number frames ≡ b
-      → Path freely (choice frames left a r b) es o → Path freely (run closing m frames (t ∷ left)) es o
-  at_name frames t left a found referenced bound p = rw (found, referenced, bound) p
-
-  pub trace_of : {frames : Frames} {left : List Token} {bs : List Block} {o : Outcome Frames} → Running closing m frames left bs o
-      → Path freely (run closing m frames left) (marked bs) o
-  trace_of Finished = Ends
-  trace_of Stops = interaction.Stops
-  trace_of {frames = frames} {left = t ∷ left} (Unknown f) =
-      subst (λ x. Path freely (bind (turn_of closing m frames t x) (going left)) [] (Refused (Internal (unknown_assignment_text t.lexeme) t))) (sym f) Ends
-  trace_of {frames = frames} {left = t ∷ left} (Passes a f e r) = at_name frames t left a f e refl (trace_of r)
-  trace_of {frames = frames} {left = t ∷ left} (Skips a b f e g r) = at_name frames t left a f e g (trace_of r)
-  trace_of {frames = frames} {left = t ∷ left} (Binds a es v k p r) =
-      at_name frames t left a k.found k.referenced k.unbound
-      (Notes refl (value_path a.number (with_value frames t left a) (going left) p (trace_of r)))
-  trace_of {frames = frames} {left = t ∷ left} (Breaks a es s k p) =
-      at_name frames t left a k.found k.referenced k.unbound (Notes refl (last_events es (path_ends (going left) (Some s) (path_ends _ (Some s) p))))
-  trace_of {frames = frames} {left = t ∷ left} (Halts a es k p) =
-      at_name frames t left a k.found k.referenced k.unbound (Notes refl (last_events es (path_ends (going left) None (path_ends _ None p))))
-
--- a run whose rules follow from those of another has the other's traces
-pub traces_on : (closing other : Closing) (m w : Module) (frames : Frames) (names : List Token) {es : List Event} {o : Outcome Frames}
-    → ((bs : List Block) → Running closing m frames names bs o → Running other w frames names bs o)
-    → Path freely (run closing m frames names) es o → Path freely (run other w frames names) es o
-traces_on closing other m w frames names {o = o} on p = let k = by_rules closing m frames names p in
-    subst (λ es. Path freely (run other w frames names) es o) k.same (trace_of other w (on k.blocks k.rules))

@@ -2,7 +2,8 @@
 
 ghost use Rattle.std.specs.Prelude.{[], string_bytes, ◌∷◌, ◌≡◌};
 ghost use Rattle.just_eval.specs.Prelude.{AllResolvedOn, GoesByAnswers, IfRefused, IsConst, IsFinal, IsInRun};
-ghost use Rattle.just_eval.specs.Prelude.{IsNotInternal, IsResolvedOn, MayCall, Resolves, Runs, UnlessStopped};
+ghost use Rattle.just_eval.specs.Prelude.{Behaves, IsNotInternal, IsResolvedOn, MayCall, Resolves, UnlessStopped};
+ghost use Rattle.just_eval.specs.Prelude.{unchecked};
 ghost use Rattle.just_eval.specs.Prelude.{const_meaning, constant, dynamic_meaning, ended, fragment_tree};
 ghost use Rattle.just_eval.specs.Prelude.{fragment_view, freely, lexical_meaning, line_expressions, line_tree};
 ghost use Rattle.just_eval.specs.Prelude.{line_view, rules_of, stage_state_of, string, string_context_view, view};
@@ -37,13 +38,14 @@ impl<'src, 'run> Evaluator<'src, 'run> {
         // In a run, if everything reached is resolved, the text or the refusal, and the questions asked, are those of
         // lexical scope.
         ensures headline { Resolves self.now (view expression.now ∷ [])
-            → Runs freely H.step host.old (string (lexical_meaning self.now) (string_context_view context.entry)
+            → Behaves freely H.step unchecked host.old
+            (string (lexical_meaning self.now) (string_context_view context.entry)
             (view expression.now)) (ended string_bytes result) host.new }
         ensures never_internal { Resolves self.now (view expression.now ∷ [])
             → IsNotInternal (ended string_bytes result) }
 
         // Resolved or not, they are those of dynamic scope.
-        ensures dynamic { Runs (rules_of self.now) H.step host.old
+        ensures dynamic { Behaves (rules_of self.now) H.step unchecked host.old
             (string (dynamic_meaning self.now) (string_context_view context.entry) (view expression.now))
             (ended string_bytes result) host.new }
 
@@ -74,7 +76,7 @@ impl<'src, 'run> Evaluator<'src, 'run> {
         context: StringContext<'src>,
     ) -> Result<String, Error<'src>>
         requires may_call { MayCall self.now }
-        ensures { Runs (rules_of self.now) H.step host.old
+        ensures { Behaves (rules_of self.now) H.step unchecked host.old
             (string (dynamic_meaning self.now) (string_context_view context.entry) (view expression.now))
             (ended string_bytes result) host.new }
     {
@@ -103,13 +105,14 @@ impl<'src, 'run> Evaluator<'src, 'run> {
         // In a run, if everything reached is resolved, the text or the refusal, and the questions asked, are those of
         // lexical scope.
         ensures headline { Resolves self.now (line_expressions (line_view line.now))
-            → Runs freely H.step host.old (line_tree (lexical_meaning self.now) continued (line_view line.now))
+            → Behaves freely H.step unchecked host.old
+            (line_tree (lexical_meaning self.now) continued (line_view line.now))
             (ended string_bytes result) host.new }
         ensures never_internal { Resolves self.now (line_expressions (line_view line.now))
             → IsNotInternal (ended string_bytes result) }
 
         // Resolved or not, they are those of dynamic scope.
-        ensures dynamic { Runs (rules_of self.now) H.step host.old
+        ensures dynamic { Behaves (rules_of self.now) H.step unchecked host.old
             (line_tree (dynamic_meaning self.now) continued (line_view line.now)) (ended string_bytes result) host.new }
 
         // Resolved or not, the refusal in a run is never `Const`, and only answered questions change the host's state.
@@ -139,7 +142,7 @@ impl<'src, 'run> Evaluator<'src, 'run> {
         continued: bool,
     ) -> Result<String, Error<'src>>
         requires may_call { MayCall self.now }
-        ensures { Runs (rules_of self.now) H.step host.old
+        ensures { Behaves (rules_of self.now) H.step unchecked host.old
             (line_tree (dynamic_meaning self.now) continued (line_view line.now))
             (ended string_bytes result) host.new }
     {
@@ -162,7 +165,7 @@ impl<'src, 'run> Evaluator<'src, 'run> {
         continues: bool,
     ) -> Result<String, Error<'src>>
         requires may_call { MayCall self.now }
-        ensures { Runs (rules_of self.now) H.step host.old
+        ensures { Behaves (rules_of self.now) H.step unchecked host.old
             (fragment_tree (dynamic_meaning self.now) continues (fragment_view fragment.now))
             (ended string_bytes result) host.new }
     {

@@ -4,7 +4,7 @@ ghost use Rattle.std.specs.Prelude.{IfOk, List, OnOk, Some, [], false, is_some, 
 ghost use Rattle.std.specs.Prelude.{true, ℕ, ◌++◌, ◌<◌, ◌↔◌, ◌∷◌, ◌≡◌};
 ghost use Rattle.just_eval.specs.Prelude.{Expr, GivesVerdict, GoesByAnswers, HaveOneElement, IfRefused, IsFinal};
 ghost use Rattle.just_eval.specs.Prelude.{IsInRun, IsNotInternal, IsResolvedWith, IsSameButScopeAndEnvironment};
-ghost use Rattle.just_eval.specs.Prelude.{MayCall, Resolves, Runs, RunsChecked, arguments_view, bound_innermost};
+ghost use Rattle.just_eval.specs.Prelude.{Behaves, MayCall, Resolves, arguments_view, bound_innermost, unchecked};
 ghost use Rattle.just_eval.specs.Prelude.{dynamic_meaning, dynamic_meanings, ended, frames_view, freely, here};
 ghost use Rattle.just_eval.specs.Prelude.{meanings, name_view, own_frame, pairs_view, parameter_bound, recipe_in};
 ghost use Rattle.just_eval.specs.Prelude.{recipe_parameter_view, recipe_start, recipe_view, rules_of, situation_of};
@@ -126,7 +126,7 @@ impl<'src, 'run> Evaluator<'src, 'run> {
         ensures headline { let h = recipe_start context.entry.now is_dependency recipe.entry.now scope.entry.now in
             IsResolvedWith context.entry.now h.situation.shown (recipe_view recipe.entry.now).attributes
             (map recipe_parameter_view parameters.entry.now) []
-            → RunsChecked freely H.step (GivesVerdict C.Fn check.entry.now recipe.entry.now) host.old
+            → Behaves freely H.step (GivesVerdict C.Fn check.entry.now recipe.entry.now) host.old
             (meant.parameters (meanings h) h.situation (recipe_view recipe.entry.now)
             (map recipe_parameter_view parameters.entry.now) arguments.entry.now)
             (ended arguments_view result) host.new }
@@ -136,7 +136,7 @@ impl<'src, 'run> Evaluator<'src, 'run> {
 
         // Resolved or not, they are those of dynamic scope.
         ensures dynamic { let h = recipe_start context.entry.now is_dependency recipe.entry.now scope.entry.now in
-            RunsChecked freely H.step (GivesVerdict C.Fn check.entry.now recipe.entry.now) host.old
+            Behaves freely H.step (GivesVerdict C.Fn check.entry.now recipe.entry.now) host.old
             (meant.parameters (dynamic_meanings (Some context.entry.now)) h.situation (recipe_view recipe.entry.now)
             (map recipe_parameter_view parameters.entry.now) arguments.entry.now)
             (ended arguments_view result) host.new }
@@ -179,7 +179,7 @@ impl<'src, 'run> Evaluator<'src, 'run> {
         requires may_call { 0 < context.now.recursion_limit }
         requires callable { C.IsAlwaysCallable check.now }
         ensures { let h = recipe_start context.entry.now is_dependency recipe.entry.now scope.entry.now in
-            RunsChecked freely H.step (GivesVerdict C.Fn check.entry.now recipe.entry.now) host.old
+            Behaves freely H.step (GivesVerdict C.Fn check.entry.now recipe.entry.now) host.old
             (meant.parameters (dynamic_meanings (Some context.entry.now)) h.situation (recipe_view recipe.entry.now)
             (map recipe_parameter_view parameters.entry.now) arguments.entry.now)
             (ended arguments_view result) host.new }
@@ -212,7 +212,7 @@ impl<'src, 'run> Evaluator<'src, 'run> {
     ) -> Result<(), Error<'src>>
         requires may_call { MayCall self.old }
         ensures same { IsSameButScopeAndEnvironment self.old self.new × (self.new.scope ≡ self.old.scope) }
-        ensures environment { Runs (rules_of self.old) H.step host.old
+        ensures environment { Behaves (rules_of self.old) H.step unchecked host.old
             (meant.environment (dynamic_meanings self.old.context) (situation_of self.old)
             (recipe_view recipe.now).attributes) (ended (λ _. pairs_view self.new.env) result) host.new }
     {
@@ -254,7 +254,7 @@ impl<'src, 'run> Evaluator<'src, 'run> {
         requires may_call { MayCall self.old }
         requires based { is_some self.old.base ≡ true }
         requires callable { C.IsAlwaysCallable check.now }
-        ensures { RunsChecked (rules_of self.old) H.step (GivesVerdict C.Fn check.entry.now recipe.entry.now) host.old
+        ensures { Behaves (rules_of self.old) H.step (GivesVerdict C.Fn check.entry.now recipe.entry.now) host.old
             (meant.bindings (dynamic_meanings self.old.context) (recipe_view recipe.entry.now).name.lexeme
             (situation_of self.old) [] (map recipe_parameter_view parameters.entry.now) arguments.entry.now)
             (ended (λ words. record {
@@ -282,7 +282,7 @@ impl<'src, 'run> Evaluator<'src, 'run> {
         argument: &Value,
     ) -> Result<Value, Error<'src>>
         requires may_call { MayCall self.now }
-        ensures { Runs (rules_of self.now) H.step host.old
+        ensures { Behaves (rules_of self.now) H.step unchecked host.old
             (meant.valued (dynamic_meaning self.now) self.now.is_dependency (recipe_view recipe.now).name.lexeme
             (recipe_parameter_view parameter.now) argument.now) (ended (λ v. v) result) host.new }
     {

@@ -2,7 +2,8 @@
 
 ghost use Rattle.std.specs.Prelude.{map, ◌≡◌};
 ghost use Rattle.just_eval.specs.Prelude.{AllResolvedOn, GoesByAnswers, IfRefused, IsConst, IsFinal, IsInRun};
-ghost use Rattle.just_eval.specs.Prelude.{IsNotInternal, MayCall, Resolves, Runs, UnlessStopped, commands};
+ghost use Rattle.just_eval.specs.Prelude.{Behaves, IsNotInternal, MayCall, Resolves, UnlessStopped, commands};
+ghost use Rattle.just_eval.specs.Prelude.{unchecked};
 ghost use Rattle.just_eval.specs.Prelude.{const_meaning, constant, dynamic_meaning, ended, freely, lexical_meaning};
 ghost use Rattle.just_eval.specs.Prelude.{line_view, lines_expressions, rules_of, stage_state_of, texts_view};
 
@@ -35,13 +36,13 @@ impl<'src, 'run> Evaluator<'src, 'run> {
         // In a run, if everything reached is resolved, the commands or the refusal, and the questions asked, are those
         // of lexical scope.
         ensures headline { Resolves self.now (lines_expressions (map line_view lines.now))
-            → Runs freely H.step host.old (commands (lexical_meaning self.now) (map line_view lines.now))
+            → Behaves freely H.step unchecked host.old (commands (lexical_meaning self.now) (map line_view lines.now))
             (ended texts_view result) host.new }
         ensures never_internal { Resolves self.now (lines_expressions (map line_view lines.now))
             → IsNotInternal (ended texts_view result) }
 
         // Resolved or not, they are those of dynamic scope.
-        ensures dynamic { Runs (rules_of self.now) H.step host.old
+        ensures dynamic { Behaves (rules_of self.now) H.step unchecked host.old
             (commands (dynamic_meaning self.now) (map line_view lines.now)) (ended texts_view result) host.new }
 
         // Resolved or not, the refusal in a run is never `Const`, and only answered questions change the host's state.
@@ -70,7 +71,7 @@ impl<'src, 'run> Evaluator<'src, 'run> {
         lines: &[Line<'src>],
     ) -> Result<Vec<String>, Error<'src>>
         requires may_call { MayCall self.now }
-        ensures { Runs (rules_of self.now) H.step host.old
+        ensures { Behaves (rules_of self.now) H.step unchecked host.old
             (commands (dynamic_meaning self.now) (map line_view lines.now)) (ended texts_view result) host.new }
     {
         let mut joined = Joined::new(alloc);

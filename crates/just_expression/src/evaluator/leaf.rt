@@ -1,7 +1,7 @@
 // Evaluates variables and commands, which have no parts.
 
 ghost use Rattle.std.specs.Prelude.{IfSome, ◌≡◌};
-ghost use Rattle.just_expression.specs.Prelude.{Gave, Runs, RunsTo, command, context_of, is_non_const};
+ghost use Rattle.just_expression.specs.Prelude.{Behaves, Gave, RunsTo, command, context_of, is_non_const, unchecked};
 ghost use Rattle.just_expression.specs.Prelude.{meaning, name_view, open_in, program, rules, situation, token_view};
 ghost use Rattle.just_expression.specs.Prelude.{variable, view};
 
@@ -50,7 +50,8 @@ impl<'src, 'run, 'here> ExpressionEvaluator<'src, 'run, 'here> {
         host: &H,
         operand: &'parts Expression<'src>,
     ) -> Option<&'parts [Text]>
-        ensures { IfSome result (λ texts. Runs (rules self.now) H.step host.now (meaning self.now (view operand.now))
+        ensures { IfSome result (λ texts. Behaves (rules self.now) H.step unchecked host.now
+            (meaning self.now (view operand.now))
             (Gave texts.now) host.now) }
     {
         match operand {
@@ -72,7 +73,8 @@ impl<'src, 'run, 'here> ExpressionEvaluator<'src, 'run, 'here> {
         name: &Name<'src>,
         number: Option<Number>,
     ) -> Option<&Value>
-        ensures { IfSome result (λ value. Runs (rules self.now) H.step host.now (variable (name_view name.now) number
+        ensures { IfSome result (λ value. Behaves (rules self.now) H.step unchecked host.now
+            (variable (name_view name.now) number
             (situation self.now).names) (Gave value.now) host.now) }
     {
         let number = number?;

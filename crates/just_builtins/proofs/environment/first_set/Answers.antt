@@ -1,7 +1,7 @@
 use Rattle.std.proofs.Common.{◌≡◌, ◌∙◌, sym, ap, subst, Ok, None}
 use Rattle.std.proofs.lemmas.List.{drop_all}
 use Rattle.std.proofs.lemmas.Result.{err_from_is_err_and}
-use Rattle.just_builtins.specs.Prelude.{Runs, first_set, freely, pairs_view, tree}
+use Rattle.just_builtins.specs.Prelude.{Behaves, first_set, freely, pairs_view, tree, unchecked}
 use Rattle.just_builtins.proofs.Variables.{ended, not_set, set}
 use Rattle.just_builtins.proofs.environment.first_set.Goals as goal
 
@@ -34,5 +34,5 @@ loop-key-preserved g c = λ shown.
 pub returns : goal.returns
 returns g c = λ shown rest o last run.
     let dotenv = pairs_view c.args.dotenv.now in
-    c.loop-key.invariant shown rest o last (subst (λ ks. Runs freely g.H.Host.step c.loop-key.host (tree shown (first_set dotenv rest ks)) o last)
+    c.loop-key.invariant shown rest o last (subst (λ ks. Behaves freely g.H.Host.step unchecked c.loop-key.host (tree shown (first_set dotenv rest ks)) o last)
     (sym (drop_all c.loop-key.key-index c.args.keys.now c.loop-key-test.false)) run)

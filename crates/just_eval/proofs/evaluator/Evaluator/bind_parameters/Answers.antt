@@ -2,7 +2,7 @@ use Rattle.std.proofs.Common.{◌≡◌, ⊎_elim, inl, inr, map, ap, ◌∙◌,
 use Rattle.std.specs.Iterator.Adapters.{zip_first, zip_second}
 use Rattle.std.specs.Slice.Iter.{iter_rest}
 use Rattle.just_eval.specs.Prelude.{recipe_parameter_view}
-use Rattle.just_expression.proofs.Exits.{checked_exit}
+use Rattle.just_expression.proofs.Exits.{runs_exit}
 use Rattle.just_eval.proofs.Bindings.{check_ends, parameter_ends, parameter_next, parameter_stops, parameters_all, parameters_start, mapped_none}
 use Rattle.just_eval.proofs.Same.{same_may_call}
 use Rattle.just_eval.proofs.evaluator.Evaluator.bind_parameters.Goals as goal
@@ -20,12 +20,12 @@ parameter_value-requires g c = record { may_call = same_may_call c.args.self.now
 
 pub returns-in_err-value : goal.returns-in_err-value
 returns-in_err-value g c =
-    checked_exit _ _ _ c.from_residual.ensures.1 (parameter_ends c.loop-parameter.invariant (ap (map recipe_parameter_view) c.in-Some.ensures.steps.0)
+    runs_exit _ _ _ c.from_residual.ensures.1 (parameter_ends c.loop-parameter.invariant (ap (map recipe_parameter_view) c.in-Some.ensures.steps.0)
     c.in-Some.ensures.steps.1 _ c.in_err-value.ensures)
 
 pub returns-in_err-value-2 : goal.returns-in_err-value-2
 returns-in_err-value-2 g c =
-    checked_exit _ _ _ c.from_residual-in_err-value-2.ensures.1
+    runs_exit _ _ _ c.from_residual-in_err-value-2.ensures.1
     (check_ends c.loop-parameter.invariant (ap (map recipe_parameter_view) c.in-Some.ensures.steps.0) c.in-Some.ensures.steps.1 c.in_ok-value.ensures _
     c.in_err-value-2.ensures)
 
@@ -37,7 +37,7 @@ loop-parameter-preserved g c =
 
 pub returns-in_err-bind_parameter : goal.returns-in_err-bind_parameter
 returns-in_err-bind_parameter g c =
-    checked_exit _ _ _ c.from_residual-in_err-bind_parameter.ensures.1
+    runs_exit _ _ _ c.from_residual-in_err-bind_parameter.ensures.1
     (parameter_stops c.loop-parameter.invariant (ap (map recipe_parameter_view) c.in-Some.ensures.steps.0) c.in-Some.ensures.steps.1 c.in_ok-value.ensures
     c.in_ok-value-2.ensures)
 

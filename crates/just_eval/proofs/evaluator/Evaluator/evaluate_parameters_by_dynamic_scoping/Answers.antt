@@ -1,7 +1,7 @@
 use Rattle.std.proofs.Common.{◌≡◌, [], ◌∷◌, map, refl, ap, ◌∙◌, Some}
 use Rattle.just_eval.specs.Prelude.{frames_view, pairs_view, recipe_in, recipe_parameter_view, recipe_start, recipe_view, situation_of}
-use Rattle.just_host.proofs.Checked.{checked_stopped}
-use Rattle.just_expression.proofs.Exits.{checked_exit}
+use Rattle.just_host.proofs.Paths.{runs_stopped}
+use Rattle.just_expression.proofs.Exits.{runs_exit}
 use Rattle.just_eval.proofs.Evaluated.{attributes_end, bound, miscounted, other_count, same_count}
 use Rattle.just_eval.proofs.evaluator.Evaluator.evaluate_parameters_by_dynamic_scoping.Given.{Over}
 use Rattle.just_eval.proofs.evaluator.Evaluator.evaluate_parameters_by_dynamic_scoping.Goals.{After-evaluate_attributes}
@@ -17,12 +17,12 @@ at_start g c =
     ([] ∷ frames_view c.args.scope.now)).situation) none
 
 pub returns-in_err-evaluator : goal.returns-in_err-evaluator
-returns-in_err-evaluator g c = checked_exit _ _ _ c.from_residual.ensures.1 (checked_stopped _)
+returns-in_err-evaluator g c = runs_exit _ _ _ c.from_residual.ensures.1 (runs_stopped _)
 
 pub returns-in_err-evaluate_attributes : goal.returns-in_err-evaluate_attributes
 returns-in_err-evaluate_attributes g c =
     let start = at_start g (goal.at.returns-in_err-evaluate_attributes g c).After-evaluate_attributes in
-    checked_exit _ _ _ c.from_residual-in_err-evaluate_attributes.ensures.1
+    runs_exit _ _ _ c.from_residual-in_err-evaluate_attributes.ensures.1
     (attributes_end _ _ (recipe_view c.args.recipe.now) (map recipe_parameter_view c.args.parameters.now) c.args.arguments.now c.in_ok-evaluator.evaluator
     c.in_ok-evaluator.ensures.context start _ c.in_err-evaluate_attributes.ensures.environment)
 
@@ -38,7 +38,7 @@ pub returns-in_err-words : goal.returns-in_err-words
 returns-in_err-words g c =
     let start = at_start g (goal.at.returns-in_err-words g c).After-evaluate_attributes in
     let same = c.in_ok-evaluate_attributes.ensures.same in
-    checked_exit _ _ _ c.from_residual-in_err-words.ensures.1
+    runs_exit _ _ _ c.from_residual-in_err-words.ensures.1
     (bound _ _ (recipe_view c.args.recipe.now) (map recipe_parameter_view c.args.parameters.now) c.args.arguments.now c.in_ok-evaluator.evaluator
     c.in_ok-evaluator.ensures.context start same.0 same.1 c.in_ok-evaluate_attributes.ensures.environment
     (same_count recipe_parameter_view c.args.arguments.now c.args.parameters.now c.if-arguments-parameters.false) c.in_err-words.ensures)

@@ -1,5 +1,5 @@
 use Rattle.std.proofs.Common.{[], ◌∷◌, subst}
-use Rattle.just_eval.specs.Prelude.{IsNotInternal, IsResolvedRun, Ran, dynamically, ended, frames_view, lexically}
+use Rattle.just_eval.specs.Prelude.{Behaves, IsNotInternal, IsResolvedRun, dynamically, ended, frames_view, freely, lexically, run, unchecked}
 use Rattle.just_run.specs.Run.{run_of_referenced}
 use Rattle.just_run.proofs.Referenced.{referenced_same}
 use Rattle.just_run.proofs.run.Run.evaluate.Goals as goal
@@ -10,7 +10,8 @@ returns-clause-headline g c =
     let r = c.args.self.now in
     let same = referenced_same c.as_ref.result r.references c.as_ref.ensures.value in
     subst (λ referenced. IsResolvedRun (run_of_referenced r referenced) frames
-    → Ran g.H.Host.step c.args.host.now lexically (run_of_referenced r referenced) ([] ∷ frames) (run_of_referenced r referenced).assignments.order
+    → Behaves freely g.H.Host.step unchecked c.args.host.now
+    (run lexically (run_of_referenced r referenced) ([] ∷ frames) (run_of_referenced r referenced).assignments.order)
     (ended frames_view c.evaluate_assignments.result) c.evaluate_assignments.new.host)
     same c.evaluate_assignments.ensures.headline
 
@@ -26,6 +27,7 @@ returns-clause-dynamic g c =
     let frames = frames_view c.args.outer.now in
     let r = c.args.self.now in
     let same = referenced_same c.as_ref.result r.references c.as_ref.ensures.value in
-    subst (λ referenced. Ran g.H.Host.step c.args.host.now dynamically (run_of_referenced r referenced) ([] ∷ frames)
-    (run_of_referenced r referenced).assignments.order (ended frames_view c.evaluate_assignments.result) c.evaluate_assignments.new.host)
+    subst (λ referenced. Behaves freely g.H.Host.step unchecked c.args.host.now
+    (run dynamically (run_of_referenced r referenced) ([] ∷ frames) (run_of_referenced r referenced).assignments.order)
+    (ended frames_view c.evaluate_assignments.result) c.evaluate_assignments.new.host)
     same c.evaluate_assignments.ensures.dynamic
