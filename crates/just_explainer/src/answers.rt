@@ -12,7 +12,8 @@ use just_value::error::CommandFault;
 use std::alloc::Global;
 
 /// Answers commands, environment variables and other questions for a text from what is given. A variable that is not
-/// given is absent, no file exists, and each number is 1. A command or another text that is not given is refused.
+/// given is absent, a path that is not given does not exist, and each number is 1. A command or another text that is not
+/// given is refused.
 #[derive(Drop)]
 pub(crate) struct Answers {
     commands: Vec<String>,
@@ -25,6 +26,9 @@ impl Answers {
     pub(crate) fn new(alloc: Global, given: &Given) -> Result<Answers, OutOfMemory> {
         let mut others = MapHost::new(alloc);
         others.variables = given.variables.clone()?;
+        for path in &given.existing {
+            others.files.insert(path.clone()?, String::new(alloc))?;
+        }
         Ok(Answers {
             commands: given.answers.clone()?,
             texts: given.texts.clone()?,
@@ -64,7 +68,7 @@ impl Host for Answers {
         match question {
             TextQuestion::Variable(_) => self.others.text(alloc, question),
             _ => match format!(in alloc; "{question}") {
-                Ok(printed) => text_or_none(self.given_text(alloc, &printed)),
+                Ok(printed) => answer_or_no_memory(self.given_text(alloc, &printed)),
                 Err(_) => TextAnswer::OutOfMemory,
             },
         }
@@ -84,7 +88,7 @@ impl Host for Answers {
 }
 
 // An answer, or that there was no memory for it.
-fn text_or_none(answer: Result<TextAnswer, OutOfMemory>) -> TextAnswer {
+fn answer_or_no_memory(answer: Result<TextAnswer, OutOfMemory>) -> TextAnswer {
     match answer {
         Ok(answer) => answer,
         Err(OutOfMemory) => TextAnswer::OutOfMemory,

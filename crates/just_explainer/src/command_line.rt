@@ -20,6 +20,8 @@ command that it begins with, so both may contain `=`. The last answer to a comma
 
 const ENV: &str = "An environment variable. One that is not given is absent";
 
+const EXISTS: &str = "A path that exists, as a question for one is printed. No other does";
+
 const TEXT: &str =
     "What a question for another text gets, by the question as it is printed: `os=linux`, or \
 `read \"a.txt\"=b`";
@@ -28,7 +30,7 @@ const WORDS: &str = "NAME=VALUE sets a variable, before any other word";
 
 const UNANSWERED: &str =
     "A command without an answer is refused, and so is what asks for another text, as `arch()` does, \
-without one. No file exists, and each number, as that of `num_cpus()`, is 1.";
+without one. Each number, as that of `num_cpus()`, is 1.";
 
 /// What a command line asks for. The first word is the name of the program.
 ///
@@ -130,6 +132,7 @@ fn with_given<'a>(alloc: Global, command: Command<'a>) -> Result<Command<'a>, Al
             "A variable of the dotenv files",
         ))?
         .arg(repeated(alloc, "text", "QUESTION=TEXT", TEXT))?
+        .arg(repeated(alloc, "exists", "PATH", EXISTS))?
         .arg(directory)?
         .arg(dry_run)?
         .arg(lists(alloc))
@@ -202,6 +205,7 @@ fn fill<'a>(
     given.dry_run = matches.get_flag("dry-run");
     given.lists = matches.get_flag("lists");
     given.directory = String::from_str(alloc, matches.get_str("directory").unwrap_or("."))?;
+    add_paths(alloc, &mut given.existing, matches.get_strs("exists"))?;
     if let Some(word) = add_pairs(alloc, &mut given.variables, matches.get_strs("env"))? {
         return Ok(Some(word));
     }
@@ -212,6 +216,18 @@ fn fill<'a>(
         return Ok(Some(word));
     }
     add_answers(alloc, &mut given.answers, matches.get_strs("answer"))
+}
+
+// Adds paths.
+fn add_paths(
+    alloc: Global,
+    paths: &mut Vec<String>,
+    words: Option<&[&str]>,
+) -> Result<(), OutOfMemory> {
+    for word in words.unwrap_or(&[]) {
+        paths.push(String::from_str(alloc, word)?)?;
+    }
+    Ok(())
 }
 
 // Adds names with their values. It returns the first word without `=`.

@@ -16,6 +16,8 @@ pub struct Given {
     /// The variables of dotenv files.
     pub dotenv: BTreeMap<String, String>,
     pub dry_run: bool,
+    /// The paths that exist, as a question for one is printed.
+    pub existing: Vec<String>,
     /// Whether `lists` is set, whatever the justfile sets.
     pub lists: bool,
     /// Each is another question for a text, as it is printed, `=` and the text, such as `os=linux`.
@@ -31,6 +33,7 @@ impl Given {
         ensures directory { string_bytes result.directory ≡ [] }
         ensures dotenv { pairs_view result.dotenv ≡ [] }
         ensures dry_run { result.dry_run ≡ false }
+        ensures existing { result.existing.items ≡ [] }
         ensures lists { result.lists ≡ false }
         ensures texts { result.texts.items ≡ [] }
         ensures variables { pairs_view result.variables ≡ [] }
@@ -40,6 +43,7 @@ impl Given {
             directory: String::new(alloc),
             dotenv: BTreeMap::new(alloc),
             dry_run: false,
+            existing: Vec::new(alloc),
             lists: false,
             texts: Vec::new(alloc),
             variables: BTreeMap::new(alloc),

@@ -77,6 +77,13 @@ error: call to function `os` failed: `os` has no answer
         1,
     ),
     (
+        "evaluate|--directory|/work|--exists|/work/a|--exists|/b",
+        "x := path_exists('a') + path_exists('b') + path_exists('/b')\n",
+        "x = \"truefalsetrue\"\n  asks exists \"/work/a\"\n  asks exists \"/work/b\"\n  asks exists \"/b\"\n",
+        "",
+        0,
+    ),
+    (
         "evaluate|nope",
         BUILD,
         "",
