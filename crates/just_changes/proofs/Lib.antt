@@ -1,10 +1,8 @@
 pub mod Covered
 pub mod Exact
 pub mod Lists
-pub mod Nodes
 pub mod Parts
 pub mod Reaching
 pub mod Readings
-pub mod Spreading
 pub mod Versions
 pub mod Whole

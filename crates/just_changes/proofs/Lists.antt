@@ -1,22 +1,22 @@
 -- Maps of lists of nodes, after a list is removed or inserted.
-use Rattle.std.proofs.Common.{◌≡◌, ◌↔◌, ◌⊎◌, inl, inr, ⊎_elim, ℕ, ◌+◌, Bool, true, false, cond, List, [], ◌∷◌, ◌++◌, length, Option, Some, None, Vec, Bor, refl}
-use Rattle.std.proofs.Common.{ap, sym, ◌∙◌, subst, arith}
+use Rattle.std.proofs.Common.{◌≡◌, ◌↔◌, ◌⊎◌, inl, inr, ⊎_elim, ℕ, Bool, true, false, cond, List, [], ◌∷◌, ◌++◌, map, Option, Some, None, Vec, Bor, IsTrue, refl}
+use Rattle.std.proofs.Common.{ap, sym, ◌∙◌, subst}
 use Rattle.std.specs.Bool.{Decides}
 use Rattle.std.specs.Global.{Global}
 use Rattle.std.specs.BTreeMap.{BTreeMap, get, is_at}
 use Rattle.std.specs.Cmp.{unsigned_tied}
 use Rattle.std.specs.Cmp.Lexicographic.{slice_cmp}
 use Rattle.std.specs.declared.cmp.Ordering.{Ordering}
-use Rattle.std.specs.Map.{lookup, remove_entry}
+use Rattle.std.specs.Map.{lookup}
 use Rattle.std.specs.Ordering.{is_eq, nat_cmp}
 use Rattle.std.proofs.lemmas.Bool.{eq-eqb, eqb-true}
-use Rattle.std.proofs.lemmas.List.{length-map}
 use Rattle.std.proofs.lemmas.Map.Text.{is_eq-slice_cmp}
 use Rattle.std.proofs.lemmas.Slice.Eq.{bytes_eq-Decides}
-use Rattle.just_changes.specs.Prelude.{IsIn, OfFunction, OfVariable, PlainNode, Text, found_nodes, nodes_view, total}
-use Rattle.just_syntax.proofs.Lists.{in_append}
-use Rattle.just_changes.specs.declared.node.Node as declared
-use Rattle.just_changes.proofs.Spreading.{total_taken}
+use Rattle.just_changes.specs.Prelude.{IsIn, OfFunction, OfVariable, PlainNode, Text, all_read, found_nodes, nodes_view, readers_of}
+use Rattle.just_syntax.proofs.Lists.{in_append, in_first, in_second}
+use Rattle.just_changes.specs.declared.readers.Readers.{Readers}
+use Rattle.just_needs.specs.Graph.{AreAll}
+use Rattle.just_needs.specs.declared.node.Node as declared
 
 pub number_decides : (k n : ℕ) → Decides (is_at (nat_cmp k) n) (k ≡ n)
 number_decides k n = ((λ h. eqb-true k n (sym (unsigned_tied k n) ∙ h)), (λ e. unsigned_tied k n ∙ eq-eqb k n e))
@@ -58,17 +58,6 @@ named m t = lookup (is_at (λ (k : Bor Text). slice_cmp nat_cmp t k.now)) m.entr
 abbrev numbered : BTreeMap ℕ Lists → ℕ → Option Lists
 numbered m n = lookup (is_at (nat_cmp n)) m.entries
 
-pub function_left : (old new : BTreeMap (Bor Text) Lists) (name : Bor Text)
-    → ((q : Bor Text) → get name_cmp new q ≡ cond (is_at (name_cmp name) q) None (get name_cmp old q)) → (t : Text) → (name.now ≡ t → ⊥)
-    → found_nodes (named new t) ≡ found_nodes (named old t)
-function_left old new name removed t other =
-    ap found_nodes (removed (record { ref_ptr = (0, 0); now = t }) ∙ apart (is_eq (slice_cmp nat_cmp name.now t)) None (named old t)
-    (name_decides name.now t) other)
-
-pub variable_left : (old new : BTreeMap ℕ Lists) (k : ℕ) → ((q : ℕ) → get nat_cmp new q ≡ cond (is_at (nat_cmp k) q) None (get nat_cmp old q)) → (n : ℕ)
-    → (k ≡ n → ⊥) → found_nodes (numbered new n) ≡ found_nodes (numbered old n)
-variable_left old new k removed n other = ap found_nodes (removed n ∙ apart (is_at (nat_cmp k) n) None (numbered old n) (number_decides k n) other)
-
 pub function_reader : (old mid new : BTreeMap (Bor Text) Lists) (name : Bor Text) (all : Lists) (reader : PlainNode)
     → ((q : Bor Text) → get name_cmp mid q ≡ cond (is_at (name_cmp name) q) None (get name_cmp old q))
     → ((q : Bor Text) → get name_cmp new q ≡ cond (is_at (name_cmp name) q) (Some all) (get name_cmp mid q))
@@ -88,14 +77,29 @@ variable_reader old mid new k all reader removed inserted items n y =
     reader_by (is_at (nat_cmp k) n) (numbered old n) (numbered mid n) (numbered new n) all reader y (number_decides k n) (removed n) (inserted n)
     (λ e. items ∙ ap (λ (j : ℕ). found_nodes (numbered old j) ++ reader ∷ []) e)
 
-pub size_taken : {K : Type 0} (test : K → Bool) (old new : List (K × Lists)) (o : Option Lists) (items : List declared.Node) → new ≡ remove_entry test old
-    → o ≡ lookup test old → nodes_view items ≡ found_nodes o → total new + length items ≡ total old
-size_taken test old new o items removed is seen =
-    let all = total_taken test old in
-    let left : total new ≡ total (remove_entry test old) = ap total removed in
-    let size : length (nodes_view items) ≡ length items = length-map _ _ in
-    let more : length (nodes_view items) ≡ length (found_nodes (lookup test old)) = ap length seen ∙ ap (λ (p : Option Lists). length (found_nodes p)) is in
-    omega (arith, all, left, size, more)
+-- a key that has no list has no readers
+key_found : {K : Type 0} (f : K → PlainNode) (x : PlainNode) (test : K → Bool) → ((k : K) → IsTrue (test k) → f k ≡ x) → (es : List (K × Lists))
+    → IsIn (map (λ e. f e.0) es) x ⊎ (found_nodes (lookup test es) ≡ [])
+key_found f x test right [] = inr refl
+key_found f x test right (e ∷ es) = by (test e.0) refl (key_found f x test right es)
+  where
+    by : (b : Bool) → test e.0 ≡ b → IsIn (map (λ e. f e.0) es) x ⊎ (found_nodes (lookup test es) ≡ [])
+        → IsIn (map (λ e. f e.0) (e ∷ es)) x ⊎ (found_nodes (cond b (Some e.1) (lookup test es)) ≡ [])
+    by true is rest = inl (inl (right e.0 is))
+    by false is rest = ⊎_elim (λ h. inl (inr h)) (λ none. inr none) rest
+
+abbrev functions : Readers → List PlainNode
+functions r = map (λ e. OfFunction e.0.now) r.of_functions.entries
+
+abbrev variables : Readers → List PlainNode
+variables r = map (λ e. OfVariable e.0) r.of_variables.entries
+
+pub are_all : (r : Readers) → AreAll (readers_of r) (all_read r)
+are_all r (OfFunction t) = ⊎_elim (λ h. inl (in_first (functions r) (variables r) (OfFunction t) h)) (λ none. inr none)
+    (key_found (λ (k : Bor Text). OfFunction k.now) (OfFunction t) (is_at (λ (k : Bor Text). slice_cmp nat_cmp t k.now))
+    (λ k h. ap OfFunction (sym ((name_decides t k.now).0 h))) r.of_functions.entries)
+are_all r (OfVariable n) = ⊎_elim (λ h. inl (in_second (functions r) (variables r) (OfVariable n) h)) (λ none. inr none)
+    (key_found OfVariable (OfVariable n) (is_at (nat_cmp n)) (λ k h. ap OfVariable (sym ((number_decides n k).0 h))) r.of_variables.entries)
 
 -- one kind of node by its name or number, the other unchanged
 renamed : {P Q R A B : Type 0} → (P → Q) → (Q → P) → B ↔ ((P × R) ⊎ A) → B ↔ ((Q × R) ⊎ A)

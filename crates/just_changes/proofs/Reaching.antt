@@ -5,7 +5,7 @@ use Rattle.just_changes.specs.Prelude.{Module, OfFunction, OfVariable, PlainNode
 use Rattle.just_syntax.specs.Plain.{Nil}
 use Rattle.just_meaning.specs.Reaches.{Reaches, Here, Later, ReadsBeyond, Occurs}
 use Rattle.just_laws.specs.Cone.{Cone, Itself, ReadBy, IsEvaluated}
-use Rattle.just_changes.specs.Nodes as nodes
+use Rattle.just_needs.specs.Graph as nodes
 
 -- the assignments, overrides and functions of a module
 abbrev pub version_of : Module → Version

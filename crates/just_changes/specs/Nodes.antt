@@ -5,11 +5,7 @@ use Rattle.just_syntax.specs.Lists.{IsIn}
 use Rattle.just_value.specs.Frames.{Frames, value_in}
 use Rattle.just_meaning.specs.Reaches.{Mention, VariableOf, CallOf, IsAmong, Occurs}
 use Rattle.just_resolution.specs.Sites.{Site}
-
--- a variable, or a function of the file by its name
-pub data PlainNode : Type 0 where
-  OfFunction : Text → PlainNode
-  OfVariable : ℕ → PlainNode
+use Rattle.just_needs.specs.Graph.{IsReached, PlainNode, OfFunction, OfVariable}
 
 -- a module and its overrides: the assignment and the override of each number, and the function of each name
 pub record Version : Type 0 where
@@ -72,12 +68,6 @@ IsOneMention own (CallOf name k) x = OfFunction name ≡ x
 abbrev pub AmongSites : (ℕ → Type 0) → List Site → PlainNode → Type 0
 AmongSites own [] x = ⊥
 AmongSites own (s ∷ ss) x = IsOneMention own s.mention x ⊎ AmongSites own ss x
-
--- some nodes, their readers, the readers of those, and so on
-pub data IsReached (readers : PlainNode → List PlainNode) (starts : List PlainNode) : PlainNode → Type 0 where
-  Starts : {x : PlainNode} → IsIn starts x → IsReached readers starts x
-  ReadBy : {y : PlainNode} → (x : PlainNode) → IsReached readers starts x → IsIn (readers x) y
-      → IsReached readers starts y
 
 -- What is touched between two versions: the nodes that differ, and the readers, in the first version, of touched nodes.
 pub record IsTouchedBetween (v u : Version) (outer : Frames) (touched : PlainNode → Bool) : Type 0 where

@@ -2,6 +2,8 @@
 pub use Rattle.just_laws.specs.Cone.{HaveSameCone, assignment_numbered}
 pub use Rattle.just_meaning.specs.Module.{Module}
 pub use Rattle.just_meaning.specs.Reaches.{CallOf, function_at}
+pub use Rattle.just_needs.specs.Graph.{IsReached, OfFunction, OfVariable, PlainNode, Starts}
+pub use Rattle.just_needs.specs.View.{has, is_reached, node_view, nodes_view}
 pub use Rattle.just_resolution.specs.Seen.{is_number_in, site_view, sites_view}
 pub use Rattle.just_resolution.specs.Sites.{Site, sites_in}
 pub use Rattle.just_syntax.specs.Lists.{IsIn}
@@ -12,7 +14,6 @@ pub use Rattle.just_value.specs.Frames.{Frames}
 pub use Rattle.just_value.specs.View.{frames_view}
 pub use Rattle.just_changes.specs.Changed.{AreAlikeAt, IsOver}
 pub use Rattle.just_changes.specs.Nodes.{AmongSites, AssignmentReads, FunctionReads, IsFree, IsOneMention}
-pub use Rattle.just_changes.specs.Nodes.{IsOneVariable, IsReached, IsTouchedBetween, IsUnchanged, Mentions, OfFunction}
-pub use Rattle.just_changes.specs.Nodes.{OfVariable, PlainNode, ReadsItself, Starts, Version}
-pub use Rattle.just_changes.specs.View.{IsWhole, all_nodes, assignment_in, found_nodes, is_touched, node_view}
-pub use Rattle.just_changes.specs.View.{nodes_view, readers_of, size, total, version_view}
+pub use Rattle.just_changes.specs.Nodes.{IsOneVariable, IsTouchedBetween, IsUnchanged, Mentions, ReadsItself, Version}
+pub use Rattle.just_changes.specs.View.{IsWhole, all_nodes, all_read, assignment_in, found_nodes, readers_of}
+pub use Rattle.just_changes.specs.View.{version_view}

@@ -1,5 +1,5 @@
 -- Nodes, readers and versions as plain data.
-use Rattle.std.specs.Prelude.{Vec, ◌≡◌, ℕ, ◌+◌, ◌++◌, Bool, List, [], ◌∷◌, Option, Some, None, map, length}
+use Rattle.std.specs.Prelude.{Vec, ◌≡◌, ℕ, ◌++◌, List, [], Option, Some, None, map}
 use Rattle.std.specs.Option.{option_map}
 use Rattle.std.specs.Borrow.{Bor}
 use Rattle.std.specs.Map.{lookup}
@@ -11,24 +11,16 @@ use Rattle.std.specs.Ordering.{nat_cmp}
 use Rattle.just_syntax.specs.Plain.{Text, Assignment}
 use Rattle.just_syntax.specs.View.{assignment_view, function_view, text_numbered}
 use Rattle.just_meaning.specs.Reaches.{function_at}
-use Rattle.just_resolution.specs.Seen.{is_name_in, is_number_in}
 use Rattle.just_syntax.specs.declared.assignment.Assignment as declared
-use Rattle.just_changes.specs.declared.node.Node as declared_node
-use Rattle.just_changes.specs.declared.node.Node.TheVariants as nodes
 use Rattle.just_changes.specs.declared.readers.Readers.{Readers}
-use Rattle.just_changes.specs.declared.touched.Touched.{Touched}
 use Rattle.just_changes.specs.declared.version.Version.{Version as Declared}
-use Rattle.just_changes.specs.Nodes.{PlainNode, OfFunction, OfVariable, Version}
-
-abbrev pub node_view : declared_node.Node → PlainNode
-node_view (nodes.Function name) = OfFunction name.now
-node_view (nodes.Variable n) = OfVariable n
-
-abbrev pub nodes_view : List declared_node.Node → List PlainNode
-nodes_view ns = map node_view ns
+use Rattle.just_needs.specs.declared.node.Node.{Node}
+use Rattle.just_needs.specs.Graph.{PlainNode, OfFunction, OfVariable}
+use Rattle.just_needs.specs.View.{nodes_view}
+use Rattle.just_changes.specs.Nodes.{Version}
 
 -- the nodes of a list that a look-up found
-abbrev pub found_nodes : {A : Type 0} → Option (Vec declared_node.Node A) → List PlainNode
+abbrev pub found_nodes : {A : Type 0} → Option (Vec Node A) → List PlainNode
 found_nodes None = []
 found_nodes (Some ns) = nodes_view ns.items
 
@@ -37,17 +29,9 @@ readers_of r (OfFunction name) =
     found_nodes (lookup (is_at (λ (k : Bor Text). slice_cmp nat_cmp name k.now)) r.of_functions.entries)
 readers_of r (OfVariable n) = found_nodes (lookup (is_at (nat_cmp n)) r.of_variables.entries)
 
-abbrev pub is_touched : Touched → PlainNode → Bool
-is_touched t (OfFunction name) = is_name_in t.functions name
-is_touched t (OfVariable n) = is_number_in t.variables n
-
--- how many nodes the lists have
-abbrev pub total : {K A : Type 0} → List (K × Vec declared_node.Node A) → ℕ
-total [] = 0
-total (e ∷ es) = length e.1.items + total es
-
-abbrev pub size : Readers → ℕ
-size r = total r.of_functions.entries + total r.of_variables.entries
+-- the nodes that have readers
+abbrev pub all_read : Readers → List PlainNode
+all_read r = map (λ e. OfFunction e.0.now) r.of_functions.entries ++ map (λ e. OfVariable e.0) r.of_variables.entries
 
 -- the first assignment with a number
 abbrev pub assignment_in : BTreeMap ℕ (Bor declared.Assignment) → ℕ → Option Assignment

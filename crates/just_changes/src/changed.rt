@@ -2,19 +2,19 @@
 
 ghost use Rattle.std.specs.Prelude.{IfOk, false, ℕ, ◌↔◌, ◌≡◌};
 ghost use Rattle.just_changes.specs.Prelude.{AreAlikeAt, HaveSameCone, IsOver, IsTouchedBetween, IsWhole, Module};
-ghost use Rattle.just_changes.specs.Prelude.{frames_view, is_number_in, is_touched, version_view};
+ghost use Rattle.just_changes.specs.Prelude.{frames_view, has, is_number_in, is_reached, version_view};
 
 use crate::differences::differences;
 use crate::reading::readers_in;
-use crate::touched::{Touched, spread};
 use crate::version::Version;
 use just_host::justfile::Justfile;
 use just_laws::laws::blocks_agree;
+use just_needs::reached::{Reached, reached_from};
 use just_syntax::number::Number;
 use just_syntax::out_of_memory::OutOfMemory;
 use just_value::scope::Scope;
 use std::alloc::Global;
-use std::collections::{BTreeSet, HashMap};
+use std::collections::{BTreeSet, HashMap, HashSet};
 
 /// The numbers of the variables that an edit changes: exactly those whose cones differ. An editor or a build tool that
 /// kept the values of the others need not evaluate them again.
@@ -57,7 +57,18 @@ pub fn changed<'src>(
     let before = Version::new(alloc, before, before_overrides)?;
     let after = Version::new(alloc, after, after_overrides)?;
     let touched = touched_between(alloc, &before, &after, parent)?;
-    Ok(touched.variables)
+    Ok(rising(alloc, &touched.into_variables())?)
+}
+
+// Some numbers, in rising order.
+fn rising(alloc: Global, numbers: &HashSet<Number>) -> Result<BTreeSet<Number>, OutOfMemory>
+    ensures { IfOk result (λ all. (n : ℕ) → is_number_in all n ≡ has numbers.now n) }
+{
+    let mut all = BTreeSet::new(alloc);
+    for number in numbers {
+        all.insert(*number)?;
+    }
+    Ok(all)
 }
 
 // The nodes that differ between two versions, and those that read them in the first, directly or not.
@@ -66,13 +77,13 @@ fn touched_between<'src>(
     before: &Version<'src, '_>,
     after: &Version<'src, '_>,
     parent: &Scope,
-) -> Result<Touched<'src>, OutOfMemory>
+) -> Result<Reached<'src>, OutOfMemory>
     requires before { IsWhole before.now }
     requires after { IsWhole after.now }
     ensures { IfOk result (λ touched. IsTouchedBetween (version_view before.now) (version_view after.now)
-        (frames_view parent.now) (is_touched touched)) }
+        (frames_view parent.now) (is_reached touched)) }
 {
     let readers = readers_in(alloc, before, parent)?;
     let nodes = differences(alloc, before, after)?;
-    spread(alloc, readers, nodes)
+    reached_from(alloc, &readers, nodes)
 }

@@ -5,8 +5,8 @@ ghost use Rattle.std.specs.HashMap.{keys};
 ghost use Rattle.just_changes.specs.Prelude.{IsIn, IsUnchanged, IsWhole, OfFunction, OfVariable, PlainNode, all_nodes};
 ghost use Rattle.just_changes.specs.Prelude.{assignment_view, function_view, nodes_view, version_view};
 
-use crate::node::{Node, push};
 use crate::version::Version;
+use just_needs::node::{Node, push};
 use just_syntax::assignment::Assignment;
 use just_syntax::function_definition::FunctionDefinition;
 use just_syntax::number::Number;

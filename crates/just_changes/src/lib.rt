@@ -4,11 +4,9 @@
 
 pub mod changed;
 mod differences;
-mod node;
 mod readers;
 mod reading;
 pub mod same;
 mod same_definition;
 mod same_token;
-mod touched;
 mod version;

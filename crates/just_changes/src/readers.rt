@@ -1,9 +1,10 @@
 // Which nodes read which.
 
-ghost use Rattle.std.specs.Prelude.{IfOk, OnOk, [], length, ◌++◌, ◌+◌, ◌↔◌, ◌∷◌, ◌≡◌, ◌⊎◌};
-ghost use Rattle.just_changes.specs.Prelude.{IsIn, PlainNode, found_nodes, node_view, nodes_view, readers_of, size};
+ghost use Rattle.std.specs.Prelude.{IfOk, OnOk, [], option_map, ◌++◌, ◌↔◌, ◌∷◌, ◌≡◌, ◌⊎◌};
+ghost use Rattle.just_changes.specs.Prelude.{IsIn, PlainNode, all_read, found_nodes, node_view, nodes_view, readers_of};
 
-use crate::node::{Node, push};
+use just_needs::node::{Node, push};
+use just_needs::reached::Reads;
 use just_syntax::number::Number;
 use just_syntax::out_of_memory::OutOfMemory;
 use std::alloc::Global;
@@ -46,19 +47,49 @@ impl<'src> Readers<'src> {
         }
         Ok(())
     }
+}
 
-    // Removes and returns the readers of a node.
-    pub(crate) fn take(&mut self, read: &Node<'src>) -> Vec<Node<'src>>
-        ensures taken { nodes_view result.items ≡ readers_of self.old (node_view read.now) }
-        ensures left { (x : PlainNode) → (node_view read.now ≡ x → ⊥) → readers_of self.new x ≡ readers_of self.old x }
-        ensures none { readers_of self.new (node_view read.now) ≡ [] }
-        ensures size { size self.new + length result.items ≡ size self.old }
-    {
-        match read {
-            Node::Function { name } => list(self.alloc, self.of_functions.remove(name)),
-            Node::Variable { number } => list(self.alloc, self.of_variables.remove(number)),
+// A difference spreads to what reads it, so here a node leads to its readers.
+impl<'src> Reads<'src> for Readers<'src> {
+    ghost reads = { readers_of };
+
+    ghost all = { all_read };
+
+    fn add_read_by(
+        &self,
+        _: Global,
+        nodes: &mut Vec<Node<'src>>,
+        node: &Node<'src>,
+    ) -> Result<(), OutOfMemory> {
+        match node {
+            Node::Function { name } => push_found(nodes, self.of_functions.get(name)),
+            Node::Variable { number } => push_found(nodes, self.of_variables.get(number)),
         }
     }
+}
+
+// Adds the nodes found, if there are any.
+fn push_found<'src>(
+    nodes: &mut Vec<Node<'src>>,
+    found: Option<&Vec<Node<'src>>>,
+) -> Result<(), OutOfMemory>
+    ensures { OnOk result (nodes_view nodes.new.items ≡ nodes_view nodes.old.items
+        ++ found_nodes (option_map (λ ns. ns.now) found.entry)) }
+{
+    match found {
+        Some(found) => push_all(nodes, found),
+        None => Ok(()),
+    }
+}
+
+// Adds these nodes.
+fn push_all<'src>(nodes: &mut Vec<Node<'src>>, added: &[Node<'src>]) -> Result<(), OutOfMemory>
+    ensures { OnOk result (nodes_view nodes.new.items ≡ nodes_view nodes.old.items ++ nodes_view added.now) }
+{
+    for node in added {
+        push(nodes, node)?;
+    }
+    Ok(())
 }
 
 // The readers found, or none.

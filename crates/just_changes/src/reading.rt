@@ -6,9 +6,9 @@ ghost use Rattle.just_changes.specs.Prelude.{IsOneVariable, IsWhole, Mentions, O
 ghost use Rattle.just_changes.specs.Prelude.{ReadsItself, assignment_view, frames_view, function_view, is_number_in};
 ghost use Rattle.just_changes.specs.Prelude.{node_view, readers_of, site_view, sites_view, version_view, view};
 
-use crate::node::Node;
 use crate::readers::Readers;
 use crate::version::Version;
+use just_needs::node::Node;
 use just_resolution::numbers::own_numbers;
 use just_resolution::site::{Mention, Site};
 use just_resolution::sites::sites_in;

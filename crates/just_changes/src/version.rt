@@ -6,9 +6,9 @@ ghost use Rattle.std.specs.Option.{option_or};
 ghost use Rattle.just_changes.specs.Prelude.{IsFree, IsUnchanged, IsWhole, assignment_in, assignment_numbered};
 ghost use Rattle.just_changes.specs.Prelude.{assignment_view, frames_view, node_view, version_view};
 
-use crate::node::Node;
 use crate::same_definition::{is_same_assignment, is_same_function, is_same_override};
 use just_host::justfile::Justfile;
+use just_needs::node::Node;
 use just_syntax::assignment::Assignment;
 use just_syntax::function_definition::FunctionDefinition;
 use just_syntax::number::Number;

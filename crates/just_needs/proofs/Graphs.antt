@@ -1,5 +1,6 @@
 -- The nodes of a graph.
-use Rattle.std.proofs.Common.{◌≡◌, ◌⊎◌, inl, inr, ⊎_elim, ℕ, Bool, true, false, cond, is_some, List, [], ◌∷◌, ◌++◌, map, Option, Some, None, Vec, refl, ap, sym, nat_eq}
+use Rattle.std.proofs.Common.{◌≡◌, ◌⊎◌, inl, inr, ⊎_elim, ℕ, Bool, true, false, cond, is_some, List, [], ◌∷◌, map, Option, Some, None, Vec, refl}
+use Rattle.std.proofs.Common.{ap, sym, nat_eq}
 use Rattle.std.specs.HashMap.{HashMap}
 use Rattle.std.specs.List.{flat_map}
 use Rattle.std.specs.Map.{lookup}
@@ -9,20 +10,15 @@ use Rattle.std.proofs.lemmas.Bool.{eqb-true}
 use Rattle.std.proofs.lemmas.Slice.Eq.{bytes_eq-Decides}
 use Rattle.just_syntax.proofs.Lists.{in_first, in_second}
 use Rattle.just_needs.specs.declared.numbered.Valued.{Valued}
-use Rattle.just_needs.specs.Prelude.{Function, IsIn, OfFunction, OfVariable, PlainNode, Text, function_at, function_view, graph_view, looked_up, nodes_in}
-use Rattle.just_needs.specs.Prelude.{read_by, read_by_body, read_in, text_numbered, unless_overridden, Expr}
+use Rattle.just_needs.specs.Prelude.{AreAll, Expr, Function, IsIn, OfFunction, OfVariable, PlainNode, Text, function_at, function_view, graph_nodes}
+use Rattle.just_needs.specs.Prelude.{graph_view, looked_up, nodes_in, read_by, read_by_body, read_in, text_numbered, unless_overridden}
 use Rattle.just_needs.specs.declared.graph.Graph.{Graph}
-use Rattle.just_needs.proofs.Walk.{AreAll}
 
 abbrev variables : Graph → List PlainNode
 variables g = map (λ e. OfVariable e.0) g.numbered.entries
 
 abbrev functions : Graph → List PlainNode
 functions g = map (λ f. OfFunction f.name.lexeme) (map function_view g.functions.now)
-
--- the variables and the functions of a graph
-abbrev pub all_nodes : Graph → List PlainNode
-all_nodes g = variables g ++ functions g
 
 -- a number that has no entry reads nothing
 variable_known : {A : Type 0} (is_followed : ℕ → Bool) (es : List (ℕ × Vec Valued A)) (n : ℕ)
@@ -49,7 +45,7 @@ function_known is_followed (f ∷ fs) t = by (bytes_eq t f.name.lexeme) refl (fu
     by true is rest = inl (inl (ap OfFunction (sym ((bytes_eq-Decides t f.name.lexeme).0 is))))
     by false is rest = ⊎_elim (λ h. inl (inr h)) (λ none. inr none) rest
 
-pub are_all : (g : Graph) → AreAll (read_by (graph_view g)) (all_nodes g)
+pub are_all : (g : Graph) → AreAll (read_by (graph_view g)) (graph_nodes g)
 are_all g (OfVariable n) =
     ⊎_elim (λ h. inl (in_first (variables g) (functions g) (OfVariable n) h)) (λ none. inr none)
     (variable_known (graph_view g).is_followed g.numbered.entries n)
@@ -63,7 +59,7 @@ unless_known : {A : Type 0} (f : Expr → List PlainNode) (o : Option Text) (es 
 unless_known f None es known = known
 unless_known f (Some text) es known = inr refl
 
-pub are_all_in : {A S : Type 0} (overrides : HashMap ℕ (String A) S) (g : Graph) → AreAll (read_in overrides g) (all_nodes g)
+pub are_all_in : {A S : Type 0} (overrides : HashMap ℕ (String A) S) (g : Graph) → AreAll (read_in overrides g) (graph_nodes g)
 are_all_in overrides g (OfVariable n) =
     unless_known (nodes_in (graph_view g).is_followed) (text_numbered overrides n) ((graph_view g).values n) (are_all g (OfVariable n))
 are_all_in overrides g (OfFunction t) = are_all g (OfFunction t)

@@ -2,7 +2,7 @@
 use Rattle.std.proofs.Common.{◌≡◌, ◌↔◌, ◌⊎◌, inl, inr, ⊎_elim, ◌+◌, ◌≤◌, ◌<◌, ℕ, Bool, true, false, cond, List, [], ◌∷◌, ◌++◌, length, IsTrue, refl, ap, sym}
 use Rattle.std.proofs.Common.{◌∙◌, subst, arith}
 use Rattle.std.proofs.Common.{length-append}
-use Rattle.just_needs.specs.Prelude.{IsIn, IsReached, PlainNode}
+use Rattle.just_needs.specs.Prelude.{AreAll, IsIn, IsReached, PlainNode}
 use Rattle.just_needs.specs.Graph.{Starts, ReadBy}
 use Rattle.just_syntax.proofs.Lists.{in_append}
 
@@ -79,10 +79,6 @@ module _ (reads : PlainNode → List PlainNode) where
   work [] reached = 0
   work (x ∷ xs) reached = cond (reached x) 0 (length (reads x)) + work xs reached
 
-  -- every other node reads nothing
-  abbrev pub AreAll : List PlainNode → Type 0
-  AreAll all = (x : PlainNode) → IsIn all x ⊎ (reads x ≡ [])
-
   module _ (old new : PlainNode → Bool) (node : PlainNode) (adds : Adds old new node) where
     part_kept : (a b : Bool) (k : ℕ) → (IsTrue a → IsTrue b) → cond b 0 k ≤ cond a 0 k
     part_kept true true k h = omega arith
@@ -111,7 +107,7 @@ module _ (reads : PlainNode → List PlainNode) where
         omega (arith, here, size, rest)
     work_falls (x ∷ xs) off (inr later) = let here = kept x in let rest = work_falls xs off later in omega (arith, here, rest)
 
-    work_left : (all : List PlainNode) → AreAll all → old node ≡ false → work all new + length (reads node) ≤ work all old
+    work_left : (all : List PlainNode) → AreAll reads all → old node ≡ false → work all new + length (reads node) ≤ work all old
     work_left all are off = ⊎_elim (work_falls all off)
         (λ none. let size : length (reads node) ≡ 0 = ap length none in let rest = work_kept all in omega (arith, size, rest)) (are node)
 
@@ -123,7 +119,8 @@ module _ (reads : PlainNode → List PlainNode) where
         omega (arith, rest, size)
 
     -- it is removed, and what it reads is pending
-    pub falls_on : (all front pending next : List PlainNode) → AreAll all → old node ≡ false → pending ≡ front ++ node ∷ [] → next ≡ front ++ reads node
+    pub falls_on : (all front pending next : List PlainNode) → AreAll reads all → old node ≡ false → pending ≡ front ++ node ∷ []
+        → next ≡ front ++ reads node
         → work all new + length next < work all old + length pending
     falls_on all front pending next are off is more =
         let rest = work_left all are off in

@@ -1,5 +1,6 @@
 -- What variables and functions read, as a graph.
-use Rattle.std.specs.Prelude.{◌&&◌, not, nat_eq, ℕ, Bool, List, [], ◌∷◌, map, Option, Some, None, if◌then◌else◌}
+use Rattle.std.specs.Prelude.{◌≡◌, ◌⊎◌, ◌&&◌, not, nat_eq, ℕ, Bool, List, [], ◌∷◌, map, Option, Some, None}
+use Rattle.std.specs.Prelude.{if◌then◌else◌}
 use Rattle.std.specs.List.{flat_map, list_any}
 use Rattle.just_syntax.specs.Lists.{IsIn}
 use Rattle.just_syntax.specs.Plain.{Text, Assignment, Expr, Function}
@@ -57,6 +58,10 @@ unless_overridden None es = es
 -- the graph in which an overridden variable reads nothing
 abbrev pub overridden_graph : (ℕ → Option Text) → PlainGraph → PlainGraph
 overridden_graph overrides g = record g { values = λ n. unless_overridden (overrides n) (g.values n) }
+
+-- only these nodes read something
+abbrev pub AreAll : (PlainNode → List PlainNode) → List PlainNode → Type 0
+AreAll reads all = (x : PlainNode) → IsIn all x ⊎ (reads x ≡ [])
 
 -- some nodes, what they read, what that reads, and so on
 pub data IsReached (reads : PlainNode → List PlainNode) (starts : List PlainNode) : PlainNode → Type 0 where

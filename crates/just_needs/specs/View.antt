@@ -1,5 +1,5 @@
 -- Nodes, graphs and sets as plain data.
-use Rattle.std.specs.Prelude.{Vec, ℕ, Bool, List, [], Option, Some, None, map, nat_eq}
+use Rattle.std.specs.Prelude.{Vec, ℕ, ◌++◌, Bool, List, [], Option, Some, None, map, nat_eq}
 use Rattle.std.specs.HashMap.{HashMap}
 use Rattle.std.specs.HashSet.{HashSet}
 use Rattle.std.specs.List.{list_any}
@@ -46,6 +46,12 @@ graph_view g = record {
   values = values_in g.numbered;
   is_followed = is_member g.followed;
 }
+
+-- the variables and the functions of a graph
+abbrev pub graph_nodes : Graph → List PlainNode
+graph_nodes g =
+    map (λ e. OfVariable e.0) g.numbered.entries
+    ++ map (λ f. OfFunction f.name.lexeme) (map function_view g.functions.now)
 
 -- what a node of the graph reads by itself; an overridden variable reads nothing
 abbrev pub read_in : {A S : Type 0} → HashMap ℕ (String A) S → Graph → PlainNode → List PlainNode

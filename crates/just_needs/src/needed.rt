@@ -7,7 +7,7 @@ ghost use Rattle.just_needs.specs.Prelude.{first_unknown, frames_view, functions
 
 use crate::graph::Graph;
 use crate::node::variables;
-use crate::reached::reached_from;
+use crate::reached::{Overridden, reached_from};
 use just_host::justfile::Justfile;
 use just_syntax::number::Number;
 use just_syntax::variable_error::VariableError;
@@ -59,6 +59,10 @@ pub fn needed<'src, 'name>(
     let asked = references_of(alloc, &module.assignments, names)?;
     let graph = Graph::new(alloc, module, outer)?;
     let starts = variables(alloc, &asked)?;
-    let reached = reached_from(alloc, &graph, overrides, starts)?;
-    Ok(reached.variables)
+    let reads = Overridden {
+        graph: &graph,
+        overrides,
+    };
+    let reached = reached_from(alloc, &reads, starts)?;
+    Ok(reached.into_variables())
 }

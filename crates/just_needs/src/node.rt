@@ -27,8 +27,12 @@ impl<'src> Node<'src> {
     }
 }
 
-// Adds a node to a list.
-pub(crate) fn push<'src>(nodes: &mut Vec<Node<'src>>, node: &Node<'src>) -> Result<(), OutOfMemory>
+/// Adds a node to a list.
+///
+/// # Errors
+///
+/// `OutOfMemory`, if an allocation fails: the list is unchanged.
+pub fn push<'src>(nodes: &mut Vec<Node<'src>>, node: &Node<'src>) -> Result<(), OutOfMemory>
     ensures { OnOk result (nodes_view nodes.new.items ≡ nodes_view nodes.old.items ++ node_view node.now ∷ []) }
 {
     match nodes.push(node.duplicate()) {

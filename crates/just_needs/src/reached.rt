@@ -1,7 +1,8 @@
 // What some nodes reach.
 
-ghost use Rattle.std.specs.Prelude.{IfOk, IsTrue, OnOk, false, not, ◌++◌, ◌↔◌, ◌≡◌, ◌⊎◌};
-ghost use Rattle.just_needs.specs.Prelude.{IsReached, PlainNode, is_reached, node_view, nodes_view, read_in};
+ghost use Rattle.std.specs.Prelude.{IfOk, IsTrue, List, OnOk, false, not, ℕ, ◌++◌, ◌↔◌, ◌≡◌, ◌⊎◌};
+ghost use Rattle.just_needs.specs.Prelude.{AreAll, IsReached, OfVariable, PlainNode, graph_nodes, has, is_reached};
+ghost use Rattle.just_needs.specs.Prelude.{node_view, nodes_view, read_in};
 
 use crate::graph::Graph;
 use crate::node::Node;
@@ -10,11 +11,33 @@ use just_syntax::out_of_memory::OutOfMemory;
 use std::alloc::Global;
 use std::collections::{BTreeSet, HashMap, HashSet};
 
+/// What each node reads by itself. Only the nodes `all` read something.
+pub trait Reads<'src> {
+    ghost reads: { Self → PlainNode → List PlainNode };
+
+    ghost all: { Self → List PlainNode };
+
+    /// Adds what a node reads by itself.
+    ///
+    /// # Errors
+    ///
+    /// `OutOfMemory`, if an allocation fails: some of what it reads may have been added.
+    fn add_read_by(
+        &self,
+        alloc: Global,
+        nodes: &mut Vec<Node<'src>>,
+        node: &Node<'src>,
+    ) -> Result<(), OutOfMemory>
+        ensures added { OnOk result (nodes_view nodes.new.items ≡ nodes_view nodes.old.items
+            ++ reads self.now (node_view node.now)) }
+        ensures all { AreAll (reads self.now) (all self.now) };
+}
+
 /// The variables and the functions that were reached.
 #[derive(Drop)]
 pub struct Reached<'src> {
     functions: BTreeSet<&'src str>,
-    pub(crate) variables: HashSet<Number>,
+    variables: HashSet<Number>,
 }
 
 impl<'src> Reached<'src> {
@@ -44,20 +67,29 @@ impl<'src> Reached<'src> {
         };
         Ok(is_new)
     }
+
+    /// The variables that were reached.
+    pub fn into_variables(self) -> HashSet<Number>
+        ensures { (n : ℕ) → has result n ≡ is_reached self.entry (OfVariable n) }
+    {
+        self.variables
+    }
 }
 
-// What these nodes reach, including themselves. An overridden variable reaches nothing else.
-//
-// What a node reads is looked for once, when it is first reached. So each value and each body is scanned at most once,
-// and cyclic readings terminate.
-pub(crate) fn reached_from<'src>(
+/// What these nodes reach, including themselves.
+///
+/// What a node reads is looked for once, when it is first reached. So cyclic readings terminate.
+///
+/// # Errors
+///
+/// `OutOfMemory`, if an allocation fails: nothing is created.
+pub fn reached_from<'src, R: Reads<'src>>(
     alloc: Global,
-    graph: &Graph<'src, '_>,
-    overrides: &HashMap<Number, String>,
+    graph: &R,
     mut pending: Vec<Node<'src>>,
 ) -> Result<Reached<'src>, OutOfMemory>
     ensures { IfOk result (λ reached. (x : PlainNode) → IsTrue (is_reached reached x)
-        ↔ IsReached (read_in overrides.now graph.now) (nodes_view pending.entry.items) x) }
+        ↔ IsReached (R.reads graph.now) (nodes_view pending.entry.items) x) }
 {
     let mut reached = Reached::new(alloc);
     while let Some(node) = pending.pop() {
@@ -65,26 +97,34 @@ pub(crate) fn reached_from<'src>(
         if !is_new {
             continue;
         }
-        add_read_by(alloc, graph, overrides, &mut pending, &node)?;
+        graph.add_read_by(alloc, &mut pending, &node)?;
     }
     Ok(reached)
 }
 
-// Adds what a node reads by itself. An overridden variable reads nothing.
-fn add_read_by<'src>(
-    alloc: Global,
-    graph: &Graph<'src, '_>,
-    overrides: &HashMap<Number, String>,
-    nodes: &mut Vec<Node<'src>>,
-    node: &Node<'src>,
-) -> Result<(), OutOfMemory>
-    ensures { OnOk result (nodes_view nodes.new.items ≡ nodes_view nodes.old.items
-        ++ read_in overrides.now graph.now (node_view node.now)) }
-{
-    if let Node::Variable { number } = node {
-        if overrides.contains_key(number) {
-            return Ok(());
+/// A graph in which overridden variables read nothing.
+#[derive(Clone, Copy)]
+pub(crate) struct Overridden<'src, 'a, 'b> {
+    pub(crate) graph: &'b Graph<'src, 'a>,
+    pub(crate) overrides: &'b HashMap<Number, String>,
+}
+
+impl<'src> Reads<'src> for Overridden<'src, '_, '_> {
+    ghost reads = { λ g. read_in g.overrides.now g.graph.now };
+
+    ghost all = { λ g. graph_nodes g.graph.now };
+
+    fn add_read_by(
+        &self,
+        alloc: Global,
+        nodes: &mut Vec<Node<'src>>,
+        node: &Node<'src>,
+    ) -> Result<(), OutOfMemory> {
+        if let Node::Variable { number } = node {
+            if self.overrides.contains_key(number) {
+                return Ok(());
+            }
         }
+        self.graph.add_read_by(alloc, nodes, node)
     }
-    graph.add_read_by(alloc, nodes, node)
 }

@@ -1,15 +1,14 @@
 -- The first fault of a renumbered module whose assignments are sorted.
-use Rattle.std.proofs.Common.{◌≡◌, ◌⊎◌, inl, inr, ⊎_elim, ℕ, Bool, true, false, List, [], ◌∷◌, ◌++◌, map, Option, Some, None, refl, ap, sym, ◌∙◌, subst}
-use Rattle.std.proofs.Common.{if◌then◌else◌, option_map}
+use Rattle.std.proofs.Common.{◌≡◌, ◌⊎◌, inl, inr, ⊎_elim, ℕ, List, [], ◌∷◌, ◌++◌, map, Option, Some, None, refl, ap, sym, ◌∙◌, subst}
+use Rattle.std.proofs.Common.{option_map}
 use Rattle.std.specs.List.{AllByRecursion}
 use Rattle.just_syntax.proofs.Lists.{in_append}
 use Rattle.just_value.specs.Value.{Value}
 use Rattle.just_meaning.specs.Assignments.{Assignments}
-use Rattle.just_meaning.specs.Callee.{accepts, callee}
 use Rattle.just_meaning.specs.Reaches.{CallOf, IsAmong, Mention, Occurs, Reads, VariableOf}
 use Rattle.just_meaning.specs.Resolved.{with_taken}
-use Rattle.just_resolution.specs.Fault.{ArgumentCountMismatch, CheckedPlace, IsFaulty, IsFirstFault, IsSound, IsTakenOrBound, ModuleFault, NameOf}
-use Rattle.just_resolution.specs.Fault.{ParameterOf, SiteOf, UndefinedFunction, UndefinedVariable, is_unknown, mention_fault, name_places}
+use Rattle.just_resolution.specs.Fault.{CheckedPlace, IsFaulty, IsFirstFault, IsSound, IsTakenOrBound, ModuleFault, NameOf}
+use Rattle.just_resolution.specs.Fault.{ParameterOf, SiteOf, name_places}
 use Rattle.just_resolution.specs.Fault.{number_places, numbered_parameters, parameter_places, places, site_places}
 use Rattle.just_resolution.specs.First.{IsFirstFaulty}
 use Rattle.just_resolution.specs.Sites.{Site, all_sites, sites_in}

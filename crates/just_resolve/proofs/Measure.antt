@@ -3,7 +3,8 @@ use Rattle.std.proofs.Common.{◌≡◌, ◌+◌, ◌*◌, ◌<◌, ℕ, Bool, t
 use Rattle.std.proofs.Common.{arith, subst}
 use Rattle.std.proofs.lemmas.Bool.{not-true}
 use Rattle.std.proofs.lemmas.List.{length-reverse}
-use Rattle.just_needs.proofs.Walk.{Adds, AreAll, falls_on, falls_passed, work}
+use Rattle.just_needs.specs.Graph.{AreAll}
+use Rattle.just_needs.proofs.Walk.{Adds, falls_on, falls_passed, work}
 use Rattle.just_resolve.specs.Prelude.{Enter, Leave, PlainNode, PlainStep, all_entered}
 
 -- entering a node makes a step to leave it

@@ -1,5 +1,5 @@
 -- Faults of variables and calls.
-use Rattle.std.proofs.Common.{◌≡◌, ℕ, Bool, true, false, List, Option, Some, None, if◌then◌else◌, subst}
+use Rattle.std.proofs.Common.{◌≡◌, ℕ, Bool, true, false, List, Some, None, if◌then◌else◌, subst}
 use Rattle.just_meaning.specs.Callee.{accepts, callee}
 use Rattle.just_meaning.specs.Reaches.{CallOf, Mention, VariableOf}
 use Rattle.just_resolution.specs.Fault.{ArgumentCountMismatch, ModuleFault, UndefinedFunction, UndefinedVariable, is_unknown, mention_fault}

@@ -3,7 +3,7 @@ use Rattle.just_changes.specs.Prelude.{nodes_view, readers_of}
 use Rattle.just_changes.proofs.changed.touched_between.Goals as goal
 
 pub returns : goal.returns
-returns c = IfOk-weaker c.spread.result _ _
+returns c = IfOk-weaker c.reached_from.result _ _
     (λ touched reached. record {
       readers = readers_of c.in_ok-readers.readers;
       read = c.in_ok-readers.ensures;
@@ -11,4 +11,4 @@ returns c = IfOk-weaker c.spread.result _ _
       differ = c.in_ok-nodes.ensures.differ;
       all = c.in_ok-nodes.ensures.all;
       reached = reached;
-    }) c.spread.ensures
+    }) c.reached_from.ensures

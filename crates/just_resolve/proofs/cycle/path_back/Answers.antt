@@ -1,7 +1,8 @@
 use Rattle.std.proofs.Common.{◌≡◌, ◌∙◌, ◌++◌, ◌∷◌, Bool, List, ap, false, if◌then◌else◌, not, subst, sym, true, ⊎_elim}
 use Rattle.std.proofs.lemmas.Bool.{not-false}
 use mathlib.Core.Path.{fun_ext}
-use Rattle.just_needs.proofs.Graphs.{all_nodes, are_all}
+use Rattle.just_needs.specs.View.{graph_nodes}
+use Rattle.just_needs.proofs.Graphs.{are_all}
 use Rattle.just_needs.proofs.Walk.{Adds}
 use Rattle.just_resolve.specs.Prelude.{Leave, OfVariable, PlainNode, PlainStep, all_entered, entered_in, graph_view, path_in, variables_in, node_view}
 use Rattle.just_resolve.specs.Prelude.{read_by, step_view, steps_in}
@@ -58,7 +59,7 @@ loop-step-smaller-then-step c =
     let front = steps_in c.pop.new.self in
     let steps = steps_in c.loop-step.walk in
     let step = c.in-Some.step in
-    falls_left (read_by (graph_view c.args.graph.now)) (all_nodes c.args.graph.now) (entered_in c.loop-step.walk) (entered_in c.pop.new.self) front steps
+    falls_left (read_by (graph_view c.args.graph.now)) (graph_nodes c.args.graph.now) (entered_in c.loop-step.walk) (entered_in c.pop.new.self) front steps
     (node_view step.node) c.pop.ensures.entered (left_last front steps step c.in-Some.ensures.steps c.if-step.true)
 
 pub loop-step-smaller : goal.loop-step-smaller
@@ -69,7 +70,7 @@ loop-step-smaller c =
     let step = c.in-Some.step in
     let x = node_view step.node in
     let adds = subst (λ (e : PlainNode → Bool). Adds e (entered_in c.enter.new.self) x) (fun_ext c.pop.ensures.entered) c.in_ok-is_new.ensures.entered in
-    falls_goes (read_by g) (all_nodes c.args.graph.now) (entered_in c.loop-step.walk) (entered_in c.enter.new.self) front steps (steps_in c.enter.new.self) x
+    falls_goes (read_by g) (graph_nodes c.args.graph.now) (entered_in c.loop-step.walk) (entered_in c.enter.new.self) front steps (steps_in c.enter.new.self) x
     c.in_ok-is_new.is_new adds (are_all c.args.graph.now) (entered_last front steps step c.in-Some.ensures.steps c.if-step.false)
     (c.in_ok-is_new.ensures.fresh ∙ ap not (c.pop.ensures.entered x)) c.in_ok-is_new.ensures.steps
 

@@ -1,4 +1,4 @@
-use Rattle.just_needs.proofs.Graphs.{all_nodes}
+use Rattle.just_needs.specs.View.{graph_nodes}
 use Rattle.just_resolve.specs.Prelude.{OfVariable, entered_in, graph_view, read_by, steps_in}
 use Rattle.just_resolve.proofs.Measure.{left_to_do}
 use Rattle.just_resolve.proofs.Paths.{IsOnWay}
@@ -12,4 +12,4 @@ invariant-loop-step l = record {
 }
 
 abbrev pub decreases-loop-step : goal.decreases-loop-step
-decreases-loop-step l = left_to_do (read_by (graph_view l.graph)) (all_nodes l.graph) (entered_in l.walk) (steps_in l.walk)
+decreases-loop-step l = left_to_do (read_by (graph_view l.graph)) (graph_nodes l.graph) (entered_in l.walk) (steps_in l.walk)

@@ -1,5 +1,5 @@
 use Rattle.std.proofs.Common.{map}
-use Rattle.just_resolve.specs.Prelude.{assignment_view, frames_view, functions_view, module_fault_view}
+use Rattle.just_resolve.specs.Prelude.{assignment_view, frames_view, functions_view}
 use Rattle.just_resolve.proofs.Renumbering.{renumbered_distinct}
 use Rattle.just_resolve.proofs.Successes.{if_ok}
 use Rattle.just_resolve.proofs.name_faults.name_faults.Goals as goal
