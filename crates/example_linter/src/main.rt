@@ -1,6 +1,5 @@
-// A small linter of `example_justfile`. It prints each variable's constant value, or that it is open until a run; each
-// refusal of a variable or a setting; the settings that are known; and the faults of the module after an edit that
-// moves a variable.
+// A linter of `example_justfile`. It prints each variable's constant value, or that it is open until a run; what is
+// refused; the settings that are known; and the faults of the module after an edit that moves a variable.
 #![tactic(auto)]
 
 use anyhow::{Result, bail};

@@ -1,5 +1,4 @@
-// A small recipe runner. Each line of standard input has the words that the recipe `build` of `example_justfile` is
-// called with. The program prints what would be run.
+// A recipe runner that only prints: each line of input has the words of a call of `build` in `example_justfile`.
 #![tactic(auto)]
 
 ghost use Rattle.std.specs.Prelude.{◌<◌};
@@ -31,6 +30,7 @@ fn invoke<'src>(
     module: &Justfile<'src>,
     words: &str,
 ) -> Result<()> {
+    println!(rt; "build {words}")?;
     let run = Run::new(alloc, module)?;
     let mut host = CommandHost::new(Git);
     let scope = run.evaluate(alloc, &mut host, outer)?;
@@ -70,8 +70,7 @@ fn start<'src>(
     for (key, value) in &env {
         println!(rt; "  {key}={value}")?;
     }
-    let name = Some(call.recipe.name);
-    let evaluator = Evaluator::new(alloc, context, env, false, name, &scope)?;
+    let evaluator = Evaluator::new(alloc, context, env, false, Some(call.recipe.name), &scope)?;
     for command in evaluator.evaluate_lines(alloc, host, &recipe(alloc)?.body)? {
         println!(rt; "  > {command}")?;
     }
@@ -82,9 +81,7 @@ fn main(rt: HostRuntime) -> Result<()> {
     let outer = Scope::root(rt.alloc(), &[])?;
     let module = module(rt.alloc())?;
     for words in rt.lines(rt.alloc()) {
-        let words = words?;
-        println!(rt; "build {words}")?;
-        if let Err(error) = invoke(&rt, rt.alloc(), &outer, &module, &words) {
+        if let Err(error) = invoke(&rt, rt.alloc(), &outer, &module, &words?) {
             println!(rt; "  error: {error}")?;
         }
     }
