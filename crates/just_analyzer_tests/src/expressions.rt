@@ -2,8 +2,10 @@
 
 use just_expression_parser::{parse_expression, significant};
 use just_lexer::lex;
+use just_lexer::lexeme::Lexeme;
 use just_syntax::out_of_memory::OutOfMemory;
 use std::alloc::Global;
+use std::process::Abort;
 
 // Texts that are printed as they are read.
 const SAME: &[&str] = &[
@@ -71,54 +73,65 @@ const REFUSED: &[(&str, &str)] = &[
     ("=", "expected an expression, found `=`"),
 ];
 
-// What comes of a text: the expression that it is, and how many tokens are left; or what is wrong with it.
-fn read(alloc: Global, text: &str) -> Result<String, OutOfMemory> {
-    let Ok(lexemes) = lex(alloc, "justfile", text) else {
-        return Ok(String::from_str(alloc, "no tokens")?);
-    };
-    let tokens = significant(alloc, &lexemes)?;
-    match parse_expression(alloc, &tokens) {
-        Ok((expression, rest)) => Ok(format!(in alloc; "{expression} {}", rest.len())?),
-        Err(error) => Ok(format!(in alloc; "{error}")?),
+// Adds what comes of tokens: the expression that they are, and how many are left; or what is wrong with them.
+fn add_read(alloc: Global, said: &mut String, tokens: &[Lexeme]) -> Result<(), OutOfMemory> {
+    match parse_expression(alloc, tokens) {
+        Ok((expression, rest)) => {
+            let added = write!(said, "{expression} {}", rest.len());
+            drop(expression);
+            Ok(added?)
+        }
+        Err(error) => Ok(write!(said, "{error}")?),
     }
+}
+
+// What comes of a text.
+fn read(rt: &impl Abort, alloc: Global, text: &str) -> String {
+    let lexemes = lex(alloc, "justfile", text).expect(rt, "no tokens");
+    let tokens = significant(alloc, &lexemes).expect(rt, "no memory");
+    let mut said = String::new(alloc);
+    let added = add_read(alloc, &mut said, &tokens);
+    added.expect(rt, "no memory");
+    said
+}
+
+// A text is an expression that is printed so, and the end of the file is left.
+fn is_printed(rt: &impl Abort, alloc: Global, text: &str, wanted: &str) {
+    let said = read(rt, alloc, text);
+    assert_eq!(rt; said.strip_suffix(" 1"), Some(wanted));
+}
+
+// This comes of a text.
+fn is_said(rt: &impl Abort, alloc: Global, text: &str, wanted: &str) {
+    let said = read(rt, alloc, text);
+    assert_eq!(rt; said.as_str(), wanted);
 }
 
 #[test]
 fn printed_as_read(rt: HostRuntime) {
-    let alloc = rt.alloc();
     for text in SAME {
-        let printed = read(alloc, text).expect(&rt, "no memory");
-        // the end of the file is left
-        let expected = format!(in alloc; "{text} 1").expect(&rt, "no memory");
-        assert_eq!(&rt; printed, expected);
+        is_printed(&rt, rt.alloc(), text, text);
     }
 }
 
 #[test]
 fn printed_otherwise(rt: HostRuntime) {
-    let alloc = rt.alloc();
-    for (text, expected) in OTHERWISE {
-        let printed = read(alloc, text).expect(&rt, "no memory");
-        let expected = format!(in alloc; "{expected} 1").expect(&rt, "no memory");
-        assert_eq!(&rt; printed, expected);
+    for (text, wanted) in OTHERWISE {
+        is_printed(&rt, rt.alloc(), text, wanted);
     }
 }
 
 #[test]
 fn refused_at_a_token(rt: HostRuntime) {
-    let alloc = rt.alloc();
     for (text, why) in REFUSED {
-        let said = read(alloc, text).expect(&rt, "no memory");
-        assert_eq!(&rt; said.as_str(), *why);
+        is_said(&rt, rt.alloc(), text, why);
     }
 }
 
 // Tokens that follow an expression are left.
 #[test]
 fn read_as_far_as_it_goes(rt: HostRuntime) {
-    let alloc = rt.alloc();
-    let said = read(alloc, "a b c").expect(&rt, "no memory");
-    assert_eq!(&rt; said.as_str(), "a 3");
+    is_said(&rt, rt.alloc(), "a b c", "a 3");
 }
 
 // Parentheses around a name.
@@ -134,13 +147,20 @@ fn nested(alloc: Global, levels: usize) -> Result<String, OutOfMemory> {
     Ok(text)
 }
 
+// A name in so many parentheses is read.
+fn is_read(rt: &impl Abort, alloc: Global, levels: usize) {
+    let text = nested(alloc, levels).expect(rt, "no memory");
+    is_printed(rt, alloc, &text, &text);
+}
+
+// It is not read, for want of room.
+fn is_refused(rt: &impl Abort, alloc: Global, levels: usize) {
+    let text = nested(alloc, levels).expect(rt, "no memory");
+    is_said(rt, alloc, &text, "out of memory");
+}
+
 #[test]
 fn nests_up_to_a_limit(rt: HostRuntime) {
-    let alloc = rt.alloc();
-    let most = nested(alloc, 3_166).expect(&rt, "no memory");
-    let said = read(alloc, &most).expect(&rt, "no memory");
-    assert_eq!(&rt; said.len(), most.len() + 2);
-    let more = nested(alloc, 3_167).expect(&rt, "no memory");
-    let said = read(alloc, &more).expect(&rt, "no memory");
-    assert_eq!(&rt; said.as_str(), "out of memory");
+    is_read(&rt, rt.alloc(), 3_166);
+    is_refused(&rt, rt.alloc(), 3_167);
 }

@@ -5,11 +5,16 @@ use just_parser::dependency::Dependency;
 use just_parser::item::Item;
 use just_parser::parse;
 use just_parser::recipe_definition::RecipeDefinition;
+use just_syntax::assignment::Assignment;
 use just_syntax::attribute::Attribute;
 use just_syntax::fragment::Fragment;
+use just_syntax::function_definition::FunctionDefinition;
+use just_syntax::line::Line;
 use just_syntax::out_of_memory::OutOfMemory;
+use just_syntax::parameter::Parameter;
 use just_syntax::parameter_kind::ParameterKind;
 use std::alloc::Global;
+use std::process::Abort;
 
 // Texts and their items, one after another.
 const ITEMS: &[(&str, &str)] = &[
@@ -151,102 +156,75 @@ const REFUSED: &[(&str, &str)] = &[
     ("a := 'b", "unterminated string"),
 ];
 
-// An item, as it is written.
-fn written(alloc: Global, item: &Item) -> Result<String, OutOfMemory> {
-    Ok(match item {
-        Item::Alias { name, target } => format!(in alloc; "alias {name} := {target}; ")?,
-        Item::Assignment(assignment) => {
-            let private = if assignment.private { "private " } else { "" };
-            let keyword = if assignment.eager {
-                "eager "
-            } else if assignment.export {
-                "export "
-            } else {
-                ""
-            };
-            let (name, value) = (&assignment.name, &assignment.value);
-            format!(in alloc; "{private}{keyword}{name} := {value}; ")?
-        }
-        Item::Function(function) => {
-            let (name, body) = (&function.name, &function.body);
-            let mut text = format!(in alloc; "{name}(")?;
-            for (parameter, _) in &function.parameters {
-                text.push_str(parameter.lexeme())?;
-                text.push_str(", ")?;
-            }
-            text.push_str(&format!(in alloc; ") := {body}; ")?)?;
-            text
-        }
-        Item::Recipe(recipe) => recipe_written(alloc, recipe)?,
-        Item::Set(set) => format!(in alloc; "set {}; ", set.name)?,
-        Item::Unexport { name } => format!(in alloc; "unexport {name}; ")?,
-    })
+// Adds an item, as it is written.
+fn add_item(text: &mut String, item: &Item) -> Result<(), OutOfMemory> {
+    match item {
+        Item::Alias { name, target } => write!(text, "alias {name} := {target}; ")?,
+        Item::Assignment(assignment) => add_assignment(text, assignment)?,
+        Item::Function(function) => add_function(text, function)?,
+        Item::Recipe(recipe) => add_recipe(text, recipe)?,
+        Item::Set(set) => write!(text, "set {}; ", set.name)?,
+        Item::Unexport { name } => write!(text, "unexport {name}; ")?,
+    }
+    Ok(())
 }
 
-// A recipe, as it is written.
-fn recipe_written(alloc: Global, recipe: &RecipeDefinition) -> Result<String, OutOfMemory> {
-    let mut text = String::new(alloc);
-    add_attributes(alloc, &mut text, recipe)?;
+fn add_assignment(text: &mut String, assignment: &Assignment) -> Result<(), OutOfMemory> {
+    if assignment.private {
+        text.push_str("private ")?;
+    }
+    if assignment.eager {
+        text.push_str("eager ")?;
+    }
+    if assignment.export {
+        text.push_str("export ")?;
+    }
+    write!(text, "{} := {}; ", assignment.name, assignment.value)?;
+    Ok(())
+}
+
+fn add_function(text: &mut String, function: &FunctionDefinition) -> Result<(), OutOfMemory> {
+    write!(text, "{}(", function.name)?;
+    for (parameter, _) in &function.parameters {
+        write!(text, "{parameter}, ")?;
+    }
+    write!(text, ") := {}; ", function.body)?;
+    Ok(())
+}
+
+fn add_recipe(text: &mut String, recipe: &RecipeDefinition) -> Result<(), OutOfMemory> {
+    add_attributes(text, recipe)?;
     if recipe.quiet {
         text.push('@')?;
     }
     text.push_str(recipe.recipe.name())?;
     for parameter in &recipe.parameters {
-        text.push_str(match parameter.kind {
-            ParameterKind::Singular => " ",
-            ParameterKind::Plus => " +",
-            ParameterKind::Star => " *",
-        })?;
-        if parameter.export {
-            text.push('$')?;
-        }
-        text.push_str(parameter.name.lexeme())?;
-        if let Some(default) = &parameter.default {
-            text.push_str(&format!(in alloc; "={default}")?)?;
-        }
+        add_parameter(text, parameter)?;
     }
     text.push(':')?;
-    add_dependencies(alloc, &mut text, &recipe.dependencies)?;
+    add_dependencies(text, &recipe.dependencies)?;
     if !recipe.subsequents.is_empty() {
         text.push_str(" &&")?;
-        add_dependencies(alloc, &mut text, &recipe.subsequents)?;
+        add_dependencies(text, &recipe.subsequents)?;
     }
     for line in &recipe.body {
-        text.push_str(if line.fragments.is_empty() {
-            " /"
-        } else {
-            " / "
-        })?;
-        for fragment in &line.fragments {
-            match fragment {
-                Fragment::Text { token } => text.push_str(token.lexeme)?,
-                Fragment::Interpolation { expression } => {
-                    text.push_str(&format!(in alloc; "{{{expression}}}")?)?;
-                }
-            }
-        }
+        add_line(text, line)?;
     }
     text.push_str("; ")?;
-    Ok(text)
+    Ok(())
 }
 
 // Adds the attributes of a recipe, each with what it says of a parameter.
-fn add_attributes(
-    alloc: Global,
-    text: &mut String,
-    recipe: &RecipeDefinition,
-) -> Result<(), OutOfMemory> {
+fn add_attributes(text: &mut String, recipe: &RecipeDefinition) -> Result<(), OutOfMemory> {
     let mut args = recipe.args.iter();
     for (attribute, name) in recipe.recipe.attributes.iter() {
         match attribute {
-            Attribute::Env(key, value) => {
-                text.push_str(&format!(in alloc; "[{name}({key}, {value})] ")?)?;
-            }
-            Attribute::Other => text.push_str(&format!(in alloc; "[{name}] ")?)?,
+            Attribute::Env(key, value) => write!(text, "[{name}({key}, {value})] ")?,
+            Attribute::Other => write!(text, "[{name}] ")?,
         }
         if name.lexeme() == "arg" {
             if let Some(arg) = args.next() {
-                add_arg(alloc, text, arg)?;
+                add_arg(text, arg)?;
             }
         }
     }
@@ -254,81 +232,100 @@ fn add_attributes(
 }
 
 // Adds what an attribute says of a parameter.
-fn add_arg(alloc: Global, text: &mut String, arg: &ArgAttribute) -> Result<(), OutOfMemory> {
-    text.push_str(&format!(in alloc; "<{}", arg.parameter)?)?;
+fn add_arg(text: &mut String, arg: &ArgAttribute) -> Result<(), OutOfMemory> {
+    write!(text, "<{}", arg.parameter)?;
     for option in &arg.options {
         match option {
             ArgOption::Flag => text.push_str(" flag")?,
             ArgOption::Multiple => text.push_str(" multiple")?,
-            ArgOption::Value(value) => text.push_str(&format!(in alloc; " value={value}")?)?,
+            ArgOption::Value(value) => write!(text, " value={value}")?,
         }
     }
     text.push_str("> ")?;
     Ok(())
 }
 
+fn add_parameter(text: &mut String, parameter: &Parameter) -> Result<(), OutOfMemory> {
+    text.push_str(match parameter.kind {
+        ParameterKind::Singular => " ",
+        ParameterKind::Plus => " +",
+        ParameterKind::Star => " *",
+    })?;
+    if parameter.export {
+        text.push('$')?;
+    }
+    text.push_str(parameter.name.lexeme())?;
+    if let Some(default) = &parameter.default {
+        write!(text, "={default}")?;
+    }
+    Ok(())
+}
+
 // Adds dependencies with their arguments.
-fn add_dependencies(
-    alloc: Global,
-    text: &mut String,
-    all: &[Dependency],
-) -> Result<(), OutOfMemory> {
+fn add_dependencies(text: &mut String, all: &[Dependency]) -> Result<(), OutOfMemory> {
     for dependency in all {
-        text.push(' ')?;
-        text.push_str(dependency.recipe.lexeme())?;
-        text.push('(')?;
+        write!(text, " {}(", dependency.recipe)?;
         for argument in &dependency.arguments {
-            text.push_str(&format!(in alloc; "{argument}, ")?)?;
+            write!(text, "{argument}, ")?;
         }
         text.push(')')?;
     }
     Ok(())
 }
 
-// Adds items, as they are written.
-fn add_items(alloc: Global, items: &[Item], all: &mut String) -> Result<(), OutOfMemory> {
+// Adds a line, with a slash before it and a space before its first fragment.
+fn add_line(text: &mut String, line: &Line) -> Result<(), OutOfMemory> {
+    text.push_str(if line.fragments.is_empty() {
+        " /"
+    } else {
+        " / "
+    })?;
+    for fragment in &line.fragments {
+        match fragment {
+            Fragment::Text { token } => text.push_str(token.lexeme)?,
+            Fragment::Interpolation { expression } => write!(text, "{{{expression}}}")?,
+        }
+    }
+    Ok(())
+}
+
+fn add_items(text: &mut String, items: &[Item]) -> Result<(), OutOfMemory> {
     for item in items {
-        all.push_str(&written(alloc, item)?)?;
+        add_item(text, item)?;
     }
     Ok(())
 }
 
 // Adds what comes of a text: its items, or what is wrong with it.
-fn add_read(alloc: Global, all: &mut String, text: &str) -> Result<(), OutOfMemory> {
+fn add_read(alloc: Global, said: &mut String, text: &str) -> Result<(), OutOfMemory> {
     match parse(alloc, "justfile", text) {
         Ok(items) => {
-            let added = add_items(alloc, &items, all);
+            let added = add_items(said, &items);
             drop(items);
             added
         }
-        Err(error) => {
-            all.push_str(&format!(in alloc; "{error}")?)?;
-            Ok(())
-        }
+        Err(error) => Ok(write!(said, "{error}")?),
     }
 }
 
-// What comes of a text.
-fn read(alloc: Global, text: &str) -> Result<String, OutOfMemory> {
-    let mut all = String::new(alloc);
-    add_read(alloc, &mut all, text)?;
-    Ok(all)
+// This comes of a text.
+fn is_read(rt: &impl Abort, alloc: Global, text: &str, wanted: &str) {
+    let mut said = String::new(alloc);
+    let added = add_read(alloc, &mut said, text);
+    added.expect(rt, "no memory");
+    assert_eq!(rt; said.as_str(), wanted);
 }
 
 #[test]
 fn items_of_texts(rt: HostRuntime) {
-    let alloc = rt.alloc();
-    for (text, expected) in ITEMS {
-        let items = read(alloc, text).expect(&rt, "no memory");
-        assert_eq!(&rt; items.as_str(), *expected);
+    for (text, wanted) in ITEMS {
+        is_read(&rt, rt.alloc(), text, wanted);
     }
 }
 
 #[test]
 fn refused_at_a_token(rt: HostRuntime) {
-    let alloc = rt.alloc();
     for (text, why) in REFUSED {
-        let said = read(alloc, text).expect(&rt, "no memory");
-        assert_eq!(&rt; said.as_str(), *why);
+        is_read(&rt, rt.alloc(), text, why);
     }
 }

@@ -9,6 +9,7 @@ use just_syntax::out_of_memory::OutOfMemory;
 use just_syntax::parameter::Parameter;
 use just_syntax::table::Table;
 use std::alloc::Global;
+use std::process::Abort;
 
 // What is asked for of a text: the names of its parts, or the parameters of its recipes.
 #[derive(Clone, Copy)]
@@ -120,25 +121,17 @@ fn add_names<V: Keyed>(table: &Table<V>, all: &mut String) -> Result<(), OutOfMe
 }
 
 // Adds the parameters of all recipes.
-fn add_all_parameters(
-    alloc: Global,
-    analysis: &Analysis,
-    all: &mut String,
-) -> Result<(), OutOfMemory> {
+fn add_all_parameters(analysis: &Analysis, all: &mut String) -> Result<(), OutOfMemory> {
     for recipe in &analysis.recipes {
         for parameter in &recipe.parameters {
-            add_parameter(alloc, parameter, all)?;
+            add_parameter(parameter, all)?;
         }
     }
     Ok(())
 }
 
 // Adds a parameter.
-fn add_parameter(
-    alloc: Global,
-    parameter: &Parameter,
-    all: &mut String,
-) -> Result<(), OutOfMemory> {
+fn add_parameter(parameter: &Parameter, all: &mut String) -> Result<(), OutOfMemory> {
     add(all, parameter.name.lexeme())?;
     if parameter.flag {
         add(all, "flag")?;
@@ -147,7 +140,7 @@ fn add_parameter(
         add(all, "multiple")?;
     }
     if let Some(value) = &parameter.value {
-        add(all, &format!(in alloc; "value={value}")?)?;
+        write!(all, "value={value} ")?;
     }
     Ok(())
 }
@@ -162,35 +155,14 @@ fn add_analyzed<'src>(
     match analyze(alloc, items, "/work/justfile", "/work") {
         Ok(analysis) => {
             let added = match asked {
-                Asked::Parameters => add_all_parameters(alloc, &analysis, all),
+                Asked::Parameters => add_all_parameters(&analysis, all),
                 Asked::Parts => add_parts(&analysis, all),
             };
             drop(analysis);
             added
         }
-        Err(error) => {
-            all.push_str(&format!(in alloc; "{error}")?)?;
-            Ok(())
-        }
+        Err(error) => Ok(write!(all, "{error}")?),
     }
-}
-
-// Adds what is asked for of a text, or what is wrong with it.
-fn add_text(alloc: Global, all: &mut String, text: &str, asked: Asked) -> Result<(), OutOfMemory> {
-    match parse(alloc, "justfile", text) {
-        Ok(items) => add_analyzed(alloc, all, items, asked),
-        Err(_) => {
-            all.push_str("no items")?;
-            Ok(())
-        }
-    }
-}
-
-// What is asked for of a text.
-fn of_text(alloc: Global, text: &str, asked: Asked) -> Result<String, OutOfMemory> {
-    let mut all = String::new(alloc);
-    add_text(alloc, &mut all, text, asked)?;
-    Ok(all)
 }
 
 // Adds a word.
@@ -200,29 +172,39 @@ fn add(all: &mut String, word: &str) -> Result<(), OutOfMemory> {
     Ok(())
 }
 
+// Adds what is asked for of a text.
+fn add_text(alloc: Global, all: &mut String, text: &str, asked: Asked) -> Result<(), OutOfMemory> {
+    match parse(alloc, "justfile", text) {
+        Ok(items) => add_analyzed(alloc, all, items, asked),
+        Err(_) => add(all, "no items"),
+    }
+}
+
+// This is what is asked for of a text, or what is wrong with it.
+fn is_analyzed(rt: &impl Abort, alloc: Global, text: &str, asked: Asked, wanted: &str) {
+    let mut said = String::new(alloc);
+    let added = add_text(alloc, &mut said, text, asked);
+    added.expect(rt, "no memory");
+    assert_eq!(rt; said.as_str(), wanted);
+}
+
 #[test]
 fn parts_of_texts(rt: HostRuntime) {
-    let alloc = rt.alloc();
-    for (text, expected) in PARTS {
-        let names = of_text(alloc, text, Asked::Parts).expect(&rt, "no memory");
-        assert_eq!(&rt; names.as_str(), *expected);
+    for (text, wanted) in PARTS {
+        is_analyzed(&rt, rt.alloc(), text, Asked::Parts, wanted);
     }
 }
 
 #[test]
 fn faults_of_texts(rt: HostRuntime) {
-    let alloc = rt.alloc();
-    for (text, expected) in FAULTS {
-        let fault = of_text(alloc, text, Asked::Parts).expect(&rt, "no memory");
-        assert_eq!(&rt; fault.as_str(), *expected);
+    for (text, wanted) in FAULTS {
+        is_analyzed(&rt, rt.alloc(), text, Asked::Parts, wanted);
     }
 }
 
 #[test]
 fn parameters_of_texts(rt: HostRuntime) {
-    let alloc = rt.alloc();
-    for (text, expected) in PARAMETERS {
-        let parameters = of_text(alloc, text, Asked::Parameters).expect(&rt, "no memory");
-        assert_eq!(&rt; parameters.as_str(), *expected);
+    for (text, wanted) in PARAMETERS {
+        is_analyzed(&rt, rt.alloc(), text, Asked::Parameters, wanted);
     }
 }

@@ -2,6 +2,7 @@
 
 use just_lexer::lex;
 use just_lexer::lex_error::LexError;
+use just_lexer::lexeme::Lexeme;
 use std::alloc::{AllocError, Global};
 use std::fmt::Write;
 use std::process::Abort;
@@ -111,33 +112,30 @@ const ROWS: &[(&str, &str)] = &[
     ("a \\b", "InvalidEscape at 2: `\\`"),
 ];
 
-// The kinds of a text's tokens.
-fn kinds(alloc: Global, source: &str) -> Result<String, AllocError> {
-    let mut text = String::new(alloc);
-    match lex(alloc, "justfile", source) {
+// Adds the kinds of tokens, or what is wrong.
+fn add_kinds(text: &mut String, lexed: &Result<Vec<Lexeme>, LexError>) -> Result<(), AllocError> {
+    match lexed {
         Ok(lexemes) => {
-            for lexeme in &lexemes {
+            for lexeme in lexemes {
                 if !text.is_empty() {
                     text.push(' ')?;
                 }
-                let kind = lexeme.kind;
-                write!(text, "{kind:?}")?;
+                write!(text, "{:?}", lexeme.kind)?;
             }
         }
         Err(LexError::Fault { kind, token }) => {
-            let offset = token.offset;
-            let lexeme = token.lexeme;
-            write!(text, "{kind:?} at {offset}: `{lexeme}`")?;
+            write!(text, "{kind:?} at {}: `{}`", token.offset, token.lexeme)?;
         }
         Err(LexError::OutOfMemory) => write!(text, "OutOfMemory")?,
     }
-    Ok(text)
+    Ok(())
 }
 
 fn check(rt: &impl Abort, alloc: Global, source: &str, expected: &str) {
-    let found = kinds(alloc, source).expect(rt, "no memory");
-    let text = found.as_str();
-    assert_eq!(rt; text, expected, "{source:?}");
+    let mut found = String::new(alloc);
+    let added = add_kinds(&mut found, &lex(alloc, "justfile", source));
+    added.expect(rt, "no memory");
+    assert_eq!(rt; found.as_str(), expected, "{source:?}");
 }
 
 #[test]
