@@ -9,6 +9,9 @@ pub mod Stripped
 pub mod Braced
 pub mod Unescaped
 pub mod Written
+pub mod Boundaries
+pub mod ReadOperators
+pub mod ReadValues
 pub mod Derived
 pub mod Sound
 pub mod Parsing

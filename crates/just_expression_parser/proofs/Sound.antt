@@ -13,7 +13,8 @@ use Rattle.just_lexer.specs.declared.kind.TokenKind.TheVariants as kinds
 use Rattle.just_expression_parser.proofs.Actions.{assertion_end, element_comma, element_last, expected_after, message_here, neither_of, no_message_of, no_token}
 use Rattle.just_expression_parser.proofs.Actions.{not_here, not_operator, operator_here, unexpected}
 use Rattle.just_expression_parser.proofs.Codes.{at_kind, is_not_of_kind, is_of_kind}
-use Rattle.just_expression_parser.proofs.Derived.{listed, listed_pieces, pieces_listed, row_listed, same_reading}
+use Rattle.just_expression_parser.proofs.Derived.{same_reading}
+use Rattle.just_expression_parser.proofs.ReadValues.{listed, listed_pieces, pieces_listed, row_listed}
 use Rattle.just_expression_parser.proofs.Interpolations.{last_here, middle_here, neither, no_last, no_middle}
 use Rattle.just_expression_parser.proofs.Runs.{frame_completes, frame_refuses, frame_refuses_end, refuses, refuses_end}
 use Rattle.just_expression_parser.proofs.Starts.{assertion_here, brace_after_else, braced_here, call_here, chained_here, element_here, elements_end, else_here}
