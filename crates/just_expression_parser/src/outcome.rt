@@ -17,13 +17,14 @@ pub(crate) fn allocated<'src, T: Drop>(part: Result<T, OutOfMemory>) -> Result<T
     }
 }
 
-/// A part, if what follows it is in order.
-pub(crate) fn followed<'src, T: Drop>(
-    part: T,
-    end: Result<(), ParseError<'src>>,
-) -> Result<T, ParseError<'src>>
-    ensures ok { IfOk result (λ kept. (kept ≡ part) × IsOk end.entry) }
-    ensures refused { IfErr result (λ refusal. end.entry ≡ Err refusal) }
+/// A part, if what follows it is in order. It is `end.and(Ok(part))`, with clauses for each of the two outcomes.
+///
+/// # Errors
+///
+/// The error of what follows the part.
+pub fn followed<T: Drop, E: Drop>(part: T, end: Result<(), E>) -> Result<T, E>
+    ensures ok { IfOk result (λ kept. (kept ≡ part) × IsOk end) }
+    ensures refused { IfErr result (λ refusal. end ≡ Err refusal) }
 {
     match end {
         Ok(()) => Ok(part),
