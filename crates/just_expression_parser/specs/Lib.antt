@@ -1,6 +1,7 @@
 pub mod Tokens
 pub mod Operator
 pub mod Literal
+pub mod Found
 pub mod Grammar
 pub mod Machine
 pub mod Parsed

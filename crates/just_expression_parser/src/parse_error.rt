@@ -1,5 +1,10 @@
 // Why tokens are refused.
 
+ghost use Rattle.std.specs.Prelude.{option_map};
+ghost use Rattle.std.specs.Fmt.{WritesStyledOnOk};
+ghost use Rattle.just_syntax.specs.View.{token_view};
+ghost use Rattle.just_expression_parser.specs.Found.{found_text};
+
 use just_lexer::kind::TokenKind;
 use just_syntax::out_of_memory::OutOfMemory;
 use just_syntax::token::Token;
@@ -40,13 +45,7 @@ impl fmt::Display for ParseError<'_> {
                     Fault::Expected(kind) => write_unstyled(f, format_args!("expected {kind}"))?,
                     Fault::InvalidEscape => f.write_str("invalid escape")?,
                 }
-                match token {
-                    Some(token) if !token.lexeme.is_empty() => {
-                        let lexeme = token.lexeme;
-                        write_unstyled(f, format_args!(", found `{lexeme}`"))
-                    }
-                    _ => f.write_str(", found the end"),
-                }
+                write_found(f, *token)
             }
             ParseError::OutOfMemory => write_unstyled(f, OutOfMemory),
         }
@@ -54,3 +53,21 @@ impl fmt::Display for ParseError<'_> {
 }
 
 impl Error for ParseError<'_> {}
+
+/// Writes the token that was found in the place of what was expected, for example ``, found `,` ``. No token, and one
+/// without a text, is the end: `, found the end`.
+///
+/// # Errors
+///
+/// `fmt::Error`, if the writer fails.
+pub fn write_found<W: fmt::Write>(f: &mut fmt::Formatter<W>, token: Option<Token>) -> fmt::Result
+    ensures { WritesStyledOnOk W.write_str_gives f.old result (found_text (option_map token_view token.entry)) f.new }
+{
+    match token {
+        Some(token) if !token.lexeme.is_empty() => {
+            let lexeme = token.lexeme;
+            write_unstyled(f, format_args!(", found `{lexeme}`"))
+        }
+        _ => f.write_str(", found the end"),
+    }
+}
