@@ -1,14 +1,14 @@
 // Names of an evaluation order that may not come next.
 
-ghost use Rattle.std.specs.Prelude.{IfOk, IsTrue, MatchOption, OnOk, [], map, option_map, ℕ, ◌↔◌, ◌≡◌, ◌⊎◌};
-ghost use Rattle.just_faults.specs.Prelude.{AddsFaults, FindsMisplaced, IsAdmitted, IsNumberOf, IsPassed};
-ghost use Rattle.just_faults.specs.Prelude.{ReadsReadable, ReadsUntaken, assignment_view, frames_view, function_view};
+ghost use Rattle.std.specs.Prelude.{IfOk, IsTrue, OnOk, [], map, option_map, ℕ, ◌↔◌, ◌≡◌, ◌⊎◌};
+ghost use Rattle.just_faults.specs.Prelude.{AddsFaults, FindsMisplaced, IsNumberOf, IsPassed};
+ghost use Rattle.just_faults.specs.Prelude.{frames_view, function_view};
 ghost use Rattle.just_faults.specs.Prelude.{is_name_in, is_readable, is_taken, module_fault_view, name_places};
 ghost use Rattle.just_faults.specs.Prelude.{name_view, ordered_view};
 
 use crate::pushing::add_some;
-use just_resolution::admitted::first_unreadable;
 use just_resolution::fault::Fault;
+use just_resolution::order::take;
 use just_resolution::readable::Readable;
 use just_resolution::references::is_referenced;
 use just_resolution::site::Site;
@@ -109,44 +109,4 @@ fn take_next<'src>(
         }
         None => Ok(Some(Fault::UnknownAssignment { assignment: *name })),
     }
-}
-
-// Takes an assignment, also if it reads what is not readable; then the fault names the first such variable, and no
-// function stays admitted, since some of the admitted ones were not scanned to the end. So each fault costs at most one
-// more scan of the functions that later assignments reach; without a fault none is scanned twice.
-fn take<'src>(
-    alloc: Global,
-    sites: &mut Vec<Site<'src>>,
-    pending: &mut Vec<&'src str>,
-    functions: &Table<FunctionDefinition<'src>>,
-    readable: &mut Readable<'src, '_, '_>,
-    admitted: &mut BTreeSet<&'src str>,
-    assignment: &Assignment<'src>,
-) -> Result<Option<Fault<'src>>, OutOfMemory>
-    requires closed { IsAdmitted (map function_view functions.now) (is_readable readable.old)
-        (is_name_in admitted.old) }
-    ensures outer { readable.new.outer ≡ readable.old.outer }
-    ensures exact { let seen = assignment_view assignment.now in
-        IfOk result
-        (λ fault. MatchOption fault (ReadsReadable (map function_view functions.now) (is_readable readable.old)
-        seen) (λ found. ReadsUntaken (map function_view functions.now)
-        (λ n. IsTrue (is_readable readable.old n)) seen (module_fault_view found))) }
-    ensures taken { OnOk result ((n : ℕ) → IsTrue (is_taken readable.new n)
-        ↔ (IsTrue (is_taken readable.old n) ⊎ (assignment.now.number ≡ n))) }
-    ensures closed { OnOk result (IsAdmitted (map function_view functions.now) (is_readable readable.old)
-        (is_name_in admitted.new)) }
-{
-    let value = &assignment.value;
-    let found = first_unreadable(
-        alloc, sites, pending, functions, readable, readable, admitted, value,
-    )?;
-    readable.take(assignment.number)?;
-    if let Some(variable) = found {
-        admitted.clear();
-        return Ok(Some(Fault::UntakenVariable {
-            assignment: assignment.name,
-            variable,
-        }));
-    }
-    Ok(None)
 }

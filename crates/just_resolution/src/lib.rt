@@ -11,7 +11,7 @@ pub mod first_fault;
 mod here;
 pub mod known;
 pub mod numbers;
-mod order;
+pub mod order;
 pub mod readable;
 pub mod references;
 pub mod resolved;

@@ -1,6 +1,7 @@
 // The first name of an evaluation order that may not come next.
 
-ghost use Rattle.std.specs.Prelude.{IfOk, IsNone, IsTrue, MatchOption, Some, [], map, option_map, ℕ, ◌↔◌, ◌≡◌, ◌⊎◌};
+ghost use Rattle.std.specs.Prelude.{IfOk, IsNone, IsTrue, MatchOption, OnOk, Some, [], map, option_map, ℕ};
+ghost use Rattle.std.specs.Prelude.{◌↔◌, ◌≡◌, ◌⊎◌};
 ghost use Rattle.just_resolution.specs.Prelude.{AreDistinct, Finds, FindsMisplaced, IsAdmitted, IsFaulty, IsNumberOf};
 ghost use Rattle.just_resolution.specs.Prelude.{IsSound, IsTakenBy, ReadsReadable, ReadsUntaken, assignment_view};
 ghost use Rattle.just_resolution.specs.Prelude.{frames_view, function_view, is_name_in, is_readable, is_taken};
@@ -105,8 +106,16 @@ fn take_next<'src>(
     }
 }
 
-// Takes an assignment, unless it reads what is not readable; then the fault names the first such variable.
-fn take<'src>(
+/// Takes an assignment, also if it reads what is not readable: then the answer is a fault that names the first such
+/// variable.
+///
+/// After a fault no function stays admitted, since some of the admitted ones were not scanned to the end. So each fault
+/// costs at most one more scan of the functions that later assignments reach; without a fault none is scanned twice.
+///
+/// # Errors
+///
+/// `OutOfMemory` if an allocation fails: nothing is decided.
+pub fn take<'src>(
     alloc: Global,
     sites: &mut Vec<Site<'src>>,
     pending: &mut Vec<&'src str>,
@@ -123,21 +132,22 @@ fn take<'src>(
         (λ fault. MatchOption fault (ReadsReadable (map function_view functions.now) (is_readable readable.old)
         seen) (λ found. ReadsUntaken (map function_view functions.now)
         (λ n. IsTrue (is_readable readable.old n)) seen (module_fault_view found))) }
-    ensures taken { IfOk result (λ fault. IsNone fault → (n : ℕ) → IsTrue (is_taken readable.new n)
+    ensures taken { OnOk result ((n : ℕ) → IsTrue (is_taken readable.new n)
         ↔ (IsTrue (is_taken readable.old n) ⊎ (assignment.now.number ≡ n))) }
-    ensures closed { IfOk result (λ fault. IsNone fault
-        → IsAdmitted (map function_view functions.now) (is_readable readable.old) (is_name_in admitted.new)) }
+    ensures closed { OnOk result (IsAdmitted (map function_view functions.now) (is_readable readable.old)
+        (is_name_in admitted.new)) }
 {
     let value = &assignment.value;
     let found = first_unreadable(
         alloc, sites, pending, functions, readable, readable, admitted, value,
     )?;
+    readable.take(assignment.number)?;
     if let Some(variable) = found {
+        admitted.clear();
         return Ok(Some(Fault::UntakenVariable {
             assignment: assignment.name,
             variable,
         }));
     }
-    readable.take(assignment.number)?;
     Ok(None)
 }

@@ -64,7 +64,7 @@ returns-else-has_taken-clause-number c =
     IfOk-weaker c.take.result _ _
     (λ fault adds nothing. comes_now_takes_one (map function_view c.args.functions.now) (ordered_view c.args.assignments.now [] c.args.variable_references)
     (name_view c.args.name.now) _ (found (goal.at.returns-else-has_taken-clause-number c).In-Some) (is_taken c.args.readable.now)
-    (is_taken c.take.new.readable) (sym c.if-not-is_referenced.ensures) (adds nothing))
+    (is_taken c.take.new.readable) (sym c.if-not-is_referenced.ensures) adds)
     c.take.ensures.taken
 
 pub returns-else-has_taken-clause-taken : goal.returns-else-has_taken-clause-taken
@@ -72,6 +72,6 @@ returns-else-has_taken-clause-taken c =
     all_three c.take.result _ _ _ _
     (λ fault reads adds closed nothing.
     takes_one (map function_view c.args.functions.now) (ordered_view c.args.assignments.now [] c.args.variable_references) (name_view c.args.name.now) _ _ _ _ _
-    _ _ c.requires.taken (found (goal.at.returns-else-has_taken-clause-taken c).In-Some) (closed nothing) (reads_if _ fault reads nothing) (adds nothing)
-    (more_readable c.args.readable.now c.take.new.readable c.take.ensures.outer (λ n k. (adds nothing n).1 (inl k))))
+    _ _ c.requires.taken (found (goal.at.returns-else-has_taken-clause-taken c).In-Some) closed (reads_if _ fault reads nothing) adds
+    (more_readable c.args.readable.now c.take.new.readable c.take.ensures.outer (λ n k. (adds n).1 (inl k))))
     c.take.ensures.exact c.take.ensures.taken c.take.ensures.closed
