@@ -1,9 +1,11 @@
 -- Faults, and resolved modules.
 use Rattle.std.proofs.Common.{◌≡◌, ◌↔◌, ◌⊎◌, inl, inr, ⊎_elim, ℕ, true, false, List, [], ◌∷◌, ◌++◌, map, Option, Some, None, is_some, option_map, refl, ap, sym}
-use Rattle.std.proofs.Common.{◌∙◌, subst, IfSome, IsNone}
+use Rattle.std.proofs.Common.{Bor, ◌∙◌, subst, IfSome, IsNone}
 use Rattle.std.specs.List.{AllByRecursion}
 use Rattle.std.proofs.lemmas.Bool.{cases_eq}
 use Rattle.std.proofs.lemmas.List.{map-append}
+use Rattle.std.proofs.lemmas.Map.Iter.{rest_more}
+use Rattle.std.specs.Map.Iter.{TakesFirst, deref}
 use Rattle.just_resolution.specs.Prelude.{AreAssignments, AreDistinct, AreInOrder, Assignment, Assignments, BoundParameter, Expr, Finds, FindsUnknown, Frames}
 use Rattle.just_resolution.specs.Prelude.{Function, HasValue, IsAmong, IsFaulty, IsFirstFault, IsIn, IsKnown, IsMisplaced, IsResolved, IsSound, IsUnreadable}
 use Rattle.just_resolution.specs.Prelude.{MayBeRead, MayComeNext, ModuleFault, NameOf, NumberOf, Occurs, Parameter, ParameterOf, Site, Token, VariableOf}
@@ -32,6 +34,12 @@ module _ (functions : List Function) (start left all front : List Site) (r : Opt
   pub unknown_out : is_some r ≡ true → FindsUnknown functions all r
   unknown_out some =
       leads_out (λ s. IsKnown functions s.mention) (λ s f. mention_fault functions s.token s.mention ≡ Some f) start left all before front r is some found
+
+-- the sites of some items begin with those of the next item
+pub sites_left : {X Y : Type 0} (seen : X → Y) (part : Y → Expr) (start left : List X) (r : Option (Bor X)) (x : Bor X) → r ≡ Some x
+    → TakesFirst (deref {X = X}) start r left → all_sites (map part (map seen start)) ≡ sites_in (part (seen x.now)) ++ all_sites (map part (map seen left))
+sites_left {X = X} seen part start left r x is steps =
+    ap (λ (xs : List X). all_sites (map part (map seen xs))) (rest_more (deref {X = X}) start left r x is steps)
 
 -- the same for variables that may not be read
 abbrev pub LeadsUnreadable : (ℕ → Type 0) → List Site → List Site → Type 0
