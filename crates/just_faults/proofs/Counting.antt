@@ -1,8 +1,9 @@
 -- Checking numbers, one after another.
-use Rattle.std.proofs.Common.{◌≡◌, ◌↔◌, ◌⊎◌, inl, inr, ⊎_elim, ℕ, Bool, true, false, List, [], ◌∷◌, Option, Some, None, MatchOption, refl, sym, ◌∙◌, subst}
+use Rattle.std.proofs.Common.{◌≡◌, ◌↔◌, ◌⊎◌, ℕ, Bool, false, List, [], ◌∷◌, Option, Some, None, MatchOption, refl, subst}
 use Rattle.std.proofs.Common.{IsTrue}
 use Rattle.just_faults.specs.Prelude.{Adds, Assignments, DuplicateNumber, Frames, Function, IsFaulty, IsIn, IsSound, ModuleFault, NumberOf, Token}
 use Rattle.just_faults.specs.Prelude.{number_places, with_some}
+use Rattle.just_resolution.proofs.Sets.{no_member, one_member_more}
 use Rattle.just_faults.proofs.Adding.{Continues, continues_on}
 
 -- A list of the numbers seen so far, with the same members as the set; and what the rest adds is what all add.
@@ -16,7 +17,7 @@ pub record IsCountedTo (seen : ℕ → Bool) (left all : List (Token × ℕ)) (o
 pub counts_from : (seen : ℕ → Bool) (all : List (Token × ℕ)) (old : List ModuleFault) → ((n : ℕ) → seen n ≡ false) → IsCountedTo seen all all old old
 counts_from seen all old none = record {
   earlier = [];
-  same = λ n. ((λ h. absurd h), (λ h. absurd (let e : false ≡ true = sym (none n) ∙ h in cc)));
+  same = no_member seen none;
   continues = λ functions assignments outer new h. h;
 }
 
@@ -37,10 +38,7 @@ counts_on seen more p start left all old now next r is counted found adds same =
     let c = subst (λ xs. IsCountedTo seen xs all old now) is counted in
     record {
       earlier = p.1 ∷ c.earlier;
-      same = λ n. (
-        (λ h. (adds n).1 (⊎_elim (λ e. inl e) (λ k. inr ((c.same n).0 k)) h)),
-        (λ h. ⊎_elim (λ e. inl e) (λ k. inr ((c.same n).1 k)) ((adds n).0 h)),
-      );
+      same = one_member_more seen more c.earlier p.1 c.same adds;
       continues = λ functions assignments outer.
           continues_on (IsSound functions assignments outer) (IsFaulty functions assignments outer) (number_places c.earlier (p ∷ left))
           (number_places (p.1 ∷ c.earlier) left) (number_places [] all) old now (c.continues functions assignments outer)

@@ -4,7 +4,8 @@ use Rattle.std.proofs.Common.{IsTrue}
 use Rattle.just_faults.specs.Prelude.{Adds, Assignment, Assignments, FindsMisplaced, Frames, Function, HasValue, IsAdmitted, IsFaulty, IsIn, IsNumberOf}
 use Rattle.just_faults.specs.Prelude.{IsPassed, IsSound, IsTakenOrBound, MayComeNext, ModuleFault, NameOf, ReadsReadable, Text, Token, assignment_at}
 use Rattle.just_faults.specs.Prelude.{name_places, value_in, with_some, with_taken}
-use Rattle.just_resolution.proofs.Ordering.{admitted_on, misplaced_alike, next_alike, taken_or_bound, with_one}
+use Rattle.just_resolution.proofs.Ordering.{admitted_on, misplaced_alike, next_alike, none_admitted, same_members, taken_or_bound}
+use Rattle.just_resolution.proofs.Sets.{no_member}
 use Rattle.just_faults.proofs.Adding.{Continues, continues_on}
 
 module _ (functions : List Function) (assignments : Assignments) where
@@ -98,12 +99,7 @@ module _ (functions : List Function) (assignments : Assignments) where
         by_now = by_then;
         readable_if = more_if;
         numbers = with_taken assignments (assignment_at assignments t.lexeme) w.numbers;
-        same = λ n. (
-          (λ h. (number n).1 (⊎_elim (λ k. inl ((w.same n).0 k)) (λ k. inr k)
-              ((with_one functions assignments outer (assignment_at assignments t.lexeme) w.numbers n).0 h))),
-          (λ h. (with_one functions assignments outer (assignment_at assignments t.lexeme) w.numbers n).1
-              (⊎_elim (λ k. inl ((w.same n).1 k)) (λ k. inr k) ((number n).0 h))),
-        );
+        same = same_members functions assignments outer taken next w.numbers t w.same number;
         continues = continues_on (IsSound functions assignments outer) (IsFaulty functions assignments outer) (name_places assignments w.numbers (t ∷ left))
             (name_places assignments (with_taken assignments (assignment_at assignments t.lexeme) w.numbers) left) (name_places assignments [] all) old now
             w.continues (NameOf t w.numbers) r after refl (at_name r found) becomes;
@@ -124,14 +120,11 @@ module _ (functions : List Function) (assignments : Assignments) where
         IsWalkedTo outer taken readable passed admitted all all old old
     walks_from taken readable passed admitted all old none nothing empty readable_if = record {
       by_now = record {
-        closed = record {
-          reads = λ name f h found n s. absurd (let e : false ≡ true = sym (empty name) ∙ h in cc);
-          calls = λ name f h found further n s. absurd (let e : false ≡ true = sym (empty name) ∙ h in cc);
-        };
+        closed = none_admitted functions readable admitted empty;
         origin = λ name h. absurd (let e : false ≡ true = sym (nothing name) ∙ h in cc);
       };
       readable_if = readable_if;
       numbers = [];
-      same = λ n. ((λ h. absurd h), (λ h. absurd (let e : false ≡ true = sym (none n) ∙ h in cc)));
+      same = no_member taken none;
       continues = λ new h. h;
     }

@@ -3,11 +3,9 @@ pub mod Calls
 pub mod Covered
 pub mod Law
 pub mod Listed
-pub mod Names
 pub mod Reaching
 pub mod Recipe
 pub mod Rows
-pub mod Tables
 pub mod Walk
 pub mod Within
 pub mod Work

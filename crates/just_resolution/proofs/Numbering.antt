@@ -1,9 +1,10 @@
 -- Checking numbers, one after another.
-use Rattle.std.proofs.Common.{◌≡◌, ◌↔◌, ◌⊎◌, inl, inr, ⊎_elim, ℕ, Bool, true, false, not, List, [], ◌∷◌, Some, None, refl, sym, ◌∙◌, subst, IsTrue}
+use Rattle.std.proofs.Common.{◌≡◌, ◌↔◌, ◌⊎◌, ℕ, Bool, true, false, not, List, [], ◌∷◌, Some, None, refl, sym, ◌∙◌, subst, IsTrue}
 use Rattle.std.proofs.lemmas.Bool.{not-false, not-true}
 use Rattle.just_resolution.specs.Prelude.{Assignments, Finds, Frames, Function, IsFaulty, IsIn, IsSound, NumberOf, Token, number_places}
 use Rattle.just_resolution.specs.Fault.{DuplicateNumber}
 use Rattle.just_resolution.proofs.Finding.{Leads, leads_off, leads_on}
+use Rattle.just_resolution.proofs.Sets.{no_member, one_member_more}
 
 -- A list of the numbers seen so far, with the same members as the set; and what is found in the rest is found in all.
 pub record IsCountedTo (seen : ℕ → Bool) (left all : List (Token × ℕ)) : Type 0 where
@@ -16,7 +17,7 @@ pub record IsCountedTo (seen : ℕ → Bool) (left all : List (Token × ℕ)) : 
 pub counts_from : (seen : ℕ → Bool) (all : List (Token × ℕ)) → ((n : ℕ) → seen n ≡ false) → IsCountedTo seen all all
 counts_from seen all none = record {
   earlier = [];
-  same = λ n. ((λ h. absurd h), (λ h. absurd (let e : false ≡ true = sym (none n) ∙ h in cc)));
+  same = no_member seen none;
   leads = λ functions assignments outer r h. h;
 }
 
@@ -33,10 +34,7 @@ module _ (seen : ℕ → Bool) (p : Token × ℕ) (left start all : List (Token 
       let out : seen p.1 ≡ false = not-true (seen p.1) (sym new ∙ on) in
       record {
         earlier = p.1 ∷ c.earlier;
-        same = λ n. (
-          (λ h. (adds n).1 (⊎_elim (λ e. inl e) (λ k. inr ((c.same n).0 k)) h)),
-          (λ h. ⊎_elim (λ e. inl e) (λ k. inr ((c.same n).1 k)) ((adds n).0 h)),
-        );
+        same = one_member_more seen more c.earlier p.1 c.same adds;
         leads = λ functions assignments outer.
             leads_on (IsSound functions assignments outer) (IsFaulty functions assignments outer) (number_places c.earlier (p ∷ left))
             (number_places (p.1 ∷ c.earlier) left) (number_places [] all) (c.leads functions assignments outer)

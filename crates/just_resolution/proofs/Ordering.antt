@@ -1,19 +1,21 @@
 -- What an order takes, one name after another.
 use Rattle.std.proofs.Common.{◌≡◌, ◌↔◌, ◌⊎◌, inl, inr, ⊎_elim, ℕ, Bool, true, false, cond, List, [], ◌∷◌, map, Option, Some, None, is_some, Bor, refl, ap, sym}
-use Rattle.std.proofs.Common.{◌∙◌, subst, IsTrue, IfOk, Result, Ok, Err, MatchOption, option_map}
+use Rattle.std.proofs.Common.{◌∙◌, subst, IsTrue, IfOk, Result, Ok, Err, MatchOption, option_map, drop, get_or, length, ◌+◌, ◌<◌}
 use Rattle.std.proofs.lemmas.Bool.{or_cases, or_left, or_right}
 use Rattle.just_resolution.specs.Prelude.{AreDistinct, Assignment, Assignments, Expr, Finds, FindsMisplaced, Frames, Function, HasValue, IsAdmitted, IsAmong}
 use Rattle.just_resolution.specs.Prelude.{IsFaulty, IsIn, IsMisplaced, IsNumberOf, IsSound, IsTakenBy, IsUnreadable, MayComeNext, ModuleFault, NameOf}
 use Rattle.just_resolution.specs.Prelude.{ReadsReadable, ReadsUntaken, Text, Token, Value, assignment_at, frames_view, is_readable, is_taken, name_places}
-use Rattle.just_resolution.specs.Prelude.{sites_in, value_at, value_in, with_taken}
+use Rattle.just_resolution.specs.Prelude.{name_view, sites_in, value_at, value_in, with_taken}
 use Rattle.just_value.specs.declared.scope.Scope.{Scope}
 use Rattle.just_resolution.specs.Fault.{IsTakenOrBound}
 use Rattle.just_resolution.specs.Unreadable.{IsUnreadableBeyond}
 use Rattle.just_meaning.specs.Reaches.{Reads}
 use Rattle.just_resolution.specs.declared.readable.Readable.{Readable}
+use Rattle.just_syntax.specs.declared.name.Name.{Name}
 use Rattle.just_syntax.proofs.Tables.{found_is}
 use Rattle.just_resolution.proofs.Finding.{Leads, leads_off, leads_on}
 use Rattle.just_resolution.proofs.Occurrences.{unreadable_alike}
+use Rattle.just_resolution.proofs.Sets.{front_at, no_member}
 
 -- ---- numbers that are distinct
 
@@ -62,6 +64,14 @@ more_readable old new same on n h =
     let was = readable_if old (frames_view old.outer.now) refl n in
     let now_if = readable_if new (frames_view old.outer.now) (ap (λ (o : Bor Scope). frames_view o.now) same) n in
     now_if.1 (⊎_elim (λ k. inl (on n k)) (λ k. inr k) (was.0 h))
+
+-- no function is admitted
+pub none_admitted : (functions : List Function) (readable : ℕ → Bool) (admitted : Text → Bool) → ((name : Text) → admitted name ≡ false)
+    → IsAdmitted functions readable admitted
+none_admitted functions readable admitted nothing = record {
+  reads = λ name f h found n s. absurd (let e : false ≡ true = sym (nothing name) ∙ h in cc);
+  calls = λ name f h found further n s. absurd (let e : false ≡ true = sym (nothing name) ∙ h in cc);
+}
 
 module _ (functions : List Function) (assignments : Assignments) where
   -- admitted functions stay admitted if more is readable
@@ -193,7 +203,7 @@ module _ (functions : List Function) (assignments : Assignments) where
     misplaced_alike P Q t f same (inl none) = inl none
     misplaced_alike P Q t f same (inr r) = inr (r.0, r.1, r.2, (r.3.0, r.3.1, reads_alike P Q r.0.value r.3.0 same r.3.2))
 
-    pub with_one : (o : Option Assignment) (numbers : List ℕ) (n : ℕ) → IsIn (with_taken assignments o numbers) n
+    with_one : (o : Option Assignment) (numbers : List ℕ) (n : ℕ) → IsIn (with_taken assignments o numbers) n
         ↔ (IsIn numbers n ⊎ ((a : Assignment) × (o ≡ Some a) × (assignments.referenced a.number ≡ true) × (a.number ≡ n)))
     with_one None numbers n = ((λ h. inl h), (λ h. ⊎_elim (λ k. k) (λ k. absurd (let e : None ≡ Some k.0 = k.1 in cc)) h))
     with_one (Some a) numbers n = by (assignments.referenced a.number) refl
@@ -210,6 +220,14 @@ module _ (functions : List Function) (assignments : Assignments) where
               sym e ∙ ap (λ (c : Assignment). assignments.referenced c.number) is ∙ k.2 in cc)) h),
         )
 
+    -- the list and the set have the same members after one more name
+    pub same_members : (taken next : ℕ → Bool) (numbers : List ℕ) (t : Token) → ((n : ℕ) → IsIn numbers n ↔ IsTrue (taken n)) → Changes taken next t
+        → (n : ℕ) → IsIn (with_taken assignments (assignment_at assignments t.lexeme) numbers) n ↔ IsTrue (next n)
+    same_members taken next numbers t same number n = (
+      (λ h. (number n).1 (⊎_elim (λ k. inl ((same n).0 k)) (λ k. inr k) ((with_one (assignment_at assignments t.lexeme) numbers n).0 h))),
+      (λ h. (with_one (assignment_at assignments t.lexeme) numbers n).1 (⊎_elim (λ k. inl ((same n).1 k)) (λ k. inr k) ((number n).0 h))),
+    )
+
     module _ (taken readable : ℕ → Bool) (admitted : Text → Bool) (t : Token) (left all : List Token)
         (w : IsWalkedTo outer taken readable admitted (t ∷ left) all) where
       -- one more name was taken
@@ -221,10 +239,7 @@ module _ (functions : List Function) (assignments : Assignments) where
         by_now = by_then;
         readable_if = more_if;
         numbers = with_taken assignments (assignment_at assignments t.lexeme) w.numbers;
-        same = λ n. (
-          (λ h. (number n).1 (⊎_elim (λ k. inl ((w.same n).0 k)) (λ k. inr k) ((with_one (assignment_at assignments t.lexeme) w.numbers n).0 h))),
-          (λ h. (with_one (assignment_at assignments t.lexeme) w.numbers n).1 (⊎_elim (λ k. inl ((w.same n).1 k)) (λ k. inr k) ((number n).0 h))),
-        );
+        same = same_members taken next w.numbers t w.same number;
         leads = leads_on (IsSound functions assignments outer) (IsFaulty functions assignments outer) (name_places assignments w.numbers (t ∷ left))
             (name_places assignments (with_taken assignments (assignment_at assignments t.lexeme) w.numbers) left) (name_places assignments [] all) w.leads
             (NameOf t w.numbers) refl (next_alike (λ n. IsTrue (readable n)) (IsTakenOrBound outer w.numbers) t
@@ -261,17 +276,28 @@ module _ (functions : List Function) (assignments : Assignments) where
         IsWalkedTo outer taken readable admitted all all
     walks_from taken readable admitted all none nothing readable_if = record {
       by_now = record {
-        closed = record {
-          reads = λ name f h found n s. absurd (let e : false ≡ true = sym (nothing name) ∙ h in cc);
-          calls = λ name f h found further n s. absurd (let e : false ≡ true = sym (nothing name) ∙ h in cc);
-        };
+        closed = none_admitted functions readable admitted nothing;
         origin = λ n h. absurd (let e : false ≡ true = sym (none n) ∙ h in cc);
       };
       readable_if = readable_if;
       numbers = [];
-      same = λ n. ((λ h. absurd h), (λ h. absurd (let e : false ≡ true = sym (none n) ∙ h in cc)));
+      same = no_member taken none;
       leads = λ r h. h;
     }
+
+-- ---- the names of an order
+
+abbrev blank : Bor Text
+blank = record { ref_ptr = (0, 0); now = [] }
+
+-- the name that comes next
+abbrev pub name_at : List Name → ℕ → Name
+name_at names i = get_or names i (record { token = record { column = 0; line = 0; offset = 0; lexeme = blank; path = blank } })
+
+-- the rest of the order begins with it
+pub begins_with_name : (names : List Name) (i : ℕ) → i < length names
+    → map name_view (drop i names) ≡ name_view (name_at names i) ∷ map name_view (drop (i + 1) names)
+begins_with_name names i within = ap (map name_view) (front_at names i _ within)
 
 -- ---- results
 

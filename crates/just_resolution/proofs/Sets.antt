@@ -1,48 +1,41 @@
 -- The members of sets after an insertion, and the rest of lists.
-use Rattle.std.proofs.Common.{◌≡◌, ◌↔◌, ◌⊎◌, inl, inr, ⊎_elim, ℕ, suc, ◌+◌, ◌-◌, ◌<◌, arith, length-drop, true, false, cond, List, [], ◌∷◌, ◌++◌, length}
-use Rattle.std.proofs.Common.{map, take, drop, drop-cons, add-one, get_or, Bor, ap, sym, ◌∙◌, subst, IsTrue}
-use Rattle.std.specs.Bool.{Decides}
+use Rattle.std.proofs.Common.{◌≡◌, ◌↔◌, ◌⊎◌, inl, inr, ⊎_elim, ℕ, Bool, suc, ◌+◌, ◌-◌, ◌<◌, arith, length-drop, true, false, cond, List, [], ◌∷◌, ◌++◌, length}
+use Rattle.std.proofs.Common.{map, take, drop, drop-cons, add-one, get_or, ap, sym, ◌∙◌, subst, IsTrue}
 use Rattle.std.specs.BTreeSet.{BTreeSet, contains}
 use Rattle.std.specs.BTreeMap.{is_at}
-use Rattle.std.specs.Cmp.Lexicographic.{slice_cmp}
 use Rattle.std.specs.List.{list_any}
-use Rattle.std.specs.declared.cmp.Ordering.{Ordering}
-use Rattle.std.specs.Ordering.{eq_by_cmp, is_eq, nat_cmp}
+use Rattle.std.specs.Ordering.{eq_by_cmp, nat_cmp}
 use Rattle.std.proofs.lemmas.List.{drop-map, map_more, take_all}
 use Rattle.std.proofs.Math.Seq.{drop-append_seam}
-use Rattle.std.proofs.lemmas.Map.Text.{is_eq-slice_cmp}
-use Rattle.std.proofs.lemmas.Slice.Eq.{bytes_eq-Decides}
 use Rattle.just_syntax.proofs.Members.{added, number_decides}
-use Rattle.just_resolution.specs.Prelude.{IsAmong, Text, Token, is_name_in, is_number_in}
-
-name_decides : (x y : Text) → Decides (is_eq (slice_cmp nat_cmp x y)) (x ≡ y)
-name_decides x y =
-    let both = bytes_eq-Decides x y in
-    ((λ h. both.0 (sym (is_eq-slice_cmp x y) ∙ h)), (λ e. is_eq-slice_cmp x y ∙ both.1 e))
+use Rattle.just_resolution.specs.Prelude.{IsAmong, IsIn, Token, is_number_in}
 
 -- a set with one more number
 pub number_added : (old new : BTreeSet ℕ) (k : ℕ) → ((q : ℕ) → contains nat_cmp new q ≡ cond (is_at (nat_cmp k) q) true (contains nat_cmp old q)) → (n : ℕ)
     → IsTrue (is_number_in new n) ↔ ((k ≡ n) ⊎ IsTrue (is_number_in old n))
 number_added old new k updates n = added (k ≡ n) (eq_by_cmp nat_cmp k n) (is_number_in old n) (is_number_in new n) (number_decides k n) (updates n)
 
-abbrev name_cmp : Bor Text → Bor Text → Ordering
-name_cmp x y = slice_cmp nat_cmp x.now y.now
-
--- a set with one more name
-pub name_added : (old new : BTreeSet (Bor Text)) (name : Bor Text)
-    → ((q : Bor Text) → contains name_cmp new q ≡ cond (is_at (name_cmp name) q) true (contains name_cmp old q)) → (t : Text) →
-    IsTrue (is_name_in new t) ↔ ((name.now ≡ t) ⊎ IsTrue (is_name_in old t))
-name_added old new name updates t = added (name.now ≡ t) (is_eq (slice_cmp nat_cmp name.now t)) (is_name_in old t) (is_name_in new t) (name_decides name.now t)
-    (updates (record { ref_ptr = (0, 0); now = t }))
-
 -- nothing is in an empty set
 pub no_number : (set : BTreeSet ℕ) → set.keys ≡ [] → (n : ℕ) → is_number_in set n ≡ false
 no_number set empty n = ap (list_any (is_at (nat_cmp n))) empty
 
-pub no_name : (set : BTreeSet (Bor Text)) → set.keys ≡ [] → (t : Text) → is_name_in set t ≡ false
-no_name set empty t = ap (list_any (λ (key : Bor Text). is_eq (slice_cmp nat_cmp t key.now))) empty
+-- ---- a list with the members of a set
 
--- the rest of a list begins with the item
+-- neither has one
+pub no_member : (seen : ℕ → Bool) → ((n : ℕ) → seen n ≡ false) → (n : ℕ) → IsIn [] n ↔ IsTrue (seen n)
+no_member seen none n = ((λ h. absurd h), (λ h. absurd (let e : false ≡ true = sym (none n) ∙ h in cc)))
+
+-- both have one more
+pub one_member_more : (seen more : ℕ → Bool) (numbers : List ℕ) (k : ℕ) → ((n : ℕ) → IsIn numbers n ↔ IsTrue (seen n))
+    → ((n : ℕ) → IsTrue (more n) ↔ ((k ≡ n) ⊎ IsTrue (seen n))) → (n : ℕ) → IsIn (k ∷ numbers) n ↔ IsTrue (more n)
+one_member_more seen more numbers k same adds n = (
+  (λ h. (adds n).1 (⊎_elim (λ e. inl e) (λ j. inr ((same n).0 j)) h)),
+  (λ h. ⊎_elim (λ e. inl e) (λ j. inr ((same n).1 j)) ((adds n).0 h)),
+)
+
+-- ---- the rest of a list
+
+-- it begins with the item
 pub front : {X : Type 0} (xs : List X) (i : ℕ) (x : X) → i < length xs → x ≡ get_or xs i x → drop i xs ≡ x ∷ drop (i + 1) xs
 front xs i x h is = drop-cons xs i x h ∙ ap (λ y. y ∷ drop (suc i) xs) (sym is) ∙ ap (λ j. x ∷ drop j xs) (sym (add-one i))
 

@@ -1,8 +1,8 @@
 use Rattle.std.proofs.Common.{◌≡◌, ◌↔◌, ◌⊎◌, ap, refl, sym, subst, inl, [], map, Some, None, Bor, IsTrue}
 use Rattle.just_faults.specs.Prelude.{Text, assignment_at, assignment_view, function_view, is_name_in, is_readable, is_taken, module_fault_view, name_view}
 use Rattle.just_faults.specs.Prelude.{ordered_view}
+use Rattle.just_meaning.proofs.Names.{name_added}
 use Rattle.just_resolution.proofs.Ordering.{comes_now, comes_now_takes_one, more_readable, passed_over, passed_over_takes_none, reads_if}
-use Rattle.just_resolution.proofs.Sets.{name_added}
 use Rattle.just_resolution.proofs.Tables.{assignment_seen}
 use Rattle.just_faults.proofs.Walking.{comes_again, comes_again_takes_none, passes_one, takes_one, unknown_takes_none}
 use Rattle.just_faults.proofs.order.take_next.Goals.{In-None, In-Some}

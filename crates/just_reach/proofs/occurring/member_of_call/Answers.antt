@@ -2,7 +2,7 @@ use Rattle.std.proofs.Common.{◌∙◌, ap, sym, Option, Bor, option_map}
 use Rattle.just_syntax.specs.declared.function_definition.FunctionDefinition.{FunctionDefinition}
 use Rattle.just_meaning.specs.Callee.{defined_or}
 use Rattle.just_reach.specs.Prelude.{Function, called_member, function_view, name_view, undefined}
-use Rattle.just_reach.proofs.Tables.{function_found}
+use Rattle.just_meaning.proofs.Tables.{function_found}
 use Rattle.just_reach.proofs.occurring.member_of_call.Goals as goal
 
 pub returns-in-Some : goal.returns-in-Some

@@ -2,7 +2,7 @@ use Rattle.std.proofs.Common.{◌∙◌, ap, sym, Bor, Option, map, option_map}
 use Rattle.std.proofs.lemmas.Result.{on_ok_weaker}
 use Rattle.just_syntax.specs.declared.function_definition.FunctionDefinition.{FunctionDefinition}
 use Rattle.just_reach.specs.Prelude.{Function, function_view, members_of_body, members_view}
-use Rattle.just_reach.proofs.Tables.{function_found}
+use Rattle.just_meaning.proofs.Tables.{function_found}
 use Rattle.just_reach.proofs.reach.add_body.Goals as goal
 
 pub returns-in-Some : goal.returns-in-Some

@@ -2,10 +2,11 @@ use Rattle.std.proofs.Common.{arith, ◌≡◌, ◌∙◌, ◌++◌, true, false
 use Rattle.std.proofs.lemmas.Bool.{not-false, not-true}
 use Rattle.just_resolution.specs.Prelude.{Text, called_names, function_at, function_view, is_name_in, is_number_in, is_readable, name_view, sites_in, texts}
 use Rattle.just_resolution.specs.Prelude.{view}
+use Rattle.just_meaning.proofs.Names.{name_added}
 use Rattle.just_resolution.proofs.Closure.{admits, all_readable, begins, body_reads, closes, emptied, falls_admitted, falls_passed, found_at_once, found_within}
 use Rattle.just_resolution.proofs.Closure.{passes, popped, reads_at_once}
 use Rattle.just_resolution.proofs.Finding.{some_seen}
-use Rattle.just_resolution.proofs.Sets.{name_added, no_number}
+use Rattle.just_resolution.proofs.Sets.{no_number}
 use Rattle.just_resolution.proofs.admitted.first_unreadable.Goals as goal
 
 pub returns-then-is_some-clause-exact : goal.returns-then-is_some-clause-exact

@@ -5,7 +5,7 @@ use Rattle.just_resolution.specs.Prelude.{FindsBody, Function, IsAmong, calls_of
 use Rattle.just_resolution.specs.Prelude.{parameter_view, texts}
 use Rattle.just_syntax.specs.declared.function_definition.FunctionDefinition.{FunctionDefinition}
 use Rattle.just_resolution.proofs.Closure.{body_found}
-use Rattle.just_resolution.proofs.Tables.{function_found}
+use Rattle.just_meaning.proofs.Tables.{function_found}
 use Rattle.just_resolution.proofs.admitted.look_through_function.Goals.{In-None, In-Some}
 use Rattle.just_resolution.proofs.admitted.look_through_function.Goals as goal
 

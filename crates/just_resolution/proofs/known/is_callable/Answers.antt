@@ -1,7 +1,8 @@
 use Rattle.std.proofs.Common.{◌≡◌, ◌∙◌, ap, sym, length, rules, Option, Bor, option_map}
 use Rattle.just_resolution.specs.Prelude.{Function, accepts, defined_or, function_view, undefined}
 use Rattle.just_syntax.specs.declared.function_definition.FunctionDefinition.{FunctionDefinition}
-use Rattle.just_resolution.proofs.Tables.{function_found, accepts_found}
+use Rattle.just_meaning.proofs.Tables.{function_found}
+use Rattle.just_resolution.proofs.Tables.{accepts_found}
 use Rattle.just_resolution.proofs.known.is_callable.Goals as goal
 
 pub returns-in-Some : goal.returns-in-Some

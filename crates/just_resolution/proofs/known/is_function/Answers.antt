@@ -1,7 +1,7 @@
 use Rattle.std.proofs.Common.{◌∙◌, ap, sym, not, Option, Bor, option_map}
 use Rattle.just_resolution.specs.Prelude.{Function, defined_or, function_view, is_unknown, undefined}
 use Rattle.just_syntax.specs.declared.function_definition.FunctionDefinition.{FunctionDefinition}
-use Rattle.just_resolution.proofs.Tables.{function_found}
+use Rattle.just_meaning.proofs.Tables.{function_found}
 use Rattle.just_resolution.proofs.known.is_function.Goals as goal
 
 pub returns-in-Some : goal.returns-in-Some

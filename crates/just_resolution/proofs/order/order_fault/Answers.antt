@@ -1,26 +1,11 @@
-use Rattle.std.proofs.Common.{◌≡◌, ◌∙◌, ◌+◌, ◌∷◌, [], ap, map, drop, get_or, option_map, subst, sym, Bor}
-use Rattle.just_resolution.specs.Prelude.{Text, frames_view, function_view, is_name_in, is_readable, is_taken, module_fault_view, name_view, ordered_view}
-use Rattle.just_syntax.specs.declared.name.Name.{Name}
+use Rattle.std.proofs.Common.{◌≡◌, ◌∙◌, ◌+◌, [], ap, map, drop, option_map, subst, sym, Bor}
+use Rattle.just_resolution.specs.Prelude.{frames_view, function_view, is_name_in, is_readable, is_taken, module_fault_view, name_view, ordered_view}
 use Rattle.std.proofs.lemmas.List.{drop_all}
 use Rattle.just_value.specs.declared.scope.Scope.{Scope}
-use Rattle.just_resolution.proofs.Ordering.{IsWalkedTo, reads_if, readable_if, spoils, walked_all, walks_from, walks_on}
+use Rattle.just_meaning.proofs.Names.{no_name}
+use Rattle.just_resolution.proofs.Ordering.{IsWalkedTo, begins_with_name, name_at, reads_if, readable_if, spoils, walked_all, walks_from, walks_on}
 use Rattle.just_resolution.proofs.Finding.{some_seen}
-use Rattle.just_resolution.proofs.Sets.{front_at, no_name}
-use Rattle.just_resolution.proofs.order.order_fault.Goals.{After-take_next}
 use Rattle.just_resolution.proofs.order.order_fault.Goals as goal
-
-abbrev blank : Bor Text
-blank = record { ref_ptr = (0, 0); now = [] }
-
--- the name that comes next
-abbrev next_name : After-take_next → Name
-next_name c =
-    get_or c.args.evaluation_order.now c.loop-name.name-index (record { token = record { column = 0; line = 0; offset = 0; lexeme = blank; path = blank } })
-
--- the rest of the order begins with it
-left : (c : After-take_next) → map name_view (drop c.loop-name.name-index c.args.evaluation_order.now)
-    ≡ name_view (next_name c) ∷ map name_view (drop (c.loop-name.name-index + 1) c.args.evaluation_order.now)
-left c = ap (map name_view) (front_at c.args.evaluation_order.now c.loop-name.name-index _ c.loop-name-test.true)
 
 pub loop-name-init : goal.loop-name-init
 loop-name-init c =
@@ -40,7 +25,7 @@ take_next-requires-clause-taken c = c.loop-name.invariant.walked.by_now
 pub loop-name-preserved : goal.loop-name-preserved
 loop-name-preserved c =
     let names = c.args.evaluation_order.now in
-    let item = next_name (goal.at.loop-name-preserved c).After-take_next in
+    let i = c.loop-name.name-index in
     let same : frames_view c.take_next.new.readable.outer.now ≡ frames_view c.args.outer.now =
     ap (λ (s : Bor Scope). frames_view s.now) c.take_next.ensures.outer ∙ c.loop-name.invariant.outer in
     let functions = map function_view c.args.functions.now in
@@ -48,10 +33,10 @@ loop-name-preserved c =
     record {
       outer = same;
       walked = walks_on functions assignments (frames_view c.args.outer.now) (is_taken c.loop-name.readable) (is_readable c.loop-name.readable)
-          (is_name_in c.loop-name.admitted) (name_view item)
-          (map name_view (drop (c.loop-name.name-index + 1) names)) (map name_view names)
+          (is_name_in c.loop-name.admitted) (name_view (name_at names i))
+          (map name_view (drop (i + 1) names)) (map name_view names)
           (subst (λ l. IsWalkedTo functions assignments (frames_view c.args.outer.now) (is_taken c.loop-name.readable) (is_readable c.loop-name.readable)
-          (is_name_in c.loop-name.admitted) l (map name_view names)) (left (goal.at.loop-name-preserved c).After-take_next)
+          (is_name_in c.loop-name.admitted) l (map name_view names)) (begins_with_name names i c.loop-name-test.true)
           c.loop-name.invariant.walked)
           (is_taken c.take_next.new.readable) (is_readable c.take_next.new.readable) (is_name_in c.take_next.new.admitted)
           (c.in_ok-fault.ensures.taken (sym c.if-is_some.ensures))
@@ -63,12 +48,12 @@ loop-name-preserved c =
 pub returns-then-is_some : goal.returns-then-is_some
 returns-then-is_some c =
     let names = c.args.evaluation_order.now in
-    let item = next_name (goal.at.returns-then-is_some c).After-take_next in
+    let i = c.loop-name.name-index in
     spoils (map function_view c.args.functions.now) (ordered_view c.args.assignments.now [] c.args.variable_references) (frames_view c.args.outer.now)
     (is_taken c.loop-name.readable) (is_readable c.loop-name.readable) (is_name_in c.loop-name.admitted)
-    (name_view item) (map name_view (drop (c.loop-name.name-index + 1) names)) (map name_view (drop c.loop-name.name-index names)) (map name_view names)
+    (name_view (name_at names i)) (map name_view (drop (i + 1) names)) (map name_view (drop i names)) (map name_view names)
     (option_map module_fault_view c.in_ok-fault.fault)
-    (left (goal.at.returns-then-is_some c).After-take_next) c.loop-name.invariant.walked (some_seen module_fault_view c.in_ok-fault.fault
+    (begins_with_name names i c.loop-name-test.true) c.loop-name.invariant.walked (some_seen module_fault_view c.in_ok-fault.fault
     ∙ sym c.if-is_some.ensures) c.in_ok-fault.ensures.exact
 
 pub returns : goal.returns

@@ -1,4 +1,4 @@
-use Rattle.just_resolution.proofs.Sets.{name_added}
+use Rattle.just_meaning.proofs.Names.{name_added}
 use Rattle.just_needs.proofs.Members.{function_added, number_added, variable_added}
 use Rattle.just_needs.proofs.reached.Reached.insert.Goals as goal
 
