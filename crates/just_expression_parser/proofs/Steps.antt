@@ -120,14 +120,6 @@ pub read_on : (x : Result Expression ParseError) (r : Result written_state.State
 read_on (Ok e) r m whole v done refused is none same less = done_on (Ok e) r m whole done refused (ap (λ v. (goes m (Done v) []).result) is ∙ same) tt less
 read_on (Err x) r m whole v done refused is none same less = done_on (Err x) r m whole done refused tt (rw none tt) less
 
-pub map_ok : {T E : Type 0} (P Q : T → Type 0) (r : Result T E) → ((x : T) → P x → Q x) → IfOk r P → IfOk r Q
-map_ok P Q (Ok x) f h = f x h
-map_ok P Q (Err x) f h = tt
-
-pub map_err : {T E : Type 0} (P Q : E → Type 0) (r : Result T E) → ((x : E) → P x → Q x) → IfErr r P → IfErr r Q
-map_err P Q (Ok x) f h = tt
-map_err P Q (Err x) f h = f x h
-
 -- expressions in a row are seen one by one
 pub rows : (es : List Expression) → views es ≡ row (map view es)
 rows [] = refl

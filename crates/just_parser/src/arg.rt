@@ -10,10 +10,11 @@ ghost use Rattle.just_parser.specs.Phrase.{Read, many, prepended};
 ghost use Rattle.just_parser.specs.View.{arg_option_view, arg_view};
 
 use crate::arg_attribute::{ArgAttribute, ArgOption};
-use crate::outcome::{followed, found, pushed};
+use crate::outcome::{found, pushed};
 use crate::parse_error::ParseError;
 use crate::parser::Parser;
 use crate::value::literal_of;
+use just_expression_parser::outcome::followed;
 use just_lexer::kind::TokenKind;
 use just_syntax::name::Name;
 use just_syntax::string_literal::StringLiteral;

@@ -6,9 +6,9 @@ ghost use Rattle.just_parser.specs.Items.{assignment, is_underscored};
 ghost use Rattle.just_parser.specs.Parsed.{IsRefused, left};
 ghost use Rattle.just_parser.specs.Phrase.{Read, expression, in_line};
 
-use crate::outcome::followed;
 use crate::parse_error::ParseError;
 use crate::parser::Parser;
+use just_expression_parser::outcome::followed;
 use just_lexer::kind::TokenKind;
 use just_syntax::assignment::Assignment;
 use just_syntax::expression::Expression;

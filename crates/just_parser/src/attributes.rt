@@ -10,10 +10,11 @@ ghost use Rattle.just_parser.specs.Parsed.{IsRefused, left};
 ghost use Rattle.just_parser.specs.Phrase.{Read, many, prepended};
 ghost use Rattle.just_parser.specs.View.{written_view};
 
-use crate::outcome::{followed, paired, pushed};
+use crate::outcome::{paired, pushed};
 use crate::parse_error::ParseError;
 use crate::parser::Parser;
 use crate::written_attribute::WrittenAttribute;
+use just_expression_parser::outcome::followed;
 use just_lexer::kind::TokenKind;
 use just_syntax::attribute::Attribute;
 use just_syntax::expression::Expression;

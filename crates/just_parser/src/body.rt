@@ -11,9 +11,10 @@ ghost use Rattle.just_parser.specs.Recipes.{blank, body, fragment, fragments, in
 ghost use Rattle.just_parser.specs.Recipes.{is_after_fragments, line};
 ghost use Rattle.just_parser.specs.Recipes.{interpolated, trimmed};
 
-use crate::outcome::{followed, pushed};
+use crate::outcome::pushed;
 use crate::parse_error::ParseError;
 use crate::parser::Parser;
+use just_expression_parser::outcome::followed;
 use just_lexer::kind::TokenKind;
 use just_syntax::expression::Expression;
 use just_syntax::fragment::Fragment;

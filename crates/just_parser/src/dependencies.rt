@@ -11,9 +11,10 @@ ghost use Rattle.just_parser.specs.Recipes.{is_after_dependencies, subsequents};
 ghost use Rattle.just_parser.specs.View.{dependency_view};
 
 use crate::dependency::Dependency;
-use crate::outcome::{followed, pushed};
+use crate::outcome::pushed;
 use crate::parse_error::ParseError;
 use crate::parser::Parser;
+use just_expression_parser::outcome::followed;
 use just_lexer::kind::TokenKind;
 use just_syntax::expression::Expression;
 

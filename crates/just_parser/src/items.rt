@@ -12,11 +12,12 @@ ghost use Rattle.just_syntax.specs.Plain.{Token};
 ghost use Rattle.just_parser.specs.View.{item_view, written_view};
 
 use crate::item::Item;
-use crate::outcome::{followed, pushed};
+use crate::outcome::pushed;
 use crate::parse_error::{Fault, ParseError};
 use crate::parser::Parser;
 use crate::start::{Start, start_of_item};
 use crate::written_attribute::WrittenAttribute;
+use just_expression_parser::outcome::followed;
 use just_lexer::kind::TokenKind;
 
 impl<'src> Parser<'_, 'src> {

@@ -6,20 +6,6 @@ ghost use Rattle.std.specs.Option.{option_to_list};
 use crate::parse_error::ParseError;
 use just_syntax::out_of_memory::OutOfMemory;
 
-/// A part, if what follows it is in order.
-pub(crate) fn followed<'src, T: Drop>(
-    part: T,
-    end: Result<(), ParseError<'src>>,
-) -> Result<T, ParseError<'src>>
-    ensures ok { IfOk result (λ kept. (kept ≡ part) × IsOk end.entry) }
-    ensures refused { IfErr result (λ refusal. end.entry ≡ Err refusal) }
-{
-    match end {
-        Ok(()) => Ok(part),
-        Err(refusal) => Err(refusal),
-    }
-}
-
 /// A part, if there is one.
 pub(crate) fn found<'src, T: Drop>(
     part: Option<T>,

@@ -91,13 +91,7 @@ impl fmt::Display for ParseError<'_> {
                     Fault::Unsupported => "imports and modules are not read",
                 };
                 f.write_str(words)?;
-                match token {
-                    Some(token) if !token.lexeme.is_empty() => {
-                        let lexeme = token.lexeme;
-                        write_unstyled(f, format_args!(", found `{lexeme}`"))
-                    }
-                    _ => f.write_str(", found the end"),
-                }
+                expression::write_found(f, token)
             }
             ParseError::OutOfMemory => write_unstyled(f, OutOfMemory),
         }

@@ -9,11 +9,12 @@ ghost use Rattle.just_parser.specs.Recipes.{bare, parts, recipe};
 ghost use Rattle.just_parser.specs.View.{arg_view, recipe_definition_view, written_view};
 
 use crate::arg_attribute::ArgAttribute;
-use crate::outcome::{allocated, followed, pushed_some};
+use crate::outcome::{allocated, pushed_some};
 use crate::parse_error::ParseError;
 use crate::parser::Parser;
 use crate::recipe_definition::RecipeDefinition;
 use crate::written_attribute::WrittenAttribute;
+use just_expression_parser::outcome::followed;
 use just_lexer::kind::TokenKind;
 use just_syntax::attribute_set::AttributeSet;
 use just_syntax::recipe::Recipe;

@@ -114,7 +114,7 @@ fn take_next<'src>(
 ///
 /// # Errors
 ///
-/// `OutOfMemory` if an allocation fails: nothing is decided.
+/// `OutOfMemory`, if an allocation fails: what `readable` and `admitted` say then is not to be used.
 pub fn take<'src>(
     alloc: Global,
     sites: &mut Vec<Site<'src>>,

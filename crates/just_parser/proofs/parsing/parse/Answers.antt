@@ -1,16 +1,16 @@
 use Rattle.std.proofs.Common.{map}
+use Rattle.std.proofs.lemmas.Result.{IfErr-weaker, IfOk-weaker}
 use Rattle.just_lexer.specs.View.{lexeme_view}
-use Rattle.just_expression_parser.proofs.Steps.{map_err, map_ok}
 use Rattle.just_parser.proofs.Texts.{no_justfile}
 use Rattle.just_parser.proofs.parsing.parse.Goals as goal
 
 pub returns-in-Ok-clause-exact : goal.returns-in-Ok-clause-exact
 returns-in-Ok-clause-exact c =
-    map_ok _ _ c.parse_lexemes.result (λ all read. (map lexeme_view c.in-Ok.lexemes.items, c.in-Ok.ensures.exact, read.0, read.1))
+    IfOk-weaker c.parse_lexemes.result _ _ (λ all read. (map lexeme_view c.in-Ok.lexemes.items, c.in-Ok.ensures.exact, read.0, read.1))
     (rw c.deref.ensures.value at c.parse_lexemes.ensures.exact)
 
 pub returns-in-Ok-clause-refused : goal.returns-in-Ok-clause-refused
 returns-in-Ok-clause-refused c =
-    map_err _ _ c.parse_lexemes.result
+    IfErr-weaker c.parse_lexemes.result _ _
     (λ error refused. no_justfile c.args.path.now c.args.source.now (map lexeme_view c.in-Ok.lexemes.items) error c.in-Ok.ensures.exact refused)
     (rw c.deref.ensures.value at c.parse_lexemes.ensures.refused)

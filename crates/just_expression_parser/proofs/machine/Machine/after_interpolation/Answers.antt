@@ -1,9 +1,10 @@
 use Rattle.std.proofs.Common.{[], Some, ap, map, sym, ◌++◌, ◌≡◌, ◌∙◌, ◌∷◌, arith, length}
 use Rattle.std.proofs.lemmas.List.{map_push}
+use Rattle.std.proofs.lemmas.Result.{IfErr-weaker}
 use Rattle.just_syntax.specs.Plain.{Expr, Literal}
 use Rattle.just_syntax.specs.View.{literal_view, piece_view, token_view, view}
 use Rattle.just_expression_parser.proofs.Interpolations.{middle_here, middle_refused, refused_by, text_of}
-use Rattle.just_expression_parser.proofs.Steps.{goes_on, map_err}
+use Rattle.just_expression_parser.proofs.Steps.{goes_on}
 use Rattle.just_expression_parser.specs.Literal.{middle_of_format}
 use Rattle.just_expression_parser.specs.Machine as machine
 use Rattle.just_expression_parser.specs.Parsed.{IsRefused, goes, left, style_view, tokens, waiting}
@@ -36,7 +37,7 @@ returns-in-Err c =
     let style = style_view c.args.style in
     let e = view c.args.value in
     let whole = (goes old (machine.Done e) (machine.Interpolation start before style ∷ [])).result in
-    let refused = map_err _ (IsRefused whole) c.middle_of_format-text.result (λ refusal so. middle_refused start before style e
+    let refused = IfErr-weaker c.middle_of_format-text.result _ (IsRefused whole) (λ refusal so. middle_refused start before style e
     (token_view c.in-Some.token) (left old) (tokens c.take.new.self) (waiting old) refusal c.in-Some.ensures.some so)
     c.middle_of_format-text.ensures.refused in
     (tt, refused_by c.middle_of_format-text.result c.in-Err.refusal (IsRefused whole) c.in-Err.ensures.refused tt refused)

@@ -1,10 +1,10 @@
 use Rattle.std.proofs.Common.{[], ap, map, sym, ◌++◌, ◌∙◌, ◌∷◌, arith, length, suc, ◌≡◌}
 use Rattle.std.proofs.lemmas.List.{map_push}
+use Rattle.std.proofs.lemmas.Result.{IfErr-weaker}
 use Rattle.just_syntax.specs.Plain as plain
 use Rattle.just_syntax.specs.Plain.{Expr, Literal}
 use Rattle.just_syntax.specs.View.{literal_view, piece_view, view}
 use Rattle.just_expression_parser.proofs.Interpolations.{last_here, last_refused, last_taken, pieces_seen, refused_by, text_of}
-use Rattle.just_expression_parser.proofs.Steps.{map_err}
 use Rattle.just_expression_parser.specs.Machine as machine
 use Rattle.just_expression_parser.specs.Parsed.{IsLastText, IsRefused, goes, left, style_view, waiting}
 use Rattle.just_expression_parser.specs.declared.machine.Machine.{Machine}
@@ -39,7 +39,7 @@ returns-in-Err c no_more =
     let before = map piece_view c.args.pieces.items in
     let style = style_view c.args.style in
     let e = view c.args.value in
-    let refused = map_err _ (IsRefused (goes old (machine.Done e) (machine.Interpolation start before style ∷ [])).result) c.last_text-text.result
+    let refused = IfErr-weaker c.last_text-text.result _ (IsRefused (goes old (machine.Done e) (machine.Interpolation start before style ∷ [])).result)
     (λ refusal so. last_refused start before style e (left old) (waiting old) refusal no_more so) c.last_text-text.ensures.refused in (
       tt,
       refused_by c.last_text-text.result c.in-Err.refusal (IsRefused (goes old (machine.Done e) (machine.Interpolation start before style ∷ [])).result)

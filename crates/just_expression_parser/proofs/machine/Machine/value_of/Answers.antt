@@ -1,7 +1,8 @@
 use Rattle.std.proofs.Common.{[], ap, map, sym, ◌≡◌, ◌∙◌, arith}
+use Rattle.std.proofs.lemmas.Result.{IfErr-weaker, IfOk-weaker}
 use Rattle.just_syntax.specs.Plain as plain
 use Rattle.just_syntax.specs.View.{token_view, view}
-use Rattle.just_expression_parser.proofs.Steps.{done_on, goes_on, map_err, map_ok, read_on}
+use Rattle.just_expression_parser.proofs.Steps.{done_on, goes_on, read_on}
 use Rattle.just_expression_parser.proofs.Values.{backtick_here, bang_here, group_here, list_here, nothing_here, string_here, string_refused}
 use Rattle.just_expression_parser.specs.Literal.{command}
 use Rattle.just_expression_parser.specs.Machine as machine
@@ -47,9 +48,9 @@ returns-in-StringToken c =
     let token = token_view c.args.token in
     let whole = goes_at (lexeme c.args.kind token) old machine.Value in
     done_on c.string.result c.done-in-StringToken.result old whole c.done-in-StringToken.ensures.ok c.done-in-StringToken.ensures.refused
-    (map_ok _ (λ e. (goes old (machine.Done (view e)) []).result ≡ whole.result) c.string.result
+    (IfOk-weaker c.string.result _ (λ e. (goes old (machine.Done (view e)) []).result ≡ whole.result)
     (λ e so. sym (string_here c.args.kind token (left old) (waiting old) c.in-StringToken.is (view e) so)) c.string.ensures.ok)
-    (map_err _ (IsRefused whole.result) c.string.result
+    (IfErr-weaker c.string.result _ (IsRefused whole.result)
     (λ refusal so. string_refused c.args.kind token (left old) (waiting old) c.in-StringToken.is refusal so) c.string.ensures.refused) (omega arith)
 
 pub returns-in_default : goal.returns-in_default
