@@ -9,7 +9,8 @@ use Rattle.just_expression_parser.proofs.parse.parse_expression.Goals as goal
 
 pub returns-clause-derived : goal.returns-clause-derived
 returns-clause-derived c =
-    IfOk-weaker c.read.result _ _ (λ p read. derives_what_is_read (view p.0) (map lexeme_view c.args.tokens.now) (map lexeme_view p.1.now) read) c.read.ensures.exact
+    IfOk-weaker c.read.result _ _ (λ p read. derives_what_is_read (view p.0) (map lexeme_view c.args.tokens.now) (map lexeme_view p.1.now) read)
+    c.read.ensures.exact
 
 pub returns-clause-only : goal.returns-clause-only
 returns-clause-only c =
