@@ -7,7 +7,7 @@ use Rattle.std.proofs.lemmas.Slice.Eq.{starts_is}
 use Rattle.std.proofs.lemmas.Str.{IsCharBoundary-after_ascii}
 use Rattle.std.specs.Str.{IsCharBoundary, IsUtf8}
 use Rattle.just_syntax.specs.Plain.{Text}
-use Rattle.just_lexer.specs.Front.{begins, is_blank, is_name_part}
+use Rattle.just_lexer.specs.Front.{begins_with, is_blank, is_name_part}
 use Rattle.just_lexer.specs.Span.{one_if, passed, span}
 use Rattle.just_lexer.proofs.Spans.{suc_is_no_zero}
 use Rattle.just_lexer.specs.declared.span.Rule.{Rule}
@@ -16,14 +16,14 @@ use Rattle.just_lexer.specs.declared.span.Rule.TheVariants.{Blanks, Name}
 -- ---- the bytes of a front
 
 -- a text that begins with a front
-pub begun : (t front : Text) → begins t front ≡ true → t ≡ front ++ drop (length front) t
-unfolding begins
-begun t front e = (starts_is Decides-eqb t front (begins t front) refl).0 e
+pub begun : (t front : Text) → begins_with t front ≡ true → t ≡ front ++ drop (length front) t
+unfolding begins_with
+begun t front e = (starts_is Decides-eqb t front (begins_with t front) refl).0 e
 
-pub front_within : (t front : Text) → begins t front ≡ true → length front ≤ length t
+pub front_within : (t front : Text) → begins_with t front ≡ true → length front ≤ length t
 front_within t front e = omega (arith, ap length (begun t front e), length-append front (drop (length front) t))
 
-pub front_byte : (t front : Text) (i : ℕ) → begins t front ≡ true → i < length front → get_or t i 0 ≡ get_or front i 0
+pub front_byte : (t front : Text) (i : ℕ) → begins_with t front ≡ true → i < length front → get_or t i 0 ≡ get_or front i 0
 front_byte t front i e low =
     ap (λ xs. get_or xs i 0) (begun t front e) ∙ get_or_append_left front (drop (length front) t) 0 i low
 
@@ -38,7 +38,7 @@ cut_after t (suc n) utf8 some within low =
     subst (λ k. IsCharBoundary t k) more (IsCharBoundary-after_ascii t n utf8 (omega arith) (rw same at low))
 
 -- after a front that ends with an ASCII byte, which comes after the first n bytes
-pub cut_front : (t front : Text) (n : ℕ) → IsUtf8 t → n ≤ length t → begins (drop n t) front ≡ true → 0 < length front
+pub cut_front : (t front : Text) (n : ℕ) → IsUtf8 t → n ≤ length t → begins_with (drop n t) front ≡ true → 0 < length front
     → get_or front (length front - 1) 0 < 128 → IsCharBoundary t (n + length front)
 cut_front t front n utf8 inside e some low =
     let within : n + length front ≤ length t = omega (arith, front_within (drop n t) front e, length-drop n t) in
@@ -48,7 +48,7 @@ cut_front t front n utf8 inside e some low =
     cut_after t (n + length front) utf8 (omega arith) within (rw (last, byte) low)
 
 -- after the front of a text
-pub cut_begin : (t front : Text) → IsUtf8 t → begins t front ≡ true → 0 < length front → get_or front (length front - 1) 0 < 128
+pub cut_begin : (t front : Text) → IsUtf8 t → begins_with t front ≡ true → 0 < length front → get_or front (length front - 1) 0 < 128
     → IsCharBoundary t (length front)
 cut_begin t front utf8 e some low =
     cut_after t (length front) utf8 some (front_within t front e) (rw (front_byte t front (length front - 1) e (omega arith)) low)

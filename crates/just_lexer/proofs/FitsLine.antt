@@ -6,15 +6,16 @@ use Rattle.std.proofs.lemmas.List.{length-take}
 use Rattle.std.proofs.lemmas.Str.{IsCharBoundary-start, IsCharBoundary-past_char}
 use Rattle.std.specs.Str.{IsCharBoundary, IsUtf8}
 use Rattle.just_syntax.specs.Plain.{Text}
-use Rattle.just_lexer.specs.Expression.{expression}
-use Rattle.just_lexer.specs.Front.{begins, line_end}
-use Rattle.just_lexer.specs.Line.{blank_line, body_line, body_start, byte_order_mark, enclosed, filled_line, in_line, indentation_fault, indented}
+use Rattle.just_lexer.specs.Expression.{lexed_expression}
+use Rattle.just_lexer.specs.Front.{begins_with, line_end_length}
+use Rattle.just_lexer.specs.Line.{blank_line, body_line, body_start, byte_order_mark, filled_line, indentation_fault, lexed_indentation, lexed_inside}
+use Rattle.just_lexer.specs.Line.{lexed_line}
 use Rattle.just_lexer.specs.Line.{is_blank_line, is_mixed, line_start, next, next_inside, outside, text_end, unclosed}
 use Rattle.just_lexer.specs.Advances.{FitsIn}
 use Rattle.just_lexer.specs.Span.{passed, span}
-use Rattle.just_lexer.specs.State.{State, innermost}
+use Rattle.just_lexer.specs.State.{State, innermost_open}
 use Rattle.just_lexer.proofs.Cuts.{ascii_span, begun, front_byte, blanks_ascii, cut_after, cut_begin, front_within, span_stops, span_within}
-use Rattle.just_lexer.proofs.Fits.{Fits, either, blanks_cut, cut_at_stop, expression_fits, line_end_ascii, line_end_here}
+use Rattle.just_lexer.proofs.Fits.{StepFits, either, blanks_cut, cut_at_stop, expression_fits, line_end_ascii, line_end_here}
 use Rattle.just_lexer.specs.declared.fault.FaultKind.{FaultKind}
 use Rattle.just_lexer.specs.declared.fault.FaultKind.TheVariants as faults
 use Rattle.just_lexer.specs.declared.inside.Inside.{Inside}
@@ -37,17 +38,17 @@ stops_by false false true e = inr refl
 stops_by false false false e = absurd (omega arith)
 
 abbrev IsCommandEnd : Text → Type 0
-IsCommandEnd u = (begins u (codes "{{") ≡ true) ⊎ (ltb 0 (line_end u) ≡ true)
+IsCommandEnd u = (begins_with u (codes "{{") ≡ true) ⊎ (ltb 0 (line_end_length u) ≡ true)
 
 command_end : (u : Text) → passed Command u ≡ 0 → IsCommandEnd u
 unfolding passed
-command_end u stops = stops_by (begins u (codes "{{{{")) (begins u (codes "{{")) (ltb 0 (line_end u)) stops
+command_end u stops = stops_by (begins_with u (codes "{{{{")) (begins_with u (codes "{{")) (ltb 0 (line_end_length u)) stops
 
 end_ascii : (u : Text) → IsCommandEnd u → get_or u 0 0 < 128
 end_ascii u (inl there) = rw (front_byte u (codes "{{") 0 there (lit< tt)) (lit< tt)
 end_ascii u (inr more) = line_end_ascii u (grind (arith, nat_tests, more))
 
-end_of_line : (u : Text) → begins u (codes "{{") ≡ false → IsCommandEnd u → 0 < line_end u
+end_of_line : (u : Text) → begins_with u (codes "{{") ≡ false → IsCommandEnd u → 0 < line_end_length u
 end_of_line u none (inl there) = absurd (cc)
 end_of_line u none (inr more) = grind (arith, nat_tests, more)
 
@@ -58,16 +59,16 @@ span_zero rule t some e =
     let stops = span_stops rule 0 t (omega arith) in
     (none, rw none at stops)
 
-filled_end : (t : Text) → 0 < length t → (eqb (length t) 0 ≡ true) ⊎ (ltb 0 (line_end t) ≡ true) → 0 < line_end t
+filled_end : (t : Text) → 0 < length t → (eqb (length t) 0 ≡ true) ⊎ (ltb 0 (line_end_length t) ≡ true) → 0 < line_end_length t
 filled_end t some (inl e) = absurd (let none : length t ≡ 0 = grind (arith, nat_tests, e) in omega arith)
 filled_end t some (inr e) = grind (arith, nat_tests, e)
 
 -- a blank line without white space ends here
-blank_end : (t : Text) → 0 < length t → is_blank_line t ≡ true → span Blanks 0 t ≡ 0 → 0 < line_end t
+blank_end : (t : Text) → 0 < length t → is_blank_line t ≡ true → span Blanks 0 t ≡ 0 → 0 < line_end_length t
 unfolding is_blank_line
 blank_end t some blank none =
     let here = rw none at blank in
-    filled_end t some (either (eqb (length t) 0) (ltb 0 (line_end t)) here)
+    filled_end t some (either (eqb (length t) 0) (ltb 0 (line_end_length t)) here)
 
 both_true : (a b : Bool) → (a && b) ≡ true → b ≡ true
 both_true true b e = e
@@ -94,8 +95,8 @@ module _ (indentation t : Text) where
   unfolding FitsIn
   fits_end e = no_bytes t e
 
-  fits_weak : (step : Step) → Fits t step → FitsIn indentation t step
-  unfolding FitsIn Fits
+  fits_weak : (step : Step) → StepFits t step → FitsIn indentation t step
+  unfolding FitsIn StepFits
   fits_weak (Token kind n) fits = (inl fits.0, fits.1)
   fits_weak (Fault fault n) fits = fits
   fits_weak (OpenFault fault) fits = tt
@@ -115,9 +116,10 @@ module _ (indentation t : Text) where
   body_line_fits utf8 some =
       by_test (ltb 0 (span Command 0 t)) _ _
       (λ e. fits_token _ _ (grind (arith, nat_tests, e)) (cut_at_stop Command t command_stops))
-      (λ e. by_test (begins t (codes "{{")) _ _
+      (λ e. by_test (begins_with t (codes "{{")) _ _
       (λ there. fits_token kinds.InterpolationStart 2 (lit< tt) (cut_begin t (codes "{{") utf8 there (lit< tt) (lit< tt)))
-      (λ none. let more : 0 < line_end t = end_of_line t none (command_end t (span_zero Command t some e).1) in fits_token kinds.Eol (line_end t) more
+      (λ none. let more : 0 < line_end_length t = end_of_line t none (command_end t (span_zero Command t some e).1) in fits_token kinds.Eol
+      (line_end_length t) more
       (line_end_here t utf8 more)))
 
   -- ---- the start of a line
@@ -127,10 +129,10 @@ module _ (indentation t : Text) where
   blank_line_fits utf8 some blank =
       by_test (ltb 0 (span Blanks 0 t)) _ _
       (λ e. let more : 0 < span Blanks 0 t = grind (arith, nat_tests, e) in fits_token kinds.Whitespace _ more (blanks_cut t utf8 more))
-      (λ e. let more : 0 < line_end t = blank_end t some blank (span_zero Blanks t some e).0 in fits_token kinds.Eol (line_end t) more
+      (λ e. let more : 0 < line_end_length t = blank_end t some blank (span_zero Blanks t some e).0 in fits_token kinds.Eol (line_end_length t) more
       (line_end_here t utf8 more))
 
-  indentation_cut : (count : ℕ) → count ≡ span Blanks 0 t → IsUtf8 t → begins (take count t) indentation ≡ true → 0 < length indentation
+  indentation_cut : (count : ℕ) → count ≡ span Blanks 0 t → IsUtf8 t → begins_with (take count t) indentation ≡ true → 0 < length indentation
       → IsCharBoundary t (length indentation)
   indentation_cut count is utf8 e some =
       let within : length indentation ≤ count = omega (arith, front_within (take count t) indentation e, length-take count t) in
@@ -140,14 +142,14 @@ module _ (indentation t : Text) where
   body_start_fits : IsUtf8 t → 0 < length t → 0 < length indentation → FitsIn indentation t (body_start indentation t)
   unfolding body_start
   body_start_fits utf8 some inside =
-      by_test (begins (take (span Blanks 0 t) t) indentation) _ _
+      by_test (begins_with (take (span Blanks 0 t) t) indentation) _ _
       (λ e. fits_token kinds.Whitespace (length indentation) inside (indentation_cut (span Blanks 0 t) refl utf8 e inside))
       (λ no. by_test (eqb (span Blanks 0 t) 0) _ _
       (λ e. fits_dedent inside utf8)
       (λ e. fits_fault (indentation_fault (take (span Blanks 0 t) t)) (span Blanks 0 t) (blanks_cut t utf8 (grind (arith, nat_tests, e)))))
 
-  indented_fits : (has_colon : Bool) → IsUtf8 t → 0 < span Blanks 0 t → FitsIn indentation t (indented has_colon t)
-  unfolding indented
+  indented_fits : (has_colon : Bool) → IsUtf8 t → 0 < span Blanks 0 t → FitsIn indentation t (lexed_indentation has_colon t)
+  unfolding lexed_indentation
   indented_fits has_colon utf8 more =
       by_test (not has_colon) _ _
       (λ no. fits_fault faults.UnexpectedIndentation (span Blanks 0 t) (blanks_cut t utf8 more))
@@ -162,17 +164,17 @@ module _ (indentation t : Text) where
       (λ e. body_start_fits utf8 some (grind (arith, nat_tests, e)))
       (λ no. by_test (ltb 0 (span Blanks 0 t)) _ _
       (λ e. indented_fits has_colon utf8 (grind (arith, nat_tests, e)))
-      (λ no. fits_weak (expression None t) (expression_fits None t utf8 some)))
+      (λ no. fits_weak (lexed_expression None t) (expression_fits None t utf8 some)))
 
-  mark_cut : IsUtf8 t → begins t byte_order_mark ≡ true → IsCharBoundary t 3
+  mark_cut : IsUtf8 t → begins_with t byte_order_mark ≡ true → IsCharBoundary t 3
   unfolding lib.Utf8.encode
   mark_cut utf8 e = IsCharBoundary-past_char t (drop 3 t) 0 65279 (omega arith) utf8 (begun t byte_order_mark e)
 
   line_start_fits : (offset : ℕ) (has_colon : Bool) → IsUtf8 t → 0 < length t → FitsIn indentation t (line_start offset indentation has_colon t)
   unfolding line_start
   line_start_fits offset has_colon utf8 some =
-      by_test ((eqb offset 0) && begins t byte_order_mark) _ _
-      (λ e. fits_token kinds.ByteOrderMark 3 (lit< tt) (mark_cut utf8 (both_true (eqb offset 0) (begins t byte_order_mark) e)))
+      by_test ((eqb offset 0) && begins_with t byte_order_mark) _ _
+      (λ e. fits_token kinds.ByteOrderMark 3 (lit< tt) (mark_cut utf8 (both_true (eqb offset 0) (begins_with t byte_order_mark) e)))
       (λ no. by_test (is_blank_line t) _ _ (blank_line_fits utf8 some)
       (λ no. filled_line_fits has_colon utf8 some))
 
@@ -189,17 +191,17 @@ module _ (indentation t : Text) where
   unclosed_fits insides.Interpolation = fits_open _
   unclosed_fits (insides.FormatString quote) = fits_open _
 
-  enclosed_fits : (inside : Inside) → IsUtf8 t → FitsIn indentation t (enclosed inside t)
-  unfolding enclosed
+  enclosed_fits : (inside : Inside) → IsUtf8 t → FitsIn indentation t (lexed_inside inside t)
+  unfolding lexed_inside
   enclosed_fits inside utf8 =
       by_test (eqb (length t) 0) _ _ (λ e. unclosed_fits inside)
-      (λ e. fits_weak (expression (Some inside) t) (expression_fits (Some inside) t utf8 (grind (arith, nat_tests, e))))
+      (λ e. fits_weak (lexed_expression (Some inside) t) (expression_fits (Some inside) t utf8 (grind (arith, nat_tests, e))))
 
-  in_line_fits : IsUtf8 t → 0 < length t → FitsIn indentation t (in_line indentation t)
-  unfolding in_line
+  in_line_fits : IsUtf8 t → 0 < length t → FitsIn indentation t (lexed_line indentation t)
+  unfolding lexed_line
   in_line_fits utf8 some =
       by_test (ltb 0 (length indentation)) _ _ (λ e. body_line_fits utf8 some)
-      (λ no. fits_weak (expression None t) (expression_fits None t utf8 some))
+      (λ no. fits_weak (lexed_expression None t) (expression_fits None t utf8 some))
 
 outside_fits : (s : State) (t : Text) → IsUtf8 t → FitsIn s.indentation t (outside s t)
 unfolding outside
@@ -217,4 +219,4 @@ inside_fits (Some inside) s t utf8 = enclosed_fits s.indentation t inside utf8
 
 pub next_fits : (s : State) (t : Text) → IsUtf8 t → FitsIn s.indentation t (next s t)
 unfolding next
-next_fits s t utf8 = inside_fits (innermost s.openings) s t utf8
+next_fits s t utf8 = inside_fits (innermost_open s.openings) s t utf8

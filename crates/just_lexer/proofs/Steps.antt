@@ -5,7 +5,7 @@ use Rattle.std.proofs.lemmas.List.{length-drop}
 use Rattle.just_syntax.specs.Plain.{Text, Place, Token}
 use Rattle.just_syntax.specs.Place.{token_at}
 use Rattle.just_lexer.specs.Advances.{Advances, PlaceFits}
-use Rattle.just_lexer.specs.Lexes.{Ending, Faulty, Whole, IsLexed, IsToken, Lexes, after, indentation_after, lexeme_at, place_after, place_past}
+use Rattle.just_lexer.specs.Lexes.{Ending, Faulty, Whole, IsLexed, IsToken, Lexes, state_after, indentation_after, lexeme_at, place_after, place_past}
 use Rattle.just_lexer.specs.Line.{next}
 use Rattle.just_lexer.specs.State.{Lexeme, State, opening_token}
 use Rattle.just_lexer.specs.declared.fault.FaultKind.{FaultKind}
@@ -45,10 +45,10 @@ module _ (path source t : Text) (s : State) (front : List Lexeme)
     (same : (rest : List Lexeme) (ending : Ending) → Lexes s t rest ending → IsLexed path source (front ++ rest) ending) where
   -- one more token
   pub more_lexed : (kind : TokenKind) (n : ℕ) (lexeme : Lexeme) (later : State) (u : Text) (all : List Lexeme) → steps.Token kind n ≡ next s t
-      → lexeme ≡ lexeme_at s kind (take n t) → later ≡ after kind (take n t) s → u ≡ drop n t → all ≡ front ++ lexeme ∷ []
+      → lexeme ≡ lexeme_at s kind (take n t) → later ≡ state_after kind (take n t) s → u ≡ drop n t → all ≡ front ++ lexeme ∷ []
       → (rest : List Lexeme) (ending : Ending) → Lexes later u rest ending → IsLexed path source (all ++ rest) ending
   more_lexed kind n lexeme later u all step is_lexeme is_later is_rest is_all rest ending lexes =
-      let follows : Lexes (after kind (take n t) s) (drop n t) rest ending = rw is_later at (rw is_rest at lexes) in
+      let follows : Lexes (state_after kind (take n t) s) (drop n t) rest ending = rw is_later at (rw is_rest at lexes) in
       let token : IsToken (steps.Token kind n) s t lexeme (λ a b. Lexes a b rest ending) ((rest ≡ []) × (ending ≡ Whole)) = (is_lexeme, follows) in
       let whole : Lexes s t (lexeme ∷ rest) ending =
       subst (λ x. IsToken x s t lexeme (λ a b. Lexes a b rest ending) ((rest ≡ []) × (ending ≡ Whole))) step token in

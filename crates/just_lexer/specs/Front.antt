@@ -4,17 +4,17 @@ use Rattle.std.specs.List.{starts_with}
 use Rattle.just_syntax.specs.Plain.{Text}
 
 -- the text begins with these bytes
-unfoldable pub begins : Text → Text → Bool
-begins text front = starts_with nat_eq text front
+unfoldable pub begins_with : Text → Text → Bool
+begins_with text front = starts_with nat_eq text front
 
 -- the length of the line end that a text begins with, or 0
-unfoldable pub line_end : Text → ℕ
-line_end text = if begins text (codes "\n") then 1 else if begins text (codes "\r\n") then 2 else 0
+unfoldable pub line_end_length : Text → ℕ
+line_end_length text = if begins_with text (codes "\n") then 1 else if begins_with text (codes "\r\n") then 2 else 0
 
 -- the first byte, or 0
-abbrev pub first : Text → ℕ
-first [] = 0
-first (byte ∷ rest) = byte
+abbrev pub leading_byte : Text → ℕ
+leading_byte [] = 0
+leading_byte (byte ∷ rest) = byte
 
 -- a space or a tab
 abbrev pub is_blank : ℕ → Bool

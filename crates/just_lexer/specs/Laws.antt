@@ -8,21 +8,21 @@ use Rattle.just_lexer.specs.Lexes.{Ending, IsLexed, place_after}
 use Rattle.just_lexer.specs.State.{Lexeme}
 
 -- the texts of tokens, one after another
-abbrev pub text_of : List Lexeme → Text
-text_of [] = []
-text_of (lexeme ∷ lexemes) = lexeme.token.lexeme ++ text_of lexemes
+abbrev pub text_of_tokens : List Lexeme → Text
+text_of_tokens [] = []
+text_of_tokens (lexeme ∷ lexemes) = lexeme.token.lexeme ++ text_of_tokens lexemes
 
 -- the place of a token
-abbrev pub place_of : Token → Place
-place_of token = record { column = token.column; line = token.line; offset = token.offset; path = token.path }
+abbrev pub token_place : Token → Place
+token_place token = record { column = token.column; line = token.line; offset = token.offset; path = token.path }
 
 -- a token is at the place of its offset in the text of a file
-abbrev pub IsPlaced : Text → Text → Token → Type 0
-IsPlaced path source token = place_of token ≡ place_after (start_of path) (take token.offset source)
+abbrev pub IsTokenPlaced : Text → Text → Token → Type 0
+IsTokenPlaced path source token = token_place token ≡ place_after (start_of path) (take token.offset source)
 
 -- each token is
-abbrev pub ArePlaced : Text → Text → List Lexeme → Type 0
-ArePlaced path source lexemes = AllByRecursion (λ lexeme. IsPlaced path source lexeme.token) lexemes
+abbrev pub AreTokensPlaced : Text → Text → List Lexeme → Type 0
+AreTokensPlaced path source lexemes = AllByRecursion (λ lexeme. IsTokenPlaced path source lexeme.token) lexemes
 
 -- a text has one list of tokens, and lexing ends in one way
 abbrev pub OneResult : Type 0

@@ -5,7 +5,7 @@ use Rattle.just_syntax.specs.Plain.{Text, Place, Token}
 use Rattle.just_syntax.specs.Place.{token_at}
 use Rattle.just_lexer.specs.Expression.{mark_after_letter}
 use Rattle.just_lexer.specs.Line.{next}
-use Rattle.just_lexer.specs.State.{State, Lexeme, Opening, at_start, opening_token}
+use Rattle.just_lexer.specs.State.{State, Lexeme, Opening, start_state, opening_token}
 use Rattle.just_lexer.specs.declared.fault.FaultKind.{FaultKind}
 use Rattle.just_lexer.specs.declared.inside.Delimiter.TheVariants.{Brace, Bracket, Paren}
 use Rattle.just_lexer.specs.declared.inside.Inside.{Inside}
@@ -82,8 +82,8 @@ has_colon_after kinds.Whitespace is_outside in_line has_colon = has_colon
 has_colon_after _ is_outside in_line has_colon = in_line && has_colon
 
 -- the state after a token
-abbrev pub after : TokenKind → Text → State → State
-after kind lexeme s = record {
+abbrev pub state_after : TokenKind → Text → State → State
+state_after kind lexeme s = record {
   place = place_after s.place lexeme;
   openings = openings_after kind (token_at s.place lexeme) s.openings;
   indentation = indentation_after kind lexeme s.indentation;
@@ -111,7 +111,7 @@ IsFault _ s text ending = ⊥
 -- A step is this token. What follows it, from the state after it on, is as said; an end is followed by nothing.
 abbrev pub IsToken : Step → State → Text → Lexeme → (State → Text → Type 0) → Type 0 → Type 0
 IsToken (steps.Token kind count) s text lexeme Follows Nothing =
-    (lexeme ≡ lexeme_at s kind (take count text)) × Follows (after kind (take count text) s) (drop count text)
+    (lexeme ≡ lexeme_at s kind (take count text)) × Follows (state_after kind (take count text) s) (drop count text)
 IsToken steps.End s text lexeme Follows Nothing = (lexeme ≡ lexeme_at s kinds.Eof []) × Nothing
 IsToken _ s text lexeme Follows Nothing = ⊥
 
@@ -124,4 +124,4 @@ Lexes s text (lexeme ∷ lexemes) ending =
 
 -- the text of a file has these tokens, and lexing ends so
 abbrev pub IsLexed : Text → Text → List Lexeme → Ending → Type 0
-IsLexed path source lexemes ending = Lexes (at_start path) source lexemes ending
+IsLexed path source lexemes ending = Lexes (start_state path) source lexemes ending

@@ -1,7 +1,7 @@
 -- Quotation marks.
 use Rattle.std.specs.Prelude.{Bool, true, false, Option, Some, None, codes, if◌then◌else◌}
 use Rattle.just_syntax.specs.Plain.{Text}
-use Rattle.just_lexer.specs.Front.{begins}
+use Rattle.just_lexer.specs.Front.{begins_with}
 use Rattle.just_lexer.specs.declared.fault.FaultKind.{FaultKind}
 use Rattle.just_lexer.specs.declared.fault.FaultKind.TheVariants.{UnterminatedBacktick, UnterminatedString}
 use Rattle.just_lexer.specs.declared.kind.TokenKind.{TokenKind}
@@ -28,12 +28,12 @@ is_cooked _ = false
 -- the mark that a text begins with
 unfoldable pub quote_at : Text → Option Quote
 quote_at text =
-    if begins text (codes "```") then Some IndentedBacktick else
-    if begins text (codes "`") then Some Backtick else
-    if begins text (codes "\"\"\"") then Some IndentedCooked else
-    if begins text (codes "\"") then Some Cooked else
-    if begins text (codes "'''") then Some IndentedRaw else
-    if begins text (codes "'") then Some Raw else
+    if begins_with text (codes "```") then Some IndentedBacktick else
+    if begins_with text (codes "`") then Some Backtick else
+    if begins_with text (codes "\"\"\"") then Some IndentedCooked else
+    if begins_with text (codes "\"") then Some Cooked else
+    if begins_with text (codes "'''") then Some IndentedRaw else
+    if begins_with text (codes "'") then Some Raw else
     None
 
 -- the kind of a token between two marks

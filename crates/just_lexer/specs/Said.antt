@@ -78,10 +78,10 @@ names_token faults.UnknownStart = true
 names_token _ = false
 
 -- what is wrong at a token of this text
-abbrev pub fault_text : FaultKind → Text → Text
-fault_text kind lexeme =
+abbrev pub lexical_fault_text : FaultKind → Text → Text
+lexical_fault_text kind lexeme =
     if names_token kind then fault_words kind ++ codes " `" ++ lexeme ++ codes "`" else fault_words kind
 
-abbrev pub error_text : LexError → Text
-error_text (errors.Fault kind token) = fault_text kind token.lexeme.now
-error_text errors.OutOfMemory = no_memory_text
+abbrev pub lex_error_text : LexError → Text
+lex_error_text (errors.Fault kind token) = lexical_fault_text kind token.lexeme.now
+lex_error_text errors.OutOfMemory = no_memory_text

@@ -26,9 +26,9 @@ pub record State : Type 0 where
   pub has_colon : Bool
 
 -- the innermost of what is open
-abbrev pub innermost : List Opening → Option Inside
-innermost [] = None
-innermost (opening ∷ openings) = Some opening.inside
+abbrev pub innermost_open : List Opening → Option Inside
+innermost_open [] = None
+innermost_open (opening ∷ openings) = Some opening.inside
 
 -- the token that opened it; without one, an empty token
 abbrev pub opening_token : State → List Opening → Token
@@ -36,6 +36,6 @@ opening_token s [] = token_at s.place []
 opening_token s (opening ∷ openings) = opening.token
 
 -- the state at the start of the file with this path
-abbrev pub at_start : Text → State
-at_start path =
+abbrev pub start_state : Text → State
+start_state path =
     record { place = start_of path; openings = []; indentation = []; in_line = false; has_colon = false }

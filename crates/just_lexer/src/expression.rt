@@ -1,8 +1,9 @@
 // What comes next in an expression.
 
 ghost use Rattle.std.specs.Prelude.{◌≡◌, ◌≤◌, ◌<◌, length, ◌^◌};
-ghost use Rattle.just_lexer.specs.Expression.{backslash, closing, closing_braces, end_of_line, expression};
-ghost use Rattle.just_lexer.specs.Expression.{format_string, mark_after_letter, marked, named, operator, piece, string};
+ghost use Rattle.just_lexer.specs.Expression.{backslash, closing_braces, closing_token, end_of_line, lexed_expression};
+ghost use Rattle.just_lexer.specs.Expression.{format_string, lexed_name, lexed_piece, lexed_string, mark_after_letter};
+ghost use Rattle.just_lexer.specs.Expression.{operator, string_or_symbol};
 ghost use Rattle.just_lexer.specs.Expression.{symbol};
 
 use crate::fault::FaultKind;
@@ -14,9 +15,9 @@ use crate::span::{Rule, span};
 use crate::step::{Step, fault, token};
 
 /// What comes next in an expression that is inside of this.
-#[tactic(auto, unfolding(crate::specs::Expression::expression))]
+#[tactic(auto, unfolding(crate::specs::Expression::lexed_expression))]
 pub(crate) fn expression(inside: Option<Inside>, text: &[u8]) -> Step
-    ensures { result ≡ expression inside text.now }
+    ensures { result ≡ lexed_expression inside text.now }
 {
     let byte = first(text);
     if is_blank(byte) {
@@ -40,9 +41,9 @@ pub(crate) fn expression(inside: Option<Inside>, text: &[u8]) -> Step
 }
 
 // A name, or a string with a letter before it.
-#[tactic(auto, unfolding(crate::specs::Expression::named))]
+#[tactic(auto, unfolding(crate::specs::Expression::lexed_name))]
 fn named(text: &[u8]) -> Step
-    ensures { result ≡ named text.now }
+    ensures { result ≡ lexed_name text.now }
 {
     if begins(text, b"x'") || begins(text, b"x\"") {
         fault(FaultKind::ShellExpandedString, 1)
@@ -77,10 +78,10 @@ fn format_string(quote: Quote, text: &[u8]) -> Step
 }
 
 // A piece of a format string, whose text comes after its first bytes.
-#[tactic(auto, unfolding(crate::specs::Expression::piece))]
+#[tactic(auto, unfolding(crate::specs::Expression::lexed_piece))]
 fn piece(quote: Quote, opening: usize, opens: TokenKind, closes: TokenKind, text: &[u8]) -> Step
     requires { opening ≤ 4 }
-    ensures { result ≡ piece quote opening opens closes text.now }
+    ensures { result ≡ lexed_piece quote opening opens closes text.now }
 {
     let end = opening + span(Rule::Piece(quote), after(text, opening));
     if text.len() <= end {
@@ -93,9 +94,9 @@ fn piece(quote: Quote, opening: usize, opens: TokenKind, closes: TokenKind, text
 }
 
 // A string or a backtick.
-#[tactic(auto, unfolding(crate::specs::Expression::string))]
+#[tactic(auto, unfolding(crate::specs::Expression::lexed_string))]
 fn string(quote: Quote, text: &[u8]) -> Step
-    ensures { result ≡ string quote text.now }
+    ensures { result ≡ lexed_string quote text.now }
 {
     let mark = quote.delimiter().len();
     let end = mark + span(Rule::Quoted(quote), after(text, mark));
@@ -134,9 +135,9 @@ fn backslash(text: &[u8]) -> Step
 }
 
 // A string, a backtick or a symbol.
-#[tactic(auto, unfolding(crate::specs::Expression::marked))]
+#[tactic(auto, unfolding(crate::specs::Expression::string_or_symbol))]
 fn marked(quote: Option<Quote>, inside: Option<Inside>, text: &[u8]) -> Step
-    ensures { result ≡ marked quote inside text.now }
+    ensures { result ≡ string_or_symbol quote inside text.now }
 {
     match quote {
         Some(quote) => string(quote, text),
@@ -163,9 +164,9 @@ fn symbol(inside: Option<Inside>, text: &[u8]) -> Step
 }
 
 // A closing delimiter.
-#[tactic(auto, unfolding(crate::specs::Expression::closing))]
+#[tactic(auto, unfolding(crate::specs::Expression::closing_token))]
 fn closing(close: Delimiter, kind: TokenKind, inside: Option<Inside>) -> Step
-    ensures { result ≡ closing close kind inside }
+    ensures { result ≡ closing_token close kind inside }
 {
     match inside {
         Some(

@@ -1,21 +1,22 @@
 // What a text begins with.
 
 ghost use Rattle.std.specs.Prelude.{drop, ◌≡◌, ◌≤◌};
-ghost use Rattle.just_lexer.specs.Front.{begins, first, is_blank, is_continuation, is_name_part, is_name_start};
-ghost use Rattle.just_lexer.specs.Front.{line_end};
+ghost use Rattle.just_lexer.specs.Front.{begins_with, is_blank, is_continuation, is_name_part, is_name_start};
+ghost use Rattle.just_lexer.specs.Front.{leading_byte};
+ghost use Rattle.just_lexer.specs.Front.{line_end_length};
 
 /// Whether a text begins with these bytes.
-#[tactic(auto, unfolding(crate::specs::Front::begins))]
+#[tactic(auto, unfolding(crate::specs::Front::begins_with))]
 pub(crate) fn begins(text: &[u8], front: &[u8]) -> bool
-    ensures { result ≡ begins text.now front.now }
+    ensures { result ≡ begins_with text.now front.now }
 {
     text.starts_with(front)
 }
 
 /// The length of the line end that a text begins with, or 0.
-#[tactic(auto, unfolding(crate::specs::Front::line_end))]
+#[tactic(auto, unfolding(crate::specs::Front::line_end_length))]
 pub(crate) fn line_end(text: &[u8]) -> usize
-    ensures value { result ≡ line_end text.now }
+    ensures value { result ≡ line_end_length text.now }
     ensures small { result ≤ 2 }
 {
     if begins(text, b"\n") {
@@ -29,7 +30,7 @@ pub(crate) fn line_end(text: &[u8]) -> usize
 
 /// The first byte of a text, or 0.
 pub(crate) fn first(text: &[u8]) -> u8
-    ensures { result ≡ first text.now }
+    ensures { result ≡ leading_byte text.now }
 {
     match text.first() {
         Some(byte) => *byte,

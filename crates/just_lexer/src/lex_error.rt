@@ -2,7 +2,7 @@
 
 ghost use Rattle.std.specs.Prelude.{option_map, ◌≡◌};
 ghost use Rattle.just_syntax.specs.View.{token_view};
-ghost use Rattle.just_lexer.specs.Fault.{fault_token};
+ghost use Rattle.just_lexer.specs.Fault.{lex_error_token};
 
 use crate::fault::FaultKind;
 use just_syntax::out_of_memory::OutOfMemory;
@@ -23,7 +23,7 @@ pub enum LexError<'src> {
 impl<'src> LexError<'src> {
     /// The token at which the fault is; `None` for `OutOfMemory`.
     pub fn token(&self) -> Option<Token<'src>>
-        ensures { option_map token_view result ≡ fault_token self.now }
+        ensures { option_map token_view result ≡ lex_error_token self.now }
     {
         match self {
             LexError::Fault { token, .. } => Some(*token),
@@ -35,11 +35,11 @@ impl<'src> LexError<'src> {
 /// Writes what is wrong, for example ``unclosed delimiter `(` `` or `unterminated string`.
 impl fmt::Display for LexError<'_> {
     ghost use Rattle.std.specs.Prelude.{Some};
-    ghost use Rattle.just_lexer.specs.Said.{error_text};
+    ghost use Rattle.just_lexer.specs.Said.{lex_error_text};
 
-    ghost output = { λ error. Some (error_text error) };
+    ghost output = { λ error. Some (lex_error_text error) };
 
-    ghost styled_output = { λ error _. Some (error_text error) };
+    ghost styled_output = { λ error _. Some (lex_error_text error) };
 
     fn fmt<W: fmt::Write>(&self, f: &mut fmt::Formatter<W>) -> fmt::Result {
         match self {

@@ -5,9 +5,9 @@ ghost use Rattle.std.specs.Str.{IsCharBoundary};
 ghost use Rattle.just_syntax.specs.Place.{token_at};
 ghost use Rattle.just_syntax.specs.View.{place_view, token_view};
 ghost use Rattle.just_lexer.specs.Advances.{FitsIn, PlaceFits};
-ghost use Rattle.just_lexer.specs.Lexes.{after, lexeme_at};
+ghost use Rattle.just_lexer.specs.Lexes.{lexeme_at, state_after};
 ghost use Rattle.just_lexer.specs.Line.{next, outside};
-ghost use Rattle.just_lexer.specs.State.{at_start, innermost, opening_token};
+ghost use Rattle.just_lexer.specs.State.{innermost_open, opening_token, start_state};
 ghost use Rattle.just_lexer.specs.View.{lexeme_view, lexer_view, opening_view};
 
 use crate::changes::{
@@ -46,7 +46,7 @@ pub(crate) struct Lexer<'src> {
 impl<'src> Lexer<'src> {
     /// The start of the file with this path and text.
     pub(crate) fn new(alloc: Global, path: &'src str, source: &'src str) -> Lexer<'src>
-        ensures state { lexer_view result ≡ at_start path.now }
+        ensures state { lexer_view result ≡ start_state path.now }
         ensures text { result.rest.now ≡ source.now }
     {
         Lexer {
@@ -108,7 +108,7 @@ impl<'src> Lexer<'src> {
         ensures lexeme { IfOk result (λ lexeme. lexeme_view lexeme
             ≡ lexeme_at (lexer_view self.old) kind (take count self.old.rest.now)) }
         ensures state { OnOk result (lexer_view self.new
-            ≡ after kind (take count self.old.rest.now) (lexer_view self.old)) }
+            ≡ state_after kind (take count self.old.rest.now) (lexer_view self.old)) }
         ensures rest { OnOk result (self.new.rest.now ≡ drop count self.old.rest.now) }
     {
         let (lexeme, rest) = self.rest.split_at(count);
@@ -155,7 +155,7 @@ impl<'src> Lexer<'src> {
 
 // The innermost of what is open.
 fn innermost(openings: &[Opening]) -> Option<Inside>
-    ensures { result ≡ innermost (reverse (map opening_view openings.now)) }
+    ensures { result ≡ innermost_open (reverse (map opening_view openings.now)) }
 {
     match openings.last() {
         None => None,

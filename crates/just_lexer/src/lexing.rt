@@ -1,8 +1,8 @@
 // All tokens of a text.
 
 ghost use Rattle.std.specs.Prelude.{IfErr, IfOk, map, ◌≡◌};
-ghost use Rattle.just_lexer.specs.Fault.{IsFaultPlaced, IsFirstFault};
-ghost use Rattle.just_lexer.specs.Laws.{ArePlaced, text_of};
+ghost use Rattle.just_lexer.specs.Fault.{IsFaultPlaced, IsFirstLexicalFault};
+ghost use Rattle.just_lexer.specs.Laws.{AreTokensPlaced, text_of_tokens};
 ghost use Rattle.just_lexer.specs.Lexes.{IsLexed, Whole};
 ghost use Rattle.just_lexer.specs.View.{lexeme_view};
 
@@ -35,13 +35,13 @@ pub fn lex<'src>(
     ensures exact { IfOk result (λ lexemes. IsLexed path.now source.now (map lexeme_view lexemes.items) Whole) }
 
     // Their texts, one after another, are the text.
-    ensures whole { IfOk result (λ lexemes. text_of (map lexeme_view lexemes.items) ≡ source.now) }
+    ensures whole { IfOk result (λ lexemes. text_of_tokens (map lexeme_view lexemes.items) ≡ source.now) }
 
     // Each is at the place of its offset.
-    ensures places { IfOk result (λ lexemes. ArePlaced path.now source.now (map lexeme_view lexemes.items)) }
+    ensures places { IfOk result (λ lexemes. AreTokensPlaced path.now source.now (map lexeme_view lexemes.items)) }
 
     // A fault comes after the tokens of the definition, and its token is at the place of its offset.
-    ensures fault { IfErr result (λ error. IsFirstFault path.now source.now error) }
+    ensures fault { IfErr result (λ error. IsFirstLexicalFault path.now source.now error) }
     ensures fault_place { IfErr result (λ error. IsFaultPlaced path.now source.now error) }
 {
     all_tokens(alloc, path, source)
@@ -54,7 +54,7 @@ fn all_tokens<'src>(
     source: &'src str,
 ) -> Result<Vec<Lexeme<'src>>, LexError<'src>>
     ensures exact { IfOk result (λ lexemes. IsLexed path.now source.now (map lexeme_view lexemes.items) Whole) }
-    ensures fault { IfErr result (λ error. IsFirstFault path.now source.now error) }
+    ensures fault { IfErr result (λ error. IsFirstLexicalFault path.now source.now error) }
 {
     let mut lexer = Lexer::new(alloc, path, source);
     let mut lexemes = Vec::new(alloc);

@@ -2,9 +2,9 @@
 
 ghost use Rattle.std.specs.Prelude.{◌==◌, ◌≡◌};
 ghost use Rattle.std.specs.List.{list_any};
-ghost use Rattle.just_lexer.specs.Line.{blank_line, body_line, body_start, enclosed, filled_line, in_line};
+ghost use Rattle.just_lexer.specs.Line.{blank_line, body_line, body_start, filled_line, lexed_inside, lexed_line};
 ghost use Rattle.just_lexer.specs.Line.{indentation_fault};
-ghost use Rattle.just_lexer.specs.Line.{indented, is_blank_line, is_mixed, line_start, text_end, unclosed};
+ghost use Rattle.just_lexer.specs.Line.{is_blank_line, is_mixed, lexed_indentation, line_start, text_end, unclosed};
 
 use crate::expression::expression;
 use crate::fault::FaultKind;
@@ -15,9 +15,9 @@ use crate::span::{Rule, span};
 use crate::step::{Step, fault, token};
 
 /// What comes next inside of this.
-#[tactic(auto, unfolding(crate::specs::Line::enclosed))]
+#[tactic(auto, unfolding(crate::specs::Line::lexed_inside))]
 pub(crate) fn enclosed(inside: Inside, text: &[u8]) -> Step
-    ensures { result ≡ enclosed inside text.now }
+    ensures { result ≡ lexed_inside inside text.now }
 {
     if text.is_empty() {
         unclosed(inside)
@@ -52,9 +52,9 @@ pub(crate) fn text_end(indentation: &[u8]) -> Step
 }
 
 /// What comes next in a line outside of all delimiters.
-#[tactic(auto, unfolding(crate::specs::Line::in_line))]
+#[tactic(auto, unfolding(crate::specs::Line::lexed_line))]
 pub(crate) fn in_line(indentation: &[u8], text: &[u8]) -> Step
-    ensures { result ≡ in_line indentation.now text.now }
+    ensures { result ≡ lexed_line indentation.now text.now }
 {
     if indentation.len() > 0 {
         body_line(text)
@@ -145,9 +145,9 @@ fn body_start(indentation: &[u8], text: &[u8]) -> Step
 }
 
 // The start of an indented line outside of bodies.
-#[tactic(auto, unfolding(crate::specs::Line::indented))]
+#[tactic(auto, unfolding(crate::specs::Line::lexed_indentation))]
 fn indented(has_colon: bool, text: &[u8]) -> Step
-    ensures { result ≡ indented has_colon text.now }
+    ensures { result ≡ lexed_indentation has_colon text.now }
 {
     let count = span(Rule::Blanks, text);
     if !has_colon {
