@@ -12,7 +12,7 @@ use Rattle.just_expression_parser.proofs.Actions.{no_token, not_here, not_operat
 use Rattle.just_expression_parser.specs.Grammar as grammar
 use Rattle.just_expression_parser.specs.Grammar.{reads}
 use Rattle.just_expression_parser.specs.Machine as machine
-use Rattle.just_expression_parser.specs.Machine.{Done, Form, Frame, Operators, closing, run}
+use Rattle.just_expression_parser.specs.Machine.{Done, Form, MachineFrame, Operators, closing_kind, parse}
 use Rattle.just_expression_parser.specs.Operator.{comparison_kind, level, operator_of}
 use Rattle.just_expression_parser.specs.Parsed.{IsNotAt, is_at_word}
 use Rattle.just_expression_parser.specs.Tokens.{Mark, One, Tokens, Word, code, is_kind, is_word, lexeme}
@@ -64,13 +64,13 @@ end_more m n (t ∷ ts) most (no_else, no_paren, below) = (no_else, no_paren, be
 
 -- ---- what waits for operators
 
-stays_at : (least below : ℕ) (t : Lexeme) (ts : Tokens) (e : Expr) (frames : List Frame) (o : Option Operator) → operator_of t.kind ≡ o → IsBelow least o
-    → run (t ∷ ts) (Done e) (Operators least below ∷ frames) ≡ run (t ∷ ts) (Done e) frames
+stays_at : (least below : ℕ) (t : Lexeme) (ts : Tokens) (e : Expr) (frames : List MachineFrame) (o : Option Operator) → operator_of t.kind ≡ o → IsBelow least o
+    → parse (t ∷ ts) (Done e) (Operators least below ∷ frames) ≡ parse (t ∷ ts) (Done e) frames
 stays_at least below t ts e frames None is low = not_operator least below (t ∷ ts) t e frames refl is
 stays_at least below t ts e frames (Some o) is low = not_here least below (t ∷ ts) t o e frames refl is (inl low)
 
-pub no_more : (least below : ℕ) (ts : Tokens) (e : Expr) (frames : List Frame) → IsEnd least ts
-    → run ts (Done e) (Operators least below ∷ frames) ≡ run ts (Done e) frames
+pub no_more : (least below : ℕ) (ts : Tokens) (e : Expr) (frames : List MachineFrame) → IsEnd least ts
+    → parse ts (Done e) (Operators least below ∷ frames) ≡ parse ts (Done e) frames
 no_more least below [] e frames end = no_token least below [] e frames refl
 no_more least below (t ∷ ts) e frames (no_else, no_paren, low) = stays_at least below t ts e frames (operator_of t.kind) refl low
 
@@ -82,7 +82,7 @@ BeginsValue ts = (is_at_word (codes "if") ts ≡ false) × IsNotAt kinds.Slash t
 
 -- a token that ends no elements
 abbrev Opens : Tokens → Type 0
-Opens ts = (form : Form) → IsNotAt (closing form) ts
+Opens ts = (form : Form) → IsNotAt (closing_kind form) ts
 
 pub no_word : (word : Text) (kind : TokenKind) (t : Token) → (kind ≡ kinds.Identifier → ⊥) → is_word word (lexeme kind t) ≡ false
 unfolding is_word
@@ -280,7 +280,7 @@ pub end_closes : IsClosing kinds.FormatStringEnd
 unfolding code
 end_closes = (λ same. absurd (omega (arith, ap code same)), λ same. absurd (omega (arith, ap code same)), refl)
 
-pub form_closes : (form : Form) → IsClosing (closing form)
+pub form_closes : (form : Form) → IsClosing (closing_kind form)
 form_closes (machine.Call name) = paren_closes
 form_closes (machine.ListOf token) = bracket_closes
 

@@ -10,7 +10,8 @@ use Rattle.just_expression_parser.proofs.Runs.{refuses_end, takes}
 use Rattle.just_expression_parser.proofs.Sound.{not_read}
 use Rattle.just_expression_parser.proofs.Steps.{read_all}
 use Rattle.just_expression_parser.specs.Machine as machine
-use Rattle.just_expression_parser.specs.Machine.{Action, Done, Frame, Next, Passes, Read, Refused, Refuses, Takes, begins, ends, ends_with, run, takes_it}
+use Rattle.just_expression_parser.specs.Machine.{Action, Done, MachineFrame, Next, Passes, Read, Refused, Refuses, Takes, begins, ends, ends_with, parse}
+use Rattle.just_expression_parser.specs.Machine.{takes_it}
 use Rattle.just_expression_parser.specs.Parsed.{BeginsNone, IsNoExpression, IsRefused}
 use Rattle.just_expression_parser.specs.Tokens.{Tokens}
 use Rattle.just_expression_parser.specs.declared.parse_error.ParseError.{ParseError}
@@ -18,9 +19,9 @@ use Rattle.just_expression_parser.specs.declared.parse_error.ParseError.TheVaria
 use Rattle.just_expression_parser.specs.declared.parse_error.Fault.{Fault}
 
 -- the tokens before the refused one, with which reading is refused whatever comes after that one
-abbrev Early : Tokens → Next → List Frame → Fault → Lexeme → Tokens → Type 0
+abbrev Early : Tokens → Next → List MachineFrame → Fault → Lexeme → Tokens → Type 0
 Early ts next frames fault t later =
-    (front : Tokens) × (ts ≡ front ++ t ∷ later) × ((us : Tokens) → run (front ++ t ∷ us) next frames ≡ Refused fault (t ∷ us))
+    (front : Tokens) × (ts ≡ front ++ t ∷ later) × ((us : Tokens) → parse (front ++ t ∷ us) next frames ≡ Refused fault (t ∷ us))
 
 same_refusal : (f fault : Fault) (at ts : Tokens) → Refused f at ≡ Refused fault ts → (f ≡ fault) × (at ≡ ts)
 same_refusal f fault at ts same = (cc, cc)
@@ -33,7 +34,7 @@ no_first t later same = cc
 
 -- ---- at the end, what is refused is the end
 
-takes_nothing : (frame : Frame) (e : Expr) (next : Next) (inner : List Frame) → ends_with frame e ≡ Takes next inner → ⊥
+takes_nothing : (frame : MachineFrame) (e : Expr) (next : Next) (inner : List MachineFrame) → ends_with frame e ≡ Takes next inner → ⊥
 takes_nothing (machine.Assertion name) e next inner is = absurd (cc)
 takes_nothing machine.Condition e next inner is = absurd (cc)
 takes_nothing (machine.Consequence condition) e next inner is = absurd (cc)
@@ -48,25 +49,27 @@ takes_nothing (machine.Otherwise condition consequence) e next inner is = absurd
 takes_nothing (machine.Root token) e next inner is = absurd (cc)
 takes_nothing (machine.Side lhs operator token) e next inner is = absurd (cc)
 
-end_of_frame : (frame : Frame) (frames : List Frame) (e : Expr) (fault : Fault) (at : Tokens) (a : Action) → ends_with frame e ≡ a
-    → ((after : Expr) → run [] (Done after) frames ≡ Refused fault at → at ≡ []) → run [] (Done e) (frame ∷ frames) ≡ Refused fault at → at ≡ []
+end_of_frame : (frame : MachineFrame) (frames : List MachineFrame) (e : Expr) (fault : Fault) (at : Tokens) (a : Action) → ends_with frame e ≡ a
+    → ((after : Expr) → parse [] (Done after) frames ≡ Refused fault at → at ≡ []) → parse [] (Done e) (frame ∷ frames) ≡ Refused fault at → at ≡ []
 end_of_frame frame frames e fault at (Takes next inner) is outer r = absurd (takes_nothing frame e next inner is)
 end_of_frame frame frames e fault at (Passes after) is outer r = outer after (sym (frame_passes_end frame frames e after is) ∙ r)
 end_of_frame frame frames e fault at (Refuses f) is outer r = sym (same_refusal f fault [] at (sym (frame_refuses_end frame frames e f is) ∙ r)).1
 
-end_of_frames : (frames : List Frame) (e : Expr) (fault : Fault) (at : Tokens) → run [] (Done e) frames ≡ Refused fault at → at ≡ []
+end_of_frames : (frames : List MachineFrame) (e : Expr) (fault : Fault) (at : Tokens) → parse [] (Done e) frames ≡ Refused fault at → at ≡ []
 end_of_frames [] e fault at r = absurd (not_read fault at e [] (sym r ∙ sym (read_all [] e [] refl)))
 end_of_frames (frame ∷ frames) e fault at r =
     end_of_frame frame frames e fault at (ends_with frame e) refl (λ after r. end_of_frames frames after fault at r) r
 
-refused_end : (next : Next) (frames : List Frame) (f fault : Fault) (at : Tokens) → ends next ≡ Refuses f → run [] next frames ≡ Refused fault at → at ≡ []
+refused_end : (next : Next) (frames : List MachineFrame) (f fault : Fault) (at : Tokens) → ends next ≡ Refuses f → parse [] next frames ≡ Refused fault at
+    → at ≡ []
 refused_end next frames f fault at is r = sym (same_refusal f fault [] at (sym (refuses_end next frames f is) ∙ r)).1
 
-passed_end : (next : Next) (frames : List Frame) (e : Expr) (fault : Fault) (at : Tokens) → ends next ≡ Passes e → run [] next frames ≡ Refused fault at
+passed_end : (next : Next) (frames : List MachineFrame) (e : Expr) (fault : Fault) (at : Tokens) → ends next ≡ Passes e
+    → parse [] next frames ≡ Refused fault at
     → at ≡ []
 passed_end next frames e fault at is r = end_of_frames frames e fault at (sym (passes_end next frames e is) ∙ r)
 
-end_is : (next : Next) (frames : List Frame) (fault : Fault) (at : Tokens) → run [] next frames ≡ Refused fault at → at ≡ []
+end_is : (next : Next) (frames : List MachineFrame) (fault : Fault) (at : Tokens) → parse [] next frames ≡ Refused fault at → at ≡ []
 end_is (machine.Branch condition consequence) frames fault at r = refused_end (machine.Branch condition consequence) frames _ fault at refl r
 end_is (Done e) frames fault at r = end_of_frames frames e fault at r
 end_is (machine.Elements form es) frames fault at r = refused_end (machine.Elements form es) frames _ fault at refl r
@@ -78,8 +81,8 @@ end_is machine.Value frames fault at r = refused_end machine.Value frames _ faul
 -- ---- at a token
 
 -- the token is refused at once
-at_once : (u t : Lexeme) (ts later : Tokens) (next : Next) (frames : List Frame) (f fault : Fault)
-    → ((us : Tokens) → run (u ∷ us) next frames ≡ Refused f (u ∷ us)) → run (u ∷ ts) next frames ≡ Refused fault (t ∷ later)
+at_once : (u t : Lexeme) (ts later : Tokens) (next : Next) (frames : List MachineFrame) (f fault : Fault)
+    → ((us : Tokens) → parse (u ∷ us) next frames ≡ Refused f (u ∷ us)) → parse (u ∷ ts) next frames ≡ Refused fault (t ∷ later)
     → Early (u ∷ ts) next frames fault t later
 at_once u t ts later next frames f fault refused r =
     let same = same_refusal f fault (u ∷ ts) (t ∷ later) (sym (refused ts) ∙ r) in
@@ -87,13 +90,14 @@ at_once u t ts later next frames f fault refused r =
     ([], same.1, λ us. rw (← first.0, ← same.0) (refused us))
 
 -- the token is taken
-after_it : (u t : Lexeme) (ts later : Tokens) (next : Next) (frames : List Frame) (then : Next) (inner : List Frame) (fault : Fault)
-    → ((us : Tokens) → run (u ∷ us) next frames ≡ run us then inner) → Early ts then inner fault t later → Early (u ∷ ts) next frames fault t later
+after_it : (u t : Lexeme) (ts later : Tokens) (next : Next) (frames : List MachineFrame) (then : Next) (inner : List MachineFrame) (fault : Fault)
+    → ((us : Tokens) → parse (u ∷ us) next frames ≡ parse us then inner) → Early ts then inner fault t later → Early (u ∷ ts) next frames fault t later
 after_it u t ts later next frames then inner fault step (front, parts, early) = (u ∷ front, ap (λ us. u ∷ us) parts, λ us. step (front ++ t ∷ us) ∙ early us)
 
 -- a step that takes nothing
-as_it : (ts : Tokens) (u t : Lexeme) (later : Tokens) (next : Next) (frames : List Frame) (then : Next) (inner : List Frame) (fault : Fault)
-    → ((us : Tokens) → run (u ∷ us) next frames ≡ run (u ∷ us) then inner) → Early (u ∷ ts) then inner fault t later → Early (u ∷ ts) next frames fault t later
+as_it : (ts : Tokens) (u t : Lexeme) (later : Tokens) (next : Next) (frames : List MachineFrame) (then : Next) (inner : List MachineFrame) (fault : Fault)
+    → ((us : Tokens) → parse (u ∷ us) next frames ≡ parse (u ∷ us) then inner) → Early (u ∷ ts) then inner fault t later
+    → Early (u ∷ ts) next frames fault t later
 as_it ts u t later next frames then inner fault step ([], parts, early) =
     let first = same_first u t ts later parts in
     ([], parts, λ us. rw (← first.0) (step us ∙ (rw (← first.0) at (early us))))
@@ -102,10 +106,10 @@ as_it ts u t later next frames then inner fault step (v ∷ front, parts, early)
     (v ∷ front, parts, λ us. rw (← first.0) (step (front ++ t ∷ us) ∙ (rw (← first.0) at (early us))))
 
 module _ (u t : Lexeme) (ts later : Tokens) (fault : Fault)
-    (rest : (next : Next) (frames : List Frame) → run ts next frames ≡ Refused fault (t ∷ later) → Early ts next frames fault t later) where
-  early_frame : (frame : Frame) (frames : List Frame) (e : Expr) (a : Action) → takes_it frame e u ≡ a
-      → ((after : Expr) → run (u ∷ ts) (Done after) frames ≡ Refused fault (t ∷ later) → Early (u ∷ ts) (Done after) frames fault t later)
-      → run (u ∷ ts) (Done e) (frame ∷ frames) ≡ Refused fault (t ∷ later) → Early (u ∷ ts) (Done e) (frame ∷ frames) fault t later
+    (rest : (next : Next) (frames : List MachineFrame) → parse ts next frames ≡ Refused fault (t ∷ later) → Early ts next frames fault t later) where
+  early_frame : (frame : MachineFrame) (frames : List MachineFrame) (e : Expr) (a : Action) → takes_it frame e u ≡ a
+      → ((after : Expr) → parse (u ∷ ts) (Done after) frames ≡ Refused fault (t ∷ later) → Early (u ∷ ts) (Done after) frames fault t later)
+      → parse (u ∷ ts) (Done e) (frame ∷ frames) ≡ Refused fault (t ∷ later) → Early (u ∷ ts) (Done e) (frame ∷ frames) fault t later
   early_frame frame frames e (Takes next inner) is outer r =
       after_it u t ts later (Done e) (frame ∷ frames) next (inner ++ frames) fault (λ us. frame_takes u us frame frames e next inner is)
       (rest next (inner ++ frames) (sym (frame_takes u ts frame frames e next inner is) ∙ r))
@@ -115,11 +119,12 @@ module _ (u t : Lexeme) (ts later : Tokens) (fault : Fault)
   early_frame frame frames e (Refuses f) is outer r =
       at_once u t ts later (Done e) (frame ∷ frames) f fault (λ us. frame_refuses u us frame frames e f is) r
 
-  early_frames : (frames : List Frame) (e : Expr) → run (u ∷ ts) (Done e) frames ≡ Refused fault (t ∷ later) → Early (u ∷ ts) (Done e) frames fault t later
+  early_frames : (frames : List MachineFrame) (e : Expr) → parse (u ∷ ts) (Done e) frames ≡ Refused fault (t ∷ later)
+      → Early (u ∷ ts) (Done e) frames fault t later
   early_frames [] e r = absurd (not_read fault (t ∷ later) e (u ∷ ts) (sym r ∙ sym (read_all (u ∷ ts) e [] refl)))
   early_frames (frame ∷ frames) e r = early_frame frame frames e (takes_it frame e u) refl (λ after r. early_frames frames after r) r
 
-  early_next : (next : Next) (frames : List Frame) (a : Action) → begins next u ≡ a → run (u ∷ ts) next frames ≡ Refused fault (t ∷ later)
+  early_next : (next : Next) (frames : List MachineFrame) (a : Action) → begins next u ≡ a → parse (u ∷ ts) next frames ≡ Refused fault (t ∷ later)
       → Early (u ∷ ts) next frames fault t later
   early_next next frames (Takes then inner) is r =
       after_it u t ts later next frames then (inner ++ frames) fault (λ us. takes u us next frames then inner is)
@@ -129,7 +134,8 @@ module _ (u t : Lexeme) (ts later : Tokens) (fault : Fault)
       (early_frames frames e (sym (passes u ts next frames e is) ∙ r))
   early_next next frames (Refuses f) is r = at_once u t ts later next frames f fault (λ us. refuses u us next frames f is) r
 
-early : (ts : Tokens) (next : Next) (frames : List Frame) (fault : Fault) (t : Lexeme) (later : Tokens) → run ts next frames ≡ Refused fault (t ∷ later)
+early : (ts : Tokens) (next : Next) (frames : List MachineFrame) (fault : Fault) (t : Lexeme) (later : Tokens)
+    → parse ts next frames ≡ Refused fault (t ∷ later)
     → Early ts next frames fault t later
 early [] next frames fault t later r = absurd (no_first t later (sym (end_is next frames fault (t ∷ later) r)))
 early (u ∷ ts) next frames fault t later r =
@@ -137,10 +143,10 @@ early (u ∷ ts) next frames fault t later r =
 
 -- ---- what refused tokens are
 
-none : (fault : Fault) (at : Tokens) (ts : Tokens) → run ts (machine.Expression 0) [] ≡ Refused fault at → BeginsNone ts
+none : (fault : Fault) (at : Tokens) (ts : Tokens) → parse ts (machine.Expression 0) [] ≡ Refused fault at → BeginsNone ts
 none fault at ts r e rest derived ended = not_read fault at e rest (sym r ∙ reads_what_is_derived e ts rest derived ended)
 
-pub no_expression : (ts : Tokens) (error : ParseError) → IsRefused (run ts (machine.Expression 0) []) error → IsNoExpression ts error
+pub no_expression : (ts : Tokens) (error : ParseError) → IsRefused (parse ts (machine.Expression 0) []) error → IsNoExpression ts error
 no_expression ts (Unexpected fault token) ([], is, first) =
     (ts, [], sym (append-nil ts), first, λ us nothing. rw (nothing, append-nil ts) (none fault [] ts is), is)
 no_expression ts (Unexpected fault token) (t ∷ later, is, first) =

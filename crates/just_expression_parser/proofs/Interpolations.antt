@@ -12,7 +12,7 @@ use Rattle.just_expression_parser.proofs.Codes.{is_not_of_kind}
 use Rattle.just_expression_parser.proofs.Runs.{frame_refuses, frame_refuses_end, frame_takes}
 use Rattle.just_expression_parser.specs.Literal.{Style, end_of_format, middle_of_format}
 use Rattle.just_expression_parser.specs.Machine as machine
-use Rattle.just_expression_parser.specs.Machine.{Done, Frame, Interpolation, Refused, Refuses, Takes, after_interpolation, pieces, run}
+use Rattle.just_expression_parser.specs.Machine.{Done, Interpolation, MachineFrame, Refused, Refuses, Takes, after_interpolation, format_pieces, parse}
 use Rattle.just_expression_parser.specs.Parsed.{IsLastText, IsNoLastText, IsNoLiteral, IsNotAt, IsRefused}
 use Rattle.just_expression_parser.specs.Tokens.{One, Tokens, code, is_kind, lexeme}
 use Rattle.just_expression_parser.specs.declared.parse_error.Fault.TheVariants.{Expected, InvalidEscape}
@@ -23,7 +23,7 @@ pub last_taken : (style : Style) (ts : Tokens) (l : Literal) (rest : Tokens) →
 last_taken style ts l rest (token, taken, is) = ap length taken
 
 -- pieces are seen one by one
-pub pieces_seen : (ps : List (Expression × StringLiteral)) → piece_views ps ≡ pieces (map piece_view ps)
+pub pieces_seen : (ps : List (Expression × StringLiteral)) → piece_views ps ≡ format_pieces (map piece_view ps)
 pieces_seen [] = refl
 pieces_seen (p ∷ ps) = ap (λ more. plain.Piece (view p.0) (literal_view p.1) more) (pieces_seen ps)
 
@@ -41,7 +41,7 @@ module _ (start : Literal) (ps : List (Expr × Literal)) (style : Style) (e : Ex
 
   last : (token : Token) (l : Literal) → end_of_format style token.lexeme ≡ Some l
       → after_interpolation start ps style e (lexeme kinds.FormatStringEnd token)
-      ≡ Takes (Done (plain.FormatString start (pieces (ps ++ (e, l) ∷ [])))) []
+      ≡ Takes (Done (plain.FormatString start (format_pieces (ps ++ (e, l) ∷ [])))) []
   unfolding after_interpolation is_kind code
   last token l is = rw is refl
 
@@ -57,36 +57,36 @@ module _ (start : Literal) (ps : List (Expr × Literal)) (style : Style) (e : Ex
       rw (is_not_of_kind kinds.FormatStringContinue t no_more, is_not_of_kind kinds.FormatStringEnd t no_end) refl
 
   -- another interpolation
-  pub middle_here : (token : Token) (l : Literal) (ts rest : Tokens) (frames : List Frame) → One kinds.FormatStringContinue token ts rest
-      → middle_of_format style token.lexeme ≡ Some l → run ts (Done e) (Interpolation start ps style ∷ frames)
-      ≡ run rest (machine.Expression 0) (Interpolation start (ps ++ (e, l) ∷ []) style ∷ frames)
-  middle_here token l ts rest frames taken is = ap (λ us. run us (Done e) (Interpolation start ps style ∷ frames)) taken
+  pub middle_here : (token : Token) (l : Literal) (ts rest : Tokens) (frames : List MachineFrame) → One kinds.FormatStringContinue token ts rest
+      → middle_of_format style token.lexeme ≡ Some l → parse ts (Done e) (Interpolation start ps style ∷ frames)
+      ≡ parse rest (machine.Expression 0) (Interpolation start (ps ++ (e, l) ∷ []) style ∷ frames)
+  middle_here token l ts rest frames taken is = ap (λ us. parse us (Done e) (Interpolation start ps style ∷ frames)) taken
       ∙ frame_takes (lexeme kinds.FormatStringContinue token) rest (Interpolation start ps style) frames e (machine.Expression 0)
       (Interpolation start (ps ++ (e, l) ∷ []) style ∷ []) (middle token l is)
 
   -- the end
-  pub last_here : (l : Literal) (ts rest : Tokens) (frames : List Frame) → IsLastText style ts l rest
-      → run ts (Done e) (Interpolation start ps style ∷ frames) ≡ run rest (Done (plain.FormatString start (pieces (ps ++ (e, l) ∷ [])))) frames
-  last_here l ts rest frames (token, taken, is) = ap (λ us. run us (Done e) (Interpolation start ps style ∷ frames)) taken
+  pub last_here : (l : Literal) (ts rest : Tokens) (frames : List MachineFrame) → IsLastText style ts l rest
+      → parse ts (Done e) (Interpolation start ps style ∷ frames) ≡ parse rest (Done (plain.FormatString start (format_pieces (ps ++ (e, l) ∷ [])))) frames
+  last_here l ts rest frames (token, taken, is) = ap (λ us. parse us (Done e) (Interpolation start ps style ∷ frames)) taken
       ∙ frame_takes (lexeme kinds.FormatStringEnd token) rest (Interpolation start ps style) frames e
-      (Done (plain.FormatString start (pieces (ps ++ (e, l) ∷ [])))) [] (last token l is)
+      (Done (plain.FormatString start (format_pieces (ps ++ (e, l) ∷ [])))) [] (last token l is)
 
   -- a bad escape
-  escape_refused : (t : Lexeme) (ts : Tokens) (frames : List Frame) (literal : Option Literal) (refusal : ParseError)
+  escape_refused : (t : Lexeme) (ts : Tokens) (frames : List MachineFrame) (literal : Option Literal) (refusal : ParseError)
       → (literal ≡ None → after_interpolation start ps style e t ≡ Refuses InvalidEscape) → IsNoLiteral literal t.token refusal
-      → IsRefused (run (t ∷ ts) (Done e) (Interpolation start ps style ∷ frames)) refusal
+      → IsRefused (parse (t ∷ ts) (Done e) (Interpolation start ps style ∷ frames)) refusal
   escape_refused t ts frames literal (Unexpected found token) refuses (none, fault, first) =
       (t ∷ ts, frame_refuses t ts (Interpolation start ps style) frames e InvalidEscape (refuses none) ∙ ap (λ f. Refused f (t ∷ ts)) (sym fault), first)
   escape_refused t ts frames literal OutOfMemory refuses so = tt
 
-  pub middle_refused : (token : Token) (ts rest : Tokens) (frames : List Frame) (refusal : ParseError) → One kinds.FormatStringContinue token ts rest
+  pub middle_refused : (token : Token) (ts rest : Tokens) (frames : List MachineFrame) (refusal : ParseError) → One kinds.FormatStringContinue token ts rest
       → IsNoLiteral (middle_of_format style token.lexeme) token refusal
-      → IsRefused (run ts (Done e) (Interpolation start ps style ∷ frames)) refusal
+      → IsRefused (parse ts (Done e) (Interpolation start ps style ∷ frames)) refusal
   middle_refused token ts rest frames refusal taken so = rw taken (escape_refused (lexeme kinds.FormatStringContinue token) rest frames
       (middle_of_format style token.lexeme) refusal (no_middle token) so)
 
-  pub last_refused : (ts : Tokens) (frames : List Frame) (refusal : ParseError) → IsNotAt kinds.FormatStringContinue ts → IsNoLastText style ts refusal
-      → IsRefused (run ts (Done e) (Interpolation start ps style ∷ frames)) refusal
+  pub last_refused : (ts : Tokens) (frames : List MachineFrame) (refusal : ParseError) → IsNotAt kinds.FormatStringContinue ts → IsNoLastText style ts refusal
+      → IsRefused (parse ts (Done e) (Interpolation start ps style ∷ frames)) refusal
   last_refused [] frames (Unexpected found token) no_more (inl ((fault, first), no_end)) =
       ([], frame_refuses_end (Interpolation start ps style) frames e (Expected kinds.FormatStringEnd) refl ∙ ap (λ f. Refused f []) (sym fault), first)
   last_refused (t ∷ ts) frames (Unexpected found token) no_more (inl ((fault, first), no_end)) = (

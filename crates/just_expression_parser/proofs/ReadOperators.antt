@@ -13,8 +13,8 @@ use Rattle.just_expression_parser.proofs.Boundaries.{no_more, no_word, open_at, 
 use Rattle.just_expression_parser.specs.Grammar as grammar
 use Rattle.just_expression_parser.specs.Grammar.{BeginsIf, reads}
 use Rattle.just_expression_parser.specs.Machine as machine
-use Rattle.just_expression_parser.specs.Machine.{Done, Frame, Operators, Side, run}
-use Rattle.just_expression_parser.specs.Operator.{applied, comparison_kind, level, operator_of}
+use Rattle.just_expression_parser.specs.Machine.{Done, MachineFrame, Operators, Side, parse}
+use Rattle.just_expression_parser.specs.Operator.{comparison_kind, level, operation, operator_of}
 use Rattle.just_expression_parser.specs.Parsed.{is_at_word}
 use Rattle.just_expression_parser.specs.Tokens.{Mark, One, Then, Tokens, Word, code}
 use Rattle.just_expression_parser.specs.declared.operator.Operator.{Operator}
@@ -25,29 +25,29 @@ use Rattle.just_expression_parser.specs.declared.operator.Operator.TheVariants a
 -- a value is read as a value, each expression from a level on, and a conditional after its `if`
 abbrev pub IsRead : Expr → Type 0
 IsRead e =
-    ((ts rest : Tokens) (frames : List Frame) → reads e 4 ts rest → IsEnd 4 rest → run ts machine.Value frames ≡ run rest (Done e) frames)
-    × ((n least : ℕ) (ts rest : Tokens) (frames : List Frame) → n ≤ 4 → least ≤ n → reads e n ts rest → IsEnd (open_at e) rest
-    → run ts (machine.Expression least) frames ≡ run rest (Done e) (Operators least (top e) ∷ frames))
-    × ((ts rest : Tokens) (frames : List Frame) → reads e 3 ts rest → is_at_word (codes "if") ts ≡ true → IsEnd 4 rest
-    → run (drop 1 ts) (machine.Expression 0) (machine.Condition ∷ frames) ≡ run rest (Done e) frames)
+    ((ts rest : Tokens) (frames : List MachineFrame) → reads e 4 ts rest → IsEnd 4 rest → parse ts machine.Value frames ≡ parse rest (Done e) frames)
+    × ((n least : ℕ) (ts rest : Tokens) (frames : List MachineFrame) → n ≤ 4 → least ≤ n → reads e n ts rest → IsEnd (open_at e) rest
+    → parse ts (machine.Expression least) frames ≡ parse rest (Done e) (Operators least (top e) ∷ frames))
+    × ((ts rest : Tokens) (frames : List MachineFrame) → reads e 3 ts rest → is_at_word (codes "if") ts ≡ true → IsEnd 4 rest
+    → parse (drop 1 ts) (machine.Expression 0) (machine.Condition ∷ frames) ≡ parse rest (Done e) frames)
 
 -- an expression up to a token that goes on with none
-pub whole : (e : Expr) → IsRead e → (ts rest : Tokens) (frames : List Frame) → reads e 0 ts rest → IsEnd 0 rest
-    → run ts (machine.Expression 0) frames ≡ run rest (Done e) frames
+pub whole : (e : Expr) → IsRead e → (ts rest : Tokens) (frames : List MachineFrame) → reads e 0 ts rest → IsEnd 0 rest
+    → parse ts (machine.Expression 0) frames ≡ parse rest (Done e) frames
 whole e read ts rest frames derived end =
     read.1 0 0 ts rest frames (omega arith) (omega arith) derived (end_more 0 (open_at e) rest (omega arith) end)
     ∙ no_more 0 (top e) rest e frames end
 
 -- an expression up to a token of a kind that is no operator
-pub up_to : (kind : TokenKind) (e : Expr) → IsRead e → (ts m rest : Tokens) (frames : List Frame) → IsClosing kind
-    → reads e 0 ts m → Mark kind m rest → run ts (machine.Expression 0) frames ≡ run m (Done e) frames
+pub up_to : (kind : TokenKind) (e : Expr) → IsRead e → (ts m rest : Tokens) (frames : List MachineFrame) → IsClosing kind
+    → reads e 0 ts m → Mark kind m rest → parse ts (machine.Expression 0) frames ≡ parse m (Done e) frames
 up_to kind e read ts m rest frames closes derived mark = whole e read ts m frames derived (ends_at kind 0 m rest closes mark)
 
 -- an operator between two expressions
 binary : (o : Operator) (kind : TokenKind) (l r : Expr) (t : Token) → IsRead l → IsRead r → operator_of kind ≡ Some o
-    → (above n least : ℕ) (ts m m2 rest : Tokens) (frames : List Frame) → above ≤ 4 → level o < above → level o ≤ 3 → n ≤ level o → least ≤ n
+    → (above n least : ℕ) (ts m m2 rest : Tokens) (frames : List MachineFrame) → above ≤ 4 → level o < above → level o ≤ 3 → n ≤ level o → least ≤ n
     → reads l above ts m → One kind t m m2 → reads r (level o) m2 rest → IsEnd (level o) rest
-    → run ts (machine.Expression least) frames ≡ run rest (Done (applied l o t r)) (Operators least (level o) ∷ frames)
+    → parse ts (machine.Expression least) frames ≡ parse rest (Done (operation l o t r)) (Operators least (level o) ∷ frames)
 binary o kind l r t left right is above n least ts m m2 rest frames most higher three low lower dl taken dr end =
     let ll = levels l above ts m most dl in
     let lr = levels r (level o) m2 rest (omega (arith, three)) dr in
@@ -57,11 +57,12 @@ binary o kind l r t left right is above n least ts m m2 rest frames most higher 
     ∙ operator_here least (top l) m m2 kind t o l frames is (omega (arith, low, lower)) (omega (arith, higher, ll.0)) taken
     ∙ right.1 (level o) (level o) m2 rest inner (omega (arith, three)) (omega arith) dr (end_more (level o) (open_at r) rest lr.1 end)
     ∙ no_more (level o) (top r) rest r inner end
-    ∙ frame_completes rest (Side l o t) (Operators least (level o) ∷ frames) r (applied l o t r) (λ t. refl) refl
+    ∙ frame_completes rest (Side l o t) (Operators least (level o) ∷ frames) r (operation l o t r) (λ t. refl) refl
 
 -- a branch after `if`, up to what comes after it
-branch_read : (c a : Expr) → IsRead c → IsRead a → (m0 m1 m2 m3 m4 : Tokens) (frames : List Frame) → reads c 0 m0 m1 → Mark kinds.BraceL m1 m2 → reads a 0 m2 m3
-    → Mark kinds.BraceR m3 m4 → run m0 (machine.Expression 0) (machine.Condition ∷ frames) ≡ run m4 (machine.Else c a) frames
+branch_read : (c a : Expr) → IsRead c → IsRead a → (m0 m1 m2 m3 m4 : Tokens) (frames : List MachineFrame) → reads c 0 m0 m1 → Mark kinds.BraceL m1 m2
+    → reads a 0 m2 m3
+    → Mark kinds.BraceR m3 m4 → parse m0 (machine.Expression 0) (machine.Condition ∷ frames) ≡ parse m4 (machine.Else c a) frames
 branch_read c a rc ra m0 m1 m2 m3 m4 frames dc opening da ending =
     up_to kinds.BraceL c rc m0 m1 m2 (machine.Condition ∷ frames) brace_closes dc opening
     ∙ expected_after m1 m2 machine.Condition frames c kinds.BraceL (machine.Expression 0) (machine.Consequence c ∷ []) (λ t. refl) opening
@@ -69,13 +70,13 @@ branch_read c a rc ra m0 m1 m2 m3 m4 frames dc opening da ending =
     ∙ expected_after m3 m4 (machine.Consequence c) frames a kinds.BraceR (machine.Else c a) [] (λ t. refl) ending
 
 -- a conditional after its `if`
-conditional_read : (c a b : Expr) → IsRead c → IsRead a → IsRead b → (ts rest : Tokens) (frames : List Frame) → reads (plain.Conditional c a b) 3 ts rest
-    → IsEnd 4 rest → run (drop 1 ts) (machine.Expression 0) (machine.Condition ∷ frames) ≡ run rest (Done (plain.Conditional c a b)) frames
+conditional_read : (c a b : Expr) → IsRead c → IsRead a → IsRead b → (ts rest : Tokens) (frames : List MachineFrame) → reads (plain.Conditional c a b) 3 ts rest
+    → IsEnd 4 rest → parse (drop 1 ts) (machine.Expression 0) (machine.Condition ∷ frames) ≡ parse rest (Done (plain.Conditional c a b)) frames
 conditional_read c a b rc ra rb ts rest frames (low, (m4, (m0, (t, is, taken), (m1, dc, (m2, opening, (m3, da, ending)))), (m5, word, other))) end =
-    ap (λ us. run us (machine.Expression 0) (machine.Condition ∷ frames)) (ap (drop 1) taken)
+    ap (λ us. parse us (machine.Expression 0) (machine.Condition ∷ frames)) (ap (drop 1) taken)
     ∙ branch_read c a rc ra m0 m1 m2 m3 m4 frames dc opening da ending
     ∙ else_here c a m4 frames (word_here (codes "else") m4 m5 word)
-    ∙ ap (λ us. run us (machine.Branch c a) frames) (after_word (codes "else") m4 m5 word)
+    ∙ ap (λ us. parse us (machine.Branch c a) frames) (after_word (codes "else") m4 m5 word)
     ∙ other_read m5 rest other end
   where
     after_word : (word : Text) (ts rest : Tokens) → Word word ts rest → drop 1 ts ≡ rest
@@ -85,7 +86,7 @@ conditional_read c a b rc ra rb ts rest frames (low, (m4, (m0, (t, is, taken), (
     no_if ts rest (t, taken) = rw taken (no_word (codes "if") kinds.BraceL t brace_closes.0)
 
     other_read : (ts rest : Tokens) → grammar.Between kinds.BraceL (reads b 0) kinds.BraceR ts rest ⊎ (BeginsIf ts × reads b 3 ts rest) → IsEnd 4 rest
-        → run ts (machine.Branch c a) frames ≡ run rest (Done (plain.Conditional c a b)) frames
+        → parse ts (machine.Branch c a) frames ≡ parse rest (Done (plain.Conditional c a b)) frames
     other_read ts rest (inl (m, opening, (m', db, ending))) end =
         braced_here c a ts m frames (no_if ts m opening) opening
         ∙ up_to kinds.BraceR b rb m m' rest (machine.Otherwise c a ∷ frames) end_brace_closes db ending
@@ -97,10 +98,10 @@ conditional_read c a b rc ra rb ts rest frames (low, (m4, (m0, (t, is, taken), (
         ∙ frame_completes rest (machine.ElseIf c a) frames b (plain.Conditional c a b) (λ t. refl) refl
 
 -- one without another branch
-branch_only_read : (c a : Expr) → IsRead c → IsRead a → (ts rest : Tokens) (frames : List Frame) → reads (plain.ConditionalOnly c a) 3 ts rest
-    → IsEnd 4 rest → run (drop 1 ts) (machine.Expression 0) (machine.Condition ∷ frames) ≡ run rest (Done (plain.ConditionalOnly c a)) frames
+branch_only_read : (c a : Expr) → IsRead c → IsRead a → (ts rest : Tokens) (frames : List MachineFrame) → reads (plain.ConditionalOnly c a) 3 ts rest
+    → IsEnd 4 rest → parse (drop 1 ts) (machine.Expression 0) (machine.Condition ∷ frames) ≡ parse rest (Done (plain.ConditionalOnly c a)) frames
 branch_only_read c a rc ra ts rest frames (low, (m0, (t, is, taken), (m1, dc, (m2, opening, (m3, da, ending))))) end =
-    ap (λ us. run us (machine.Expression 0) (machine.Condition ∷ frames)) (ap (drop 1) taken)
+    ap (λ us. parse us (machine.Expression 0) (machine.Condition ∷ frames)) (ap (drop 1) taken)
     ∙ branch_read c a rc ra m0 m1 m2 m3 rest frames dc opening da ending
     ∙ no_else_here c a rest frames (no_else rest end)
   where
@@ -114,20 +115,20 @@ pub never : (b : Bool) → b ≡ false → b ≡ true → ⊥
 never b is_not is = cc
 
 abbrev pub ReadsValue : Expr → Type 0
-ReadsValue e = (ts rest : Tokens) (frames : List Frame) → reads e 4 ts rest → IsEnd 4 rest → run ts machine.Value frames ≡ run rest (Done e) frames
+ReadsValue e = (ts rest : Tokens) (frames : List MachineFrame) → reads e 4 ts rest → IsEnd 4 rest → parse ts machine.Value frames ≡ parse rest (Done e) frames
 
 pub or_read : (l r : Expr) → IsRead l → IsRead r → IsRead (plain.Or l r)
 or_read l r left right = (value, from, after_if) where
   value : ReadsValue (plain.Or l r)
   value ts rest frames (low, later) end = absurd (omega (arith, low))
 
-  from : (n least : ℕ) (ts rest : Tokens) (frames : List Frame) → n ≤ 4 → least ≤ n → reads (plain.Or l r) n ts rest → IsEnd 0 rest
-      → run ts (machine.Expression least) frames ≡ run rest (Done (plain.Or l r)) (Operators least 0 ∷ frames)
+  from : (n least : ℕ) (ts rest : Tokens) (frames : List MachineFrame) → n ≤ 4 → least ≤ n → reads (plain.Or l r) n ts rest → IsEnd 0 rest
+      → parse ts (machine.Expression least) frames ≡ parse rest (Done (plain.Or l r)) (Operators least 0 ∷ frames)
   from n least ts rest frames most lower (low, (m, dl, (m2, (t, taken), dr))) end =
       binary operators.Or kinds.BarBar l r t left right refl 1 n least ts m m2 rest frames (omega arith) (omega arith) (omega arith) low lower dl taken dr end
 
-  after_if : (ts rest : Tokens) (frames : List Frame) → reads (plain.Or l r) 3 ts rest → is_at_word (codes "if") ts ≡ true → IsEnd 4 rest
-      → run (drop 1 ts) (machine.Expression 0) (machine.Condition ∷ frames) ≡ run rest (Done (plain.Or l r)) frames
+  after_if : (ts rest : Tokens) (frames : List MachineFrame) → reads (plain.Or l r) 3 ts rest → is_at_word (codes "if") ts ≡ true → IsEnd 4 rest
+      → parse (drop 1 ts) (machine.Expression 0) (machine.Condition ∷ frames) ≡ parse rest (Done (plain.Or l r)) frames
   after_if ts rest frames (low, later) there end = absurd (omega (arith, low))
 
 pub and_read : (l r : Expr) → IsRead l → IsRead r → IsRead (plain.And l r)
@@ -135,14 +136,14 @@ and_read l r left right = (value, from, after_if) where
   value : ReadsValue (plain.And l r)
   value ts rest frames (low, later) end = absurd (omega (arith, low))
 
-  from : (n least : ℕ) (ts rest : Tokens) (frames : List Frame) → n ≤ 4 → least ≤ n → reads (plain.And l r) n ts rest → IsEnd 1 rest
-      → run ts (machine.Expression least) frames ≡ run rest (Done (plain.And l r)) (Operators least 1 ∷ frames)
+  from : (n least : ℕ) (ts rest : Tokens) (frames : List MachineFrame) → n ≤ 4 → least ≤ n → reads (plain.And l r) n ts rest → IsEnd 1 rest
+      → parse ts (machine.Expression least) frames ≡ parse rest (Done (plain.And l r)) (Operators least 1 ∷ frames)
   from n least ts rest frames most lower (low, (m, dl, (m2, (t, taken), dr))) end =
       binary operators.And kinds.AmpersandAmpersand l r t left right refl 2 n least ts m m2 rest frames (omega arith) (omega arith) (omega arith) low lower dl
       taken dr end
 
-  after_if : (ts rest : Tokens) (frames : List Frame) → reads (plain.And l r) 3 ts rest → is_at_word (codes "if") ts ≡ true → IsEnd 4 rest
-      → run (drop 1 ts) (machine.Expression 0) (machine.Condition ∷ frames) ≡ run rest (Done (plain.And l r)) frames
+  after_if : (ts rest : Tokens) (frames : List MachineFrame) → reads (plain.And l r) 3 ts rest → is_at_word (codes "if") ts ≡ true → IsEnd 4 rest
+      → parse (drop 1 ts) (machine.Expression 0) (machine.Condition ∷ frames) ≡ parse rest (Done (plain.And l r)) frames
   after_if ts rest frames (low, later) there end = absurd (omega (arith, low))
 
 pub comparison_read : (l : Expr) (o : _) (r : Expr) (t : Token) → IsRead l → IsRead r → IsRead (plain.Comparison l o r t)
@@ -150,14 +151,14 @@ comparison_read l o r t left right = (value, from, after_if) where
   value : ReadsValue (plain.Comparison l o r t)
   value ts rest frames (low, later) end = absurd (omega (arith, low))
 
-  from : (n least : ℕ) (ts rest : Tokens) (frames : List Frame) → n ≤ 4 → least ≤ n → reads (plain.Comparison l o r t) n ts rest → IsEnd 2 rest
-      → run ts (machine.Expression least) frames ≡ run rest (Done (plain.Comparison l o r t)) (Operators least 2 ∷ frames)
+  from : (n least : ℕ) (ts rest : Tokens) (frames : List MachineFrame) → n ≤ 4 → least ≤ n → reads (plain.Comparison l o r t) n ts rest → IsEnd 2 rest
+      → parse ts (machine.Expression least) frames ≡ parse rest (Done (plain.Comparison l o r t)) (Operators least 2 ∷ frames)
   from n least ts rest frames most lower (low, (m, dl, (m2, taken, dr))) end =
       binary (operators.Comparison o) (comparison_kind o) l r t left right (comparison_of o) 3 n least ts m m2 rest frames (omega arith) (omega arith)
       (omega arith) low lower dl taken dr end
 
-  after_if : (ts rest : Tokens) (frames : List Frame) → reads (plain.Comparison l o r t) 3 ts rest → is_at_word (codes "if") ts ≡ true → IsEnd 4 rest
-      → run (drop 1 ts) (machine.Expression 0) (machine.Condition ∷ frames) ≡ run rest (Done (plain.Comparison l o r t)) frames
+  after_if : (ts rest : Tokens) (frames : List MachineFrame) → reads (plain.Comparison l o r t) 3 ts rest → is_at_word (codes "if") ts ≡ true → IsEnd 4 rest
+      → parse (drop 1 ts) (machine.Expression 0) (machine.Condition ∷ frames) ≡ parse rest (Done (plain.Comparison l o r t)) frames
   after_if ts rest frames (low, later) there end = absurd (omega (arith, low))
 
 -- `+`, `++` or `/` between two expressions, which are this expression
@@ -166,8 +167,8 @@ module _ (o : Operator) (kind : TokenKind) (l r : Expr) (t : Token) (left : IsRe
   abbrev Sum : ℕ → Tokens → Tokens → Type 0
   Sum n = grammar.Within n 3 (Then (reads l 4) (Then (One kind t) (reads r 3)))
 
-  sum_from : (n least : ℕ) (ts rest : Tokens) (frames : List Frame) → n ≤ 4 → least ≤ n → Sum n ts rest → IsEnd 3 rest
-      → run ts (machine.Expression least) frames ≡ run rest (Done (applied l o t r)) (Operators least 3 ∷ frames)
+  sum_from : (n least : ℕ) (ts rest : Tokens) (frames : List MachineFrame) → n ≤ 4 → least ≤ n → Sum n ts rest → IsEnd 3 rest
+      → parse ts (machine.Expression least) frames ≡ parse rest (Done (operation l o t r)) (Operators least 3 ∷ frames)
   sum_from n least ts rest frames most lower (low, (m, dl, (m2, taken, dr))) end =
       rw (← three) (binary o kind l r t left right is 4 n least ts m m2 rest frames (omega arith) (omega (arith, three)) (omega (arith, three))
       (rw three low) lower dl taken (rw three dr) (rw three end))
@@ -180,12 +181,12 @@ concatenation_read l t r left right = (value, from, after_if) where
   value : ReadsValue (plain.Concatenation l t r)
   value ts rest frames (low, later) end = absurd (omega (arith, low))
 
-  from : (n least : ℕ) (ts rest : Tokens) (frames : List Frame) → n ≤ 4 → least ≤ n → reads (plain.Concatenation l t r) n ts rest → IsEnd 3 rest
-      → run ts (machine.Expression least) frames ≡ run rest (Done (plain.Concatenation l t r)) (Operators least 3 ∷ frames)
+  from : (n least : ℕ) (ts rest : Tokens) (frames : List MachineFrame) → n ≤ 4 → least ≤ n → reads (plain.Concatenation l t r) n ts rest → IsEnd 3 rest
+      → parse ts (machine.Expression least) frames ≡ parse rest (Done (plain.Concatenation l t r)) (Operators least 3 ∷ frames)
   from = sum_from operators.Concatenation kinds.Plus l r t left right refl refl
 
-  after_if : (ts rest : Tokens) (frames : List Frame) → reads (plain.Concatenation l t r) 3 ts rest → is_at_word (codes "if") ts ≡ true → IsEnd 4 rest
-      → run (drop 1 ts) (machine.Expression 0) (machine.Condition ∷ frames) ≡ run rest (Done (plain.Concatenation l t r)) frames
+  after_if : (ts rest : Tokens) (frames : List MachineFrame) → reads (plain.Concatenation l t r) 3 ts rest → is_at_word (codes "if") ts ≡ true → IsEnd 4 rest
+      → parse (drop 1 ts) (machine.Expression 0) (machine.Condition ∷ frames) ≡ parse rest (Done (plain.Concatenation l t r)) frames
   after_if ts rest frames derived there end = absurd (sum_after_if operators.Concatenation kinds.Plus l r t left right refl refl ts rest derived there)
 
 pub list_concatenation_read : (l : Expr) (t : Token) (r : Expr) → IsRead l → IsRead r → IsRead (plain.ListConcatenation l t r)
@@ -193,12 +194,13 @@ list_concatenation_read l t r left right = (value, from, after_if) where
   value : ReadsValue (plain.ListConcatenation l t r)
   value ts rest frames (low, later) end = absurd (omega (arith, low))
 
-  from : (n least : ℕ) (ts rest : Tokens) (frames : List Frame) → n ≤ 4 → least ≤ n → reads (plain.ListConcatenation l t r) n ts rest → IsEnd 3 rest
-      → run ts (machine.Expression least) frames ≡ run rest (Done (plain.ListConcatenation l t r)) (Operators least 3 ∷ frames)
+  from : (n least : ℕ) (ts rest : Tokens) (frames : List MachineFrame) → n ≤ 4 → least ≤ n → reads (plain.ListConcatenation l t r) n ts rest → IsEnd 3 rest
+      → parse ts (machine.Expression least) frames ≡ parse rest (Done (plain.ListConcatenation l t r)) (Operators least 3 ∷ frames)
   from = sum_from operators.ListConcatenation kinds.PlusPlus l r t left right refl refl
 
-  after_if : (ts rest : Tokens) (frames : List Frame) → reads (plain.ListConcatenation l t r) 3 ts rest → is_at_word (codes "if") ts ≡ true → IsEnd 4 rest
-      → run (drop 1 ts) (machine.Expression 0) (machine.Condition ∷ frames) ≡ run rest (Done (plain.ListConcatenation l t r)) frames
+  after_if : (ts rest : Tokens) (frames : List MachineFrame) → reads (plain.ListConcatenation l t r) 3 ts rest → is_at_word (codes "if") ts ≡ true
+      → IsEnd 4 rest
+      → parse (drop 1 ts) (machine.Expression 0) (machine.Condition ∷ frames) ≡ parse rest (Done (plain.ListConcatenation l t r)) frames
   after_if ts rest frames derived there end = absurd (sum_after_if operators.ListConcatenation kinds.PlusPlus l r t left right refl refl ts rest derived there)
 
 pub join_read : (l : Expr) (t : Token) (r : Expr) → IsRead l → IsRead r → IsRead (plain.Join l t r)
@@ -206,12 +208,12 @@ join_read l t r left right = (value, from, after_if) where
   value : ReadsValue (plain.Join l t r)
   value ts rest frames (low, later) end = absurd (omega (arith, low))
 
-  from : (n least : ℕ) (ts rest : Tokens) (frames : List Frame) → n ≤ 4 → least ≤ n → reads (plain.Join l t r) n ts rest → IsEnd 3 rest
-      → run ts (machine.Expression least) frames ≡ run rest (Done (plain.Join l t r)) (Operators least 3 ∷ frames)
+  from : (n least : ℕ) (ts rest : Tokens) (frames : List MachineFrame) → n ≤ 4 → least ≤ n → reads (plain.Join l t r) n ts rest → IsEnd 3 rest
+      → parse ts (machine.Expression least) frames ≡ parse rest (Done (plain.Join l t r)) (Operators least 3 ∷ frames)
   from = sum_from operators.Join kinds.Slash l r t left right refl refl
 
-  after_if : (ts rest : Tokens) (frames : List Frame) → reads (plain.Join l t r) 3 ts rest → is_at_word (codes "if") ts ≡ true → IsEnd 4 rest
-      → run (drop 1 ts) (machine.Expression 0) (machine.Condition ∷ frames) ≡ run rest (Done (plain.Join l t r)) frames
+  after_if : (ts rest : Tokens) (frames : List MachineFrame) → reads (plain.Join l t r) 3 ts rest → is_at_word (codes "if") ts ≡ true → IsEnd 4 rest
+      → parse (drop 1 ts) (machine.Expression 0) (machine.Condition ∷ frames) ≡ parse rest (Done (plain.Join l t r)) frames
   after_if ts rest frames derived there end = absurd (sum_after_if operators.Join kinds.Slash l r t left right refl refl ts rest derived there)
 
 slash_is_no_name : kinds.Slash ≡ kinds.Identifier → ⊥
@@ -223,8 +225,8 @@ root_read t r right = (value, from, after_if) where
   value : ReadsValue (plain.JoinOnly t r)
   value ts rest frames (low, later) end = absurd (omega (arith, low))
 
-  from : (n least : ℕ) (ts rest : Tokens) (frames : List Frame) → n ≤ 4 → least ≤ n → reads (plain.JoinOnly t r) n ts rest → IsEnd 3 rest
-      → run ts (machine.Expression least) frames ≡ run rest (Done (plain.JoinOnly t r)) (Operators least 3 ∷ frames)
+  from : (n least : ℕ) (ts rest : Tokens) (frames : List MachineFrame) → n ≤ 4 → least ≤ n → reads (plain.JoinOnly t r) n ts rest → IsEnd 3 rest
+      → parse ts (machine.Expression least) frames ≡ parse rest (Done (plain.JoinOnly t r)) (Operators least 3 ∷ frames)
   from n least ts rest frames most lower (low, (m, taken, dr)) end =
       let inner = machine.Root t ∷ Operators least 3 ∷ frames in
       root_here least ts m t frames (omega (arith, low, lower)) taken
@@ -232,8 +234,8 @@ root_read t r right = (value, from, after_if) where
       ∙ no_more 3 (top r) rest r inner end
       ∙ frame_completes rest (machine.Root t) (Operators least 3 ∷ frames) r (plain.JoinOnly t r) (λ t. refl) refl
 
-  after_if : (ts rest : Tokens) (frames : List Frame) → reads (plain.JoinOnly t r) 3 ts rest → is_at_word (codes "if") ts ≡ true → IsEnd 4 rest
-      → run (drop 1 ts) (machine.Expression 0) (machine.Condition ∷ frames) ≡ run rest (Done (plain.JoinOnly t r)) frames
+  after_if : (ts rest : Tokens) (frames : List MachineFrame) → reads (plain.JoinOnly t r) 3 ts rest → is_at_word (codes "if") ts ≡ true → IsEnd 4 rest
+      → parse (drop 1 ts) (machine.Expression 0) (machine.Condition ∷ frames) ≡ parse rest (Done (plain.JoinOnly t r)) frames
   after_if ts rest frames (low, (m, taken, dr)) there end =
       let no_if : is_at_word (codes "if") ts ≡ false = rw taken (no_word (codes "if") kinds.Slash t slash_is_no_name) in
       absurd (never (is_at_word (codes "if") ts) no_if there)
@@ -247,14 +249,14 @@ conditional_is_read c a b rc ra rb = (value, from, after_if) where
   value : ReadsValue (plain.Conditional c a b)
   value ts rest frames (low, later) end = absurd (omega (arith, low))
 
-  from : (n least : ℕ) (ts rest : Tokens) (frames : List Frame) → n ≤ 4 → least ≤ n → reads (plain.Conditional c a b) n ts rest → IsEnd 4 rest
-      → run ts (machine.Expression least) frames ≡ run rest (Done (plain.Conditional c a b)) (Operators least 3 ∷ frames)
+  from : (n least : ℕ) (ts rest : Tokens) (frames : List MachineFrame) → n ≤ 4 → least ≤ n → reads (plain.Conditional c a b) n ts rest → IsEnd 4 rest
+      → parse ts (machine.Expression least) frames ≡ parse rest (Done (plain.Conditional c a b)) (Operators least 3 ∷ frames)
   from n least ts rest frames most lower (low, (m4, (m0, word, later), other)) end =
       if_here least ts frames (omega (arith, low, lower)) (at_if ts m0 word)
       ∙ conditional_read c a b rc ra rb ts rest (Operators least 3 ∷ frames) (omega arith, (m4, (m0, word, later), other)) end
 
-  after_if : (ts rest : Tokens) (frames : List Frame) → reads (plain.Conditional c a b) 3 ts rest → is_at_word (codes "if") ts ≡ true → IsEnd 4 rest
-      → run (drop 1 ts) (machine.Expression 0) (machine.Condition ∷ frames) ≡ run rest (Done (plain.Conditional c a b)) frames
+  after_if : (ts rest : Tokens) (frames : List MachineFrame) → reads (plain.Conditional c a b) 3 ts rest → is_at_word (codes "if") ts ≡ true → IsEnd 4 rest
+      → parse (drop 1 ts) (machine.Expression 0) (machine.Condition ∷ frames) ≡ parse rest (Done (plain.Conditional c a b)) frames
   after_if ts rest frames derived there end = conditional_read c a b rc ra rb ts rest frames derived end
 
 pub branch_only_is_read : (c a : Expr) → IsRead c → IsRead a → IsRead (plain.ConditionalOnly c a)
@@ -262,12 +264,12 @@ branch_only_is_read c a rc ra = (value, from, after_if) where
   value : ReadsValue (plain.ConditionalOnly c a)
   value ts rest frames (low, later) end = absurd (omega (arith, low))
 
-  from : (n least : ℕ) (ts rest : Tokens) (frames : List Frame) → n ≤ 4 → least ≤ n → reads (plain.ConditionalOnly c a) n ts rest → IsEnd 4 rest
-      → run ts (machine.Expression least) frames ≡ run rest (Done (plain.ConditionalOnly c a)) (Operators least 3 ∷ frames)
+  from : (n least : ℕ) (ts rest : Tokens) (frames : List MachineFrame) → n ≤ 4 → least ≤ n → reads (plain.ConditionalOnly c a) n ts rest → IsEnd 4 rest
+      → parse ts (machine.Expression least) frames ≡ parse rest (Done (plain.ConditionalOnly c a)) (Operators least 3 ∷ frames)
   from n least ts rest frames most lower (low, (m0, word, later)) end =
       if_here least ts frames (omega (arith, low, lower)) (at_if ts m0 word)
       ∙ branch_only_read c a rc ra ts rest (Operators least 3 ∷ frames) (omega arith, (m0, word, later)) end
 
-  after_if : (ts rest : Tokens) (frames : List Frame) → reads (plain.ConditionalOnly c a) 3 ts rest → is_at_word (codes "if") ts ≡ true → IsEnd 4 rest
-      → run (drop 1 ts) (machine.Expression 0) (machine.Condition ∷ frames) ≡ run rest (Done (plain.ConditionalOnly c a)) frames
+  after_if : (ts rest : Tokens) (frames : List MachineFrame) → reads (plain.ConditionalOnly c a) 3 ts rest → is_at_word (codes "if") ts ≡ true → IsEnd 4 rest
+      → parse (drop 1 ts) (machine.Expression 0) (machine.Condition ∷ frames) ≡ parse rest (Done (plain.ConditionalOnly c a)) frames
   after_if ts rest frames derived there end = branch_only_read c a rc ra ts rest frames derived end

@@ -24,15 +24,17 @@ use Rattle.just_expression_parser.proofs.Steps.{read_all}
 use Rattle.just_expression_parser.proofs.Values.{backtick_here, bang_here, format_here, format_is, group_here, list_here, no_string, nothing_is, string_here}
 use Rattle.just_expression_parser.proofs.Values.{string_is}
 use Rattle.just_expression_parser.specs.Grammar as grammar
-use Rattle.just_expression_parser.specs.Grammar.{elements, interpolations, more, reads}
+use Rattle.just_expression_parser.specs.Grammar.{interpolations, more, reads, reads_elements}
 use Rattle.just_expression_parser.specs.Laws.{DerivesWhatIsRead}
-use Rattle.just_expression_parser.specs.Literal.{Style, command, end_of_format, format_style, is_format, middle_of_format, start_of_format, string}
+use Rattle.just_expression_parser.specs.Literal.{Style, backtick_command, end_of_format, format_style, is_format, middle_of_format, start_of_format}
+use Rattle.just_expression_parser.specs.Literal.{string_literal}
 use Rattle.just_expression_parser.specs.Literal.{whole_format, written}
 use Rattle.just_expression_parser.specs.Machine as machine
-use Rattle.just_expression_parser.specs.Machine.{Done, Elements, Form, Frame, Interpolation, Next, Operators, Read, Refused, Refuses, Side, closing, ends_with}
+use Rattle.just_expression_parser.specs.Machine.{Done, Elements, Form, Interpolation, MachineFrame, Next, Operators, Read, Refused, Refuses, Side, closing_kind}
+use Rattle.just_expression_parser.specs.Machine.{ends_with}
 use Rattle.just_expression_parser.specs.Machine.{expects}
-use Rattle.just_expression_parser.specs.Machine.{pieces, row, run, takes_it, with_elements}
-use Rattle.just_expression_parser.specs.Operator.{applied, comparison_kind, level, operator_of}
+use Rattle.just_expression_parser.specs.Machine.{expression_row, format_pieces, parse, takes_it, with_elements}
+use Rattle.just_expression_parser.specs.Operator.{comparison_kind, level, operation, operator_of}
 use Rattle.just_expression_parser.specs.Parsed.{IsNotAt, is_at_word}
 use Rattle.just_expression_parser.specs.Tokens.{Mark, One, Tokens, Word, is_word, lexeme}
 use Rattle.just_expression_parser.specs.declared.operator.Operator.{Operator}
@@ -114,7 +116,7 @@ lower (plain.Variable t number) m n ts rest most d = d
 
 -- two expressions with an operator between them
 applied_reads : (o : Operator) (e r : Expr) (t : Token) (ts at at' rest : Tokens) → reads e (suc (level o)) ts at → One (kind_of o) t at at'
-    → reads r (level o) at' rest → reads (applied e o t r) (level o) ts rest
+    → reads r (level o) at' rest → reads (operation e o t r) (level o) ts rest
 applied_reads operators.Or e r t ts at at' rest d taken later = (omega arith, (at, d, (at', (t, taken), later)))
 applied_reads operators.And e r t ts at at' rest d taken later = (omega arith, (at, d, (at', (t, taken), later)))
 applied_reads (operators.Comparison o) e r t ts at at' rest d taken later = (omega arith, (at, d, (at', taken, later)))
@@ -125,57 +127,61 @@ applied_reads operators.Join e r t ts at at' rest d taken later = (omega arith, 
 -- ---- what is to be shown
 
 -- each expression that is complete before these last tokens, completes the whole, of the level `m`, from `start` on
-abbrev Good : ℕ → ℕ → Tokens → List Frame → ℕ → Tokens → Type 0
-Good k m start frames n ts = (e : Expr) (at : Tokens) (w : Expr) (rest : Tokens) → length at < k → reads e n ts at → run at (Done e) frames ≡ Read w rest
+abbrev Good : ℕ → ℕ → Tokens → List MachineFrame → ℕ → Tokens → Type 0
+Good k m start frames n ts = (e : Expr) (at : Tokens) (w : Expr) (rest : Tokens) → length at < k → reads e n ts at → parse at (Done e) frames ≡ Read w rest
     → reads w m start rest
 
-fewer : (k : ℕ) (m : ℕ) (start : Tokens) (frames : List Frame) (n : ℕ) (ts : Tokens) → Good (suc k) m start frames n ts → Good k m start frames n ts
+fewer : (k : ℕ) (m : ℕ) (start : Tokens) (frames : List MachineFrame) (n : ℕ) (ts : Tokens) → Good (suc k) m start frames n ts → Good k m start frames n ts
 fewer k m start frames n ts good e at w rest less d r = good e at w rest (omega (arith, less)) d r
 
 abbrev Main : ℕ → Type 0
-Main k = (m : ℕ) (start ts : Tokens) (frames : List Frame) (n : ℕ) → n ≤ 4 → length ts < k → Good k m start frames n ts → (w : Expr) (rest : Tokens)
-    → run ts (machine.Expression n) frames ≡ Read w rest → reads w m start rest
+Main k = (m : ℕ) (start ts : Tokens) (frames : List MachineFrame) (n : ℕ) → n ≤ 4 → length ts < k → Good k m start frames n ts → (w : Expr) (rest : Tokens)
+    → parse ts (machine.Expression n) frames ≡ Read w rest → reads w m start rest
 
 abbrev Ops : ℕ → Type 0
-Ops k = (m : ℕ) (start ts : Tokens) (frames : List Frame) (n b : ℕ) → n ≤ b → b ≤ 4 → Good k m start frames n ts → Good k m start (Operators n b ∷ frames) b ts
+Ops k = (m : ℕ) (start ts : Tokens) (frames : List MachineFrame) (n b : ℕ) → n ≤ b → b ≤ 4 → Good k m start frames n ts
+    → Good k m start (Operators n b ∷ frames) b ts
 
 abbrev Values : ℕ → Type 0
-Values k = (m : ℕ) (start ts : Tokens) (frames : List Frame) → length ts < k → Good k m start frames 4 ts → (w : Expr) (rest : Tokens)
-    → run ts machine.Value frames ≡ Read w rest → reads w m start rest
+Values k = (m : ℕ) (start ts : Tokens) (frames : List MachineFrame) → length ts < k → Good k m start frames 4 ts → (w : Expr) (rest : Tokens)
+    → parse ts machine.Value frames ≡ Read w rest → reads w m start rest
 
 -- after `if`
 abbrev Ifs : ℕ → Type 0
-Ifs k = (m : ℕ) (start begin ts : Tokens) (frames : List Frame) → Word (codes "if") begin ts → length ts < k → Good k m start frames 3 begin → (w : Expr)
+Ifs k = (m : ℕ) (start begin ts : Tokens) (frames : List MachineFrame) → Word (codes "if") begin ts → length ts < k → Good k m start frames 3 begin → (w : Expr)
     (rest : Tokens)
-    → run ts (machine.Expression 0) (machine.Condition ∷ frames) ≡ Read w rest → reads w m start rest
+    → parse ts (machine.Expression 0) (machine.Condition ∷ frames) ≡ Read w rest → reads w m start rest
 
 -- elements after others
-abbrev GoodElements : ℕ → ℕ → Tokens → Form → List Frame → List Expr → Tokens → Type 0
-GoodElements k m start form frames before ts = (es : Exprs) (at : Tokens) (w : Expr) (rest : Tokens) → length at < k → elements es (closing form) ts at
-    → run at (Done (with_elements form (before ++ listed es))) frames ≡ Read w rest → reads w m start rest
+abbrev GoodElements : ℕ → ℕ → Tokens → Form → List MachineFrame → List Expr → Tokens → Type 0
+GoodElements k m start form frames before ts =
+    (es : Exprs) (at : Tokens) (w : Expr) (rest : Tokens) → length at < k → reads_elements es (closing_kind form) ts at
+    → parse at (Done (with_elements form (before ++ listed es))) frames ≡ Read w rest → reads w m start rest
 
 abbrev Lists : ℕ → Type 0
-Lists k = (m : ℕ) (start : Tokens) (form : Form) (before : List Expr) (ts : Tokens) (frames : List Frame) → length ts < k → GoodElements k m start form frames
+Lists k =
+    (m : ℕ) (start : Tokens) (form : Form) (before : List Expr) (ts : Tokens) (frames : List MachineFrame) → length ts < k → GoodElements k m start form frames
     before ts
-    → (w : Expr) (rest : Tokens) → run ts (Elements form before) frames ≡ Read w rest → reads w m start rest
+    → (w : Expr) (rest : Tokens) → parse ts (Elements form before) frames ≡ Read w rest → reads w m start rest
 
 -- interpolations after others
-abbrev GoodPieces : ℕ → ℕ → Tokens → Literal → Style → List Frame → List (Expr × Literal) → Tokens → Type 0
+abbrev GoodPieces : ℕ → ℕ → Tokens → Literal → Style → List MachineFrame → List (Expr × Literal) → Tokens → Type 0
 GoodPieces k m start l style frames before ts = (e : Expr) (text : Literal) (ps : Pieces) (at : Tokens) (w : Expr) (rest : Tokens) → length at < k
     → interpolations (plain.Piece e text ps) style ts at
-    → run at (Done (plain.FormatString l (pieces (before ++ listed_pieces (plain.Piece e text ps))))) frames ≡ Read w rest → reads w m start rest
+    → parse at (Done (plain.FormatString l (format_pieces (before ++ listed_pieces (plain.Piece e text ps))))) frames ≡ Read w rest → reads w m start rest
 
 abbrev Formats : ℕ → Type 0
-Formats k = (m : ℕ) (start : Tokens) (l : Literal) (style : Style) (before : List (Expr × Literal)) (ts : Tokens) (frames : List Frame) → length ts < k
+Formats k = (m : ℕ) (start : Tokens) (l : Literal) (style : Style) (before : List (Expr × Literal)) (ts : Tokens) (frames : List MachineFrame) → length ts < k
     → GoodPieces k m start l style frames before ts → (w : Expr) (rest : Tokens)
-    → run ts (machine.Expression 0) (Interpolation l before style ∷ frames) ≡ Read w rest → reads w m start rest
+    → parse ts (machine.Expression 0) (Interpolation l before style ∷ frames) ≡ Read w rest → reads w m start rest
 
 -- ---- steps
 
 -- a frame that waits for a token of one kind
-expected : (ts : Tokens) (frame : Frame) (frames : List Frame) (e : Expr) (kind : TokenKind) (later : Next) (inner : List Frame) (w : Expr) (rest : Tokens)
+expected : (ts : Tokens) (frame : MachineFrame) (frames : List MachineFrame) (e : Expr) (kind : TokenKind) (later : Next) (inner : List MachineFrame) (w : Expr)
+    (rest : Tokens)
     → ((t : Lexeme) → takes_it frame e t ≡ expects kind t later inner) → ends_with frame e ≡ Refuses (Expected kind)
-    → run ts (Done e) (frame ∷ frames) ≡ Read w rest → (after : Tokens) × Mark kind ts after × (run after later (inner ++ frames) ≡ Read w rest)
+    → parse ts (Done e) (frame ∷ frames) ≡ Read w rest → (after : Tokens) × Mark kind ts after × (parse after later (inner ++ frames) ≡ Read w rest)
 expected [] frame frames e kind later inner w rest takes ends r =
     absurd (not_read (Expected kind) [] w rest (sym (frame_refuses_end frame frames e (Expected kind) ends) ∙ r))
 expected (t ∷ ts) frame frames e kind later inner w rest takes ends r =
@@ -207,11 +213,12 @@ ops_step k main ops m start ts frames n b most high good e (t ∷ at) w rest les
                       let three = level_small o in
                       main m start at (Side e o t.token ∷ Operators n (level o) ∷ frames) (level o) (omega (arith, three)) (omega (arith, less))
                       (λ right at2 w2 rest2 less2 d2 r2.
-                      ops m start ts frames n (level o) above (omega (arith, three)) (fewer k m start frames n ts good) (applied e o t.token right) at2 w2 rest2
+                      ops m start ts frames n (level o) above (omega (arith, three)) (fewer k m start frames n ts good)
+                      (operation e o t.token right) at2 w2 rest2
                       less2
                       (applied_reads o e right t.token ts (t ∷ at) at at2 (lower e (suc (level o)) b ts (t ∷ at) below d)
                       (one (kind_of o) t at (kind_is t.kind o is)) d2)
-                      (sym (frame_completes at2 (Side e o t.token) (Operators n (level o) ∷ frames) right (applied e o t.token right) (λ t. refl) refl) ∙ r2))
+                      (sym (frame_completes at2 (Side e o t.token) (Operators n (level o) ∷ frames) right (operation e o t.token right) (λ t. refl) refl) ∙ r2))
                       w rest (sym (operator_here n b (t ∷ at) at t.kind t.token o e frames is above below refl) ∙ r)
                 ]
           ]
@@ -233,7 +240,7 @@ if_step k main ifs m start begin ts frames word less good w rest r =
   where
     -- the whole, once the branches are known
     after_branches : (c : Expr) (at1 : Tokens) → reads c 0 ts at1 → (at2 : Tokens) → Mark kinds.BraceL at1 at2 → (a : Expr) (at3 : Tokens) → reads a 0 at2 at3
-        → (at4 : Tokens) → Mark kinds.BraceR at3 at4 → length at4 < k → (w : Expr) (rest : Tokens) → run at4 (machine.Else c a) frames ≡ Read w rest
+        → (at4 : Tokens) → Mark kinds.BraceR at3 at4 → length at4 < k → (w : Expr) (rest : Tokens) → parse at4 (machine.Else c a) frames ≡ Read w rest
         → reads w m start rest
     after_branches c at1 dc at2 opening a at3 da [] ending less4 w rest r =
         good (plain.ConditionalOnly c a) [] w rest (omega (arith, less4)) (omega arith, (ts, word, (at1, dc, (at2, opening, (at3, da, ending)))))
@@ -247,7 +254,7 @@ if_step k main ifs m start begin ts frames word less good w rest r =
         ]
       where
         other_branch : (at5 : Tokens) → Mark kinds.BraceR at3 (t ∷ at5) → suc (length at5) < k → (w : Expr) (rest : Tokens)
-            → run at5 (machine.Branch c a) frames ≡ Read w rest → Word (codes "else") (t ∷ at5) at5 → reads w m start rest
+            → parse at5 (machine.Branch c a) frames ≡ Read w rest → Word (codes "else") (t ∷ at5) at5 → reads w m start rest
         other_branch [] ending less5 w rest r is_else =
             absurd (not_read (Expected kinds.BraceL) [] w rest (sym (refuses_end (machine.Branch c a) frames (Expected kinds.BraceL) refl) ∙ r))
         other_branch (u ∷ at6) ending less5 w rest r is_else =
@@ -297,7 +304,8 @@ if_step k main ifs m start begin ts frames word less good w rest r =
 
 -- ---- elements
 
-more_of : (es : Exprs) (form : Form) (ts m rest : Tokens) → Mark kinds.Comma ts m → elements es (closing form) m rest → more es (closing form) ts rest
+more_of : (es : Exprs) (form : Form) (ts m rest : Tokens) → Mark kinds.Comma ts m → reads_elements es (closing_kind form) m rest
+    → more es (closing_kind form) ts rest
 more_of plain.Nil form ts m rest comma mark = inr (m, comma, mark)
 more_of (plain.Cons e es) form ts m rest comma later = (m, comma, later)
 
@@ -305,22 +313,22 @@ lists_step : (k : ℕ) → Main (suc k) → Lists k → Lists (suc k)
 lists_step k main lists m start form before [] frames less good w rest r =
     absurd (not_read ExpectedExpression [] w rest (sym (refuses_end (Elements form before) frames ExpectedExpression refl) ∙ r))
 lists_step k main lists m start form before (t ∷ ts) frames less good w rest r =
-    elim (at_kind (closing form) t) [
-      | inl is ↦ good plain.Nil ts w rest (omega (arith, less)) (t.token, one (closing form) t ts is)
-          (ap (λ xs. run ts (Done (with_elements form xs)) frames) (append-nil before)
-          ∙ sym (elements_end form before (t ∷ ts) ts t.token frames (one (closing form) t ts is)) ∙ r)
+    elim (at_kind (closing_kind form) t) [
+      | inl is ↦ good plain.Nil ts w rest (omega (arith, less)) (t.token, one (closing_kind form) t ts is)
+          (ap (λ xs. parse ts (Done (with_elements form xs)) frames) (append-nil before)
+          ∙ sym (elements_end form before (t ∷ ts) ts t.token frames (one (closing_kind form) t ts is)) ∙ r)
       | inr other ↦ main m start (t ∷ ts) (machine.Element form before ∷ frames) 0 (omega arith) less after_element w rest
           (sym (element_here form before (t ∷ ts) frames other) ∙ r)
     ]
   where
     after_element : Good (suc k) m start (machine.Element form before ∷ frames) 0 (t ∷ ts)
     after_element e [] w rest less d r =
-        absurd (not_read (Expected (closing form)) [] w rest
-        (sym (frame_refuses_end (machine.Element form before) frames e (Expected (closing form)) refl) ∙ r))
+        absurd (not_read (Expected (closing_kind form)) [] w rest
+        (sym (frame_refuses_end (machine.Element form before) frames e (Expected (closing_kind form)) refl) ∙ r))
     after_element e (v ∷ vs) w rest less d r =
-        elim (at_kind (closing form) v) [
-          | inl is ↦ good (plain.Cons e plain.Nil) vs w rest (omega (arith, less)) (v ∷ vs, d, inl (v.token, one (closing form) v vs is))
-              (sym (element_last form before e (v ∷ vs) vs v.token frames (one (closing form) v vs is)) ∙ r)
+        elim (at_kind (closing_kind form) v) [
+          | inl is ↦ good (plain.Cons e plain.Nil) vs w rest (omega (arith, less)) (v ∷ vs, d, inl (v.token, one (closing_kind form) v vs is))
+              (sym (element_last form before e (v ∷ vs) vs v.token frames (one (closing_kind form) v vs is)) ∙ r)
           | inr other ↦
               elim (at_kind kinds.Comma v) [
                 | inl is ↦
@@ -328,10 +336,10 @@ lists_step k main lists m start form before (t ∷ ts) frames less good w rest r
                     lists m start form (before ++ e ∷ []) vs frames (omega (arith, less))
                     (λ es at2 w2 rest2 less2 d2 r2. good (plain.Cons e es) at2 w2 rest2 (omega (arith, less2))
                     (v ∷ vs, d, more_of es form (v ∷ vs) vs at2 comma d2)
-                    (ap (λ xs. run at2 (Done (with_elements form xs)) frames) (sym (append_assoc before (e ∷ []) (listed es))) ∙ r2))
+                    (ap (λ xs. parse at2 (Done (with_elements form xs)) frames) (sym (append_assoc before (e ∷ []) (listed es))) ∙ r2))
                     w rest (sym (element_comma form before e (v ∷ vs) vs frames other comma) ∙ r)
-                | inr no_comma ↦ absurd (not_read (Expected (closing form)) (v ∷ vs) w rest
-                    (sym (frame_refuses v vs (machine.Element form before) frames e (Expected (closing form))
+                | inr no_comma ↦ absurd (not_read (Expected (closing_kind form)) (v ∷ vs) w rest
+                    (sym (frame_refuses v vs (machine.Element form before) frames e (Expected (closing_kind form))
                     (neither_of form (before ++ e ∷ []) v other no_comma)) ∙ r))
               ]
         ]
@@ -342,9 +350,9 @@ formats_step : (k : ℕ) → Main (suc k) → Formats k → Formats (suc k)
 formats_step k main formats m start l style before ts frames less good w rest r =
     main m start ts (Interpolation l before style ∷ frames) 0 (omega arith) less after_interpolation w rest r
   where
-    as_kind : (kind : TokenKind) (e : Expr) (v : Lexeme) (vs : Tokens) → v.kind ≡ kind → run (v ∷ vs) (Done e) (Interpolation l before style ∷ frames)
-        ≡ run (lexeme kind v.token ∷ vs) (Done e) (Interpolation l before style ∷ frames)
-    as_kind kind e v vs is = ap (λ k. run (lexeme k v.token ∷ vs) (Done e) (Interpolation l before style ∷ frames)) is
+    as_kind : (kind : TokenKind) (e : Expr) (v : Lexeme) (vs : Tokens) → v.kind ≡ kind → parse (v ∷ vs) (Done e) (Interpolation l before style ∷ frames)
+        ≡ parse (lexeme kind v.token ∷ vs) (Done e) (Interpolation l before style ∷ frames)
+    as_kind kind e v vs is = ap (λ k. parse (lexeme k v.token ∷ vs) (Done e) (Interpolation l before style ∷ frames)) is
 
     after_interpolation : Good (suc k) m start (Interpolation l before style ∷ frames) 0 ts
     after_interpolation e [] w rest less d r =
@@ -359,7 +367,7 @@ formats_step k main formats m start l style before ts frames less good w rest r 
                     formats m start l style (before ++ piece ∷ []) vs frames (omega (arith, less))
                     (λ e2 text2 ps at2 w2 rest2 less2 d2 r2. good e text (plain.Piece e2 text2 ps) at2 w2 rest2 (omega (arith, less2))
                     (v ∷ vs, d, (vs, (v.token, there, one kinds.FormatStringContinue v vs is), d2))
-                    (ap (λ xs. run at2 (Done (plain.FormatString l (pieces xs))) frames)
+                    (ap (λ xs. parse at2 (Done (plain.FormatString l (format_pieces xs))) frames)
                     (sym (append_assoc before (piece ∷ []) (listed_pieces (plain.Piece e2 text2 ps)))) ∙ r2))
                     w rest (sym (middle_here l before style e v.token text (v ∷ vs) vs frames (one kinds.FormatStringContinue v vs is) there) ∙ r)
                 | inr none ↦ absurd (not_read InvalidEscape (lexeme kinds.FormatStringContinue v.token ∷ vs) w rest
@@ -385,13 +393,14 @@ formats_step k main formats m start l style before ts frames less good w rest r 
 
 -- ---- values
 
-as_kind : (kind : TokenKind) (t : Lexeme) (ts : Tokens) (frames : List Frame) → t.kind ≡ kind
-    → run (t ∷ ts) machine.Value frames ≡ run (lexeme kind t.token ∷ ts) machine.Value frames
-as_kind kind t ts frames is = ap (λ k. run (lexeme k t.token ∷ ts) machine.Value frames) is
+as_kind : (kind : TokenKind) (t : Lexeme) (ts : Tokens) (frames : List MachineFrame) → t.kind ≡ kind
+    → parse (t ∷ ts) machine.Value frames ≡ parse (lexeme kind t.token ∷ ts) machine.Value frames
+as_kind kind t ts frames is = ap (λ k. parse (lexeme k t.token ∷ ts) machine.Value frames) is
 
-format_start : (k : ℕ) → Formats k → (m : ℕ) (start : Tokens) (t : Lexeme) (ts : Tokens) (frames : List Frame) → t.kind ≡ kinds.FormatStringStart → length ts
+format_start : (k : ℕ) → Formats k → (m : ℕ) (start : Tokens) (t : Lexeme) (ts : Tokens) (frames : List MachineFrame) → t.kind ≡ kinds.FormatStringStart
+    → length ts
     < k
-    → Good (suc k) m start frames 4 (t ∷ ts) → (w : Expr) (rest : Tokens) → run (t ∷ ts) machine.Value frames ≡ Read w rest → reads w m start rest
+    → Good (suc k) m start frames 4 (t ∷ ts) → (w : Expr) (rest : Tokens) → parse (t ∷ ts) machine.Value frames ≡ Read w rest → reads w m start rest
 format_start k formats m start t ts frames is less good w rest r =
     let here = as_kind kinds.FormatStringStart t ts frames is in
     elim (some_or_none (start_of_format t.token.lexeme)) [
@@ -399,14 +408,14 @@ format_start k formats m start t ts frames is less good w rest r =
           formats m start l (format_style t.token.lexeme) [] ts frames less
           (λ e text ps at w2 rest2 less2 d r2. good (plain.FormatString l (plain.Piece e text ps)) at w2 rest2 (omega (arith, less2))
           (t.token, there, (ts, one kinds.FormatStringStart t ts is, d))
-          (ap (λ xs. run at (Done (plain.FormatString l xs)) frames) (sym (pieces_listed (plain.Piece e text ps))) ∙ r2))
+          (ap (λ xs. parse at (Done (plain.FormatString l xs)) frames) (sym (pieces_listed (plain.Piece e text ps))) ∙ r2))
           w rest (sym (here ∙ format_here t.token ts frames l [] (format_style t.token.lexeme) there refl refl) ∙ r)
       | inr none ↦ absurd (not_read InvalidEscape (lexeme kinds.FormatStringStart t.token ∷ ts) w rest
           (sym (refuses (lexeme kinds.FormatStringStart t.token) ts machine.Value frames InvalidEscape (format_is t.token ∙ rw none refl)) ∙ sym here ∙ r))
     ]
 
-string_start : (k : ℕ) (m : ℕ) (start : Tokens) (t : Lexeme) (ts : Tokens) (frames : List Frame) → t.kind ≡ kinds.StringToken → length ts < k
-    → Good (suc k) m start frames 4 (t ∷ ts) → (w : Expr) (rest : Tokens) → run (t ∷ ts) machine.Value frames ≡ Read w rest → reads w m start rest
+string_start : (k : ℕ) (m : ℕ) (start : Tokens) (t : Lexeme) (ts : Tokens) (frames : List MachineFrame) → t.kind ≡ kinds.StringToken → length ts < k
+    → Good (suc k) m start frames 4 (t ∷ ts) → (w : Expr) (rest : Tokens) → parse (t ∷ ts) machine.Value frames ≡ Read w rest → reads w m start rest
 string_start k m start t ts frames is less good w rest r =
     elim (yes_or_no (is_format t.token.lexeme)) [
       | inl format ↦
@@ -416,7 +425,7 @@ string_start k m start t ts frames is less good w rest r =
             | inr none ↦ refused (rw format none)
           ]
       | inr no_format ↦
-          elim (some_or_none (string t.token.lexeme)) [
+          elim (some_or_none (string_literal t.token.lexeme)) [
             | inl (l, there) ↦ good (plain.StringLiteral l) ts w rest (omega (arith, less)) (t.token, no_format, there, one kinds.StringToken t ts is)
                 (sym (string_here t.kind t.token ts frames is (plain.StringLiteral l) (no_format, there)) ∙ r)
             | inr none ↦ refused (rw no_format none)
@@ -429,9 +438,10 @@ string_start k m start t ts frames is less good w rest r =
         ∙ sym (as_kind kinds.StringToken t ts frames is) ∙ r))
 
 -- after the parenthesis of an assertion
-assertion_start : (k : ℕ) → Main k → (m : ℕ) (start begin middle ts : Tokens) (t : Token) (frames : List Frame) → bytes_eq t.lexeme (codes "assert") ≡ true
+assertion_start : (k : ℕ) → Main k → (m : ℕ) (start begin middle ts : Tokens) (t : Token) (frames : List MachineFrame)
+    → bytes_eq t.lexeme (codes "assert") ≡ true
     → grammar.Name t begin middle → Mark kinds.ParenL middle ts → length ts < k → Good (suc k) m start frames 4 begin → (w : Expr) (rest : Tokens)
-    → run ts (machine.Expression 0) (machine.Assertion t ∷ frames) ≡ Read w rest → reads w m start rest
+    → parse ts (machine.Expression 0) (machine.Assertion t ∷ frames) ≡ Read w rest → reads w m start rest
 assertion_start k main m start begin middle ts t frames is_assert name paren less good w rest r =
     main m start ts (machine.Assertion t ∷ frames) 0 (omega arith) less after_condition w rest r
   where
@@ -459,8 +469,9 @@ assertion_start k main m start begin middle ts t frames is_assert name paren les
               ]
         ]
 
-name_start : (k : ℕ) → Main k → Lists k → (m : ℕ) (start : Tokens) (t : Lexeme) (ts : Tokens) (frames : List Frame) → t.kind ≡ kinds.Identifier → length ts < k
-    → Good (suc k) m start frames 4 (t ∷ ts) → (w : Expr) (rest : Tokens) → run (t ∷ ts) machine.Value frames ≡ Read w rest → reads w m start rest
+name_start : (k : ℕ) → Main k → Lists k → (m : ℕ) (start : Tokens) (t : Lexeme) (ts : Tokens) (frames : List MachineFrame) → t.kind ≡ kinds.Identifier
+    → length ts < k
+    → Good (suc k) m start frames 4 (t ∷ ts) → (w : Expr) (rest : Tokens) → parse (t ∷ ts) machine.Value frames ≡ Read w rest → reads w m start rest
 name_start k main lists m start t ts frames is less good w rest r =
     let here = as_kind kinds.Identifier t ts frames is in
     elim (yes_or_no (bytes_eq t.token.lexeme (codes "if"))) [
@@ -470,7 +481,7 @@ name_start k main lists m start t ts frames is less good w rest r =
     ]
   where
     named : (ts : Tokens) → length ts < k → grammar.Name t.token (t ∷ ts) ts → Good (suc k) m start frames 4 (t ∷ ts) → (w : Expr) (rest : Tokens)
-        → run ts (machine.Named t.token) frames ≡ Read w rest → reads w m start rest
+        → parse ts (machine.Named t.token) frames ≡ Read w rest → reads w m start rest
     named [] less name good w rest r =
         good (plain.Variable t.token None) [] w rest (omega (arith, less)) (refl, name) (sym (variable_here t.token [] frames tt) ∙ r)
     named (u ∷ us) less name good w rest r =
@@ -487,7 +498,7 @@ name_start k main lists m start t ts frames is less good w rest r =
                     lists m start (machine.Call t.token) [] us frames (omega (arith, less))
                     (λ es at w2 rest2 less2 d r2. good (plain.Call t.token es) at w2 rest2 (omega (arith, less2))
                     (u ∷ us, (no_assert, name), (us, (u.token, opening), d))
-                    (ap (λ xs. run at (Done (plain.Call t.token xs)) frames) (sym (row_listed es)) ∙ r2))
+                    (ap (λ xs. parse at (Done (plain.Call t.token xs)) frames) (sym (row_listed es)) ∙ r2))
                     w rest (sym (call_here t.token u.token (u ∷ us) us frames no_assert opening) ∙ r)
               ]
         ]
@@ -497,7 +508,7 @@ value_step k values main lists formats m start [] frames less good w rest r =
     absurd (not_read ExpectedExpression [] w rest (sym (refuses_end machine.Value frames ExpectedExpression refl) ∙ r))
 value_step k values main lists formats m start (t ∷ ts) frames less good w rest r =
     elim (at_kind kinds.Backtick t) [
-      | inl is ↦ good (plain.Backtick (command t.token.lexeme) t.token) ts w rest (omega (arith, less)) (refl, one kinds.Backtick t ts is)
+      | inl is ↦ good (plain.Backtick (backtick_command t.token.lexeme) t.token) ts w rest (omega (arith, less)) (refl, one kinds.Backtick t ts is)
           (sym (backtick_here t.kind t.token ts frames is) ∙ r)
       | inr no_backtick ↦
           elim (at_kind kinds.Bang t) [
@@ -509,7 +520,7 @@ value_step k values main lists formats m start (t ∷ ts) frames less good w res
                 elim (at_kind kinds.BracketL t) [
                   | inl is ↦ lists m start (machine.ListOf t.token) [] ts frames (omega (arith, less))
                       (λ es at w2 rest2 less2 d r2. good (plain.ListOf es t.token) at w2 rest2 (omega (arith, less2)) (ts, one kinds.BracketL t ts is, d)
-                      (ap (λ xs. run at (Done (plain.ListOf xs t.token)) frames) (sym (row_listed es)) ∙ r2))
+                      (ap (λ xs. parse at (Done (plain.ListOf xs t.token)) frames) (sym (row_listed es)) ∙ r2))
                       w rest (sym (list_here t.kind t.token ts frames is) ∙ r)
                   | inr no_list ↦
                       elim (at_kind kinds.FormatStringStart t) [
@@ -598,7 +609,7 @@ alone k n ts e at w rest less d r =
     subst (λ x. reads x n ts rest) same.0 (subst (λ y. reads e n ts y) same.1 d)
 
 -- what is read at a level, the grammar derives at that level
-pub derives_at : (n : ℕ) (e : Expr) (ts rest : Tokens) → n ≤ 4 → run ts (machine.Expression n) [] ≡ Read e rest → reads e n ts rest
+pub derives_at : (n : ℕ) (e : Expr) (ts rest : Tokens) → n ≤ 4 → parse ts (machine.Expression n) [] ≡ Read e rest → reads e n ts rest
 derives_at n e ts rest most r =
     (all (suc (length ts))).1 n ts ts [] n most (omega arith) (alone (suc (length ts)) n ts) e rest r
 

@@ -10,12 +10,12 @@ use Rattle.just_lexer.specs.State.{Lexeme}
 use Rattle.just_lexer.specs.declared.kind.TokenKind.TheVariants as kinds
 use Rattle.just_expression_parser.proofs.Codes.{is_not_of_kind, is_of_kind}
 use Rattle.just_expression_parser.proofs.Runs.{passes, passes_end, refuses, refuses_end, takes}
-use Rattle.just_expression_parser.specs.Literal.{format_style, is_format, start_of_format, string, whole_format}
+use Rattle.just_expression_parser.specs.Literal.{format_style, is_format, start_of_format, string_literal, whole_format}
 use Rattle.just_expression_parser.specs.Machine as machine
-use Rattle.just_expression_parser.specs.Machine.{Action, Branch, Done, Element, Elements, Else, Form, Frame, Named, Next, Operators}
+use Rattle.just_expression_parser.specs.Machine.{Action, Branch, Done, Element, Elements, Else, Form, MachineFrame, Named, Next, Operators}
 use Rattle.just_expression_parser.specs.Machine.{Passes, Refused, Refuses, Result, Takes, acts, after_condition, after_element}
-use Rattle.just_expression_parser.specs.Machine.{after_name, at_string, begins, branch, closing, elements, ends, expects, expression}
-use Rattle.just_expression_parser.specs.Machine.{other_branch, run, value, with_elements, with_literal, within}
+use Rattle.just_expression_parser.specs.Machine.{after_name, at_string, begins, begins_branch, begins_elements, begins_expression, closing_kind, ends, expects}
+use Rattle.just_expression_parser.specs.Machine.{begins_value, other_branch, parse, with_elements, with_literal, within}
 use Rattle.just_expression_parser.specs.Parsed.{IsNotAt, IsRefusalAt, IsRefusalOf, IsRefused, is_at_word}
 use Rattle.just_expression_parser.specs.Tokens.{Mark, One, Tokens, code, is_kind, is_word, lexeme}
 use Rattle.just_expression_parser.specs.declared.parse_error.Fault.TheVariants.{Expected, ExpectedExpression}
@@ -41,10 +41,10 @@ with_literal_starts (Some l) f starts = starts l
 string_starts : (lexeme : _) → IsStart (at_string lexeme)
 unfolding at_string
 string_starts lexeme = either (is_format lexeme) _ _
-    (with_literal_starts (whole_format lexeme) _ (λ l. tt)) (with_literal_starts (string lexeme) _ (λ l. tt))
+    (with_literal_starts (whole_format lexeme) _ (λ l. tt)) (with_literal_starts (string_literal lexeme) _ (λ l. tt))
 
-value_starts : (t : Lexeme) → IsStart (value t)
-unfolding value
+value_starts : (t : Lexeme) → IsStart (begins_value t)
+unfolding begins_value
 value_starts t =
     either (is_kind kinds.Backtick t) _ _ tt (either (is_kind kinds.Bang t) _ _ tt
     (either (is_kind kinds.BracketL t) _ _ tt (either (is_kind kinds.FormatStringStart t) _ _
@@ -54,24 +54,24 @@ value_starts t =
     (either (bytes_eq t.token.lexeme (codes "if")) _ _ tt tt) (either (is_kind kinds.ParenL t) _ _ tt
     (either (is_kind kinds.StringToken t) _ _ (string_starts t.token.lexeme) tt))))))
 
-within_starts : (frame : Frame) (a : Action) → IsStart a → IsStart (within frame a)
+within_starts : (frame : MachineFrame) (a : Action) → IsStart a → IsStart (within frame a)
 within_starts frame (Takes later inner) starts = tt
 within_starts frame (Passes e) starts = starts
 within_starts frame (Refuses fault) starts = tt
 
-expression_starts : (least : ℕ) (t : Lexeme) → IsStart (expression least t)
-unfolding expression
+expression_starts : (least : ℕ) (t : Lexeme) → IsStart (begins_expression least t)
+unfolding begins_expression
 expression_starts least t =
     either (nat_le least 3 && is_word (codes "if") t) _ _ tt (either (nat_le least 3 && is_kind kinds.Slash t) _ _ tt
-    (within_starts (Operators least 4) (value t) (value_starts t)))
+    (within_starts (Operators least 4) (begins_value t) (value_starts t)))
 
 -- what starts within a frame, starts with the frame around it
-acts_within : (t : Lexeme) (ts : Tokens) (frame : Frame) (frames : List Frame) (first second : Next) (a : Action)
+acts_within : (t : Lexeme) (ts : Tokens) (frame : MachineFrame) (frames : List MachineFrame) (first second : Next) (a : Action)
     → IsStart a → begins first t ≡ within frame a → begins second t ≡ a
-    → run (t ∷ ts) first frames ≡ run (t ∷ ts) second (frame ∷ frames)
+    → parse (t ∷ ts) first frames ≡ parse (t ∷ ts) second (frame ∷ frames)
 acts_within t ts frame frames first second (Takes later inner) starts outer inside =
     takes t ts first frames later (inner ++ frame ∷ []) outer
-    ∙ ap (run ts later) (append_assoc inner (frame ∷ []) frames)
+    ∙ ap (parse ts later) (append_assoc inner (frame ∷ []) frames)
     ∙ sym (takes t ts second (frame ∷ frames) later inner inside)
 acts_within t ts frame frames first second (Passes e) starts outer inside = absurd starts
 acts_within t ts frame frames first second (Refuses fault) starts outer inside =
@@ -80,29 +80,29 @@ acts_within t ts frame frames first second (Refuses fault) starts outer inside =
 -- ---- expressions
 
 -- `if`
-pub if_here : (least : ℕ) (ts : Tokens) (frames : List Frame) → least ≤ 3 → is_at_word (codes "if") ts ≡ true
-    → run ts (machine.Expression least) frames
-    ≡ run (drop 1 ts) (machine.Expression 0) (machine.Condition ∷ Operators least 3 ∷ frames)
-unfolding expression
+pub if_here : (least : ℕ) (ts : Tokens) (frames : List MachineFrame) → least ≤ 3 → is_at_word (codes "if") ts ≡ true
+    → parse ts (machine.Expression least) frames
+    ≡ parse (drop 1 ts) (machine.Expression 0) (machine.Condition ∷ Operators least 3 ∷ frames)
+unfolding begins_expression
 if_here least [] frames low is = absurd (cc)
 if_here least (t ∷ ts) frames low is = takes t ts (machine.Expression least) frames (machine.Expression 0)
     (machine.Condition ∷ Operators least 3 ∷ []) (rw (le-leb least 3 low, is) refl)
 
-slash : (least : ℕ) (token : Token) → least ≤ 3 → expression least (lexeme kinds.Slash token)
+slash : (least : ℕ) (token : Token) → least ≤ 3 → begins_expression least (lexeme kinds.Slash token)
     ≡ Takes (machine.Expression 3) (machine.Root token ∷ Operators least 3 ∷ [])
-unfolding expression is_word is_kind code
+unfolding begins_expression is_word is_kind code
 slash least token low = rw (le-leb least 3 low) refl
 
 -- `/`
-pub root_here : (least : ℕ) (ts rest : Tokens) (token : Token) (frames : List Frame) → least ≤ 3
-    → One kinds.Slash token ts rest → run ts (machine.Expression least) frames
-    ≡ run rest (machine.Expression 3) (machine.Root token ∷ Operators least 3 ∷ frames)
-root_here least ts rest token frames low taken = ap (λ us. run us (machine.Expression least) frames) taken
+pub root_here : (least : ℕ) (ts rest : Tokens) (token : Token) (frames : List MachineFrame) → least ≤ 3
+    → One kinds.Slash token ts rest → parse ts (machine.Expression least) frames
+    ≡ parse rest (machine.Expression 3) (machine.Root token ∷ Operators least 3 ∷ frames)
+root_here least ts rest token frames low taken = ap (λ us. parse us (machine.Expression least) frames) taken
     ∙ takes (lexeme kinds.Slash token) rest (machine.Expression least) frames (machine.Expression 3)
     (machine.Root token ∷ Operators least 3 ∷ []) (slash least token low)
 
-tight : (least : ℕ) (t : Lexeme) → 3 < least → expression least t ≡ within (Operators least 4) (value t)
-unfolding expression
+tight : (least : ℕ) (t : Lexeme) → 3 < least → begins_expression least t ≡ within (Operators least 4) (begins_value t)
+unfolding begins_expression
 tight least t high = rw (lt-leb least 3 high) refl
 
 either_way : (b word slash : Bool) (x y z : Action) → word ≡ false → slash ≡ false → (if b && word then x else if b && slash then y else z) ≡ z
@@ -110,48 +110,48 @@ either_way true word slash x y z no_word no_slash = rw (no_word, no_slash) refl
 either_way false word slash x y z no_word no_slash = refl
 
 loose : (least : ℕ) (t : Lexeme) → is_word (codes "if") t ≡ false → is_kind kinds.Slash t ≡ false
-    → expression least t ≡ within (Operators least 4) (value t)
-unfolding expression
+    → begins_expression least t ≡ within (Operators least 4) (begins_value t)
+unfolding begins_expression
 loose least t no_if no_slash = either_way (nat_le least 3) (is_word (codes "if") t) (is_kind kinds.Slash t) _ _ _ no_if no_slash
 
 -- a value
-pub value_here : (least : ℕ) (ts : Tokens) (frames : List Frame)
+pub value_here : (least : ℕ) (ts : Tokens) (frames : List MachineFrame)
     → (3 < least) ⊎ ((is_at_word (codes "if") ts ≡ false) × IsNotAt kinds.Slash ts)
-    → run ts (machine.Expression least) frames ≡ run ts machine.Value (Operators least 4 ∷ frames)
+    → parse ts (machine.Expression least) frames ≡ parse ts machine.Value (Operators least 4 ∷ frames)
 value_here least [] frames so = refuses_end (machine.Expression least) frames ExpectedExpression refl
     ∙ sym (refuses_end machine.Value (Operators least 4 ∷ frames) ExpectedExpression refl)
 value_here least (t ∷ ts) frames (inl high) = acts_within t ts (Operators least 4) frames (machine.Expression least)
-    machine.Value (value t) (value_starts t) (tight least t high) refl
+    machine.Value (begins_value t) (value_starts t) (tight least t high) refl
 value_here least (t ∷ ts) frames (inr (no_if, no_slash)) = acts_within t ts (Operators least 4) frames
-    (machine.Expression least) machine.Value (value t) (value_starts t)
+    (machine.Expression least) machine.Value (begins_value t) (value_starts t)
     (loose least t no_if (is_not_of_kind kinds.Slash t no_slash)) refl
 
 -- ---- elements
 
-end_of : (form : Form) (es : List Expr) (token : Token) → elements form es (lexeme (closing form) token)
+end_of : (form : Form) (es : List Expr) (token : Token) → begins_elements form es (lexeme (closing_kind form) token)
     ≡ Takes (Done (with_elements form es)) []
-unfolding elements
-end_of form es token = rw (is_of_kind (closing form) (lexeme (closing form) token) refl) refl
+unfolding begins_elements
+end_of form es token = rw (is_of_kind (closing_kind form) (lexeme (closing_kind form) token) refl) refl
 
 -- the end of the elements
-pub elements_end : (form : Form) (es : List Expr) (ts rest : Tokens) (token : Token) (frames : List Frame)
-    → One (closing form) token ts rest → run ts (Elements form es) frames ≡ run rest (Done (with_elements form es)) frames
-elements_end form es ts rest token frames taken = ap (λ us. run us (Elements form es) frames) taken
-    ∙ takes (lexeme (closing form) token) rest (Elements form es) frames (Done (with_elements form es)) []
+pub elements_end : (form : Form) (es : List Expr) (ts rest : Tokens) (token : Token) (frames : List MachineFrame)
+    → One (closing_kind form) token ts rest → parse ts (Elements form es) frames ≡ parse rest (Done (with_elements form es)) frames
+elements_end form es ts rest token frames taken = ap (λ us. parse us (Elements form es) frames) taken
+    ∙ takes (lexeme (closing_kind form) token) rest (Elements form es) frames (Done (with_elements form es)) []
     (end_of form es token)
 
-another : (form : Form) (es : List Expr) (t : Lexeme) → (t.kind ≡ closing form → ⊥)
-    → elements form es t ≡ within (Element form es) (expression 0 t)
-unfolding elements
-another form es t other = rw (is_not_of_kind (closing form) t other) refl
+another : (form : Form) (es : List Expr) (t : Lexeme) → (t.kind ≡ closing_kind form → ⊥)
+    → begins_elements form es t ≡ within (Element form es) (begins_expression 0 t)
+unfolding begins_elements
+another form es t other = rw (is_not_of_kind (closing_kind form) t other) refl
 
 -- one more element
-pub element_here : (form : Form) (es : List Expr) (ts : Tokens) (frames : List Frame) → IsNotAt (closing form) ts
-    → run ts (Elements form es) frames ≡ run ts (machine.Expression 0) (Element form es ∷ frames)
+pub element_here : (form : Form) (es : List Expr) (ts : Tokens) (frames : List MachineFrame) → IsNotAt (closing_kind form) ts
+    → parse ts (Elements form es) frames ≡ parse ts (machine.Expression 0) (Element form es ∷ frames)
 element_here form es [] frames other = refuses_end (Elements form es) frames ExpectedExpression refl
     ∙ sym (refuses_end (machine.Expression 0) (Element form es ∷ frames) ExpectedExpression refl)
 element_here form es (t ∷ ts) frames other = acts_within t ts (Element form es) frames (Elements form es)
-    (machine.Expression 0) (expression 0 t) (expression_starts 0 t) (another form es t other) refl
+    (machine.Expression 0) (begins_expression 0 t) (expression_starts 0 t) (another form es t other) refl
 
 -- ---- names
 
@@ -166,17 +166,17 @@ unfolding after_name is_kind code
 assertion_of name token e = rw e refl
 
 -- a call
-pub call_here : (name token : Token) (ts rest : Tokens) (frames : List Frame)
+pub call_here : (name token : Token) (ts rest : Tokens) (frames : List MachineFrame)
     → bytes_eq name.lexeme (codes "assert") ≡ false → One kinds.ParenL token ts rest
-    → run ts (Named name) frames ≡ run rest (Elements (machine.Call name) []) frames
-call_here name token ts rest frames e taken = ap (λ us. run us (Named name) frames) taken
+    → parse ts (Named name) frames ≡ parse rest (Elements (machine.Call name) []) frames
+call_here name token ts rest frames e taken = ap (λ us. parse us (Named name) frames) taken
     ∙ takes (lexeme kinds.ParenL token) rest (Named name) frames (Elements (machine.Call name) []) [] (call_of name token e)
 
 -- an assertion
-pub assertion_here : (name token : Token) (ts rest : Tokens) (frames : List Frame)
+pub assertion_here : (name token : Token) (ts rest : Tokens) (frames : List MachineFrame)
     → bytes_eq name.lexeme (codes "assert") ≡ true → One kinds.ParenL token ts rest
-    → run ts (Named name) frames ≡ run rest (machine.Expression 0) (machine.Assertion name ∷ frames)
-assertion_here name token ts rest frames e taken = ap (λ us. run us (Named name) frames) taken
+    → parse ts (Named name) frames ≡ parse rest (machine.Expression 0) (machine.Assertion name ∷ frames)
+assertion_here name token ts rest frames e taken = ap (λ us. parse us (Named name) frames) taken
     ∙ takes (lexeme kinds.ParenL token) rest (Named name) frames (machine.Expression 0) (machine.Assertion name ∷ [])
     (assertion_of name token e)
 
@@ -185,8 +185,8 @@ unfolding after_name
 alone name t other = rw (is_not_of_kind kinds.ParenL t other) refl
 
 -- a variable
-pub variable_here : (name : Token) (ts : Tokens) (frames : List Frame) → IsNotAt kinds.ParenL ts
-    → run ts (Named name) frames ≡ run ts (Done (plain.Variable name None)) frames
+pub variable_here : (name : Token) (ts : Tokens) (frames : List MachineFrame) → IsNotAt kinds.ParenL ts
+    → parse ts (Named name) frames ≡ parse ts (Done (plain.Variable name None)) frames
 variable_here name [] frames other = passes_end (Named name) frames (plain.Variable name None) refl
 variable_here name (t ∷ ts) frames other = passes t ts (Named name) frames (plain.Variable name None) (alone name t other)
 
@@ -201,47 +201,47 @@ no_else_at : (c a : Expr) (t : Lexeme) → is_word (codes "else") t ≡ false
 unfolding other_branch
 no_else_at c a t e = rw e refl
 
-pub else_here : (c a : Expr) (ts : Tokens) (frames : List Frame) → is_at_word (codes "else") ts ≡ true
-    → run ts (Else c a) frames ≡ run (drop 1 ts) (Branch c a) frames
+pub else_here : (c a : Expr) (ts : Tokens) (frames : List MachineFrame) → is_at_word (codes "else") ts ≡ true
+    → parse ts (Else c a) frames ≡ parse (drop 1 ts) (Branch c a) frames
 else_here c a [] frames e = absurd (cc)
 else_here c a (t ∷ ts) frames e = takes t ts (Else c a) frames (Branch c a) [] (else_at c a t e)
 
-pub no_else_here : (c a : Expr) (ts : Tokens) (frames : List Frame) → is_at_word (codes "else") ts ≡ false
-    → run ts (Else c a) frames ≡ run ts (Done (plain.ConditionalOnly c a)) frames
+pub no_else_here : (c a : Expr) (ts : Tokens) (frames : List MachineFrame) → is_at_word (codes "else") ts ≡ false
+    → parse ts (Else c a) frames ≡ parse ts (Done (plain.ConditionalOnly c a)) frames
 no_else_here c a [] frames e = passes_end (Else c a) frames (plain.ConditionalOnly c a) refl
 no_else_here c a (t ∷ ts) frames e = passes t ts (Else c a) frames (plain.ConditionalOnly c a) (no_else_at c a t e)
 
 -- ---- after `else`
 
 if_after_else : (c a : Expr) (t : Lexeme) → is_word (codes "if") t ≡ true
-    → branch c a t ≡ Takes (machine.Expression 0) (machine.Condition ∷ machine.ElseIf c a ∷ [])
-unfolding branch
+    → begins_branch c a t ≡ Takes (machine.Expression 0) (machine.Condition ∷ machine.ElseIf c a ∷ [])
+unfolding begins_branch
 if_after_else c a t e = rw e refl
 
 pub brace_after_else : (c a : Expr) (t : Lexeme) → is_word (codes "if") t ≡ false
-    → branch c a t ≡ expects kinds.BraceL t (machine.Expression 0) (machine.Otherwise c a ∷ [])
-unfolding branch
+    → begins_branch c a t ≡ expects kinds.BraceL t (machine.Expression 0) (machine.Otherwise c a ∷ [])
+unfolding begins_branch
 brace_after_else c a t e = rw e refl
 
 -- another conditional
-pub chained_here : (c a : Expr) (ts : Tokens) (frames : List Frame) → is_at_word (codes "if") ts ≡ true
-    → run ts (Branch c a) frames ≡ run (drop 1 ts) (machine.Expression 0) (machine.Condition ∷ machine.ElseIf c a ∷ frames)
+pub chained_here : (c a : Expr) (ts : Tokens) (frames : List MachineFrame) → is_at_word (codes "if") ts ≡ true
+    → parse ts (Branch c a) frames ≡ parse (drop 1 ts) (machine.Expression 0) (machine.Condition ∷ machine.ElseIf c a ∷ frames)
 chained_here c a [] frames e = absurd (cc)
 chained_here c a (t ∷ ts) frames e =
     takes t ts (Branch c a) frames (machine.Expression 0) (machine.Condition ∷ machine.ElseIf c a ∷ []) (if_after_else c a t e)
 
 -- a branch in braces
-pub braced_here : (c a : Expr) (ts rest : Tokens) (frames : List Frame) → is_at_word (codes "if") ts ≡ false → Mark kinds.BraceL ts rest
-    → run ts (Branch c a) frames ≡ run rest (machine.Expression 0) (machine.Otherwise c a ∷ frames)
+pub braced_here : (c a : Expr) (ts rest : Tokens) (frames : List MachineFrame) → is_at_word (codes "if") ts ≡ false → Mark kinds.BraceL ts rest
+    → parse ts (Branch c a) frames ≡ parse rest (machine.Expression 0) (machine.Otherwise c a ∷ frames)
 braced_here c a ts rest frames e (token, taken) =
     let t = lexeme kinds.BraceL token in
     let no_if : is_word (codes "if") t ≡ false = rw taken at e in
-    ap (λ us. run us (Branch c a) frames) taken
+    ap (λ us. parse us (Branch c a) frames) taken
     ∙ takes t rest (Branch c a) frames (machine.Expression 0) (machine.Otherwise c a ∷ [])
     (brace_after_else c a t no_if ∙ rw (is_of_kind kinds.BraceL t refl) refl)
 
-pub unbraced_here : (c a : Expr) (ts : Tokens) (frames : List Frame) (refusal : ParseError) → is_at_word (codes "if") ts ≡ false
-    → IsRefusalAt (Expected kinds.BraceL) ts refusal → IsNotAt kinds.BraceL ts → IsRefused (run ts (Branch c a) frames) refusal
+pub unbraced_here : (c a : Expr) (ts : Tokens) (frames : List MachineFrame) (refusal : ParseError) → is_at_word (codes "if") ts ≡ false
+    → IsRefusalAt (Expected kinds.BraceL) ts refusal → IsNotAt kinds.BraceL ts → IsRefused (parse ts (Branch c a) frames) refusal
 unbraced_here c a [] frames (Unexpected found token) e (fault, first) other =
     ([], refuses_end (Branch c a) frames (Expected kinds.BraceL) refl ∙ ap (λ f. Refused f []) (sym fault), first)
 unbraced_here c a (t ∷ ts) frames (Unexpected found token) e (fault, first) other = (
@@ -255,31 +255,31 @@ unbraced_here c a ts frames OutOfMemory e none other = absurd none
 -- ---- values
 
 -- a token that begins no value is refused
-pub value_refused : (t : Lexeme) (ts : Tokens) (frames : List Frame) (refusal : ParseError) → value t ≡ Refuses ExpectedExpression
-    → IsRefusalOf ExpectedExpression t.token refusal → IsRefused (run (t ∷ ts) machine.Value frames) refusal
+pub value_refused : (t : Lexeme) (ts : Tokens) (frames : List MachineFrame) (refusal : ParseError) → begins_value t ≡ Refuses ExpectedExpression
+    → IsRefusalOf ExpectedExpression t.token refusal → IsRefused (parse (t ∷ ts) machine.Value frames) refusal
 value_refused t ts frames (Unexpected found token) is (fault, first) =
     (t ∷ ts, refuses t ts machine.Value frames ExpectedExpression is ∙ ap (λ f. Refused f (t ∷ ts)) (sym fault), first)
 value_refused t ts frames OutOfMemory is none = absurd none
 
-pub no_value : (ts : Tokens) (frames : List Frame) (refusal : ParseError) → ts ≡ [] → IsRefusalAt ExpectedExpression ts refusal
-    → IsRefused (run ts machine.Value frames) refusal
+pub no_value : (ts : Tokens) (frames : List MachineFrame) (refusal : ParseError) → ts ≡ [] → IsRefusalAt ExpectedExpression ts refusal
+    → IsRefused (parse ts machine.Value frames) refusal
 no_value [] frames (Unexpected found token) none (fault, first) =
     ([], refuses_end machine.Value frames ExpectedExpression refl ∙ ap (λ f. Refused f []) (sym fault), first)
 no_value (t ∷ ts) frames (Unexpected found token) none at = absurd (cc)
 no_value ts frames OutOfMemory none at = absurd at
 
-pub if_is_none : (token : Token) → bytes_eq token.lexeme (codes "if") ≡ true → value (lexeme kinds.Identifier token) ≡ Refuses ExpectedExpression
-unfolding value is_kind code
+pub if_is_none : (token : Token) → bytes_eq token.lexeme (codes "if") ≡ true → begins_value (lexeme kinds.Identifier token) ≡ Refuses ExpectedExpression
+unfolding begins_value is_kind code
 if_is_none token e = rw e refl
 
-name_is : (token : Token) → bytes_eq token.lexeme (codes "if") ≡ false → value (lexeme kinds.Identifier token) ≡ Takes (Named token) []
-unfolding value is_kind code
+name_is : (token : Token) → bytes_eq token.lexeme (codes "if") ≡ false → begins_value (lexeme kinds.Identifier token) ≡ Takes (Named token) []
+unfolding begins_value is_kind code
 name_is token e = rw e refl
 
-pub if_refused : (token : Token) (ts : Tokens) (frames : List Frame) (refusal : ParseError) → bytes_eq token.lexeme (codes "if") ≡ true
-    → IsRefusalOf ExpectedExpression token refusal → IsRefused (run (lexeme kinds.Identifier token ∷ ts) machine.Value frames) refusal
+pub if_refused : (token : Token) (ts : Tokens) (frames : List MachineFrame) (refusal : ParseError) → bytes_eq token.lexeme (codes "if") ≡ true
+    → IsRefusalOf ExpectedExpression token refusal → IsRefused (parse (lexeme kinds.Identifier token ∷ ts) machine.Value frames) refusal
 if_refused token ts frames refusal e at = value_refused (lexeme kinds.Identifier token) ts frames refusal (if_is_none token e) at
 
-pub name_here : (token : Token) (ts : Tokens) (frames : List Frame) → bytes_eq token.lexeme (codes "if") ≡ false
-    → run (lexeme kinds.Identifier token ∷ ts) machine.Value frames ≡ run ts (Named token) frames
+pub name_here : (token : Token) (ts : Tokens) (frames : List MachineFrame) → bytes_eq token.lexeme (codes "if") ≡ false
+    → parse (lexeme kinds.Identifier token ∷ ts) machine.Value frames ≡ parse ts (Named token) frames
 name_here token ts frames e = takes (lexeme kinds.Identifier token) ts machine.Value frames (Named token) [] (name_is token e)

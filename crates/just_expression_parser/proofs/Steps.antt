@@ -12,8 +12,8 @@ use Rattle.just_lexer.specs.declared.kind.TokenKind.{TokenKind}
 use Rattle.just_lexer.specs.State.{Lexeme}
 use Rattle.just_expression_parser.proofs.Actions.{refused_after}
 use Rattle.just_expression_parser.specs.Machine as machine
-use Rattle.just_expression_parser.specs.Machine.{Done, Next, Refuses, ends_with, expects, row, run, takes_it}
-use Rattle.just_expression_parser.specs.Parsed.{Course, GoesOn, course, IsNotAt, IsPending, IsRefusalAt, IsRefused, frame_view, goes, is_at_word, left}
+use Rattle.just_expression_parser.specs.Machine.{Done, Next, Refuses, ends_with, expects, expression_row, parse, takes_it}
+use Rattle.just_expression_parser.specs.Parsed.{Course, GoesOn, course, IsNotAt, IsPending, IsRefusalAt, IsRefused, machine_frame_view, goes, is_at_word, left}
 use Rattle.just_expression_parser.specs.Parsed.{state_view}
 use Rattle.just_expression_parser.specs.Parsed.{waiting}
 use Rattle.just_expression_parser.specs.Tokens.{Mark, Tokens}
@@ -40,9 +40,10 @@ taken_mark kind ts rest (token, taken) = ap length taken
 
 -- one more frame waits
 pub waiting_more : (frames more : List written_frame.Frame) (frame : written_frame.Frame) → more ≡ frames ++ frame ∷ []
-    → reverse (map frame_view more) ≡ frame_view frame ∷ reverse (map frame_view frames)
+    → reverse (map machine_frame_view more) ≡ machine_frame_view frame ∷ reverse (map machine_frame_view frames)
 waiting_more frames more frame is =
-    ap (λ fs. reverse (map frame_view fs)) is ∙ ap reverse (map_push frame_view frames frame) ∙ reverse-append (map frame_view frames) (frame_view frame ∷ [])
+    ap (λ fs. reverse (map machine_frame_view fs)) is ∙ ap reverse (map_push machine_frame_view frames frame)
+    ∙ reverse-append (map machine_frame_view frames) (machine_frame_view frame ∷ [])
 
 pub on_ok : {T E : Type 0} {P : Type 0} (r : Result T E) → IsOk r → OnOk r P → P
 on_ok (Ok x) is h = h
@@ -76,12 +77,12 @@ made_on made (Err x) r m whole v is allocated none done refused same less = done
 
 -- the innermost frame resumes
 pub popped : (old new : Machine) (frame : written_frame.Frame) (e : Expr) → old.frames.items ≡ new.frames.items ++ frame ∷ []
-    → course (left old) (Done e) (frame_view frame ∷ waiting new) ≡ goes old (Done e) []
+    → course (left old) (Done e) (machine_frame_view frame ∷ waiting new) ≡ goes old (Done e) []
 popped old new frame e items = ap (course (left old) (Done e)) (sym (waiting_more new.frames.items old.frames.items frame items))
 
 -- no frame waits: the expression is all that is read
-pub read_all : (ts : Tokens) (e : Expr) (frames : List machine.Frame) → frames ≡ [] → machine.Read e ts ≡ run ts (Done e) frames
-unfolding run
+pub read_all : (ts : Tokens) (e : Expr) (frames : List machine.MachineFrame) → frames ≡ [] → machine.Read e ts ≡ parse ts (Done e) frames
+unfolding parse
 read_all [] e frames none = rw none refl
 read_all (t ∷ ts) e frames none = rw none refl
 
@@ -96,11 +97,12 @@ pending (states.Otherwise condition consequence) other = tt
 pending states.Value other = tt
 
 -- a token of another kind is refused
-pub refused_on : {T : Type 0} (end : Result T ParseError) (refusal : ParseError) (ts : Tokens) (frame : machine.Frame) (frames : List machine.Frame) (e : Expr)
-    (kind : TokenKind) (later : Next) (inner : List machine.Frame) → end ≡ Err refusal
+pub refused_on : {T : Type 0} (end : Result T ParseError) (refusal : ParseError) (ts : Tokens) (frame : machine.MachineFrame)
+    (frames : List machine.MachineFrame) (e : Expr)
+    (kind : TokenKind) (later : Next) (inner : List machine.MachineFrame) → end ≡ Err refusal
     → IfErr end (λ refusal. IsRefusalAt (Expected kind) ts refusal × IsNotAt kind ts)
     → ((t : Lexeme) → takes_it frame e t ≡ expects kind t later inner) → ends_with frame e ≡ Refuses (Expected kind)
-    → IsRefused (run ts (Done e) (frame ∷ frames)) refusal
+    → IsRefused (parse ts (Done e) (frame ∷ frames)) refusal
 refused_on end refusal ts frame frames e kind later inner is refused takes ends =
     let at = on_err (λ refusal. IsRefusalAt (Expected kind) ts refusal × IsNotAt kind ts) end refusal is refused in
     refused_after ts frame frames e kind later inner refusal takes ends at.0 at.1
@@ -121,6 +123,6 @@ read_on (Ok e) r m whole v done refused is none same less = done_on (Ok e) r m w
 read_on (Err x) r m whole v done refused is none same less = done_on (Err x) r m whole done refused tt (rw none tt) less
 
 -- expressions in a row are seen one by one
-pub rows : (es : List Expression) → views es ≡ row (map view es)
+pub rows : (es : List Expression) → views es ≡ expression_row (map view es)
 rows [] = refl
 rows (e ∷ es) = ap (λ more. plain.Cons (view e) more) (rows es)

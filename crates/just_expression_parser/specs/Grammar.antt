@@ -6,9 +6,9 @@ use Rattle.just_syntax.specs.Plain.{ListConcatenation, Not, Or, StringLiteral, V
 use Rattle.just_syntax.specs.Plain.{NoPiece, Piece, Literal, Text, Token}
 use Rattle.just_lexer.specs.declared.kind.TokenKind.{TokenKind}
 use Rattle.just_lexer.specs.declared.kind.TokenKind.TheVariants as kinds
-use Rattle.just_expression_parser.specs.Literal.{Style, command, end_of_format, format_style, is_format}
+use Rattle.just_expression_parser.specs.Literal.{Style, backtick_command, end_of_format, format_style, is_format}
 use Rattle.just_expression_parser.specs.Literal.{middle_of_format}
-use Rattle.just_expression_parser.specs.Literal.{start_of_format, string, whole_format}
+use Rattle.just_expression_parser.specs.Literal.{start_of_format, string_literal, whole_format}
 use Rattle.just_expression_parser.specs.Operator.{comparison_kind}
 use Rattle.just_expression_parser.specs.Tokens.{Tokens, One, Mark, Then, Word}
 
@@ -32,7 +32,7 @@ Named number token ts rest = (number ≡ None) × Name token ts rest
 
 -- a command in backticks
 abbrev pub Command : Text → Token → Tokens → Tokens → Type 0
-Command text token ts rest = (text ≡ command token.lexeme) × One kinds.Backtick token ts rest
+Command text token ts rest = (text ≡ backtick_command token.lexeme) × One kinds.Backtick token ts rest
 
 -- the tokens begin with `if`
 abbrev pub BeginsIf : Tokens → Type 0
@@ -45,7 +45,7 @@ Nothing ts rest = ts ≡ rest
 -- a string
 abbrev pub String : Literal → Tokens → Tokens → Type 0
 String literal ts rest =
-    (token : Token) × (is_format token.lexeme ≡ false) × (string token.lexeme ≡ Some literal)
+    (token : Token) × (is_format token.lexeme ≡ false) × (string_literal token.lexeme ≡ Some literal)
     × One kinds.StringToken token ts rest
 
 -- a format string without interpolations
@@ -81,8 +81,8 @@ abbrev pub Within : ℕ → ℕ → (Tokens → Tokens → Type 0) → Tokens �
 Within level most Tokens ts rest = (level ≤ most) × Tokens ts rest
 
 -- a comma before the closing token may be left out
-abbrev pub Closing : TokenKind → Tokens → Tokens → Type 0
-Closing close ts rest = Mark close ts rest ⊎ Then (Mark kinds.Comma) (Mark close) ts rest
+abbrev pub ClosingMark : TokenKind → Tokens → Tokens → Type 0
+ClosingMark close ts rest = Mark close ts rest ⊎ Then (Mark kinds.Comma) (Mark close) ts rest
 
 -- something between two tokens
 abbrev pub Between : TokenKind → (Tokens → Tokens → Type 0) → TokenKind → Tokens → Tokens → Type 0
@@ -122,8 +122,8 @@ abbrev mutual
   reads (ConditionalOnly c a) level = Within level 3 (Branch (reads c 0) (reads a 0))
   reads (Not e) level = Then (Mark kinds.Bang) (reads e 4)
   reads (Group e) level = Between kinds.ParenL (reads e 0) kinds.ParenR
-  reads (ListOf es t) level = Then (One kinds.BracketL t) (elements es kinds.BracketR)
-  reads (Call t es) level = Then (CallName t) (Then (Mark kinds.ParenL) (elements es kinds.ParenR))
+  reads (ListOf es t) level = Then (One kinds.BracketL t) (reads_elements es kinds.BracketR)
+  reads (Call t es) level = Then (CallName t) (Then (Mark kinds.ParenL) (reads_elements es kinds.ParenR))
   reads (AssertOnly e t) level = Then (AssertName t) (Between kinds.ParenL (reads e 0) kinds.ParenR)
   reads (Assert e m t) level = Then (AssertName t)
       (Between kinds.ParenL (Then (reads e 0) (Then (Mark kinds.Comma) (reads m 0))) kinds.ParenR)
@@ -133,13 +133,13 @@ abbrev mutual
   reads (Variable t number) level = Named number t
 
   -- expressions with commas between them, up to a closing token
-  pub elements : Exprs → TokenKind → Tokens → Tokens → Type 0
-  elements Nil close = Mark close
-  elements (Cons e es) close = Then (reads e 0) (more es close)
+  pub reads_elements : Exprs → TokenKind → Tokens → Tokens → Type 0
+  reads_elements Nil close = Mark close
+  reads_elements (Cons e es) close = Then (reads e 0) (more es close)
 
   -- what follows an element
   pub more : Exprs → TokenKind → Tokens → Tokens → Type 0
-  more Nil close = Closing close
+  more Nil close = ClosingMark close
   more (Cons e es) close = Then (Mark kinds.Comma) (Then (reads e 0) (more es close))
 
   -- interpolations, each with the text after it

@@ -4,7 +4,7 @@ use Rattle.just_syntax.specs.Plain.{Expr}
 use Rattle.just_lexer.specs.declared.kind.TokenKind.TheVariants as kinds
 use Rattle.just_expression_parser.specs.Grammar.{reads}
 use Rattle.just_expression_parser.specs.Machine as machine
-use Rattle.just_expression_parser.specs.Machine.{run}
+use Rattle.just_expression_parser.specs.Machine.{parse}
 use Rattle.just_expression_parser.specs.Operator.{operator_of}
 use Rattle.just_expression_parser.specs.Tokens.{Tokens, is_word}
 
@@ -16,7 +16,7 @@ IsEnded (t ∷ ts) = (is_word (codes "else") t ≡ false) × (t.kind ≡ kinds.P
 -- what the grammar derives is read, if the next token does not go on with it
 abbrev pub ReadsWhatIsDerived : Type 0
 ReadsWhatIsDerived = (e : Expr) (ts rest : Tokens) → reads e 0 ts rest → IsEnded rest
-    → run ts (machine.Expression 0) [] ≡ machine.Read e rest
+    → parse ts (machine.Expression 0) [] ≡ machine.Read e rest
 
 -- tokens are one expression at most
 abbrev pub OneReading : Type 0
@@ -25,5 +25,5 @@ OneReading = (e f : Expr) (ts rest more : Tokens) → reads e 0 ts rest → IsEn
 
 -- what is read, the grammar derives
 abbrev pub DerivesWhatIsRead : Type 0
-DerivesWhatIsRead = (e : Expr) (ts rest : Tokens) → run ts (machine.Expression 0) [] ≡ machine.Read e rest → reads e 0
+DerivesWhatIsRead = (e : Expr) (ts rest : Tokens) → parse ts (machine.Expression 0) [] ≡ machine.Read e rest → reads e 0
     ts rest

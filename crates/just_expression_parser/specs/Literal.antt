@@ -33,8 +33,8 @@ pub data Escape : Type 0 where
   Digits : Text → Escape
 
 -- a text after a front
-abbrev pub after : Text → Option Text → Option Text
-after front text = option_map (λ t. front ++ t) text
+abbrev pub after_front : Text → Option Text → Option Text
+after_front front text = option_map (λ t. front ++ t) text
 
 -- the value of a hexadecimal digit, if a byte is one
 abbrev pub hex_digit : ℕ → Option ℕ
@@ -45,9 +45,10 @@ hex_digit byte =
     None
 
 -- the number that hexadecimal digits are, after digits of this number
-abbrev pub number : ℕ → Text → Option ℕ
-number value [] = Some value
-number value (byte ∷ rest) = option_and_then (λ digit. number (value * 16 + digit) rest) (hex_digit byte)
+abbrev pub hexadecimal_after : ℕ → Text → Option ℕ
+hexadecimal_after value [] = Some value
+hexadecimal_after value (byte ∷ rest) =
+    option_and_then (λ digit. hexadecimal_after (value * 16 + digit) rest) (hex_digit byte)
 
 -- the character of a number, if it has one
 abbrev pub scalar : ℕ → Option ℕ
@@ -56,11 +57,12 @@ scalar n = if nat_lt n 55296 || (nat_le 57344 n && nat_lt n 1114112) then Some n
 -- the character of one to six hexadecimal digits
 unfoldable pub character : Text → Option ℕ
 character digits =
-    if nat_lt 0 (length digits) && nat_lt (length digits) 7 then option_and_then scalar (number 0 digits) else None
+    if nat_lt 0 (length digits) && nat_lt (length digits) 7 then option_and_then scalar (hexadecimal_after 0 digits)
+    else None
 
 -- the character that a byte after a backslash means; a newline means none
-abbrev pub meaning : ℕ → Option (Option ℕ)
-meaning byte =
+abbrev pub escape_meaning : ℕ → Option (Option ℕ)
+escape_meaning byte =
     if byte == 10 then Some None else
     if byte == 110 then Some (Some 10) else
     if byte == 114 then Some (Some 13) else
@@ -78,18 +80,18 @@ meant (Some c) = encode_utf8 c
 abbrev pub unescaped : Escape → Text → Option Text
 unescaped NoEscape [] = Some []
 unescaped NoEscape (byte ∷ rest) =
-    if byte == 92 then unescaped Backslash rest else after (byte ∷ []) (unescaped NoEscape rest)
+    if byte == 92 then unescaped Backslash rest else after_front (byte ∷ []) (unescaped NoEscape rest)
 unescaped Backslash [] = None
 unescaped Backslash (byte ∷ rest) =
     if byte == 117
     then unescaped Unicode rest
-    else option_and_then (λ c. after (meant c) (unescaped NoEscape rest)) (meaning byte)
+    else option_and_then (λ c. after_front (meant c) (unescaped NoEscape rest)) (escape_meaning byte)
 unescaped Unicode [] = None
 unescaped Unicode (byte ∷ rest) = if byte == 123 then unescaped (Digits []) rest else None
 unescaped (Digits digits) [] = None
 unescaped (Digits digits) (byte ∷ rest) =
     if byte == 125
-    then option_and_then (λ c. after (encode_utf8 c) (unescaped NoEscape rest)) (character digits)
+    then option_and_then (λ c. after_front (encode_utf8 c) (unescaped NoEscape rest)) (character digits)
     else unescaped (Digits (digits ++ byte ∷ [])) rest
 
 -- the text without escapes, if the style has them
@@ -102,8 +104,8 @@ cooked s text = if s.escapes then unescaped NoEscape text else Some text
 unfoldable pub without_front : Text → Text → Text
 without_front front text = if starts_with nat_eq text front then drop (length front) text else text
 
-unfoldable pub without_end : Text → Text → Text
-without_end end text = if ends_with nat_eq text end then take (length text - length end) text else text
+unfoldable pub without_end_mark : Text → Text → Text
+without_end_mark end text = if ends_with nat_eq text end then take (length text - length end) text else text
 
 -- a literal of this written form, with this text
 abbrev pub literal : Style → Text → Option Text → Option Literal
@@ -111,19 +113,19 @@ literal s lexeme text =
     option_map (λ cooked. record { cooked = cooked; lexeme = lexeme; indented = nat_lt 1 (length s.mark) }) text
 
 -- the text between two marks, unindented if it is indented
-abbrev pub between : Style → Text → Text
-between s lexeme = without_end s.mark (without_front s.mark lexeme)
+abbrev pub between_marks : Style → Text → Text
+between_marks s lexeme = without_end_mark s.mark (without_front s.mark lexeme)
 
-abbrev pub unindented_if : Style → Text → Text
-unindented_if s text = if nat_lt 1 (length s.mark) then unindented text else text
+abbrev pub unindented_by_style : Style → Text → Text
+unindented_by_style s text = if nat_lt 1 (length s.mark) then unindented text else text
 
 -- the literal of this written form, whose text may have escapes
 abbrev pub literal_of : Style → Text → Text → Option Literal
 literal_of s lexeme text = literal s lexeme (cooked s text)
 
 -- the literal that a string is
-unfoldable pub string : Text → Option Literal
-string lexeme = let s = style lexeme in literal_of s lexeme (unindented_if s (between s lexeme))
+unfoldable pub string_literal : Text → Option Literal
+string_literal lexeme = let s = style lexeme in literal_of s lexeme (unindented_by_style s (between_marks s lexeme))
 
 -- ---- format strings
 
@@ -147,36 +149,36 @@ abbrev pub format_style : Text → Style
 format_style lexeme = style (format_text lexeme)
 
 -- the literal of a piece of a format string with this written form, between these texts
-unfoldable pub piece : Style → Text → Text → Text → Text → Option Literal
-piece s lexeme text front end = literal_of s lexeme (braces 0 (without_end end (without_front front text)))
+unfoldable pub piece_literal : Style → Text → Text → Text → Text → Option Literal
+piece_literal s lexeme text front end = literal_of s lexeme (braces 0 (without_end_mark end (without_front front text)))
 
 -- a format string without interpolations
 abbrev pub whole_format : Text → Option Literal
 whole_format lexeme =
-    let s = format_style lexeme in piece s lexeme (format_text lexeme) s.mark s.mark
+    let s = format_style lexeme in piece_literal s lexeme (format_text lexeme) s.mark s.mark
 
 -- the text before the first interpolation
 abbrev pub start_of_format : Text → Option Literal
 start_of_format lexeme =
-    let s = format_style lexeme in piece s lexeme (format_text lexeme) s.mark (codes "{{")
+    let s = format_style lexeme in piece_literal s lexeme (format_text lexeme) s.mark (codes "{{")
 
 -- the text between two interpolations
 abbrev pub middle_of_format : Style → Text → Option Literal
-middle_of_format s lexeme = piece s lexeme lexeme (codes "}}") (codes "{{")
+middle_of_format s lexeme = piece_literal s lexeme lexeme (codes "}}") (codes "{{")
 
 -- the text after the last one
 abbrev pub end_of_format : Style → Text → Option Literal
-end_of_format s lexeme = piece s lexeme lexeme (codes "}}") s.mark
+end_of_format s lexeme = piece_literal s lexeme lexeme (codes "}}") s.mark
 
 -- ---- strings and backticks
 
 -- the literal of a token of a string
 abbrev pub written : Text → Option Literal
-written lexeme = if is_format lexeme then whole_format lexeme else string lexeme
+written lexeme = if is_format lexeme then whole_format lexeme else string_literal lexeme
 
 -- the command of a backtick
-unfoldable pub command : Text → Text
-command lexeme =
+unfoldable pub backtick_command : Text → Text
+backtick_command lexeme =
     if starts_with nat_eq lexeme (codes "```")
-    then unindented (without_end (codes "```") (without_front (codes "```") lexeme))
-    else without_end (codes "`") (without_front (codes "`") lexeme)
+    then unindented (without_end_mark (codes "```") (without_front (codes "```") lexeme))
+    else without_end_mark (codes "`") (without_front (codes "`") lexeme)

@@ -10,10 +10,10 @@ use Rattle.just_syntax.specs.Plain.{Expr, Exprs, Literal, Pieces, Text, Token}
 use Rattle.just_lexer.specs.State.{Lexeme}
 use Rattle.just_lexer.specs.declared.kind.TokenKind.{TokenKind}
 use Rattle.just_lexer.specs.declared.kind.TokenKind.TheVariants as kinds
-use Rattle.just_expression_parser.specs.Literal.{Style, command, end_of_format, format_style, is_format}
+use Rattle.just_expression_parser.specs.Literal.{Style, backtick_command, end_of_format, format_style, is_format}
 use Rattle.just_expression_parser.specs.Literal.{middle_of_format}
-use Rattle.just_expression_parser.specs.Literal.{start_of_format, string, whole_format}
-use Rattle.just_expression_parser.specs.Operator.{applied, level, operator_of}
+use Rattle.just_expression_parser.specs.Literal.{start_of_format, string_literal, whole_format}
+use Rattle.just_expression_parser.specs.Operator.{level, operation, operator_of}
 use Rattle.just_expression_parser.specs.Tokens.{Tokens, is_kind, is_word}
 use Rattle.just_expression_parser.specs.declared.operator.Operator.{Operator}
 use Rattle.just_expression_parser.specs.declared.parse_error.Fault.{Fault}
@@ -28,33 +28,33 @@ pub data Form : Type 0 where
   ListOf : Token → Form
 
 -- a form that waits for an expression
-pub data Frame : Type 0 where
+pub data MachineFrame : Type 0 where
   -- `assert(` waits for its condition
-  Assertion : Token → Frame
+  Assertion : Token → MachineFrame
   -- `if` waits for its condition
-  Condition : Frame
+  Condition : MachineFrame
   -- `if condition {` waits for its branch
-  Consequence : Expr → Frame
+  Consequence : Expr → MachineFrame
   -- `if condition { consequence } else` waits for another conditional
-  ElseIf : Expr → Expr → Frame
+  ElseIf : Expr → Expr → MachineFrame
   -- elements wait for the next one
-  Element : Form → List Expr → Frame
+  Element : Form → List Expr → MachineFrame
   -- `(` waits for its contents
-  Group : Frame
+  Group : MachineFrame
   -- a format string waits for an interpolated expression
-  Interpolation : Literal → List (Expr × Literal) → Style → Frame
+  Interpolation : Literal → List (Expr × Literal) → Style → MachineFrame
   -- `assert(condition,` waits for its message
-  Message : Expr → Token → Frame
+  Message : Expr → Token → MachineFrame
   -- `!` waits for its operand
-  Not : Frame
+  Not : MachineFrame
   -- an operand waits for operators of at least the first level and below the second
-  Operators : ℕ → ℕ → Frame
+  Operators : ℕ → ℕ → MachineFrame
   -- `if condition { consequence } else {` waits for the other branch
-  Otherwise : Expr → Expr → Frame
+  Otherwise : Expr → Expr → MachineFrame
   -- `/` waits for its right side
-  Root : Token → Frame
+  Root : Token → MachineFrame
   -- an operand and an operator wait for the right side
-  Side : Expr → Operator → Token → Frame
+  Side : Expr → Operator → Token → MachineFrame
 
 -- what is read next
 pub data Next : Type 0 where
@@ -75,39 +75,39 @@ pub data Next : Type 0 where
 -- ---- what is made
 
 -- expressions in a row
-abbrev pub row : List Expr → Exprs
-row [] = plain.Nil
-row (e ∷ es) = plain.Cons e (row es)
+abbrev pub expression_row : List Expr → Exprs
+expression_row [] = plain.Nil
+expression_row (e ∷ es) = plain.Cons e (expression_row es)
 
 -- interpolations, each with the text after it
-abbrev pub pieces : List (Expr × Literal) → Pieces
-pieces [] = plain.NoPiece
-pieces (p ∷ ps) = plain.Piece p.0 p.1 (pieces ps)
+abbrev pub format_pieces : List (Expr × Literal) → Pieces
+format_pieces [] = plain.NoPiece
+format_pieces (p ∷ ps) = plain.Piece p.0 p.1 (format_pieces ps)
 
 abbrev pub with_elements : Form → List Expr → Expr
-with_elements (Call name) es = plain.Call name (row es)
-with_elements (ListOf token) es = plain.ListOf (row es) token
+with_elements (Call name) es = plain.Call name (expression_row es)
+with_elements (ListOf token) es = plain.ListOf (expression_row es) token
 
 -- the kind of the token after the last element
-abbrev pub closing : Form → TokenKind
-closing (Call name) = kinds.ParenR
-closing (ListOf token) = kinds.BracketR
+abbrev pub closing_kind : Form → TokenKind
+closing_kind (Call name) = kinds.ParenR
+closing_kind (ListOf token) = kinds.BracketR
 
 -- ---- what happens at a token
 
 pub data Action : Type 0 where
   -- the token is taken; this is read next, and these frames wait for it, the innermost first
-  Takes : Next → List Frame → Action
+  Takes : Next → List MachineFrame → Action
   -- the token stays, and this expression is complete
   Passes : Expr → Action
   Refuses : Fault → Action
 
 -- a token of this kind is taken, another one refused
-abbrev pub expects : TokenKind → Lexeme → Next → List Frame → Action
+abbrev pub expects : TokenKind → Lexeme → Next → List MachineFrame → Action
 expects kind t next frames = if is_kind kind t then Takes next frames else Refuses (Expected kind)
 
 -- the frame waits outside of those that wait
-abbrev pub within : Frame → Action → Action
+abbrev pub within : MachineFrame → Action → Action
 within frame (Takes next frames) = Takes next (frames ++ frame ∷ [])
 within frame (Passes e) = Passes e
 within frame (Refuses fault) = Refuses fault
@@ -121,13 +121,13 @@ unfoldable pub at_string : Text → Action
 at_string lexeme =
     if is_format lexeme then with_literal (whole_format lexeme)
     (λ l. Takes (Done (plain.FormatString l plain.NoPiece)) [])
-    else with_literal (string lexeme) (λ l. Takes (Done (plain.StringLiteral l)) [])
+    else with_literal (string_literal lexeme) (λ l. Takes (Done (plain.StringLiteral l)) [])
 
 -- a value begins at a token
-unfoldable pub value : Lexeme → Action
-value t =
+unfoldable pub begins_value : Lexeme → Action
+begins_value t =
     let token = t.token in
-    if is_kind kinds.Backtick t then Takes (Done (plain.Backtick (command token.lexeme) token)) [] else
+    if is_kind kinds.Backtick t then Takes (Done (plain.Backtick (backtick_command token.lexeme) token)) [] else
     if is_kind kinds.Bang t then Takes Value (Not ∷ []) else
     if is_kind kinds.BracketL t then Takes (Elements (ListOf token) []) [] else
     if is_kind kinds.FormatStringStart t then with_literal (start_of_format token.lexeme)
@@ -139,22 +139,22 @@ value t =
     Refuses ExpectedExpression
 
 -- An expression of at least a level begins at a token. Levels: `||` 0, `&&` 1, comparisons 2, `+`, `++` and `/` 3.
-unfoldable pub expression : ℕ → Lexeme → Action
-expression least t =
+unfoldable pub begins_expression : ℕ → Lexeme → Action
+begins_expression least t =
     if nat_le least 3 && is_word (codes "if") t then Takes (Expression 0) (Condition ∷ Operators least 3 ∷ []) else
     if nat_le least 3 && is_kind kinds.Slash t then
     Takes (Expression 3) (Root t.token ∷ Operators least 3 ∷ []) else
-    within (Operators least 4) (value t)
+    within (Operators least 4) (begins_value t)
 
-unfoldable pub branch : Expr → Expr → Lexeme → Action
-branch condition consequence t =
+unfoldable pub begins_branch : Expr → Expr → Lexeme → Action
+begins_branch condition consequence t =
     if is_word (codes "if") t then Takes (Expression 0) (Condition ∷ ElseIf condition consequence ∷ [])
     else expects kinds.BraceL t (Expression 0) (Otherwise condition consequence ∷ [])
 
-unfoldable pub elements : Form → List Expr → Lexeme → Action
-elements form es t =
-    if is_kind (closing form) t then Takes (Done (with_elements form es)) []
-    else within (Element form es) (expression 0 t)
+unfoldable pub begins_elements : Form → List Expr → Lexeme → Action
+begins_elements form es t =
+    if is_kind (closing_kind form) t then Takes (Done (with_elements form es)) []
+    else within (Element form es) (begins_expression 0 t)
 
 unfoldable pub after_name : Token → Lexeme → Action
 after_name name t =
@@ -169,13 +169,13 @@ other_branch condition consequence t =
     else Passes (plain.ConditionalOnly condition consequence)
 
 abbrev pub begins : Next → Lexeme → Action
-begins (Branch condition consequence) t = branch condition consequence t
+begins (Branch condition consequence) t = begins_branch condition consequence t
 begins (Done e) t = Passes e
-begins (Elements form es) t = elements form es t
-begins (Expression least) t = expression least t
+begins (Elements form es) t = begins_elements form es t
+begins (Expression least) t = begins_expression least t
 begins (Named name) t = after_name name t
 begins (Else condition consequence) t = other_branch condition consequence t
-begins Value t = value t
+begins Value t = begins_value t
 
 -- ---- what a frame does with its expression at a token
 
@@ -194,19 +194,19 @@ after_condition name condition t =
 
 unfoldable pub after_element : Form → List Expr → Lexeme → Action
 after_element form es t =
-    if is_kind (closing form) t then Takes (Done (with_elements form es)) [] else
+    if is_kind (closing_kind form) t then Takes (Done (with_elements form es)) [] else
     if is_kind kinds.Comma t then Takes (Elements form es) [] else
-    Refuses (Expected (closing form))
+    Refuses (Expected (closing_kind form))
 
 unfoldable pub after_interpolation : Literal → List (Expr × Literal) → Style → Expr → Lexeme → Action
 after_interpolation start ps style e t =
     if is_kind kinds.FormatStringContinue t then with_literal (middle_of_format style t.token.lexeme)
     (λ text. Takes (Expression 0) (Interpolation start (ps ++ (e, text) ∷ []) style ∷ [])) else
     if is_kind kinds.FormatStringEnd t then with_literal (end_of_format style t.token.lexeme)
-    (λ text. Takes (Done (plain.FormatString start (pieces (ps ++ (e, text) ∷ [])))) []) else
+    (λ text. Takes (Done (plain.FormatString start (format_pieces (ps ++ (e, text) ∷ [])))) []) else
     Refuses (Expected kinds.FormatStringEnd)
 
-abbrev pub takes_it : Frame → Expr → Lexeme → Action
+abbrev pub takes_it : MachineFrame → Expr → Lexeme → Action
 takes_it (Assertion name) e t = after_condition name e t
 takes_it Condition e t = expects kinds.BraceL t (Expression 0) (Consequence e ∷ [])
 takes_it (Consequence condition) e t = expects kinds.BraceR t (Else condition e) []
@@ -220,7 +220,7 @@ takes_it (Operators least below) e t = operators least below e t (operator_of t.
 takes_it (Otherwise condition consequence) e t =
     expects kinds.BraceR t (Done (plain.Conditional condition consequence e)) []
 takes_it (Root token) e t = Passes (plain.JoinOnly token e)
-takes_it (Side lhs operator token) e t = Passes (applied lhs operator token e)
+takes_it (Side lhs operator token) e t = Passes (operation lhs operator token e)
 
 -- ---- at the end of the tokens
 
@@ -233,12 +233,12 @@ ends (Named name) = Passes (plain.Variable name None)
 ends (Else condition consequence) = Passes (plain.ConditionalOnly condition consequence)
 ends Value = Refuses ExpectedExpression
 
-abbrev pub ends_with : Frame → Expr → Action
+abbrev pub ends_with : MachineFrame → Expr → Action
 ends_with (Assertion name) e = Refuses (Expected kinds.ParenR)
 ends_with Condition e = Refuses (Expected kinds.BraceL)
 ends_with (Consequence condition) e = Refuses (Expected kinds.BraceR)
 ends_with (ElseIf condition consequence) e = Passes (plain.Conditional condition consequence e)
-ends_with (Element form es) e = Refuses (Expected (closing form))
+ends_with (Element form es) e = Refuses (Expected (closing_kind form))
 ends_with Group e = Refuses (Expected kinds.ParenR)
 ends_with (Interpolation start ps style) e = Refuses (Expected kinds.FormatStringEnd)
 ends_with (Message condition name) e = Refuses (Expected kinds.ParenR)
@@ -246,7 +246,7 @@ ends_with Not e = Passes (plain.Not e)
 ends_with (Operators least below) e = Passes e
 ends_with (Otherwise condition consequence) e = Refuses (Expected kinds.BraceR)
 ends_with (Root token) e = Passes (plain.JoinOnly token e)
-ends_with (Side lhs operator token) e = Passes (applied lhs operator token e)
+ends_with (Side lhs operator token) e = Passes (operation lhs operator token e)
 
 -- ---- the tokens one after another
 
@@ -256,24 +256,24 @@ pub data Result : Type 0 where
   Refused : Fault → Tokens → Result
 
 -- an action, given what follows a token that is taken, and what follows a complete expression
-abbrev pub acts : Action → Tokens → (Next → List Frame → Result) → (Expr → Result) → Result
+abbrev pub acts : Action → Tokens → (Next → List MachineFrame → Result) → (Expr → Result) → Result
 acts (Takes next frames) ts taken passed = taken next frames
 acts (Passes e) ts taken passed = passed e
 acts (Refuses fault) ts taken passed = Refused fault ts
 
 -- a complete expression at the end
-abbrev pub completes_at_end : List Frame → Expr → Result
+abbrev pub completes_at_end : List MachineFrame → Expr → Result
 completes_at_end [] e = Read e []
 completes_at_end (frame ∷ frames) e = acts (ends_with frame e) [] (λ next later. Read e []) (completes_at_end frames)
 
 -- a complete expression at a token; what follows it is known
-abbrev pub completes : Lexeme → Tokens → (Next → List Frame → Result) → List Frame → Expr → Result
+abbrev pub completes : Lexeme → Tokens → (Next → List MachineFrame → Result) → List MachineFrame → Expr → Result
 completes t ts follows [] e = Read e (t ∷ ts)
 completes t ts follows (frame ∷ frames) e = acts (takes_it frame e t) (t ∷ ts)
     (λ next later. follows next (later ++ frames)) (completes t ts follows frames)
 
 -- reading goes on with this, and with these frames
-unfoldable pub run : Tokens → Next → List Frame → Result
-run [] next frames = acts (ends next) [] (λ next later. Refused ExpectedExpression []) (completes_at_end frames)
-run (t ∷ ts) next frames = acts (begins next t) (t ∷ ts)
-    (λ next later. run ts next (later ++ frames)) (completes t ts (run ts) frames)
+unfoldable pub parse : Tokens → Next → List MachineFrame → Result
+parse [] next frames = acts (ends next) [] (λ next later. Refused ExpectedExpression []) (completes_at_end frames)
+parse (t ∷ ts) next frames = acts (begins next t) (t ∷ ts)
+    (λ next later. parse ts next (later ++ frames)) (completes t ts (parse ts) frames)

@@ -39,10 +39,10 @@ comparison_kind RegexMatch = kinds.EqualsTilde
 comparison_kind RegexMismatch = kinds.BangTilde
 
 -- two expressions with an operator between them
-abbrev pub applied : Expr → Operator → Token → Expr → Expr
-applied lhs operators.And token rhs = And lhs rhs
-applied lhs (operators.Comparison operator) token rhs = Comparison lhs operator rhs token
-applied lhs operators.Concatenation token rhs = Concatenation lhs token rhs
-applied lhs operators.Join token rhs = Join lhs token rhs
-applied lhs operators.ListConcatenation token rhs = ListConcatenation lhs token rhs
-applied lhs operators.Or token rhs = Or lhs rhs
+abbrev pub operation : Expr → Operator → Token → Expr → Expr
+operation lhs operators.And token rhs = And lhs rhs
+operation lhs (operators.Comparison operator) token rhs = Comparison lhs operator rhs token
+operation lhs operators.Concatenation token rhs = Concatenation lhs token rhs
+operation lhs operators.Join token rhs = Join lhs token rhs
+operation lhs operators.ListConcatenation token rhs = ListConcatenation lhs token rhs
+operation lhs operators.Or token rhs = Or lhs rhs

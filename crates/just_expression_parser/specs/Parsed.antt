@@ -10,9 +10,9 @@ use Rattle.just_lexer.specs.declared.kind.TokenKind.{TokenKind}
 use Rattle.just_lexer.specs.declared.kind.TokenKind.TheVariants as kinds
 use Rattle.just_expression_parser.specs.Grammar.{reads}
 use Rattle.just_expression_parser.specs.Laws.{IsEnded}
-use Rattle.just_expression_parser.specs.Literal.{Style, end_of_format, is_format, string, whole_format}
+use Rattle.just_expression_parser.specs.Literal.{Style, end_of_format, is_format, string_literal, whole_format}
 use Rattle.just_expression_parser.specs.Machine as machine
-use Rattle.just_expression_parser.specs.Machine.{Form, Frame, Next, run}
+use Rattle.just_expression_parser.specs.Machine.{Form, MachineFrame, Next, parse}
 use Rattle.just_expression_parser.specs.Operator.{level, operator_of}
 use Rattle.just_expression_parser.specs.Tokens.{One, Tokens, is_word, lexeme}
 use Rattle.just_expression_parser.specs.declared.operator.Operator.{Operator}
@@ -44,9 +44,9 @@ first_of [] = None
 first_of (t ∷ ts) = Some t.token
 
 -- the next token, if one is left
-abbrev pub next : Tokens → Option Lexeme
-next [] = None
-next (t ∷ ts) = Some t
+abbrev pub next_lexeme : Tokens → Option Lexeme
+next_lexeme [] = None
+next_lexeme (t ∷ ts) = Some t
 
 -- the next token is not of this kind
 abbrev pub IsNotAt : TokenKind → Tokens → Type 0
@@ -88,7 +88,7 @@ IsNoLastText style ts refusal =
 
 -- the expression that the token of a string is
 abbrev pub IsString : Text → Expr → Type 0
-IsString lexeme (StringLiteral l) = (is_format lexeme ≡ false) × (string lexeme ≡ Some l)
+IsString lexeme (StringLiteral l) = (is_format lexeme ≡ false) × (string_literal lexeme ≡ Some l)
 IsString lexeme (FormatString l NoPiece) = (is_format lexeme ≡ true) × (whole_format lexeme ≡ Some l)
 IsString lexeme _ = ⊥
 
@@ -98,21 +98,21 @@ abbrev pub form_view : written_elements.Elements → Form
 form_view (forms.Call name) = machine.Call (name_view name)
 form_view (forms.List token) = machine.ListOf (token_view token)
 
-abbrev pub frame_view : written_frame.Frame → Frame
-frame_view (frames.Assertion name) = machine.Assertion (name_view name)
-frame_view frames.Condition = machine.Condition
-frame_view (frames.Consequence condition) = machine.Consequence (view condition)
-frame_view (frames.ElseIf condition consequence) = machine.ElseIf (view condition) (view consequence)
-frame_view (frames.Elements form elements) = machine.Element (form_view form) (map view elements.items)
-frame_view frames.Group = machine.Group
-frame_view (frames.Interpolation start pieces style) =
+abbrev pub machine_frame_view : written_frame.Frame → MachineFrame
+machine_frame_view (frames.Assertion name) = machine.Assertion (name_view name)
+machine_frame_view frames.Condition = machine.Condition
+machine_frame_view (frames.Consequence condition) = machine.Consequence (view condition)
+machine_frame_view (frames.ElseIf condition consequence) = machine.ElseIf (view condition) (view consequence)
+machine_frame_view (frames.Elements form elements) = machine.Element (form_view form) (map view elements.items)
+machine_frame_view frames.Group = machine.Group
+machine_frame_view (frames.Interpolation start pieces style) =
     machine.Interpolation (literal_view start) (map piece_view pieces.items) (style_view style)
-frame_view (frames.Message condition name) = machine.Message (view condition) (name_view name)
-frame_view frames.Not = machine.Not
-frame_view (frames.Operators least below) = machine.Operators least below
-frame_view (frames.Otherwise condition consequence) = machine.Otherwise (view condition) (view consequence)
-frame_view (frames.Root operator) = machine.Root (token_view operator)
-frame_view (frames.Side lhs operator token) = machine.Side (view lhs) operator (token_view token)
+machine_frame_view (frames.Message condition name) = machine.Message (view condition) (name_view name)
+machine_frame_view frames.Not = machine.Not
+machine_frame_view (frames.Operators least below) = machine.Operators least below
+machine_frame_view (frames.Otherwise condition consequence) = machine.Otherwise (view condition) (view consequence)
+machine_frame_view (frames.Root operator) = machine.Root (token_view operator)
+machine_frame_view (frames.Side lhs operator token) = machine.Side (view lhs) operator (token_view token)
 
 abbrev pub state_view : written_state.State → Next
 state_view (states.Branch condition consequence) = machine.Branch (view condition) (view consequence)
@@ -128,8 +128,8 @@ abbrev pub left : Machine → Tokens
 left m = tokens m.cursor
 
 -- its frames, the innermost first
-abbrev pub waiting : Machine → List Frame
-waiting m = reverse (map frame_view m.frames.items)
+abbrev pub waiting : Machine → List MachineFrame
+waiting m = reverse (map machine_frame_view m.frames.items)
 
 -- ---- how a machine goes on
 
@@ -148,15 +148,15 @@ weight (machine.Named name) = 1
 weight (machine.Else condition consequence) = 1
 weight machine.Value = 1
 
-abbrev pub bound_of : Tokens → Next → List Frame → ℕ
-bound_of ts next frames = weight next + length frames + 8 * length ts
+abbrev pub step_bound : Tokens → Next → List MachineFrame → ℕ
+step_bound ts next frames = weight next + length frames + 8 * length ts
 
 -- the course from these tokens, this next and these frames
-abbrev pub course : Tokens → Next → List Frame → Course
-course ts next frames = record { result = run ts next frames; bound = bound_of ts next frames }
+abbrev pub course : Tokens → Next → List MachineFrame → Course
+course ts next frames = record { result = parse ts next frames; bound = step_bound ts next frames }
 
 -- the course from a machine with this next, and with these frames inside of those that wait
-abbrev pub goes : Machine → Next → List Frame → Course
+abbrev pub goes : Machine → Next → List MachineFrame → Course
 goes m next inner = course (left m) next (inner ++ waiting m)
 
 -- the same with this token before those that are left
@@ -164,9 +164,11 @@ abbrev pub goes_at : Lexeme → Machine → Next → Course
 goes_at t m next = course (t ∷ left m) next (waiting m)
 
 -- the course, before a step that only adds these frames
-abbrev pub waits : Machine → Next → List Frame → Course
-waits m next inner =
-    record { result = run (left m) next (inner ++ waiting m); bound = 1 + bound_of (left m) next (inner ++ waiting m) }
+abbrev pub waits : Machine → Next → List MachineFrame → Course
+waits m next inner = record {
+  result = parse (left m) next (inner ++ waiting m);
+  bound = 1 + step_bound (left m) next (inner ++ waiting m);
+}
 
 -- something is left to read
 abbrev pub IsPending : Next → Type 0
@@ -183,8 +185,9 @@ TakesOperator least below operator token old new =
 abbrev pub IsNoOperator : ℕ → ℕ → Machine → Machine → Type 0
 IsNoOperator least below old new =
     (left new ≡ left old) × (waiting new ≡ waiting old)
-    × ((e : Expr) (frames : List Frame) → run (left old) (machine.Done e) (machine.Operators least below ∷ frames)
-    ≡ run (left old) (machine.Done e) frames)
+    × ((e : Expr) (frames : List MachineFrame)
+    → parse (left old) (machine.Done e) (machine.Operators least below ∷ frames)
+    ≡ parse (left old) (machine.Done e) frames)
 
 -- reading is refused so; of `OutOfMemory` nothing is said
 abbrev pub IsRefused : machine.Result → ParseError → Type 0
@@ -212,5 +215,5 @@ abbrev pub IsNoExpression : Tokens → ParseError → Type 0
 IsNoExpression ts (Unexpected fault token) =
     (front : Tokens) × (at : Tokens) × (ts ≡ front ++ at) × (option_map token_view token ≡ first_of at)
     × ((us : Tokens) → StartsWith at us → BeginsNone (front ++ us))
-    × (run ts (machine.Expression 0) [] ≡ machine.Refused fault at)
+    × (parse ts (machine.Expression 0) [] ≡ machine.Refused fault at)
 IsNoExpression ts OutOfMemory = Unit {0}

@@ -3,7 +3,7 @@
 ghost use Rattle.std.specs.Prelude.{IfErr, IfNone, IfSome, IsFalse, IsTrue, OnOk, [], drop, map, option_map, ◌∷◌, ◌≡◌};
 ghost use Rattle.just_syntax.specs.View.{token_view};
 ghost use Rattle.just_lexer.specs.View.{lexeme_view};
-ghost use Rattle.just_expression_parser.specs.Parsed.{IsNotAt, IsRefusalAt, is_at_word, next, tokens};
+ghost use Rattle.just_expression_parser.specs.Parsed.{IsNotAt, IsRefusalAt, is_at_word, next_lexeme, tokens};
 ghost use Rattle.just_lexer.specs.declared.kind.TokenKind.TheVariants.{Comma};
 ghost use Rattle.just_expression_parser.specs.declared.parse_error.Fault.TheVariants.{Expected};
 ghost use Rattle.just_expression_parser.specs.Tokens.{Mark, One, is_at, is_kind, is_word};
@@ -33,7 +33,7 @@ impl<'tokens, 'src> Cursor<'tokens, 'src> {
 
     /// The next token.
     pub(crate) fn peek(&self) -> Option<Lexeme<'src>>
-        ensures { option_map lexeme_view result ≡ next (tokens self.now) }
+        ensures { option_map lexeme_view result ≡ next_lexeme (tokens self.now) }
     {
         match self.tokens.get(self.taken) {
             Some(lexeme) => Some(*lexeme),

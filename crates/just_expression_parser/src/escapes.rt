@@ -44,7 +44,7 @@ fn push(all: &mut String, meant: Option<char>) -> Result<(), OutOfMemory>
 fn escape(text: &str) -> Option<(Option<char>, &str)>
     ensures none { IfNone result (spec.unescaped spec.Backslash text.now ≡ None) }
     ensures some { IfSome result (λ x. spec.unescaped spec.Backslash text.now
-        ≡ spec.after (spec.meant x.0) (spec.unescaped spec.NoEscape x.1.now)) }
+        ≡ spec.after_front (spec.meant x.0) (spec.unescaped spec.NoEscape x.1.now)) }
     ensures shorter { IfSome result (λ x. length x.1.now < length text.now) }
 {
     let (byte, rest) = split_byte(text)?;
@@ -67,7 +67,7 @@ fn split_byte(text: &str) -> Option<(u8, &str)>
 
 // The character that a byte after a backslash means; a newline means none.
 fn meaning(byte: u8) -> Option<Option<char>>
-    ensures { result ≡ spec.meaning byte }
+    ensures { result ≡ spec.escape_meaning byte }
 {
     match byte {
         b'\n' => Some(None),
@@ -84,7 +84,7 @@ fn meaning(byte: u8) -> Option<Option<char>>
 fn unicode(text: &str) -> Option<(char, &str)>
     ensures none { IfNone result (spec.unescaped spec.Unicode text.now ≡ None) }
     ensures some { IfSome result (λ x. spec.unescaped spec.Unicode text.now
-        ≡ spec.after (spec.meant (Some x.0)) (spec.unescaped spec.NoEscape x.1.now)) }
+        ≡ spec.after_front (spec.meant (Some x.0)) (spec.unescaped spec.NoEscape x.1.now)) }
     ensures shorter { IfSome result (λ x. length x.1.now < length text.now) }
 {
     let inner = text.strip_prefix('{')?;
@@ -114,7 +114,7 @@ fn scalar(n: u32) -> Option<char>
 // The number that at most six hexadecimal digits are, if all are digits.
 fn number(digits: &[u8]) -> Option<u32>
     requires { length digits.now < 7 }
-    ensures { result ≡ spec.number 0 digits.now }
+    ensures { result ≡ spec.hexadecimal_after 0 digits.now }
 {
     let mut value = 0;
     for byte in digits {

@@ -2,7 +2,7 @@
 
 ghost use Rattle.std.specs.Prelude.{map, ◌≡◌};
 ghost use Rattle.just_syntax.specs.View.{view};
-ghost use Rattle.just_expression_parser.specs.Machine.{closing, with_elements};
+ghost use Rattle.just_expression_parser.specs.Machine.{closing_kind, with_elements};
 ghost use Rattle.just_expression_parser.specs.Parsed.{form_view};
 
 use crate::operator::Operator;
@@ -84,7 +84,7 @@ pub(crate) enum Elements<'src> {
 impl<'src> Elements<'src> {
     /// The kind of the token after the last element.
     pub(crate) fn close(self) -> TokenKind
-        ensures { result ≡ closing (form_view self.entry) }
+        ensures { result ≡ closing_kind (form_view self.entry) }
     {
         match self {
             Elements::Call(_) => TokenKind::ParenR,

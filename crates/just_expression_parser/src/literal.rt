@@ -46,7 +46,7 @@ pub(crate) fn string<'src>(
 }
 
 /// The text of a format string before its first interpolation.
-#[tactic(auto, unfolding(crate::specs::Literal::piece))]
+#[tactic(auto, unfolding(crate::specs::Literal::piece_literal))]
 pub(crate) fn start_of_format<'src>(
     alloc: Global,
     token: Token<'src>,
@@ -61,7 +61,7 @@ pub(crate) fn start_of_format<'src>(
 }
 
 /// The text between two interpolations of a format string of this style.
-#[tactic(auto, unfolding(crate::specs::Literal::piece))]
+#[tactic(auto, unfolding(crate::specs::Literal::piece_literal))]
 pub(crate) fn middle_of_format<'src>(
     alloc: Global,
     style: Style,
@@ -76,7 +76,7 @@ pub(crate) fn middle_of_format<'src>(
 }
 
 /// The text after the last interpolation of a format string of this style.
-#[tactic(auto, unfolding(crate::specs::Literal::piece))]
+#[tactic(auto, unfolding(crate::specs::Literal::piece_literal))]
 pub(crate) fn end_of_format<'src>(
     alloc: Global,
     style: Style,
@@ -99,7 +99,8 @@ pub(crate) fn backtick<'src>(
     alloc: Global,
     token: Token<'src>,
 ) -> Result<Expression<'src>, ParseError<'src>>
-    ensures ok { IfOk result (λ e. view e ≡ Backtick (spec.command token.entry.lexeme.now) (token_view token.entry)) }
+    ensures ok { IfOk result
+        (λ e. view e ≡ Backtick (spec.backtick_command token.entry.lexeme.now) (token_view token.entry)) }
     ensures refused { IfErr result (λ refusal. refusal ≡ OutOfMemory) }
 {
     match command(alloc, token.lexeme) {
@@ -109,9 +110,9 @@ pub(crate) fn backtick<'src>(
 }
 
 // The command of a backtick.
-#[tactic(auto, unfolding(crate::specs::Literal::command))]
+#[tactic(auto, unfolding(crate::specs::Literal::backtick_command))]
 fn command(alloc: Global, lexeme: &str) -> Result<String, out_of_memory::OutOfMemory>
-    ensures { IfOk result (λ t. string_bytes t ≡ spec.command lexeme.now) }
+    ensures { IfOk result (λ t. string_bytes t ≡ spec.backtick_command lexeme.now) }
 {
     if begins(lexeme, "```") {
         unindent(alloc, cut(lexeme, "```", "```"))
@@ -121,10 +122,10 @@ fn command(alloc: Global, lexeme: &str) -> Result<String, out_of_memory::OutOfMe
 }
 
 // The literal of a string that is no format string.
-#[tactic(auto, unfolding(crate::specs::Literal::string))]
+#[tactic(auto, unfolding(crate::specs::Literal::string_literal))]
 fn plain<'src>(alloc: Global, token: Token<'src>) -> Result<StringLiteral<'src>, ParseError<'src>>
-    ensures ok { IfOk result (λ l. spec.string token.entry.lexeme.now ≡ Some (literal_view l)) }
-    ensures refused { IfErr result (IsNoLiteral (spec.string token.entry.lexeme.now) (token_view token.entry)) }
+    ensures ok { IfOk result (λ l. spec.string_literal token.entry.lexeme.now ≡ Some (literal_view l)) }
+    ensures refused { IfErr result (IsNoLiteral (spec.string_literal token.entry.lexeme.now) (token_view token.entry)) }
 {
     let style = Style::of(token.lexeme);
     let text = cut(token.lexeme, style.mark, style.mark);
@@ -139,7 +140,7 @@ fn plain<'src>(alloc: Global, token: Token<'src>) -> Result<StringLiteral<'src>,
 }
 
 // The literal of a format string without interpolations.
-#[tactic(auto, unfolding(crate::specs::Literal::piece))]
+#[tactic(auto, unfolding(crate::specs::Literal::piece_literal))]
 fn whole_format<'src>(
     alloc: Global,
     token: Token<'src>,
@@ -219,7 +220,7 @@ fn cooked(
 
 // A text without a mark at its front and a mark at its end.
 fn cut<'a>(text: &'a str, front: &str, end: &str) -> &'a str
-    ensures { result.now ≡ spec.without_end end.now (spec.without_front front.now text.now) }
+    ensures { result.now ≡ spec.without_end_mark end.now (spec.without_front front.now text.now) }
 {
     without_end(without_front(text, front), end)
 }

@@ -5,10 +5,11 @@ ghost use Rattle.std.specs.Prelude.{◌∷◌, ◌<◌, ◌≡◌, ◌≤◌, �
 ghost use Rattle.just_syntax.specs.View.{name_view, token_view, view};
 ghost use Rattle.just_lexer.specs.declared.kind.TokenKind.TheVariants as kinds;
 ghost use Rattle.just_expression_parser.specs.Machine as machine;
-ghost use Rattle.just_expression_parser.specs.Operator.{applied};
+ghost use Rattle.just_expression_parser.specs.Operator.{operation};
 ghost use Rattle.just_expression_parser.specs.Parsed.{GoesOn, IsNoOperator, IsNotAt, IsPending, is_at_word};
 ghost use Rattle.just_expression_parser.specs.Parsed.{IsRefusalOf, IsRefused, TakesOperator};
-ghost use Rattle.just_expression_parser.specs.Parsed.{frame_view, goes, goes_at, left, state_view, waiting, waits};
+ghost use Rattle.just_expression_parser.specs.Parsed.{goes, goes_at, left, machine_frame_view, state_view, waiting};
+ghost use Rattle.just_expression_parser.specs.Parsed.{waits};
 ghost use Rattle.just_expression_parser.specs.Tokens.{lexeme};
 ghost use Rattle.just_expression_parser.specs.declared.parse_error.Fault.TheVariants.{ExpectedExpression};
 
@@ -86,7 +87,7 @@ impl<'src> Machine<'_, 'src> {
         frame: Frame<'src>,
         value: Expression<'src>,
     ) -> Result<State<'src>, ParseError<'src>>
-        ensures { GoesOn (goes self.old (machine.Done (view value.entry)) (frame_view frame.entry ∷ [])) result
+        ensures { GoesOn (goes self.old (machine.Done (view value.entry)) (machine_frame_view frame.entry ∷ [])) result
             self.new }
     {
         match frame {
@@ -128,7 +129,8 @@ impl<'src> Machine<'_, 'src> {
         frame: Frame<'src>,
         state: State<'src>,
     ) -> Result<State<'src>, ParseError<'src>>
-        ensures { GoesOn (waits self.old (state_view state.entry) (frame_view frame.entry ∷ [])) result self.new }
+        ensures { GoesOn
+            (waits self.old (state_view state.entry) (machine_frame_view frame.entry ∷ [])) result self.new }
     {
         followed(state, pushed(&mut self.frames, frame))
     }
@@ -141,7 +143,7 @@ impl<'src> Machine<'_, 'src> {
         state: State<'src>,
     ) -> Result<State<'src>, ParseError<'src>>
         ensures { GoesOn (waits self.old (state_view state.entry)
-            (frame_view inner.entry ∷ frame_view outer.entry ∷ [])) result self.new }
+            (machine_frame_view inner.entry ∷ machine_frame_view outer.entry ∷ [])) result self.new }
     {
         followed(state, pushed_twice(&mut self.frames, outer, inner))
     }
@@ -321,7 +323,8 @@ fn applied<'src>(
     token: Token<'src>,
     rhs: Expression<'src>,
 ) -> Result<Expression<'src>, OutOfMemory>
-    ensures { IfOk result (λ e. view e ≡ applied (view lhs.entry) operator (token_view token.entry) (view rhs.entry)) }
+    ensures { IfOk result
+        (λ e. view e ≡ operation (view lhs.entry) operator (token_view token.entry) (view rhs.entry)) }
 {
     match operator {
         Operator::And => Expression::and(alloc, lhs, rhs),

@@ -20,7 +20,7 @@ pub(crate) fn without_front<'a>(text: &'a str, mark: &str) -> &'a str
 
 /// A text without a mark at its end, if it has it.
 pub(crate) fn without_end<'a>(text: &'a str, mark: &str) -> &'a str
-    ensures { result.now ≡ spec.without_end mark.now text.now }
+    ensures { result.now ≡ spec.without_end_mark mark.now text.now }
 {
     text.strip_suffix(mark).unwrap_or(text)
 }

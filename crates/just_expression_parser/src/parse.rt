@@ -7,7 +7,7 @@ ghost use Rattle.just_lexer.specs.View.{lexeme_view};
 ghost use Rattle.just_expression_parser.specs.Grammar.{reads};
 ghost use Rattle.just_expression_parser.specs.Laws.{IsEnded};
 ghost use Rattle.just_expression_parser.specs.Machine as machine;
-ghost use Rattle.just_expression_parser.specs.Machine.{run};
+ghost use Rattle.just_expression_parser.specs.Machine.{parse};
 ghost use Rattle.just_expression_parser.specs.Parsed.{IsNoExpression, IsRefused};
 ghost use Rattle.just_expression_parser.specs.Tokens.{Tokens, is_significant, significant};
 
@@ -66,7 +66,7 @@ pub fn parse_expression<'tokens, 'src>(
     tokens: &'tokens [Lexeme<'src>],
 ) -> Result<(Expression<'src>, &'tokens [Lexeme<'src>]), ParseError<'src>>
     // It is what the definition reads,
-    ensures exact { IfOk result (λ p. run (map lexeme_view tokens.now) (machine.Expression 0) []
+    ensures exact { IfOk result (λ p. parse (map lexeme_view tokens.now) (machine.Expression 0) []
         ≡ machine.Read (view p.0) (map lexeme_view p.1.now)) }
 
     // the grammar derives it from these tokens,
@@ -94,7 +94,7 @@ pub fn parse_value<'tokens, 'src>(
     tokens: &'tokens [Lexeme<'src>],
 ) -> Result<(Expression<'src>, &'tokens [Lexeme<'src>]), ParseError<'src>>
     // It is what the definition reads,
-    ensures exact { IfOk result (λ p. run (map lexeme_view tokens.now) (machine.Expression 4) []
+    ensures exact { IfOk result (λ p. parse (map lexeme_view tokens.now) (machine.Expression 4) []
         ≡ machine.Read (view p.0) (map lexeme_view p.1.now)) }
 
     // and the grammar derives it from these tokens.
@@ -102,7 +102,7 @@ pub fn parse_value<'tokens, 'src>(
         (λ p. reads (view p.0) 4 (map lexeme_view tokens.now) (map lexeme_view p.1.now)) }
 
     // A refusal is that of the definition.
-    ensures refused { IfErr result (IsRefused (run (map lexeme_view tokens.now) (machine.Expression 4) [])) }
+    ensures refused { IfErr result (IsRefused (parse (map lexeme_view tokens.now) (machine.Expression 4) [])) }
 {
     read(alloc, tokens, VALUE)
 }
@@ -113,9 +113,9 @@ fn read<'tokens, 'src>(
     tokens: &'tokens [Lexeme<'src>],
     level: usize,
 ) -> Result<(Expression<'src>, &'tokens [Lexeme<'src>]), ParseError<'src>>
-    ensures exact { IfOk result (λ p. run (map lexeme_view tokens.now) (machine.Expression level) []
+    ensures exact { IfOk result (λ p. parse (map lexeme_view tokens.now) (machine.Expression level) []
         ≡ machine.Read (view p.0) (map lexeme_view p.1.now)) }
-    ensures refused { IfErr result (IsRefused (run (map lexeme_view tokens.now) (machine.Expression level) [])) }
+    ensures refused { IfErr result (IsRefused (parse (map lexeme_view tokens.now) (machine.Expression level) [])) }
 {
     let mut machine = Machine {
         alloc,

@@ -42,7 +42,7 @@ expression_refused ts (syntax_errors.Unexpected fault token) outer refused is = 
 expression_refused ts syntax_errors.OutOfMemory outer refused is = rw is tt
 
 pub value_refused : (ts : Tokens) (inner : syntax.ParseError) (outer : ParseError)
-    → expressions.IsRefused (machine.run ts (machine.Expression 4) []) inner → IsRefusalOf inner outer → IsRefused (value ts) outer
+    → expressions.IsRefused (machine.parse ts (machine.Expression 4) []) inner → IsRefusalOf inner outer → IsRefused (value ts) outer
 unfolding value
 value_refused ts (syntax_errors.Unexpected fault token) outer refused is = rw is (refused.0, ap of_machine refused.1, refused.2)
 value_refused ts syntax_errors.OutOfMemory outer refused is = rw is tt

@@ -67,11 +67,11 @@ accepted kind ts = if is_at 0 kind ts then after (one kind ts) (λ token. give t
 
 -- an expression
 unfoldable pub expression : Phrase Expr
-expression ts = of_machine (machine.run ts (machine.Expression 0) [])
+expression ts = of_machine (machine.parse ts (machine.Expression 0) [])
 
 -- a value
 unfoldable pub value : Phrase Expr
-value ts = of_machine (machine.run ts (machine.Expression 4) [])
+value ts = of_machine (machine.parse ts (machine.Expression 4) [])
 
 -- what was found, if it is there; else the first of these tokens is refused
 abbrev pub found_at : {A : Type 0} → Fault → Tokens → Option A → Phrase A

@@ -1,6 +1,6 @@
 use Rattle.std.proofs.Common.{sym, ◌∙◌, arith}
 use Rattle.std.proofs.lemmas.List.{at_drop_all}
-use Rattle.just_expression_parser.specs.Literal.{number}
+use Rattle.just_expression_parser.specs.Literal.{hexadecimal_after}
 use Rattle.just_expression_parser.proofs.Unescaped.{digit_refused, digit_taken, five_digits, one_digit_more}
 use Rattle.just_expression_parser.proofs.escapes.number.Goals as goal
 
@@ -31,4 +31,4 @@ loop-byte-preserved c =
 pub returns : goal.returns
 returns c =
     let l = c.loop-byte in
-    sym (at_drop_all (number l.value) c.args.digits.now l.byte-index (omega arith)) ∙ l.invariant.value
+    sym (at_drop_all (hexadecimal_after l.value) c.args.digits.now l.byte-index (omega arith)) ∙ l.invariant.value

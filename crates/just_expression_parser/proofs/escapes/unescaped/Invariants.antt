@@ -8,7 +8,7 @@ use Rattle.just_expression_parser.proofs.escapes.unescaped.Given as goal
 abbrev pub invariant-loop-before : goal.invariant-loop-before
 invariant-loop-before l = record {
   utf8 : shadow (Utf8 l.rest);
-  value : spec.after (string_bytes l.all) (spec.unescaped spec.NoEscape l.rest) ≡ spec.unescaped spec.NoEscape l.text;
+  value : spec.after_front (string_bytes l.all) (spec.unescaped spec.NoEscape l.rest) ≡ spec.unescaped spec.NoEscape l.text;
 }
 
 abbrev pub decreases-loop-before : goal.decreases-loop-before

@@ -24,8 +24,9 @@ returns-in-Ok c =
     let piece : Expr × Literal = (view c.args.value, literal_view found.0) in
     let all = ap (map piece_view) found.1 ∙ map_push piece_view c.args.pieces.items (c.args.value, found.0) in
     goes_on _ _ c.wait.result c.wait.new.self
-    (ap (λ ps. machine.run rest (machine.Expression 0) (machine.Interpolation (literal_view c.in-Ok.start) ps style ∷ waiting old)) all
-    ∙ ap (λ s. machine.run rest (machine.Expression 0) (machine.Interpolation (literal_view s) (before ++ piece ∷ []) style ∷ waiting old)) c.in-Ok.ensures.ok.0
+    (ap (λ ps. machine.parse rest (machine.Expression 0) (machine.Interpolation (literal_view c.in-Ok.start) ps style ∷ waiting old)) all
+    ∙ ap (λ s. machine.parse rest (machine.Expression 0)
+    (machine.Interpolation (literal_view s) (before ++ piece ∷ []) style ∷ waiting old)) c.in-Ok.ensures.ok.0
     ∙ sym (middle_here start before style (view c.args.value) token (literal_view found.0) (left old) rest (waiting old) c.in-Some.ensures.some found.2))
     (omega (arith, ap length c.in-Some.ensures.some)) c.wait.ensures
 

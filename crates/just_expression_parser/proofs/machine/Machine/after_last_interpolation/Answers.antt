@@ -22,8 +22,8 @@ returns-in-Ok c no_more =
     let less : length (left old) ≡ suc (length (left new)) = last_taken style (left old) (literal_view found.0) (left new) found.2 in
     let piece : Expr × Literal = (view c.args.value, literal_view found.0) in
     let all = ap (map piece_view) found.1 ∙ map_push piece_view c.args.pieces.items (c.args.value, found.0) in
-    let made = c.format_string.ensures ∙ ap (plain.FormatString (literal_view c.in-Ok.start)) (pieces_seen c.in-Ok.pieces.items ∙ ap machine.pieces all)
-    ∙ ap (λ s. plain.FormatString (literal_view s) (machine.pieces (before ++ piece ∷ []))) c.in-Ok.ensures.ok.0 in (
+    let made = c.format_string.ensures ∙ ap (plain.FormatString (literal_view c.in-Ok.start)) (pieces_seen c.in-Ok.pieces.items ∙ ap machine.format_pieces all)
+    ∙ ap (λ s. plain.FormatString (literal_view s) (machine.format_pieces (before ++ piece ∷ []))) c.in-Ok.ensures.ok.0 in (
       (
         ap (λ e. (goes new (machine.Done e) []).result) made
             ∙ sym (last_here (literal_view c.args.start) before style (view c.args.value) (literal_view found.0) (left old) (left new) (waiting old) found.2),

@@ -16,7 +16,7 @@ returns-in-None c =
     let none = c.in-None.ensures.none in
     let name = name_view c.args.name in (
       (
-        ap (λ ts. machine.run ts (machine.Done (Variable name None)) (waiting old)) none.0
+        ap (λ ts. machine.parse ts (machine.Done (Variable name None)) (waiting old)) none.0
             ∙ sym (variable_here name (left old) (waiting old) none.1),
         omega (arith, ap length none.0),
       ),

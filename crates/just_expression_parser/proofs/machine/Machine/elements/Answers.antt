@@ -28,5 +28,5 @@ returns-in-None c =
     let none = c.in-None.ensures.none in
     let form = form_view c.args.form in
     let es = map view c.args.elements.items in
-    goes_on _ _ c.wait.result c.wait.new.self (ap (λ ts. machine.run ts (machine.Expression 0) (machine.Element form es ∷ waiting old)) none.0
+    goes_on _ _ c.wait.result c.wait.new.self (ap (λ ts. machine.parse ts (machine.Expression 0) (machine.Element form es ∷ waiting old)) none.0
     ∙ sym (element_here form es (left old) (waiting old) (rw c.close.ensures at none.1))) (omega (arith, ap length none.0)) c.wait.ensures

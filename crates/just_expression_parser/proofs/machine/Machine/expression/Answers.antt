@@ -3,7 +3,7 @@ use Rattle.std.proofs.lemmas.List.{nil_from_length}
 use Rattle.just_syntax.specs.View.{view}
 use Rattle.just_expression_parser.proofs.Steps.{goes_on, if_ok, on_err, pending, popped, read_all}
 use Rattle.just_expression_parser.specs.Machine as machine
-use Rattle.just_expression_parser.specs.Parsed.{Course, GoesOn, IsRefused, frame_view, goes, left, state_view, waiting}
+use Rattle.just_expression_parser.specs.Parsed.{Course, GoesOn, IsRefused, goes, left, machine_frame_view, state_view, waiting}
 use Rattle.just_expression_parser.specs.declared.machine.Machine.{Machine}
 use Rattle.just_expression_parser.proofs.machine.Machine.expression.Goals as goal
 use Rattle.just_expression_parser.proofs.machine.Machine.expression.Goals.{in-Done+in-Some, in_default}
@@ -13,7 +13,7 @@ pub returns-in-None-clause-ok : goal.returns-in-None-clause-ok
 returns-in-None-clause-ok c alone =
     let old = c.loop-state.self in
     let none = nil_from_length old.frames.items (sym old.frames.ok.0 ∙ c.in-None.ensures.cases.0) in
-    read_all (left old) (view c.in-Done.expression) (waiting old) (ap (λ fs. reverse (map frame_view fs)) none)
+    read_all (left old) (view c.in-Done.expression) (waiting old) (ap (λ fs. reverse (map machine_frame_view fs)) none)
     ∙ (rw c.in-Done.is at c.loop-state.invariant)
 
 -- a step goes on

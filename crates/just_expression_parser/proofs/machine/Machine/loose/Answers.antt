@@ -31,5 +31,5 @@ returns-in-None c low =
     let apart = rw (c.take_word.ensures.stays none) at c.in-None.ensures.none.1 in
     let so : (is_at_word (codes "if") (tokens c.take.new.self) ≡ false) × IsNotAt kinds.Slash (tokens c.take.new.self) =
     (rw same (sym c.take_word.ensures.value ∙ none), rw same apart) in
-    goes_on _ _ c.operand.result c.operand.new.self (ap (λ ts. machine.run ts (machine.Expression c.args.least) (waiting c.args.self.now)) same)
+    goes_on _ _ c.operand.result c.operand.new.self (ap (λ ts. machine.parse ts (machine.Expression c.args.least) (waiting c.args.self.now)) same)
     (omega (arith, ap length same)) (c.operand.ensures (inr so))

@@ -4,7 +4,7 @@ use Rattle.just_syntax.specs.View.{token_view, view}
 use Rattle.just_expression_parser.proofs.Runs.{frame_completes}
 use Rattle.just_expression_parser.proofs.Steps.{made_on, state_on}
 use Rattle.just_expression_parser.specs.Machine as machine
-use Rattle.just_expression_parser.specs.Operator.{applied}
+use Rattle.just_expression_parser.specs.Operator.{operation}
 use Rattle.just_expression_parser.specs.Parsed.{goes, left, waiting}
 use Rattle.just_expression_parser.proofs.machine.Machine.resume.Goals as goal
 
@@ -38,7 +38,7 @@ pub returns-in-Side : goal.returns-in-Side
 returns-in-Side c =
     let old = c.args.self.now in
     let frame = machine.Side (view c.in-Side.lhs) c.in-Side.operator (token_view c.in-Side.token) in
-    let e = applied (view c.in-Side.lhs) c.in-Side.operator (token_view c.in-Side.token) (view c.args.value) in
+    let e = operation (view c.in-Side.lhs) c.in-Side.operator (token_view c.in-Side.token) (view c.args.value) in
     rw c.in-Side.is (made_on c.applied.result c.allocated-in-Side.result c.done-in-Side.result old
     (goes old (machine.Done (view c.args.value)) (frame ∷ [])) e c.applied.ensures c.allocated-in-Side.ensures.ok c.allocated-in-Side.ensures.refused
     c.done-in-Side.ensures.ok c.done-in-Side.ensures.refused

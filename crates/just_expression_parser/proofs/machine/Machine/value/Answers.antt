@@ -7,7 +7,7 @@ use Rattle.just_expression_parser.proofs.machine.Machine.value.Goals as goal
 
 pub returns-in-Some : goal.returns-in-Some
 returns-in-Some c = goes_on _ _ c.value_of.result c.value_of.new.self
-    (ap (λ ts. machine.run ts machine.Value (waiting c.args.self.now)) (sym c.in-Some.ensures.some))
+    (ap (λ ts. machine.parse ts machine.Value (waiting c.args.self.now)) (sym c.in-Some.ensures.some))
     (omega (arith, ap length c.in-Some.ensures.some)) c.value_of.ensures
 
 pub returns-in-None : goal.returns-in-None

@@ -4,7 +4,7 @@ use Rattle.just_syntax.specs.Plain as plain
 use Rattle.just_syntax.specs.View.{token_view, view}
 use Rattle.just_expression_parser.proofs.Steps.{done_on, goes_on, read_on}
 use Rattle.just_expression_parser.proofs.Values.{backtick_here, bang_here, group_here, list_here, nothing_here, string_here, string_refused}
-use Rattle.just_expression_parser.specs.Literal.{command}
+use Rattle.just_expression_parser.specs.Literal.{backtick_command}
 use Rattle.just_expression_parser.specs.Machine as machine
 use Rattle.just_expression_parser.specs.Parsed.{IsRefused, goes, goes_at, left, waiting}
 use Rattle.just_expression_parser.specs.Tokens.{lexeme}
@@ -15,7 +15,7 @@ returns-in-Backtick c =
     let old = c.args.self.now in
     let token = token_view c.args.token in
     read_on c.backtick.result c.done.result old (goes_at (lexeme c.args.kind token) old machine.Value)
-    (plain.Backtick (command token.lexeme) token) c.done.ensures.ok c.done.ensures.refused c.backtick.ensures.ok c.backtick.ensures.refused
+    (plain.Backtick (backtick_command token.lexeme) token) c.done.ensures.ok c.done.ensures.refused c.backtick.ensures.ok c.backtick.ensures.refused
     (sym (backtick_here c.args.kind token (left old) (waiting old) c.in-Backtick.is)) (omega arith)
 
 pub returns-in-Bang : goal.returns-in-Bang
