@@ -3,9 +3,9 @@ use Rattle.std.specs.Prelude.{ℕ, suc, ◌≡◌, ◌==◌, true, false, List, 
 use Rattle.std.proofs.Common.{◌∙◌, ap, arith, inl, inr, refl, sym}
 use Rattle.std.proofs.lemmas.Bool.Decides.{eqb_tells}
 use Rattle.just_parser.specs.Plain.{Line}
-use Rattle.just_parser.specs.Recipes.{kept, trimmed}
+use Rattle.just_parser.specs.Recipes.{trimmed, with_first_line}
 
-kept_before : (first : Line) (rest : List Line) (last : Line) → kept first (rest ++ last ∷ []) ≡ first ∷ (rest ++ last ∷ [])
+kept_before : (first : Line) (rest : List Line) (last : Line) → with_first_line first (rest ++ last ∷ []) ≡ first ∷ (rest ++ last ∷ [])
 kept_before [] [] last = refl
 kept_before [] (line ∷ rest) last = refl
 kept_before (fragment ∷ fragments) [] last = refl
@@ -24,7 +24,7 @@ empty_is_none n is =
 -- an empty line at the end is left out
 pub without_empty : (lines : List Line) (last : Line) → (length last == 0) ≡ true → trimmed (lines ++ last ∷ []) ≡ trimmed lines
 without_empty [] [] is = refl
-without_empty (first ∷ rest) [] is = ap (kept first) (without_empty rest [] is)
+without_empty (first ∷ rest) [] is = ap (with_first_line first) (without_empty rest [] is)
 without_empty lines (fragment ∷ fragments) is = absurd (empty_is_none (length fragments) is)
 
 -- another one is kept, and all before it
@@ -32,4 +32,4 @@ pub with_full : (lines : List Line) (last : Line) → (length last == 0) ≡ fal
 with_full lines [] is = absurd (cc)
 with_full [] (fragment ∷ fragments) is = refl
 with_full (first ∷ rest) (fragment ∷ fragments) is =
-    ap (kept first) (with_full rest (fragment ∷ fragments) is) ∙ kept_before first rest (fragment ∷ fragments)
+    ap (with_first_line first) (with_full rest (fragment ∷ fragments) is) ∙ kept_before first rest (fragment ∷ fragments)

@@ -5,10 +5,10 @@ use Rattle.std.specs.Option.{option_to_list}
 use Rattle.just_syntax.specs.Plain.{Attribute, Env, Expr, Literal, Other, Text, Token}
 use Rattle.just_lexer.specs.declared.kind.TokenKind.TheVariants as kinds
 use Rattle.just_expression_parser.specs.Tokens.{Tokens, is_at}
-use Rattle.just_parser.specs.Phrase.{Phrase, Read, ◌>>=◌, ◌>>◌, after, comma_unless, expected, expression, give}
+use Rattle.just_parser.specs.Phrase.{Phrase, Read, ◌>>=◌, ◌>>◌, after_read, comma_unless, expected, expression, give}
 use Rattle.just_parser.specs.Phrase.{line_end, many, one, value, value_as}
 use Rattle.just_parser.specs.Plain.{ArgAttribute, ArgOption, Flag, Multiple, Value, WrittenAttribute}
-use Rattle.just_parser.specs.Settings.{literal_of}
+use Rattle.just_parser.specs.Settings.{literal_of_string}
 
 -- a comma, if it is there, and a parenthesis
 unfoldable pub close : Phrase Unit
@@ -18,8 +18,8 @@ close = do
   give tt
 
 -- a string
-abbrev pub string : Phrase Literal
-string = value_as (expected kinds.StringToken) literal_of
+abbrev pub string_phrase : Phrase Literal
+string_phrase = value_as (expected kinds.StringToken) literal_of_string
 
 -- ---- what evaluation ignores
 
@@ -31,13 +31,13 @@ ignored = do
 
 -- `= e`, if it is there
 unfoldable pub ignored_value : Phrase Unit
-ignored_value ts = if is_at 0 kinds.Equals ts then after (one kinds.Equals ts) (λ mark. ignored) else Read tt ts
+ignored_value ts = if is_at 0 kinds.Equals ts then after_read (one kinds.Equals ts) (λ mark. ignored) else Read tt ts
 
 -- `e` or `NAME = e`
 unfoldable pub ignored_argument : Phrase Unit
 ignored_argument ts =
     if is_at 0 kinds.Identifier ts && is_at 1 kinds.Equals ts
-    then after (one kinds.Identifier ts) (λ name. ignored_value)
+    then after_read (one kinds.Identifier ts) (λ name. ignored_value)
     else ignored ts
 
 -- an argument, with the comma after it, if it is not the last one
@@ -50,9 +50,9 @@ ignored_element = do
 -- `: v`, or `(ARGUMENT, ..)`, or nothing
 unfoldable pub ignored_arguments : Phrase Unit
 ignored_arguments ts =
-    if is_at 0 kinds.Colon ts then after (after (one kinds.Colon ts) (λ mark. value)) (λ e. give tt) else
+    if is_at 0 kinds.Colon ts then after_read (after_read (one kinds.Colon ts) (λ mark. value)) (λ e. give tt) else
     if is_at 0 kinds.ParenL ts
-    then after (one kinds.ParenL ts) (λ mark. do
+    then after_read (one kinds.ParenL ts) (λ mark. do
       many (is_at 0 kinds.ParenR) ignored_element
       one kinds.ParenR
       give tt)
@@ -113,7 +113,7 @@ arg_options = do
 unfoldable pub arg : Token → Phrase ArgAttribute
 arg name = do
   one kinds.ParenL
-  parameter ← string
+  parameter ← string_phrase
   options ← arg_options
   give (record { name = name; options = options; parameter = parameter })
 
@@ -157,8 +157,8 @@ attributes = many is_after_attributes attribute_line
 -- ---- what attributes say
 
 -- the attributes of a recipe
-abbrev pub attributes_of : List WrittenAttribute → List (Attribute × Token)
-attributes_of all = map (λ (w : WrittenAttribute). (w.attribute, w.name)) all
+abbrev pub recipe_attributes : List WrittenAttribute → List (Attribute × Token)
+recipe_attributes all = map (λ (w : WrittenAttribute). (w.attribute, w.name)) all
 
 -- what they say of its parameters
 abbrev pub args_of : List WrittenAttribute → List ArgAttribute

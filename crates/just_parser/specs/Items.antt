@@ -9,8 +9,8 @@ use Rattle.just_lexer.specs.declared.kind.TokenKind.TheVariants as kinds
 use Rattle.just_expression_parser.specs.Parsed.{is_at_word}
 use Rattle.just_expression_parser.specs.Tokens.{is_at}
 use Rattle.just_expression_parser.specs.declared.parse_error.Fault.TheVariants as faults
-use Rattle.just_parser.specs.Attributes.{are_private, attributes, string}
-use Rattle.just_parser.specs.Phrase.{Phrase, Read, Refused, ◌>>=◌, ◌>>◌, accepted, after, comma_unless, expression}
+use Rattle.just_parser.specs.Attributes.{are_private, attributes, string_phrase}
+use Rattle.just_parser.specs.Phrase.{Phrase, Read, Refused, ◌>>=◌, ◌>>◌, accepted, after_read, comma_unless, expression}
 use Rattle.just_parser.specs.Phrase.{found_at, give, give_if, in_line, many, one, refuse, value_as}
 use Rattle.just_parser.specs.Plain.{Alias, Assigns, Defines, Item, Recipes, Sets, Unexports, WrittenAttribute}
 use Rattle.just_parser.specs.Recipes.{recipe}
@@ -33,8 +33,8 @@ abbrev pub is_underscored : Text → Bool
 is_underscored name = starts_with nat_eq name (codes "_")
 
 -- a variable; no name has a number yet
-abbrev pub variable : Bool → Bool → Bool → Token → Expr → Assignment
-variable private eager export name value = record {
+abbrev pub unnumbered_variable : Bool → Bool → Bool → Token → Expr → Assignment
+unnumbered_variable private eager export name value = record {
   eager = eager;
   export = export;
   name = name;
@@ -49,11 +49,11 @@ assignment private eager export = do
   name ← one kinds.Identifier
   one kinds.ColonEquals
   value ← in_line expression
-  give (variable private eager export name value)
+  give (unnumbered_variable private eager export name value)
 
 -- a parameter of a function, with the comma after it, if it is not the last one
-unfoldable pub parameter : Phrase (List (Token × ℕ))
-parameter = do
+unfoldable pub function_parameter : Phrase (List (Token × ℕ))
+function_parameter = do
   name ← one kinds.Identifier
   comma_unless kinds.ParenR
   give ((name, 0) ∷ [])
@@ -63,7 +63,7 @@ unfoldable pub function : Phrase Function
 function = do
   name ← one kinds.Identifier
   one kinds.ParenL
-  parameters ← many (is_at 0 kinds.ParenR) parameter
+  parameters ← many (is_at 0 kinds.ParenR) function_parameter
   one kinds.ParenR
   one kinds.ColonEquals
   body ← in_line expression
@@ -74,51 +74,51 @@ function = do
 -- `true` or `false`
 unfoldable pub boolean : Phrase Bool
 boolean ts =
-    if is_at_word (codes "true") ts then after (one kinds.Identifier ts) (λ word. give true) else
-    if is_at_word (codes "false") ts then after (one kinds.Identifier ts) (λ word. give false) else
+    if is_at_word (codes "true") ts then after_read (one kinds.Identifier ts) (λ word. give true) else
+    if is_at_word (codes "false") ts then after_read (one kinds.Identifier ts) (λ word. give false) else
     Refused ExpectedBoolean ts
 
 -- `:= true` or `:= false`; without a value, a setting is on
 unfoldable pub flag : Phrase Bool
-flag ts = if is_at 0 kinds.ColonEquals ts then after (one kinds.ColonEquals ts) (λ mark. boolean) else Read true ts
+flag ts = if is_at 0 kinds.ColonEquals ts then after_read (one kinds.ColonEquals ts) (λ mark. boolean) else Read true ts
 
 -- `:=` and something
-abbrev pub given : {A : Type 0} → Phrase A → Phrase A
-given phrase = one kinds.ColonEquals >> phrase
+abbrev pub colon_equals : {A : Type 0} → Phrase A → Phrase A
+colon_equals phrase = one kinds.ColonEquals >> phrase
 
 -- the indentation of recipes, by the token of its string
-unfoldable pub indentation : Phrase Setting
-indentation [] = Refused (Syntax faults.ExpectedExpression) []
-indentation (t ∷ ts) =
-    after (value_as ExpectedIndentation indentation_of (t ∷ ts)) (λ i. give (syntax.Indentation t.token i))
+unfoldable pub indentation_setting : Phrase Setting
+indentation_setting [] = Refused (Syntax faults.ExpectedExpression) []
+indentation_setting (t ∷ ts) =
+    after_read (value_as ExpectedIndentation indentation_of (t ∷ ts)) (λ i. give (syntax.Indentation t.token i))
 
 -- the value of the setting of this name
 unfoldable pub setting : SettingForm → Text → Phrase Setting
 setting forms.Expression name = do
-  e ← given expression
+  e ← colon_equals expression
   give_if UnknownSetting (expression_named name e)
 setting forms.Flag name = do
   on ← flag
   give_if UnknownSetting (flag_named name on)
-setting forms.Indentation name = given indentation
+setting forms.Indentation name = colon_equals indentation_setting
 setting forms.Interpreter name = do
-  i ← given (value_as ExpectedCommand interpreter_of)
+  i ← colon_equals (value_as ExpectedCommand interpreter_of)
   give_if UnknownSetting (interpreter_named name i)
 setting forms.Version name = do
-  literal ← given string
+  literal ← colon_equals string_phrase
   give (syntax.MinimumVersion literal)
 
 -- the name of a setting, with the form of value that it takes; else it is refused
-unfoldable pub setting_name : Phrase (Token × SettingForm)
-setting_name ts =
-    after (one kinds.Identifier ts)
+unfoldable pub setting_with_form : Phrase (Token × SettingForm)
+setting_with_form ts =
+    after_read (one kinds.Identifier ts)
     (λ name. found_at UnknownSetting ts (option_map (λ form. (name, form)) (form_of name.lexeme)))
 
 -- `set NAME`, or `set NAME := value`
 unfoldable pub set : Phrase Set
 set = do
   one kinds.Identifier
-  named ← setting_name
+  named ← setting_with_form
   value ← in_line (setting named.1 named.0.lexeme)
   give (record { name = named.0; value = value })
 
@@ -141,8 +141,8 @@ unexport = do
   give (Unexports name)
 
 -- an assignment, with these keywords before it
-abbrev pub assigns : Bool → Bool → Bool → Phrase Item
-assigns private eager export = do
+abbrev pub assignment_item : Bool → Bool → Bool → Phrase Item
+assignment_item private eager export = do
   a ← assignment private eager export
   give (Assigns a)
 
@@ -153,9 +153,9 @@ after_keyword phrase = one kinds.Identifier >> phrase
 -- an item that begins so, after these attributes
 unfoldable pub item_of : List WrittenAttribute → Start → Phrase Item
 item_of all starts.Alias = alias
-item_of all starts.Assignment = assigns (are_private all) false false
-item_of all starts.Eager = after_keyword (assigns (are_private all) true false)
-item_of all starts.Export = after_keyword (assigns (are_private all) false true)
+item_of all starts.Assignment = assignment_item (are_private all) false false
+item_of all starts.Eager = after_keyword (assignment_item (are_private all) true false)
+item_of all starts.Export = after_keyword (assignment_item (are_private all) false true)
 item_of all starts.Function = do
   f ← function
   give (Defines f)
@@ -180,15 +180,15 @@ unfoldable pub item : Phrase Item
 item = attributes >>= item_after
 
 -- an item, or an empty line
-unfoldable pub line : Phrase (List Item)
-line ts =
-    if is_at 0 kinds.Eol ts then after (one kinds.Eol ts) (λ end. give [])
-    else after (item ts) (λ i. give (i ∷ []))
+unfoldable pub item_line : Phrase (List Item)
+item_line ts =
+    if is_at 0 kinds.Eol ts then after_read (one kinds.Eol ts) (λ end. give [])
+    else after_read (item ts) (λ i. give (i ∷ []))
 
 -- the items of a file, up to its end; a byte order mark may come first
 unfoldable pub items : Phrase (List Item)
 items = do
   accepted kinds.ByteOrderMark
-  all ← many (is_at 0 kinds.Eof) line
+  all ← many (is_at 0 kinds.Eof) item_line
   one kinds.Eof
   give all

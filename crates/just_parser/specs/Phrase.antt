@@ -11,27 +11,27 @@ use Rattle.just_parser.specs.declared.parse_error.Fault.{Fault}
 use Rattle.just_parser.specs.declared.parse_error.Fault.TheVariants.{Syntax}
 
 -- how reading ends: with something, before these tokens; or with the first of these tokens refused, or their end
-pub data Outcome (A : Type 0) : Type 0 where
-  Read : A → Tokens → Outcome A
-  Refused : Fault → Tokens → Outcome A
+pub data Parsed (A : Type 0) : Type 0 where
+  Read : A → Tokens → Parsed A
+  Refused : Fault → Tokens → Parsed A
 
 abbrev pub Phrase : Type 0 → Type 0
-Phrase A = Tokens → Outcome A
+Phrase A = Tokens → Parsed A
 
 -- ---- phrases one after another
 
 -- what follows something that was read
-abbrev pub after : {A B : Type 0} → Outcome A → (A → Phrase B) → Outcome B
-after (Read a ts) next = next a ts
-after (Refused fault ts) next = Refused fault ts
+abbrev pub after_read : {A B : Type 0} → Parsed A → (A → Phrase B) → Parsed B
+after_read (Read a ts) next = next a ts
+after_read (Refused fault ts) next = Refused fault ts
 
 infixl 10 ◌>>=◌
 abbrev pub ◌>>=◌ : {A B : Type 0} → Phrase A → (A → Phrase B) → Phrase B
-◌>>=◌ first next = λ ts. after (first ts) next
+◌>>=◌ first next = λ ts. after_read (first ts) next
 
 infixl 10 ◌>>◌
 abbrev pub ◌>>◌ : {A B : Type 0} → Phrase A → Phrase B → Phrase B
-◌>>◌ first next = λ ts. after (first ts) (λ _. next)
+◌>>◌ first next = λ ts. after_read (first ts) (λ _. next)
 
 -- this, of no token
 abbrev pub give : {A : Type 0} → A → Phrase A
@@ -57,13 +57,13 @@ unfoldable pub one : TokenKind → Phrase Token
 one kind [] = Refused (expected kind) []
 one kind (t ∷ ts) = if is_kind kind t then Read t.token ts else Refused (expected kind) (t ∷ ts)
 
-abbrev pub of_machine : machine.Result → Outcome Expr
+abbrev pub of_machine : machine.Result → Parsed Expr
 of_machine (machine.Read e ts) = Read e ts
 of_machine (machine.Refused fault ts) = Refused (Syntax fault) ts
 
 -- a token of this kind, if it comes next; whether it does
 unfoldable pub accepted : TokenKind → Phrase Bool
-accepted kind ts = if is_at 0 kind ts then after (one kind ts) (λ token. give true) else Read false ts
+accepted kind ts = if is_at 0 kind ts then after_read (one kind ts) (λ token. give true) else Read false ts
 
 -- an expression
 unfoldable pub expression : Phrase Expr
@@ -80,11 +80,11 @@ found_at fault ts (Some a) rest = Read a rest
 
 -- a value of some form; else its first token is refused
 unfoldable pub value_as : {A : Type 0} → Fault → (Expr → Option A) → Phrase A
-value_as fault form ts = after (value ts) (λ e. found_at fault ts (form e))
+value_as fault form ts = after_read (value ts) (λ e. found_at fault ts (form e))
 
 -- the end of a line, or of the file, which stays
 unfoldable pub line_end : Phrase Unit
-line_end ts = if is_at 0 kinds.Eof ts then Read tt ts else after (one kinds.Eol ts) (λ _. give tt)
+line_end ts = if is_at 0 kinds.Eof ts then Read tt ts else after_read (one kinds.Eol ts) (λ _. give tt)
 
 -- something, and the end of its line
 abbrev pub in_line : {A : Type 0} → Phrase A → Phrase A
@@ -97,21 +97,22 @@ in_line phrase = do
 unfoldable pub comma_unless : TokenKind → Phrase Unit
 comma_unless close ts =
     if is_at 0 close ts then Read tt ts else
-    if is_at 0 kinds.Comma ts then after (one kinds.Comma ts) (λ _. give tt) else
+    if is_at 0 kinds.Comma ts then after_read (one kinds.Comma ts) (λ _. give tt) else
     Refused (expected close) ts
 
 -- ---- a phrase again and again
 
 -- what was read, after more of it
-abbrev pub prepended : {A : Type 0} → List A → Outcome (List A) → Outcome (List A)
-prepended front outcome = after outcome (λ more. give (front ++ more))
+abbrev pub prepended : {A : Type 0} → List A → Parsed (List A) → Parsed (List A)
+prepended front outcome = after_read outcome (λ more. give (front ++ more))
 
 -- a phrase again and again, up to an end, but at most this often: all that it gives, in order
-unfoldable pub repeated : {A : Type 0} → ℕ → (Tokens → Bool) → Phrase (List A) → Phrase (List A)
-repeated zero ends phrase ts = Read [] ts
-repeated (suc n) ends phrase ts =
-    if ends ts then Read [] ts else after (phrase ts) (λ found rest. prepended found (repeated n ends phrase rest))
+unfoldable pub repeated_phrase : {A : Type 0} → ℕ → (Tokens → Bool) → Phrase (List A) → Phrase (List A)
+repeated_phrase zero ends phrase ts = Read [] ts
+repeated_phrase (suc n) ends phrase ts =
+    if ends ts then Read [] ts
+    else after_read (phrase ts) (λ found rest. prepended found (repeated_phrase n ends phrase rest))
 
 -- A phrase again and again, up to an end. It takes a token each time, so it is there at most as often as tokens are.
 abbrev pub many : {A : Type 0} → (Tokens → Bool) → Phrase (List A) → Phrase (List A)
-many ends phrase = λ ts. repeated (length ts) ends phrase ts
+many ends phrase = λ ts. repeated_phrase (length ts) ends phrase ts

@@ -5,8 +5,9 @@ use Rattle.just_syntax.specs.declared.parameter_kind.ParameterKind.{ParameterKin
 use Rattle.just_syntax.specs.declared.parameter_kind.ParameterKind.TheVariants.{Plus, Singular, Star}
 use Rattle.just_lexer.specs.declared.kind.TokenKind.TheVariants as kinds
 use Rattle.just_expression_parser.specs.Tokens.{Tokens, is_at}
-use Rattle.just_parser.specs.Phrase.{Phrase, Read, ◌>>=◌, ◌>>◌, accepted, after, expression, give, line_end, many, one}
-use Rattle.just_parser.specs.Attributes.{args_of, attributes_of}
+use Rattle.just_parser.specs.Phrase.{Phrase, Read, ◌>>=◌, ◌>>◌, accepted, after_read, expression, give, line_end, many}
+use Rattle.just_parser.specs.Phrase.{one}
+use Rattle.just_parser.specs.Attributes.{args_of, recipe_attributes}
 use Rattle.just_parser.specs.Phrase.{value}
 use Rattle.just_parser.specs.Plain.{Dependency, Line, RecipeDefinition, WrittenAttribute}
 
@@ -16,12 +17,12 @@ use Rattle.just_parser.specs.Plain.{Dependency, Line, RecipeDefinition, WrittenA
 unfoldable pub default : Phrase (Option Expr)
 default ts =
     if is_at 0 kinds.Equals ts
-    then after (after (one kinds.Equals ts) (λ mark. value)) (λ e. give (Some e))
+    then after_read (after_read (one kinds.Equals ts) (λ mark. value)) (λ e. give (Some e))
     else Read None ts
 
 -- a parameter of a kind; `$` exports it
-unfoldable pub parameter : ParameterKind → Phrase (List Parameter)
-parameter kind = do
+unfoldable pub recipe_parameter : ParameterKind → Phrase (List Parameter)
+recipe_parameter kind = do
   export ← accepted kinds.Dollar
   name ← one kinds.Identifier
   value ← default
@@ -43,27 +44,27 @@ is_after_parameters ts = not (is_at 0 kinds.Identifier ts || is_at 0 kinds.Dolla
 -- the last parameter, if it takes more than one argument
 unfoldable pub variadic : Phrase (List Parameter)
 variadic ts =
-    if is_at 0 kinds.Plus ts then after (one kinds.Plus ts) (λ mark. parameter Plus) else
-    if is_at 0 kinds.Asterisk ts then after (one kinds.Asterisk ts) (λ mark. parameter Star) else
+    if is_at 0 kinds.Plus ts then after_read (one kinds.Plus ts) (λ mark. recipe_parameter Plus) else
+    if is_at 0 kinds.Asterisk ts then after_read (one kinds.Asterisk ts) (λ mark. recipe_parameter Star) else
     Read [] ts
 
-unfoldable pub parameters : Phrase (List Parameter)
-parameters = do
-  singular ← many is_after_parameters (parameter Singular)
+unfoldable pub recipe_parameters : Phrase (List Parameter)
+recipe_parameters = do
+  singular ← many is_after_parameters (recipe_parameter Singular)
   last ← variadic
   give (singular ++ last)
 
 -- ---- dependencies
 
-unfoldable pub argument : Phrase (List Expr)
-argument = do
+unfoldable pub dependency_argument : Phrase (List Expr)
+dependency_argument = do
   e ← expression
   give (e ∷ [])
 
 -- the arguments of a dependency, and a parenthesis
-unfoldable pub arguments : Phrase (List Expr)
-arguments = do
-  es ← many (is_at 0 kinds.ParenR) argument
+unfoldable pub dependency_arguments : Phrase (List Expr)
+dependency_arguments = do
+  es ← many (is_at 0 kinds.ParenR) dependency_argument
   one kinds.ParenR
   give es
 
@@ -72,14 +73,14 @@ unfoldable pub call : Phrase (List Dependency)
 call = do
   one kinds.ParenL
   name ← one kinds.Identifier
-  es ← arguments
+  es ← dependency_arguments
   give (record { arguments = es; recipe = name } ∷ [])
 
 -- a name without arguments, or a call
 unfoldable pub dependency : Phrase (List Dependency)
 dependency ts =
     if is_at 0 kinds.ParenL ts then call ts else
-    after (one kinds.Identifier ts) (λ name. give (record { arguments = []; recipe = name } ∷ []))
+    after_read (one kinds.Identifier ts) (λ name. give (record { arguments = []; recipe = name } ∷ []))
 
 -- no dependency begins
 abbrev pub is_after_dependencies : Tokens → Bool
@@ -92,7 +93,7 @@ dependencies = many is_after_dependencies dependency
 unfoldable pub subsequents : Phrase (List Dependency)
 subsequents ts =
     if is_at 0 kinds.AmpersandAmpersand ts
-    then after (one kinds.AmpersandAmpersand ts) (λ mark. do
+    then after_read (one kinds.AmpersandAmpersand ts) (λ mark. do
       first ← dependency
       rest ← dependencies
       give (first ++ rest))
@@ -108,10 +109,10 @@ interpolated = do
   give e
 
 -- text, or an interpolation
-unfoldable pub fragment : Phrase (List Fragment)
-fragment ts =
-    if is_at 0 kinds.Text ts then after (one kinds.Text ts) (λ text. give (TextFragment text ∷ [])) else
-    after (after (one kinds.InterpolationStart ts) (λ mark. interpolated)) (λ e. give (Interpolation e ∷ []))
+unfoldable pub line_fragment : Phrase (List Fragment)
+line_fragment ts =
+    if is_at 0 kinds.Text ts then after_read (one kinds.Text ts) (λ text. give (TextFragment text ∷ [])) else
+    after_read (after_read (one kinds.InterpolationStart ts) (λ mark. interpolated)) (λ e. give (Interpolation e ∷ []))
 
 -- the end of a line, or of the body
 abbrev pub is_after_fragments : Tokens → Bool
@@ -120,25 +121,25 @@ is_after_fragments ts = is_at 0 kinds.Eol ts || is_at 0 kinds.Dedent ts
 -- the fragments of a line, and its end
 unfoldable pub fragments : Phrase (List Fragment)
 fragments = do
-  all ← many is_after_fragments fragment
+  all ← many is_after_fragments line_fragment
   accepted kinds.Eol
   give all
 
 -- a line of a body
-unfoldable pub line : Phrase (List Line)
-line = do
+unfoldable pub recipe_line : Phrase (List Line)
+recipe_line = do
   all ← fragments
   give (all ∷ [])
 
 -- a line, and lines without empty ones at the end
-abbrev pub kept : Line → List Line → List Line
-kept [] [] = []
-kept first rest = first ∷ rest
+abbrev pub with_first_line : Line → List Line → List Line
+with_first_line [] [] = []
+with_first_line first rest = first ∷ rest
 
 -- lines without the empty ones at the end
 abbrev pub trimmed : List Line → List Line
 trimmed [] = []
-trimmed (first ∷ rest) = kept first (trimmed rest)
+trimmed (first ∷ rest) = with_first_line first (trimmed rest)
 
 -- the end of an empty line
 unfoldable pub blank : Phrase (List Line)
@@ -151,10 +152,10 @@ abbrev pub is_after_blanks : Tokens → Bool
 is_after_blanks ts = not (is_at 0 kinds.Eol ts)
 
 -- the indented lines
-unfoldable pub indented : Phrase (List Line)
-indented = do
+unfoldable pub indented_lines : Phrase (List Line)
+indented_lines = do
   one kinds.Indent
-  lines ← many (is_at 0 kinds.Dedent) line
+  lines ← many (is_at 0 kinds.Dedent) recipe_line
   one kinds.Dedent
   give (trimmed lines)
 
@@ -162,7 +163,7 @@ indented = do
 unfoldable pub body : Phrase (List Line)
 body = do
   many is_after_blanks blank
-  λ ts. if is_at 0 kinds.Indent ts then indented ts else Read [] ts
+  λ ts. if is_at 0 kinds.Indent ts then indented_lines ts else Read [] ts
 
 -- ---- whole recipes
 
@@ -174,14 +175,14 @@ bare all quiet name = record {
   dependencies = [];
   parameters = [];
   quiet = quiet;
-  recipe = record { attributes = attributes_of all; name = name };
+  recipe = record { attributes = recipe_attributes all; name = name };
   subsequents = [];
 }
 
 -- `PARAMETER ..: DEPENDENCY ..`, the end of the line, and the body: the recipe with these parts
 unfoldable pub parts : RecipeDefinition → Phrase RecipeDefinition
 parts r = do
-  ps ← parameters
+  ps ← recipe_parameters
   one kinds.Colon
   before ← dependencies
   later ← subsequents

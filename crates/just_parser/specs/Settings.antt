@@ -48,9 +48,9 @@ interpreter_of (plain.ListOf (plain.Cons command arguments) token) =
 interpreter_of _ = None
 
 -- a string
-abbrev pub literal_of : Expr → Option Literal
-literal_of (plain.StringLiteral literal) = Some literal
-literal_of _ = None
+abbrev pub literal_of_string : Expr → Option Literal
+literal_of_string (plain.StringLiteral literal) = Some literal
+literal_of_string _ = None
 
 -- a tab, or some spaces
 unfoldable pub indentation_of_text : Text → Option Indentation

@@ -4,8 +4,8 @@ ghost use Rattle.std.specs.Prelude.{IfErr, IfOk, OnOk, map, ◌≡◌};
 ghost use Rattle.just_syntax.specs.View.{literal_view, name_view};
 ghost use Rattle.just_expression_parser.specs.Tokens.{is_at};
 ghost use Rattle.just_lexer.specs.declared.kind.TokenKind.TheVariants as kinds;
-ghost use Rattle.just_parser.specs.Attributes.{arg, arg_option, arg_options, option_named, option_value, string};
-ghost use Rattle.just_parser.specs.Parsed.{IsRefused, left};
+ghost use Rattle.just_parser.specs.Attributes.{arg, arg_option, arg_options, option_named, option_value, string_phrase};
+ghost use Rattle.just_parser.specs.Parsed.{IsPhraseRefused, unread};
 ghost use Rattle.just_parser.specs.Phrase.{Read, many, prepended};
 ghost use Rattle.just_parser.specs.View.{arg_option_view, arg_view};
 
@@ -24,8 +24,8 @@ impl<'src> Parser<'_, 'src> {
     #[tactic(auto, unfolding(crate::specs::Attributes::arg))]
     pub(crate) fn arg(&mut self, name: Name<'src>) -> Result<ArgAttribute<'src>, ParseError<'src>>
         ensures ok { IfOk result
-            (λ a. arg (name_view name.entry) (left self.old) ≡ Read (arg_view a) (left self.new)) }
-        ensures refused { IfErr result (IsRefused (arg (name_view name.entry) (left self.old))) }
+            (λ a. arg (name_view name.entry) (unread self.old) ≡ Read (arg_view a) (unread self.new)) }
+        ensures refused { IfErr result (IsPhraseRefused (arg (name_view name.entry) (unread self.old))) }
     {
         self.one(TokenKind::ParenL)?;
         match self.string() {
@@ -48,8 +48,8 @@ impl<'src> Parser<'_, 'src> {
     /// A string.
     #[tactic(auto, unfolding(crate::specs::Phrase::value_as))]
     pub(crate) fn string(&mut self) -> Result<StringLiteral<'src>, ParseError<'src>>
-        ensures ok { IfOk result (λ l. string (left self.old) ≡ Read (literal_view l) (left self.new)) }
-        ensures refused { IfErr result (IsRefused (string (left self.old))) }
+        ensures ok { IfOk result (λ l. string_phrase (unread self.old) ≡ Read (literal_view l) (unread self.new)) }
+        ensures refused { IfErr result (IsPhraseRefused (string_phrase (unread self.old))) }
     {
         let otherwise = self.expected(TokenKind::StringToken);
         match self.value() {
@@ -61,9 +61,9 @@ impl<'src> Parser<'_, 'src> {
     // After the name of the parameter: `, OPTION, ..)`.
     #[tactic(auto, unfolding(crate::specs::Attributes::arg_options))]
     fn arg_options(&mut self, into: &mut Vec<ArgOption<'src>>) -> Result<(), ParseError<'src>>
-        ensures ok { OnOk result (prepended (map arg_option_view into.old.items) (arg_options (left self.old))
-            ≡ Read (map arg_option_view into.new.items) (left self.new)) }
-        ensures refused { IfErr result (IsRefused (arg_options (left self.old))) }
+        ensures ok { OnOk result (prepended (map arg_option_view into.old.items) (arg_options (unread self.old))
+            ≡ Read (map arg_option_view into.new.items) (unread self.new)) }
+        ensures refused { IfErr result (IsPhraseRefused (arg_options (unread self.old))) }
     {
         self.comma_unless(TokenKind::ParenR)?;
         self.each_option(into)?;
@@ -74,9 +74,9 @@ impl<'src> Parser<'_, 'src> {
     // Options, up to the parenthesis.
     fn each_option(&mut self, into: &mut Vec<ArgOption<'src>>) -> Result<(), ParseError<'src>>
         ensures ok { OnOk result (prepended (map arg_option_view into.old.items)
-            (many (is_at 0 kinds.ParenR) arg_option (left self.old))
-            ≡ Read (map arg_option_view into.new.items) (left self.new)) }
-        ensures refused { IfErr result (IsRefused (many (is_at 0 kinds.ParenR) arg_option (left self.old))) }
+            (many (is_at 0 kinds.ParenR) arg_option (unread self.old))
+            ≡ Read (map arg_option_view into.new.items) (unread self.new)) }
+        ensures refused { IfErr result (IsPhraseRefused (many (is_at 0 kinds.ParenR) arg_option (unread self.old))) }
     {
         for _ in 0..self.cursor.rest().len() {
             if self.cursor.is_at(0, TokenKind::ParenR) {
@@ -90,9 +90,9 @@ impl<'src> Parser<'_, 'src> {
     // An option, with the comma after it, if it is not the last one.
     #[tactic(auto, unfolding(crate::specs::Attributes::arg_option))]
     fn arg_option(&mut self, into: &mut Vec<ArgOption<'src>>) -> Result<(), ParseError<'src>>
-        ensures ok { OnOk result (prepended (map arg_option_view into.old.items) (arg_option (left self.old))
-            ≡ Read (map arg_option_view into.new.items) (left self.new)) }
-        ensures refused { IfErr result (IsRefused (arg_option (left self.old))) }
+        ensures ok { OnOk result (prepended (map arg_option_view into.old.items) (arg_option (unread self.old))
+            ≡ Read (map arg_option_view into.new.items) (unread self.new)) }
+        ensures refused { IfErr result (IsPhraseRefused (arg_option (unread self.old))) }
     {
         let name = self.name()?;
         self.option_named(name.lexeme(), into)?;
@@ -106,9 +106,10 @@ impl<'src> Parser<'_, 'src> {
         name: &str,
         into: &mut Vec<ArgOption<'src>>,
     ) -> Result<(), ParseError<'src>>
-        ensures ok { OnOk result (prepended (map arg_option_view into.old.items) (option_named name.now (left self.old))
-            ≡ Read (map arg_option_view into.new.items) (left self.new)) }
-        ensures refused { IfErr result (IsRefused (option_named name.now (left self.old))) }
+        ensures ok { OnOk result
+            (prepended (map arg_option_view into.old.items) (option_named name.now (unread self.old))
+            ≡ Read (map arg_option_view into.new.items) (unread self.new)) }
+        ensures refused { IfErr result (IsPhraseRefused (option_named name.now (unread self.old))) }
     {
         match name {
             "flag" => pushed(into, ArgOption::Flag),
@@ -121,9 +122,9 @@ impl<'src> Parser<'_, 'src> {
     // `= e`, after `value`.
     #[tactic(auto, unfolding(crate::specs::Attributes::option_value))]
     fn option_value(&mut self, into: &mut Vec<ArgOption<'src>>) -> Result<(), ParseError<'src>>
-        ensures ok { OnOk result (prepended (map arg_option_view into.old.items) (option_value (left self.old))
-            ≡ Read (map arg_option_view into.new.items) (left self.new)) }
-        ensures refused { IfErr result (IsRefused (option_value (left self.old))) }
+        ensures ok { OnOk result (prepended (map arg_option_view into.old.items) (option_value (unread self.old))
+            ≡ Read (map arg_option_view into.new.items) (unread self.new)) }
+        ensures refused { IfErr result (IsPhraseRefused (option_value (unread self.old))) }
     {
         self.one(TokenKind::Equals)?;
         match self.expression() {

@@ -3,7 +3,7 @@
 ghost use Rattle.std.specs.Prelude.{IfErr, IfOk, ◌≡◌};
 ghost use Rattle.just_syntax.specs.View.{assignment_view, view};
 ghost use Rattle.just_parser.specs.Items.{assignment, is_underscored};
-ghost use Rattle.just_parser.specs.Parsed.{IsRefused, left};
+ghost use Rattle.just_parser.specs.Parsed.{IsPhraseRefused, unread};
 ghost use Rattle.just_parser.specs.Phrase.{Read, expression, in_line};
 
 use crate::parse_error::ParseError;
@@ -24,8 +24,8 @@ impl<'src> Parser<'_, 'src> {
         export: bool,
     ) -> Result<Assignment<'src>, ParseError<'src>>
         ensures ok { IfOk result
-            (λ a. assignment private eager export (left self.old) ≡ Read (assignment_view a) (left self.new)) }
-        ensures refused { IfErr result (IsRefused (assignment private eager export (left self.old))) }
+            (λ a. assignment private eager export (unread self.old) ≡ Read (assignment_view a) (unread self.new)) }
+        ensures refused { IfErr result (IsPhraseRefused (assignment private eager export (unread self.old))) }
     {
         let name = self.name()?;
         let private = private || is_underscored(name.lexeme());
@@ -45,8 +45,8 @@ impl<'src> Parser<'_, 'src> {
 
     /// An expression, and the end of its line.
     pub(crate) fn expression_in_line(&mut self) -> Result<Expression<'src>, ParseError<'src>>
-        ensures ok { IfOk result (λ e. in_line expression (left self.old) ≡ Read (view e) (left self.new)) }
-        ensures refused { IfErr result (IsRefused (in_line expression (left self.old))) }
+        ensures ok { IfOk result (λ e. in_line expression (unread self.old) ≡ Read (view e) (unread self.new)) }
+        ensures refused { IfErr result (IsPhraseRefused (in_line expression (unread self.old))) }
     {
         match self.expression() {
             Ok(expression) => followed(expression, self.line_end()),

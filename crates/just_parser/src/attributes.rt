@@ -6,7 +6,7 @@ ghost use Rattle.just_expression_parser.specs.Tokens.{is_at};
 ghost use Rattle.just_lexer.specs.declared.kind.TokenKind.TheVariants as kinds;
 ghost use Rattle.just_parser.specs.Attributes.{attribute, attribute_line, attribute_of, attributes, env, env_value};
 ghost use Rattle.just_parser.specs.Attributes.{is_after_attributes};
-ghost use Rattle.just_parser.specs.Parsed.{IsRefused, left};
+ghost use Rattle.just_parser.specs.Parsed.{IsPhraseRefused, unread};
 ghost use Rattle.just_parser.specs.Phrase.{Read, many, prepended};
 ghost use Rattle.just_parser.specs.View.{written_view};
 
@@ -26,9 +26,9 @@ impl<'src> Parser<'_, 'src> {
         &mut self,
         into: &mut Vec<WrittenAttribute<'src>>,
     ) -> Result<(), ParseError<'src>>
-        ensures ok { OnOk result (prepended (map written_view into.old.items) (attributes (left self.old))
-            ≡ Read (map written_view into.new.items) (left self.new)) }
-        ensures refused { IfErr result (IsRefused (attributes (left self.old))) }
+        ensures ok { OnOk result (prepended (map written_view into.old.items) (attributes (unread self.old))
+            ≡ Read (map written_view into.new.items) (unread self.new)) }
+        ensures refused { IfErr result (IsPhraseRefused (attributes (unread self.old))) }
     {
         for _ in 0..self.cursor.rest().len() {
             if self.is_after_attributes() {
@@ -41,7 +41,7 @@ impl<'src> Parser<'_, 'src> {
 
     // Whether no attribute begins.
     fn is_after_attributes(&self) -> bool
-        ensures { result ≡ is_after_attributes (left self.now) }
+        ensures { result ≡ is_after_attributes (unread self.now) }
     {
         !self.cursor.is_at(0, TokenKind::BracketL)
     }
@@ -52,9 +52,9 @@ impl<'src> Parser<'_, 'src> {
         &mut self,
         into: &mut Vec<WrittenAttribute<'src>>,
     ) -> Result<(), ParseError<'src>>
-        ensures ok { OnOk result (prepended (map written_view into.old.items) (attribute_line (left self.old))
-            ≡ Read (map written_view into.new.items) (left self.new)) }
-        ensures refused { IfErr result (IsRefused (attribute_line (left self.old))) }
+        ensures ok { OnOk result (prepended (map written_view into.old.items) (attribute_line (unread self.old))
+            ≡ Read (map written_view into.new.items) (unread self.new)) }
+        ensures refused { IfErr result (IsPhraseRefused (attribute_line (unread self.old))) }
     {
         self.one(TokenKind::BracketL)?;
         self.attribute(into)?;
@@ -69,9 +69,9 @@ impl<'src> Parser<'_, 'src> {
         into: &mut Vec<WrittenAttribute<'src>>,
     ) -> Result<(), ParseError<'src>>
         ensures ok { OnOk result (prepended (map written_view into.old.items)
-            (many (is_at 0 kinds.BracketR) attribute (left self.old))
-            ≡ Read (map written_view into.new.items) (left self.new)) }
-        ensures refused { IfErr result (IsRefused (many (is_at 0 kinds.BracketR) attribute (left self.old))) }
+            (many (is_at 0 kinds.BracketR) attribute (unread self.old))
+            ≡ Read (map written_view into.new.items) (unread self.new)) }
+        ensures refused { IfErr result (IsPhraseRefused (many (is_at 0 kinds.BracketR) attribute (unread self.old))) }
     {
         for _ in 0..self.cursor.rest().len() {
             if self.cursor.is_at(0, TokenKind::BracketR) {
@@ -85,9 +85,9 @@ impl<'src> Parser<'_, 'src> {
     // An attribute, with the comma after it, if it is not the last one.
     #[tactic(auto, unfolding(crate::specs::Attributes::attribute))]
     fn attribute(&mut self, into: &mut Vec<WrittenAttribute<'src>>) -> Result<(), ParseError<'src>>
-        ensures ok { OnOk result (prepended (map written_view into.old.items) (attribute (left self.old))
-            ≡ Read (map written_view into.new.items) (left self.new)) }
-        ensures refused { IfErr result (IsRefused (attribute (left self.old))) }
+        ensures ok { OnOk result (prepended (map written_view into.old.items) (attribute (unread self.old))
+            ≡ Read (map written_view into.new.items) (unread self.new)) }
+        ensures refused { IfErr result (IsPhraseRefused (attribute (unread self.old))) }
     {
         let name = self.name()?;
         match self.attribute_of(name) {
@@ -103,8 +103,8 @@ impl<'src> Parser<'_, 'src> {
     #[tactic(auto, unfolding(crate::specs::Attributes::attribute_of))]
     fn attribute_of(&mut self, name: Name<'src>) -> Result<WrittenAttribute<'src>, ParseError<'src>>
         ensures ok { IfOk result
-            (λ w. attribute_of (name_view name.entry) (left self.old) ≡ Read (written_view w) (left self.new)) }
-        ensures refused { IfErr result (IsRefused (attribute_of (name_view name.entry) (left self.old))) }
+            (λ w. attribute_of (name_view name.entry) (unread self.old) ≡ Read (written_view w) (unread self.new)) }
+        ensures refused { IfErr result (IsPhraseRefused (attribute_of (name_view name.entry) (unread self.old))) }
     {
         match name.lexeme() {
             "arg" => match self.arg(name) {
@@ -137,8 +137,8 @@ impl<'src> Parser<'_, 'src> {
     // `(KEY, VALUE)`, after `env`.
     #[tactic(auto, unfolding(crate::specs::Attributes::env))]
     fn env(&mut self) -> Result<Attribute<'src>, ParseError<'src>>
-        ensures ok { IfOk result (λ a. env (left self.old) ≡ Read (attribute_view a) (left self.new)) }
-        ensures refused { IfErr result (IsRefused (env (left self.old))) }
+        ensures ok { IfOk result (λ a. env (unread self.old) ≡ Read (attribute_view a) (unread self.new)) }
+        ensures refused { IfErr result (IsPhraseRefused (env (unread self.old))) }
     {
         self.one(TokenKind::ParenL)?;
         match self.expression() {
@@ -153,8 +153,8 @@ impl<'src> Parser<'_, 'src> {
     // `, VALUE)`.
     #[tactic(auto, unfolding(crate::specs::Attributes::env_value))]
     fn env_value(&mut self) -> Result<Expression<'src>, ParseError<'src>>
-        ensures ok { IfOk result (λ e. env_value (left self.old) ≡ Read (view e) (left self.new)) }
-        ensures refused { IfErr result (IsRefused (env_value (left self.old))) }
+        ensures ok { IfOk result (λ e. env_value (unread self.old) ≡ Read (view e) (unread self.new)) }
+        ensures refused { IfErr result (IsPhraseRefused (env_value (unread self.old))) }
     {
         self.one(TokenKind::Comma)?;
         match self.expression() {

@@ -5,10 +5,10 @@ ghost use Rattle.just_syntax.specs.Plain.{Token};
 ghost use Rattle.just_syntax.specs.View.{fragment_view, line_view, view};
 ghost use Rattle.just_expression_parser.specs.Tokens.{is_at};
 ghost use Rattle.just_lexer.specs.declared.kind.TokenKind.TheVariants as kinds;
-ghost use Rattle.just_parser.specs.Parsed.{IsRefused, left};
+ghost use Rattle.just_parser.specs.Parsed.{IsPhraseRefused, unread};
 ghost use Rattle.just_parser.specs.Phrase.{Read, many, one, prepended};
-ghost use Rattle.just_parser.specs.Recipes.{blank, body, fragment, fragments, indented, is_after_blanks};
-ghost use Rattle.just_parser.specs.Recipes.{is_after_fragments, line};
+ghost use Rattle.just_parser.specs.Recipes.{blank, body, fragments, indented_lines, is_after_blanks, line_fragment};
+ghost use Rattle.just_parser.specs.Recipes.{is_after_fragments, recipe_line};
 ghost use Rattle.just_parser.specs.Recipes.{interpolated, trimmed};
 
 use crate::outcome::pushed;
@@ -25,8 +25,8 @@ impl<'src> Parser<'_, 'src> {
     #[tactic(auto, unfolding(crate::specs::Recipes::body))]
     pub(crate) fn body(&mut self, into: &mut Vec<Line<'src>>) -> Result<(), ParseError<'src>>
         requires { into.old.items ≡ [] }
-        ensures ok { OnOk result (body (left self.old) ≡ Read (map line_view into.new.items) (left self.new)) }
-        ensures refused { IfErr result (IsRefused (body (left self.old))) }
+        ensures ok { OnOk result (body (unread self.old) ≡ Read (map line_view into.new.items) (unread self.new)) }
+        ensures refused { IfErr result (IsPhraseRefused (body (unread self.old))) }
     {
         self.blanks()?;
         if !self.cursor.is_at(0, TokenKind::Indent) {
@@ -37,8 +37,8 @@ impl<'src> Parser<'_, 'src> {
 
     // Empty lines.
     fn blanks(&mut self) -> Result<(), ParseError<'src>>
-        ensures ok { OnOk result (many is_after_blanks blank (left self.old) ≡ Read [] (left self.new)) }
-        ensures refused { IfErr result (IsRefused (many is_after_blanks blank (left self.old))) }
+        ensures ok { OnOk result (many is_after_blanks blank (unread self.old) ≡ Read [] (unread self.new)) }
+        ensures refused { IfErr result (IsPhraseRefused (many is_after_blanks blank (unread self.old))) }
     {
         for _ in 0..self.cursor.rest().len() {
             if self.is_after_blanks() {
@@ -51,7 +51,7 @@ impl<'src> Parser<'_, 'src> {
 
     // Whether no empty line comes.
     fn is_after_blanks(&self) -> bool
-        ensures { result ≡ is_after_blanks (left self.now) }
+        ensures { result ≡ is_after_blanks (unread self.now) }
     {
         !self.cursor.is_at(0, TokenKind::Eol)
     }
@@ -59,19 +59,20 @@ impl<'src> Parser<'_, 'src> {
     // The end of an empty line.
     #[tactic(auto, unfolding(crate::specs::Recipes::blank))]
     fn blank(&mut self) -> Result<(), ParseError<'src>>
-        ensures ok { OnOk result (blank (left self.old) ≡ Read [] (left self.new)) }
-        ensures refused { IfErr result (IsRefused (blank (left self.old))) }
+        ensures ok { OnOk result (blank (unread self.old) ≡ Read [] (unread self.new)) }
+        ensures refused { IfErr result (IsPhraseRefused (blank (unread self.old))) }
     {
         self.one(TokenKind::Eol)?;
         Ok(())
     }
 
     // The indented lines.
-    #[tactic(auto, unfolding(crate::specs::Recipes::indented))]
+    #[tactic(auto, unfolding(crate::specs::Recipes::indented_lines))]
     fn indented(&mut self, into: &mut Vec<Line<'src>>) -> Result<(), ParseError<'src>>
         requires { into.old.items ≡ [] }
-        ensures ok { OnOk result (indented (left self.old) ≡ Read (map line_view into.new.items) (left self.new)) }
-        ensures refused { IfErr result (IsRefused (indented (left self.old))) }
+        ensures ok { OnOk result
+            (indented_lines (unread self.old) ≡ Read (map line_view into.new.items) (unread self.new)) }
+        ensures refused { IfErr result (IsPhraseRefused (indented_lines (unread self.old))) }
     {
         self.one(TokenKind::Indent)?;
         self.body_lines(into)?;
@@ -83,8 +84,9 @@ impl<'src> Parser<'_, 'src> {
     // Lines, after others, up to the end of the body.
     fn body_lines(&mut self, into: &mut Vec<Line<'src>>) -> Result<(), ParseError<'src>>
         ensures ok { OnOk result (prepended (map line_view into.old.items)
-            (many (is_at 0 kinds.Dedent) line (left self.old)) ≡ Read (map line_view into.new.items) (left self.new)) }
-        ensures refused { IfErr result (IsRefused (many (is_at 0 kinds.Dedent) line (left self.old))) }
+            (many (is_at 0 kinds.Dedent) recipe_line (unread self.old))
+            ≡ Read (map line_view into.new.items) (unread self.new)) }
+        ensures refused { IfErr result (IsPhraseRefused (many (is_at 0 kinds.Dedent) recipe_line (unread self.old))) }
     {
         for _ in 0..self.cursor.rest().len() {
             if self.cursor.is_at(0, TokenKind::Dedent) {
@@ -96,11 +98,11 @@ impl<'src> Parser<'_, 'src> {
     }
 
     // A line, after others.
-    #[tactic(auto, unfolding(crate::specs::Recipes::line))]
+    #[tactic(auto, unfolding(crate::specs::Recipes::recipe_line))]
     fn body_line(&mut self, into: &mut Vec<Line<'src>>) -> Result<(), ParseError<'src>>
-        ensures ok { OnOk result (prepended (map line_view into.old.items) (line (left self.old))
-            ≡ Read (map line_view into.new.items) (left self.new)) }
-        ensures refused { IfErr result (IsRefused (line (left self.old))) }
+        ensures ok { OnOk result (prepended (map line_view into.old.items) (recipe_line (unread self.old))
+            ≡ Read (map line_view into.new.items) (unread self.new)) }
+        ensures refused { IfErr result (IsPhraseRefused (recipe_line (unread self.old))) }
     {
         let mut fragments = Vec::new(self.alloc);
         let filled = self.fragments(&mut fragments);
@@ -113,9 +115,9 @@ impl<'src> Parser<'_, 'src> {
     // The fragments of a line, and its end.
     #[tactic(auto, unfolding(crate::specs::Recipes::fragments))]
     fn fragments(&mut self, into: &mut Vec<Fragment<'src>>) -> Result<(), ParseError<'src>>
-        ensures ok { OnOk result (prepended (map fragment_view into.old.items) (fragments (left self.old))
-            ≡ Read (map fragment_view into.new.items) (left self.new)) }
-        ensures refused { IfErr result (IsRefused (fragments (left self.old))) }
+        ensures ok { OnOk result (prepended (map fragment_view into.old.items) (fragments (unread self.old))
+            ≡ Read (map fragment_view into.new.items) (unread self.new)) }
+        ensures refused { IfErr result (IsPhraseRefused (fragments (unread self.old))) }
     {
         self.each_fragment(into)?;
         self.accepted(TokenKind::Eol)?;
@@ -125,9 +127,9 @@ impl<'src> Parser<'_, 'src> {
     // Fragments, after others, up to the end of the line.
     fn each_fragment(&mut self, into: &mut Vec<Fragment<'src>>) -> Result<(), ParseError<'src>>
         ensures ok { OnOk result (prepended (map fragment_view into.old.items)
-            (many is_after_fragments fragment (left self.old))
-            ≡ Read (map fragment_view into.new.items) (left self.new)) }
-        ensures refused { IfErr result (IsRefused (many is_after_fragments fragment (left self.old))) }
+            (many is_after_fragments line_fragment (unread self.old))
+            ≡ Read (map fragment_view into.new.items) (unread self.new)) }
+        ensures refused { IfErr result (IsPhraseRefused (many is_after_fragments line_fragment (unread self.old))) }
     {
         for _ in 0..self.cursor.rest().len() {
             if self.is_after_fragments() {
@@ -140,17 +142,17 @@ impl<'src> Parser<'_, 'src> {
 
     // Whether the line or the body ends.
     fn is_after_fragments(&self) -> bool
-        ensures { result ≡ is_after_fragments (left self.now) }
+        ensures { result ≡ is_after_fragments (unread self.now) }
     {
         self.cursor.is_at(0, TokenKind::Eol) || self.cursor.is_at(0, TokenKind::Dedent)
     }
 
     // Text, or an interpolation, after other fragments.
-    #[tactic(auto, unfolding(crate::specs::Recipes::fragment))]
+    #[tactic(auto, unfolding(crate::specs::Recipes::line_fragment))]
     fn fragment(&mut self, into: &mut Vec<Fragment<'src>>) -> Result<(), ParseError<'src>>
-        ensures ok { OnOk result (prepended (map fragment_view into.old.items) (fragment (left self.old))
-            ≡ Read (map fragment_view into.new.items) (left self.new)) }
-        ensures refused { IfErr result (IsRefused (fragment (left self.old))) }
+        ensures ok { OnOk result (prepended (map fragment_view into.old.items) (line_fragment (unread self.old))
+            ≡ Read (map fragment_view into.new.items) (unread self.new)) }
+        ensures refused { IfErr result (IsPhraseRefused (line_fragment (unread self.old))) }
     {
         if self.cursor.is_at(0, TokenKind::Text) {
             let token = self.one(TokenKind::Text)?;
@@ -166,8 +168,8 @@ impl<'src> Parser<'_, 'src> {
     // An expression, and the end of its interpolation.
     #[tactic(auto, unfolding(crate::specs::Recipes::interpolated))]
     fn interpolated(&mut self) -> Result<Expression<'src>, ParseError<'src>>
-        ensures ok { IfOk result (λ e. interpolated (left self.old) ≡ Read (view e) (left self.new)) }
-        ensures refused { IfErr result (IsRefused (interpolated (left self.old))) }
+        ensures ok { IfOk result (λ e. interpolated (unread self.old) ≡ Read (view e) (unread self.new)) }
+        ensures refused { IfErr result (IsPhraseRefused (interpolated (unread self.old))) }
     {
         match self.expression() {
             Ok(expression) => followed(expression, self.interpolation_end()),
@@ -177,8 +179,9 @@ impl<'src> Parser<'_, 'src> {
 
     // The end of an interpolation.
     fn interpolation_end(&mut self) -> Result<(), ParseError<'src>>
-        ensures ok { OnOk result ((t : Token) × (one kinds.InterpolationEnd (left self.old) ≡ Read t (left self.new))) }
-        ensures refused { IfErr result (IsRefused (one kinds.InterpolationEnd (left self.old))) }
+        ensures ok { OnOk result
+            ((t : Token) × (one kinds.InterpolationEnd (unread self.old) ≡ Read t (unread self.new))) }
+        ensures refused { IfErr result (IsPhraseRefused (one kinds.InterpolationEnd (unread self.old))) }
     {
         match self.one(TokenKind::InterpolationEnd) {
             Ok(_) => Ok(()),

@@ -4,9 +4,9 @@ ghost use Rattle.std.specs.Prelude.{IfErr, OnOk, map, ◌≡◌};
 ghost use Rattle.just_syntax.specs.View.{view};
 ghost use Rattle.just_expression_parser.specs.Tokens.{is_at};
 ghost use Rattle.just_lexer.specs.declared.kind.TokenKind.TheVariants as kinds;
-ghost use Rattle.just_parser.specs.Parsed.{IsRefused, left};
+ghost use Rattle.just_parser.specs.Parsed.{IsPhraseRefused, unread};
 ghost use Rattle.just_parser.specs.Phrase.{Read, many, prepended};
-ghost use Rattle.just_parser.specs.Recipes.{argument, arguments, call, dependencies, dependency};
+ghost use Rattle.just_parser.specs.Recipes.{call, dependencies, dependency, dependency_argument, dependency_arguments};
 ghost use Rattle.just_parser.specs.Recipes.{is_after_dependencies, subsequents};
 ghost use Rattle.just_parser.specs.View.{dependency_view};
 
@@ -24,9 +24,9 @@ impl<'src> Parser<'_, 'src> {
         &mut self,
         into: &mut Vec<Dependency<'src>>,
     ) -> Result<(), ParseError<'src>>
-        ensures ok { OnOk result (prepended (map dependency_view into.old.items) (dependencies (left self.old))
-            ≡ Read (map dependency_view into.new.items) (left self.new)) }
-        ensures refused { IfErr result (IsRefused (dependencies (left self.old))) }
+        ensures ok { OnOk result (prepended (map dependency_view into.old.items) (dependencies (unread self.old))
+            ≡ Read (map dependency_view into.new.items) (unread self.new)) }
+        ensures refused { IfErr result (IsPhraseRefused (dependencies (unread self.old))) }
     {
         for _ in 0..self.cursor.rest().len() {
             if self.is_after_dependencies() {
@@ -39,7 +39,7 @@ impl<'src> Parser<'_, 'src> {
 
     // Whether no dependency begins.
     fn is_after_dependencies(&self) -> bool
-        ensures { result ≡ is_after_dependencies (left self.now) }
+        ensures { result ≡ is_after_dependencies (unread self.now) }
     {
         !(self.cursor.is_at(0, TokenKind::Identifier) || self.cursor.is_at(0, TokenKind::ParenL))
     }
@@ -50,9 +50,9 @@ impl<'src> Parser<'_, 'src> {
         &mut self,
         into: &mut Vec<Dependency<'src>>,
     ) -> Result<(), ParseError<'src>>
-        ensures ok { OnOk result (prepended (map dependency_view into.old.items) (subsequents (left self.old))
-            ≡ Read (map dependency_view into.new.items) (left self.new)) }
-        ensures refused { IfErr result (IsRefused (subsequents (left self.old))) }
+        ensures ok { OnOk result (prepended (map dependency_view into.old.items) (subsequents (unread self.old))
+            ≡ Read (map dependency_view into.new.items) (unread self.new)) }
+        ensures refused { IfErr result (IsPhraseRefused (subsequents (unread self.old))) }
     {
         if !self.cursor.is_at(0, TokenKind::AmpersandAmpersand) {
             return Ok(());
@@ -65,9 +65,9 @@ impl<'src> Parser<'_, 'src> {
     // A name without arguments, or a call.
     #[tactic(auto, unfolding(crate::specs::Recipes::dependency))]
     fn dependency(&mut self, into: &mut Vec<Dependency<'src>>) -> Result<(), ParseError<'src>>
-        ensures ok { OnOk result (prepended (map dependency_view into.old.items) (dependency (left self.old))
-            ≡ Read (map dependency_view into.new.items) (left self.new)) }
-        ensures refused { IfErr result (IsRefused (dependency (left self.old))) }
+        ensures ok { OnOk result (prepended (map dependency_view into.old.items) (dependency (unread self.old))
+            ≡ Read (map dependency_view into.new.items) (unread self.new)) }
+        ensures refused { IfErr result (IsPhraseRefused (dependency (unread self.old))) }
     {
         if self.cursor.is_at(0, TokenKind::ParenL) {
             return self.call(into);
@@ -80,9 +80,9 @@ impl<'src> Parser<'_, 'src> {
     // `(NAME argument ..)`.
     #[tactic(auto, unfolding(crate::specs::Recipes::call))]
     fn call(&mut self, into: &mut Vec<Dependency<'src>>) -> Result<(), ParseError<'src>>
-        ensures ok { OnOk result (prepended (map dependency_view into.old.items) (call (left self.old))
-            ≡ Read (map dependency_view into.new.items) (left self.new)) }
-        ensures refused { IfErr result (IsRefused (call (left self.old))) }
+        ensures ok { OnOk result (prepended (map dependency_view into.old.items) (call (unread self.old))
+            ≡ Read (map dependency_view into.new.items) (unread self.new)) }
+        ensures refused { IfErr result (IsPhraseRefused (call (unread self.old))) }
     {
         self.one(TokenKind::ParenL)?;
         let recipe = self.name()?;
@@ -95,11 +95,11 @@ impl<'src> Parser<'_, 'src> {
     }
 
     // Arguments, and a parenthesis.
-    #[tactic(auto, unfolding(crate::specs::Recipes::arguments))]
+    #[tactic(auto, unfolding(crate::specs::Recipes::dependency_arguments))]
     fn arguments(&mut self, into: &mut Vec<Expression<'src>>) -> Result<(), ParseError<'src>>
-        ensures ok { OnOk result (prepended (map view into.old.items) (arguments (left self.old))
-            ≡ Read (map view into.new.items) (left self.new)) }
-        ensures refused { IfErr result (IsRefused (arguments (left self.old))) }
+        ensures ok { OnOk result (prepended (map view into.old.items) (dependency_arguments (unread self.old))
+            ≡ Read (map view into.new.items) (unread self.new)) }
+        ensures refused { IfErr result (IsPhraseRefused (dependency_arguments (unread self.old))) }
     {
         self.each_argument(into)?;
         self.one(TokenKind::ParenR)?;
@@ -109,9 +109,10 @@ impl<'src> Parser<'_, 'src> {
     // Arguments, up to a parenthesis.
     fn each_argument(&mut self, into: &mut Vec<Expression<'src>>) -> Result<(), ParseError<'src>>
         ensures ok { OnOk result (prepended (map view into.old.items)
-            (many (is_at 0 kinds.ParenR) argument (left self.old))
-            ≡ Read (map view into.new.items) (left self.new)) }
-        ensures refused { IfErr result (IsRefused (many (is_at 0 kinds.ParenR) argument (left self.old))) }
+            (many (is_at 0 kinds.ParenR) dependency_argument (unread self.old))
+            ≡ Read (map view into.new.items) (unread self.new)) }
+        ensures refused { IfErr result
+            (IsPhraseRefused (many (is_at 0 kinds.ParenR) dependency_argument (unread self.old))) }
     {
         for _ in 0..self.cursor.rest().len() {
             if self.cursor.is_at(0, TokenKind::ParenR) {
@@ -123,11 +124,11 @@ impl<'src> Parser<'_, 'src> {
     }
 
     // An argument.
-    #[tactic(auto, unfolding(crate::specs::Recipes::argument))]
+    #[tactic(auto, unfolding(crate::specs::Recipes::dependency_argument))]
     fn argument(&mut self, into: &mut Vec<Expression<'src>>) -> Result<(), ParseError<'src>>
-        ensures ok { OnOk result (prepended (map view into.old.items) (argument (left self.old))
-            ≡ Read (map view into.new.items) (left self.new)) }
-        ensures refused { IfErr result (IsRefused (argument (left self.old))) }
+        ensures ok { OnOk result (prepended (map view into.old.items) (dependency_argument (unread self.old))
+            ≡ Read (map view into.new.items) (unread self.new)) }
+        ensures refused { IfErr result (IsPhraseRefused (dependency_argument (unread self.old))) }
     {
         match self.expression() {
             Ok(argument) => pushed(into, argument),

@@ -4,8 +4,8 @@ ghost use Rattle.std.specs.Prelude.{IfErr, IfOk, OnOk, map, ◌≡◌};
 ghost use Rattle.just_syntax.specs.View.{function_view, parameter_view};
 ghost use Rattle.just_expression_parser.specs.Tokens.{is_at};
 ghost use Rattle.just_lexer.specs.declared.kind.TokenKind.TheVariants as kinds;
-ghost use Rattle.just_parser.specs.Items.{function, parameter};
-ghost use Rattle.just_parser.specs.Parsed.{IsRefused, left};
+ghost use Rattle.just_parser.specs.Items.{function, function_parameter};
+ghost use Rattle.just_parser.specs.Parsed.{IsPhraseRefused, unread};
 ghost use Rattle.just_parser.specs.Phrase.{Read, many, prepended};
 
 use crate::outcome::pushed;
@@ -20,8 +20,8 @@ impl<'src> Parser<'_, 'src> {
     /// `NAME(PARAMETER, ..) := expression`. The parameters have the number 0.
     #[tactic(auto, unfolding(crate::specs::Items::function))]
     pub(crate) fn function(&mut self) -> Result<FunctionDefinition<'src>, ParseError<'src>>
-        ensures ok { IfOk result (λ f. function (left self.old) ≡ Read (function_view f) (left self.new)) }
-        ensures refused { IfErr result (IsRefused (function (left self.old))) }
+        ensures ok { IfOk result (λ f. function (unread self.old) ≡ Read (function_view f) (unread self.new)) }
+        ensures refused { IfErr result (IsPhraseRefused (function (unread self.old))) }
     {
         let name = self.name()?;
         self.one(TokenKind::ParenL)?;
@@ -42,9 +42,10 @@ impl<'src> Parser<'_, 'src> {
     // The parameters, up to the parenthesis.
     fn parameters(&mut self, into: &mut Vec<(Name<'src>, Number)>) -> Result<(), ParseError<'src>>
         ensures ok { OnOk result (prepended (map parameter_view into.old.items)
-            (many (is_at 0 kinds.ParenR) parameter (left self.old))
-            ≡ Read (map parameter_view into.new.items) (left self.new)) }
-        ensures refused { IfErr result (IsRefused (many (is_at 0 kinds.ParenR) parameter (left self.old))) }
+            (many (is_at 0 kinds.ParenR) function_parameter (unread self.old))
+            ≡ Read (map parameter_view into.new.items) (unread self.new)) }
+        ensures refused { IfErr result
+            (IsPhraseRefused (many (is_at 0 kinds.ParenR) function_parameter (unread self.old))) }
     {
         for _ in 0..self.cursor.rest().len() {
             if self.cursor.is_at(0, TokenKind::ParenR) {
@@ -56,11 +57,11 @@ impl<'src> Parser<'_, 'src> {
     }
 
     // A parameter, with the comma after it, if it is not the last one.
-    #[tactic(auto, unfolding(crate::specs::Items::parameter))]
+    #[tactic(auto, unfolding(crate::specs::Items::function_parameter))]
     fn parameter(&mut self, into: &mut Vec<(Name<'src>, Number)>) -> Result<(), ParseError<'src>>
-        ensures ok { OnOk result (prepended (map parameter_view into.old.items) (parameter (left self.old))
-            ≡ Read (map parameter_view into.new.items) (left self.new)) }
-        ensures refused { IfErr result (IsRefused (parameter (left self.old))) }
+        ensures ok { OnOk result (prepended (map parameter_view into.old.items) (function_parameter (unread self.old))
+            ≡ Read (map parameter_view into.new.items) (unread self.new)) }
+        ensures refused { IfErr result (IsPhraseRefused (function_parameter (unread self.old))) }
     {
         let name = self.name()?;
         self.comma_unless(TokenKind::ParenR)?;

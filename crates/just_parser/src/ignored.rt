@@ -5,7 +5,7 @@ ghost use Rattle.just_expression_parser.specs.Tokens.{is_at};
 ghost use Rattle.just_lexer.specs.declared.kind.TokenKind.TheVariants as kinds;
 ghost use Rattle.just_parser.specs.Attributes.{close, ignored, ignored_argument, ignored_arguments, ignored_element};
 ghost use Rattle.just_parser.specs.Attributes.{ignored_value};
-ghost use Rattle.just_parser.specs.Parsed.{IsRefused, left};
+ghost use Rattle.just_parser.specs.Parsed.{IsPhraseRefused, unread};
 ghost use Rattle.just_parser.specs.Phrase.{Read, many};
 
 use crate::parse_error::ParseError;
@@ -16,8 +16,8 @@ impl<'src> Parser<'_, 'src> {
     /// `: v`, or `(ARGUMENT, ..)`, or nothing.
     #[tactic(auto, unfolding(crate::specs::Attributes::ignored_arguments))]
     pub(crate) fn ignored_arguments(&mut self) -> Result<(), ParseError<'src>>
-        ensures ok { OnOk result (ignored_arguments (left self.old) ≡ Read tt (left self.new)) }
-        ensures refused { IfErr result (IsRefused (ignored_arguments (left self.old))) }
+        ensures ok { OnOk result (ignored_arguments (unread self.old) ≡ Read tt (unread self.new)) }
+        ensures refused { IfErr result (IsPhraseRefused (ignored_arguments (unread self.old))) }
     {
         if self.cursor.is_at(0, TokenKind::Colon) {
             self.one(TokenKind::Colon)?;
@@ -40,9 +40,10 @@ impl<'src> Parser<'_, 'src> {
 
     // Arguments, up to the parenthesis.
     fn each_ignored(&mut self) -> Result<(), ParseError<'src>>
-        ensures ok { OnOk result (many (is_at 0 kinds.ParenR) ignored_element (left self.old)
-            ≡ Read [] (left self.new)) }
-        ensures refused { IfErr result (IsRefused (many (is_at 0 kinds.ParenR) ignored_element (left self.old))) }
+        ensures ok { OnOk result (many (is_at 0 kinds.ParenR) ignored_element (unread self.old)
+            ≡ Read [] (unread self.new)) }
+        ensures refused { IfErr result
+            (IsPhraseRefused (many (is_at 0 kinds.ParenR) ignored_element (unread self.old))) }
     {
         for _ in 0..self.cursor.rest().len() {
             if self.cursor.is_at(0, TokenKind::ParenR) {
@@ -56,8 +57,8 @@ impl<'src> Parser<'_, 'src> {
     // An argument, with the comma after it, if it is not the last one.
     #[tactic(auto, unfolding(crate::specs::Attributes::ignored_element))]
     fn ignored_element(&mut self) -> Result<(), ParseError<'src>>
-        ensures ok { OnOk result (ignored_element (left self.old) ≡ Read [] (left self.new)) }
-        ensures refused { IfErr result (IsRefused (ignored_element (left self.old))) }
+        ensures ok { OnOk result (ignored_element (unread self.old) ≡ Read [] (unread self.new)) }
+        ensures refused { IfErr result (IsPhraseRefused (ignored_element (unread self.old))) }
     {
         self.ignored_argument()?;
         self.comma_unless(TokenKind::ParenR)
@@ -66,8 +67,8 @@ impl<'src> Parser<'_, 'src> {
     // `e` or `NAME = e`.
     #[tactic(auto, unfolding(crate::specs::Attributes::ignored_argument))]
     fn ignored_argument(&mut self) -> Result<(), ParseError<'src>>
-        ensures ok { OnOk result (ignored_argument (left self.old) ≡ Read tt (left self.new)) }
-        ensures refused { IfErr result (IsRefused (ignored_argument (left self.old))) }
+        ensures ok { OnOk result (ignored_argument (unread self.old) ≡ Read tt (unread self.new)) }
+        ensures refused { IfErr result (IsPhraseRefused (ignored_argument (unread self.old))) }
     {
         if !(self.cursor.is_at(0, TokenKind::Identifier)
             && self.cursor.is_at(1, TokenKind::Equals))
@@ -81,8 +82,8 @@ impl<'src> Parser<'_, 'src> {
     /// `= e`, if it is there.
     #[tactic(auto, unfolding(crate::specs::Attributes::ignored_value))]
     pub(crate) fn ignored_value(&mut self) -> Result<(), ParseError<'src>>
-        ensures ok { OnOk result (ignored_value (left self.old) ≡ Read tt (left self.new)) }
-        ensures refused { IfErr result (IsRefused (ignored_value (left self.old))) }
+        ensures ok { OnOk result (ignored_value (unread self.old) ≡ Read tt (unread self.new)) }
+        ensures refused { IfErr result (IsPhraseRefused (ignored_value (unread self.old))) }
     {
         if !self.cursor.is_at(0, TokenKind::Equals) {
             return Ok(());
@@ -94,8 +95,8 @@ impl<'src> Parser<'_, 'src> {
     // An expression.
     #[tactic(auto, unfolding(crate::specs::Attributes::ignored))]
     fn ignored(&mut self) -> Result<(), ParseError<'src>>
-        ensures ok { OnOk result (ignored (left self.old) ≡ Read tt (left self.new)) }
-        ensures refused { IfErr result (IsRefused (ignored (left self.old))) }
+        ensures ok { OnOk result (ignored (unread self.old) ≡ Read tt (unread self.new)) }
+        ensures refused { IfErr result (IsPhraseRefused (ignored (unread self.old))) }
     {
         match self.expression() {
             Ok(expression) => {
@@ -109,8 +110,8 @@ impl<'src> Parser<'_, 'src> {
     /// A comma, if it is there, and a parenthesis.
     #[tactic(auto, unfolding(crate::specs::Attributes::close))]
     pub(crate) fn close(&mut self) -> Result<(), ParseError<'src>>
-        ensures ok { OnOk result (close (left self.old) ≡ Read tt (left self.new)) }
-        ensures refused { IfErr result (IsRefused (close (left self.old))) }
+        ensures ok { OnOk result (close (unread self.old) ≡ Read tt (unread self.new)) }
+        ensures refused { IfErr result (IsPhraseRefused (close (unread self.old))) }
     {
         self.comma_unless(TokenKind::ParenR)?;
         self.one(TokenKind::ParenR)?;

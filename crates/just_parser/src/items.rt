@@ -5,8 +5,8 @@ ghost use Rattle.just_expression_parser.specs.Tokens.{is_at};
 ghost use Rattle.just_lexer.specs.declared.kind.TokenKind.TheVariants as kinds;
 ghost use Rattle.std.specs.List.{list_any};
 ghost use Rattle.just_parser.specs.Attributes.{is_private};
-ghost use Rattle.just_parser.specs.Items.{after_keyword, assigns, item, item_after, item_of, items, line};
-ghost use Rattle.just_parser.specs.Parsed.{IsRefused, left};
+ghost use Rattle.just_parser.specs.Items.{after_keyword, assignment_item, item, item_after, item_line, item_of, items};
+ghost use Rattle.just_parser.specs.Parsed.{IsPhraseRefused, unread};
 ghost use Rattle.just_parser.specs.Phrase.{Read, many, one, prepended};
 ghost use Rattle.just_syntax.specs.Plain.{Token};
 ghost use Rattle.just_parser.specs.View.{item_view, written_view};
@@ -24,8 +24,8 @@ impl<'src> Parser<'_, 'src> {
     /// The items of a file, up to its end. A byte order mark may come first.
     #[tactic(auto, unfolding(crate::specs::Items::items))]
     pub(crate) fn items(&mut self) -> Result<Vec<Item<'src>>, ParseError<'src>>
-        ensures ok { IfOk result (λ all. items (left self.old) ≡ Read (map item_view all.items) (left self.new)) }
-        ensures refused { IfErr result (IsRefused (items (left self.old))) }
+        ensures ok { IfOk result (λ all. items (unread self.old) ≡ Read (map item_view all.items) (unread self.new)) }
+        ensures refused { IfErr result (IsPhraseRefused (items (unread self.old))) }
     {
         self.accepted(TokenKind::ByteOrderMark)?;
         let mut all = Vec::new(self.alloc);
@@ -38,8 +38,8 @@ impl<'src> Parser<'_, 'src> {
 
     // The end of the file.
     fn file_end(&mut self) -> Result<(), ParseError<'src>>
-        ensures ok { OnOk result ((end : Token) × (one kinds.Eof (left self.old) ≡ Read end (left self.new))) }
-        ensures refused { IfErr result (IsRefused (one kinds.Eof (left self.old))) }
+        ensures ok { OnOk result ((end : Token) × (one kinds.Eof (unread self.old) ≡ Read end (unread self.new))) }
+        ensures refused { IfErr result (IsPhraseRefused (one kinds.Eof (unread self.old))) }
     {
         match self.one(TokenKind::Eof) {
             Ok(_) => Ok(()),
@@ -50,8 +50,9 @@ impl<'src> Parser<'_, 'src> {
     // Items and empty lines, up to the end of the file.
     fn lines(&mut self, into: &mut Vec<Item<'src>>) -> Result<(), ParseError<'src>>
         ensures ok { OnOk result (prepended (map item_view into.old.items)
-            (many (is_at 0 kinds.Eof) line (left self.old)) ≡ Read (map item_view into.new.items) (left self.new)) }
-        ensures refused { IfErr result (IsRefused (many (is_at 0 kinds.Eof) line (left self.old))) }
+            (many (is_at 0 kinds.Eof) item_line (unread self.old))
+            ≡ Read (map item_view into.new.items) (unread self.new)) }
+        ensures refused { IfErr result (IsPhraseRefused (many (is_at 0 kinds.Eof) item_line (unread self.old))) }
     {
         for _ in 0..self.cursor.rest().len() {
             if self.cursor.is_at(0, TokenKind::Eof) {
@@ -63,11 +64,11 @@ impl<'src> Parser<'_, 'src> {
     }
 
     // An item, or an empty line.
-    #[tactic(auto, unfolding(crate::specs::Items::line))]
+    #[tactic(auto, unfolding(crate::specs::Items::item_line))]
     fn line(&mut self, into: &mut Vec<Item<'src>>) -> Result<(), ParseError<'src>>
-        ensures ok { OnOk result (prepended (map item_view into.old.items) (line (left self.old))
-            ≡ Read (map item_view into.new.items) (left self.new)) }
-        ensures refused { IfErr result (IsRefused (line (left self.old))) }
+        ensures ok { OnOk result (prepended (map item_view into.old.items) (item_line (unread self.old))
+            ≡ Read (map item_view into.new.items) (unread self.new)) }
+        ensures refused { IfErr result (IsPhraseRefused (item_line (unread self.old))) }
     {
         if self.cursor.is_at(0, TokenKind::Eol) {
             self.one(TokenKind::Eol)?;
@@ -82,8 +83,8 @@ impl<'src> Parser<'_, 'src> {
     // Attributes and an item.
     #[tactic(auto, unfolding(crate::specs::Items::item))]
     fn item(&mut self) -> Result<Item<'src>, ParseError<'src>>
-        ensures ok { IfOk result (λ i. item (left self.old) ≡ Read (item_view i) (left self.new)) }
-        ensures refused { IfErr result (IsRefused (item (left self.old))) }
+        ensures ok { IfOk result (λ i. item (unread self.old) ≡ Read (item_view i) (unread self.new)) }
+        ensures refused { IfErr result (IsPhraseRefused (item (unread self.old))) }
     {
         let mut attributes = Vec::new(self.alloc);
         let filled = self.attributes(&mut attributes);
@@ -103,10 +104,10 @@ impl<'src> Parser<'_, 'src> {
         &mut self,
         attributes: &mut Vec<WrittenAttribute<'src>>,
     ) -> Result<Item<'src>, ParseError<'src>>
-        ensures ok { IfOk result (λ i. item_after (map written_view attributes.old.items) (left self.old)
-            ≡ Read (item_view i) (left self.new)) }
+        ensures ok { IfOk result (λ i. item_after (map written_view attributes.old.items) (unread self.old)
+            ≡ Read (item_view i) (unread self.new)) }
         ensures refused { IfErr result
-            (IsRefused (item_after (map written_view attributes.old.items) (left self.old))) }
+            (IsPhraseRefused (item_after (map written_view attributes.old.items) (unread self.old))) }
     {
         let start = start_of_item(&self.cursor);
         if !attributes.is_empty() && !start.takes_attributes() {
@@ -122,10 +123,10 @@ impl<'src> Parser<'_, 'src> {
         attributes: &mut Vec<WrittenAttribute<'src>>,
         start: Start,
     ) -> Result<Item<'src>, ParseError<'src>>
-        ensures ok { IfOk result (λ i. item_of (map written_view attributes.old.items) start (left self.old)
-            ≡ Read (item_view i) (left self.new)) }
+        ensures ok { IfOk result (λ i. item_of (map written_view attributes.old.items) start (unread self.old)
+            ≡ Read (item_view i) (unread self.new)) }
         ensures refused { IfErr result
-            (IsRefused (item_of (map written_view attributes.old.items) start (left self.old))) }
+            (IsPhraseRefused (item_of (map written_view attributes.old.items) start (unread self.old))) }
     {
         let private = are_private(attributes);
         match start {
@@ -149,9 +150,10 @@ impl<'src> Parser<'_, 'src> {
         eager: bool,
         export: bool,
     ) -> Result<Item<'src>, ParseError<'src>>
-        ensures ok { IfOk result (λ i. after_keyword (assigns private eager export) (left self.old)
-            ≡ Read (item_view i) (left self.new)) }
-        ensures refused { IfErr result (IsRefused (after_keyword (assigns private eager export) (left self.old))) }
+        ensures ok { IfOk result (λ i. after_keyword (assignment_item private eager export) (unread self.old)
+            ≡ Read (item_view i) (unread self.new)) }
+        ensures refused { IfErr result
+            (IsPhraseRefused (after_keyword (assignment_item private eager export) (unread self.old))) }
     {
         self.name()?;
         self.assigned(private, eager, export)
@@ -165,8 +167,8 @@ impl<'src> Parser<'_, 'src> {
         export: bool,
     ) -> Result<Item<'src>, ParseError<'src>>
         ensures ok { IfOk result
-            (λ i. assigns private eager export (left self.old) ≡ Read (item_view i) (left self.new)) }
-        ensures refused { IfErr result (IsRefused (assigns private eager export (left self.old))) }
+            (λ i. assignment_item private eager export (unread self.old) ≡ Read (item_view i) (unread self.new)) }
+        ensures refused { IfErr result (IsPhraseRefused (assignment_item private eager export (unread self.old))) }
     {
         self.assignment(private, eager, export)
             .map(Item::Assignment)

@@ -4,7 +4,7 @@ ghost use Rattle.std.specs.Prelude.{IfErr, IfOk, ◌≡◌};
 ghost use Rattle.just_syntax.specs.View.{name_view};
 ghost use Rattle.just_lexer.specs.declared.kind.TokenKind.TheVariants.{Identifier};
 ghost use Rattle.just_parser.specs.Items.{alias, unexport};
-ghost use Rattle.just_parser.specs.Parsed.{IsRefused, left};
+ghost use Rattle.just_parser.specs.Parsed.{IsPhraseRefused, unread};
 ghost use Rattle.just_parser.specs.Phrase.{Read, in_line, one};
 ghost use Rattle.just_parser.specs.View.{item_view};
 
@@ -18,8 +18,8 @@ impl<'src> Parser<'_, 'src> {
     /// `alias NAME := TARGET`.
     #[tactic(auto, unfolding(crate::specs::Items::alias))]
     pub(crate) fn alias(&mut self) -> Result<Item<'src>, ParseError<'src>>
-        ensures ok { IfOk result (λ i. alias (left self.old) ≡ Read (item_view i) (left self.new)) }
-        ensures refused { IfErr result (IsRefused (alias (left self.old))) }
+        ensures ok { IfOk result (λ i. alias (unread self.old) ≡ Read (item_view i) (unread self.new)) }
+        ensures refused { IfErr result (IsPhraseRefused (alias (unread self.old))) }
     {
         self.name()?;
         let name = self.name()?;
@@ -31,8 +31,8 @@ impl<'src> Parser<'_, 'src> {
     /// `unexport NAME`.
     #[tactic(auto, unfolding(crate::specs::Items::unexport))]
     pub(crate) fn unexport(&mut self) -> Result<Item<'src>, ParseError<'src>>
-        ensures ok { IfOk result (λ i. unexport (left self.old) ≡ Read (item_view i) (left self.new)) }
-        ensures refused { IfErr result (IsRefused (unexport (left self.old))) }
+        ensures ok { IfOk result (λ i. unexport (unread self.old) ≡ Read (item_view i) (unread self.new)) }
+        ensures refused { IfErr result (IsPhraseRefused (unexport (unread self.old))) }
     {
         self.name()?;
         let name = self.name_in_line()?;
@@ -41,8 +41,9 @@ impl<'src> Parser<'_, 'src> {
 
     // A name, and the end of its line.
     fn name_in_line(&mut self) -> Result<Name<'src>, ParseError<'src>>
-        ensures ok { IfOk result (λ n. in_line (one Identifier) (left self.old) ≡ Read (name_view n) (left self.new)) }
-        ensures refused { IfErr result (IsRefused (in_line (one Identifier) (left self.old))) }
+        ensures ok { IfOk result
+            (λ n. in_line (one Identifier) (unread self.old) ≡ Read (name_view n) (unread self.new)) }
+        ensures refused { IfErr result (IsPhraseRefused (in_line (one Identifier) (unread self.old))) }
     {
         let name = self.name()?;
         self.line_end()?;

@@ -3,9 +3,10 @@
 ghost use Rattle.std.specs.Prelude.{IfErr, IfOk, OnOk, map, option_map, ◌≡◌};
 ghost use Rattle.just_syntax.specs.View.{recipe_parameter_view, view};
 ghost use Rattle.just_syntax.specs.declared.parameter_kind.ParameterKind.TheVariants as parameter_kinds;
-ghost use Rattle.just_parser.specs.Parsed.{IsRefused, left};
+ghost use Rattle.just_parser.specs.Parsed.{IsPhraseRefused, unread};
 ghost use Rattle.just_parser.specs.Phrase.{Read, many, prepended};
-ghost use Rattle.just_parser.specs.Recipes.{default, is_after_parameters, parameter, parameters, variadic};
+ghost use Rattle.just_parser.specs.Recipes.{default, is_after_parameters, recipe_parameter, recipe_parameters};
+ghost use Rattle.just_parser.specs.Recipes.{variadic};
 
 use crate::outcome::pushed;
 use crate::parse_error::ParseError;
@@ -18,14 +19,14 @@ use just_syntax::parameter_kind::ParameterKind;
 
 impl<'src> Parser<'_, 'src> {
     /// The parameters, after others. They have the number 0.
-    #[tactic(auto, unfolding(crate::specs::Recipes::parameters))]
+    #[tactic(auto, unfolding(crate::specs::Recipes::recipe_parameters))]
     pub(crate) fn recipe_parameters(
         &mut self,
         into: &mut Vec<Parameter<'src>>,
     ) -> Result<(), ParseError<'src>>
         ensures ok { OnOk result (prepended (map recipe_parameter_view into.old.items)
-            (parameters (left self.old)) ≡ Read (map recipe_parameter_view into.new.items) (left self.new)) }
-        ensures refused { IfErr result (IsRefused (parameters (left self.old))) }
+            (recipe_parameters (unread self.old)) ≡ Read (map recipe_parameter_view into.new.items) (unread self.new)) }
+        ensures refused { IfErr result (IsPhraseRefused (recipe_parameters (unread self.old))) }
     {
         self.singular_parameters(into)?;
         self.variadic_parameter(into)
@@ -37,10 +38,10 @@ impl<'src> Parser<'_, 'src> {
         into: &mut Vec<Parameter<'src>>,
     ) -> Result<(), ParseError<'src>>
         ensures ok { OnOk result (prepended (map recipe_parameter_view into.old.items)
-            (many is_after_parameters (parameter parameter_kinds.Singular) (left self.old))
-            ≡ Read (map recipe_parameter_view into.new.items) (left self.new)) }
+            (many is_after_parameters (recipe_parameter parameter_kinds.Singular) (unread self.old))
+            ≡ Read (map recipe_parameter_view into.new.items) (unread self.new)) }
         ensures refused { IfErr result
-            (IsRefused (many is_after_parameters (parameter parameter_kinds.Singular) (left self.old))) }
+            (IsPhraseRefused (many is_after_parameters (recipe_parameter parameter_kinds.Singular) (unread self.old))) }
     {
         for _ in 0..self.cursor.rest().len() {
             if self.is_after_parameters() {
@@ -53,7 +54,7 @@ impl<'src> Parser<'_, 'src> {
 
     // Whether no parameter begins, or one that takes more than one argument.
     fn is_after_parameters(&self) -> bool
-        ensures { result ≡ is_after_parameters (left self.now) }
+        ensures { result ≡ is_after_parameters (unread self.now) }
     {
         !(self.cursor.is_at(0, TokenKind::Identifier) || self.cursor.is_at(0, TokenKind::Dollar))
     }
@@ -64,9 +65,9 @@ impl<'src> Parser<'_, 'src> {
         &mut self,
         into: &mut Vec<Parameter<'src>>,
     ) -> Result<(), ParseError<'src>>
-        ensures ok { OnOk result (prepended (map recipe_parameter_view into.old.items) (variadic (left self.old))
-            ≡ Read (map recipe_parameter_view into.new.items) (left self.new)) }
-        ensures refused { IfErr result (IsRefused (variadic (left self.old))) }
+        ensures ok { OnOk result (prepended (map recipe_parameter_view into.old.items) (variadic (unread self.old))
+            ≡ Read (map recipe_parameter_view into.new.items) (unread self.new)) }
+        ensures refused { IfErr result (IsPhraseRefused (variadic (unread self.old))) }
     {
         let (mark, kind) = if self.cursor.is_at(0, TokenKind::Plus) {
             (TokenKind::Plus, ParameterKind::Plus)
@@ -80,15 +81,16 @@ impl<'src> Parser<'_, 'src> {
     }
 
     // A parameter of a kind, after others; `$` exports it.
-    #[tactic(auto, unfolding(crate::specs::Recipes::parameter))]
+    #[tactic(auto, unfolding(crate::specs::Recipes::recipe_parameter))]
     fn recipe_parameter(
         &mut self,
         kind: ParameterKind,
         into: &mut Vec<Parameter<'src>>,
     ) -> Result<(), ParseError<'src>>
         ensures ok { OnOk result (prepended (map recipe_parameter_view into.old.items)
-            (parameter kind (left self.old)) ≡ Read (map recipe_parameter_view into.new.items) (left self.new)) }
-        ensures refused { IfErr result (IsRefused (parameter kind (left self.old))) }
+            (recipe_parameter kind (unread self.old))
+            ≡ Read (map recipe_parameter_view into.new.items) (unread self.new)) }
+        ensures refused { IfErr result (IsPhraseRefused (recipe_parameter kind (unread self.old))) }
     {
         let export = self.accepted(TokenKind::Dollar)?;
         let name = self.name()?;
@@ -113,8 +115,8 @@ impl<'src> Parser<'_, 'src> {
     // `=` and a value, if it is there.
     #[tactic(auto, unfolding(crate::specs::Recipes::default))]
     fn default(&mut self) -> Result<Option<Expression<'src>>, ParseError<'src>>
-        ensures ok { IfOk result (λ e. default (left self.old) ≡ Read (option_map view e) (left self.new)) }
-        ensures refused { IfErr result (IsRefused (default (left self.old))) }
+        ensures ok { IfOk result (λ e. default (unread self.old) ≡ Read (option_map view e) (unread self.new)) }
+        ensures refused { IfErr result (IsPhraseRefused (default (unread self.old))) }
     {
         if !self.cursor.is_at(0, TokenKind::Equals) {
             return Ok(None);

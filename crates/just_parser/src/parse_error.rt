@@ -2,7 +2,7 @@
 
 ghost use Rattle.std.specs.Prelude.{option_map, ◌≡◌};
 ghost use Rattle.just_syntax.specs.View.{token_view};
-ghost use Rattle.just_parser.specs.Parsed.{error_token};
+ghost use Rattle.just_parser.specs.Parsed.{parse_error_token};
 
 use just_expression_parser::parse_error as expression;
 use just_lexer::fault::FaultKind;
@@ -54,7 +54,7 @@ pub enum ParseError<'src> {
 impl<'src> ParseError<'src> {
     /// The token at which the text is refused; `None` for the end and for `OutOfMemory`.
     pub fn token(&self) -> Option<Token<'src>>
-        ensures { option_map token_view result ≡ error_token self.now }
+        ensures { option_map token_view result ≡ parse_error_token self.now }
     {
         match self {
             ParseError::Lex { token, .. } => Some(*token),

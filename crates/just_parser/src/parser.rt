@@ -2,7 +2,7 @@
 
 ghost use Rattle.std.specs.Prelude.{IfErr, IfOk, OnOk, ◌≡◌};
 ghost use Rattle.just_syntax.specs.View.{name_view, token_view, view};
-ghost use Rattle.just_parser.specs.Parsed.{IsRefusalAt, IsRefusalOf, IsRefused, left};
+ghost use Rattle.just_parser.specs.Parsed.{IsPhraseRefusalAt, IsPhraseRefused, IsSameRefusal, unread};
 ghost use Rattle.just_parser.specs.Phrase.{Read, accepted, comma_unless, expected, expression, line_end, one, value};
 ghost use Rattle.just_lexer.specs.declared.kind.TokenKind.TheVariants.{Identifier};
 
@@ -25,8 +25,8 @@ pub(crate) struct Parser<'tokens, 'src> {
 impl<'src> Parser<'_, 'src> {
     /// A token of this kind.
     pub(crate) fn one(&mut self, kind: TokenKind) -> Result<Token<'src>, ParseError<'src>>
-        ensures ok { IfOk result (λ t. one kind (left self.old) ≡ Read (token_view t) (left self.new)) }
-        ensures refused { IfErr result (IsRefused (one kind (left self.old))) }
+        ensures ok { IfOk result (λ t. one kind (unread self.old) ≡ Read (token_view t) (unread self.new)) }
+        ensures refused { IfErr result (IsPhraseRefused (one kind (unread self.old))) }
     {
         match self.cursor.take(kind) {
             Some(token) => Ok(token),
@@ -36,8 +36,8 @@ impl<'src> Parser<'_, 'src> {
 
     /// A name.
     pub(crate) fn name(&mut self) -> Result<Name<'src>, ParseError<'src>>
-        ensures ok { IfOk result (λ n. one Identifier (left self.old) ≡ Read (name_view n) (left self.new)) }
-        ensures refused { IfErr result (IsRefused (one Identifier (left self.old))) }
+        ensures ok { IfOk result (λ n. one Identifier (unread self.old) ≡ Read (name_view n) (unread self.new)) }
+        ensures refused { IfErr result (IsPhraseRefused (one Identifier (unread self.old))) }
     {
         match self.one(TokenKind::Identifier) {
             Ok(token) => Ok(Name { token }),
@@ -47,8 +47,8 @@ impl<'src> Parser<'_, 'src> {
 
     /// An expression.
     pub(crate) fn expression(&mut self) -> Result<Expression<'src>, ParseError<'src>>
-        ensures ok { IfOk result (λ e. expression (left self.old) ≡ Read (view e) (left self.new)) }
-        ensures refused { IfErr result (IsRefused (expression (left self.old))) }
+        ensures ok { IfOk result (λ e. expression (unread self.old) ≡ Read (view e) (unread self.new)) }
+        ensures refused { IfErr result (IsPhraseRefused (expression (unread self.old))) }
     {
         match parse_expression(self.alloc, self.cursor.rest()) {
             Ok((expression, rest)) => {
@@ -61,8 +61,8 @@ impl<'src> Parser<'_, 'src> {
 
     /// A value.
     pub(crate) fn value(&mut self) -> Result<Expression<'src>, ParseError<'src>>
-        ensures ok { IfOk result (λ e. value (left self.old) ≡ Read (view e) (left self.new)) }
-        ensures refused { IfErr result (IsRefused (value (left self.old))) }
+        ensures ok { IfOk result (λ e. value (unread self.old) ≡ Read (view e) (unread self.new)) }
+        ensures refused { IfErr result (IsPhraseRefused (value (unread self.old))) }
     {
         match parse_value(self.alloc, self.cursor.rest()) {
             Ok((expression, rest)) => {
@@ -76,8 +76,8 @@ impl<'src> Parser<'_, 'src> {
     /// The end of a line, or of the file, which stays.
     #[tactic(auto, unfolding(crate::specs::Phrase::line_end))]
     pub(crate) fn line_end(&mut self) -> Result<(), ParseError<'src>>
-        ensures ok { OnOk result (line_end (left self.old) ≡ Read tt (left self.new)) }
-        ensures refused { IfErr result (IsRefused (line_end (left self.old))) }
+        ensures ok { OnOk result (line_end (unread self.old) ≡ Read tt (unread self.new)) }
+        ensures refused { IfErr result (IsPhraseRefused (line_end (unread self.old))) }
     {
         if self.cursor.is_at(0, TokenKind::Eof) {
             return Ok(());
@@ -91,8 +91,8 @@ impl<'src> Parser<'_, 'src> {
     /// A comma, or nothing before a closing token.
     #[tactic(auto, unfolding(crate::specs::Phrase::comma_unless))]
     pub(crate) fn comma_unless(&mut self, close: TokenKind) -> Result<(), ParseError<'src>>
-        ensures ok { OnOk result (comma_unless close (left self.old) ≡ Read tt (left self.new)) }
-        ensures refused { IfErr result (IsRefused (comma_unless close (left self.old))) }
+        ensures ok { OnOk result (comma_unless close (unread self.old) ≡ Read tt (unread self.new)) }
+        ensures refused { IfErr result (IsPhraseRefused (comma_unless close (unread self.old))) }
     {
         if self.cursor.is_at(0, close) {
             return Ok(());
@@ -109,8 +109,8 @@ impl<'src> Parser<'_, 'src> {
     /// A token of this kind, if it comes next; whether it does.
     #[tactic(auto, unfolding(crate::specs::Phrase::accepted))]
     pub(crate) fn accepted(&mut self, kind: TokenKind) -> Result<bool, ParseError<'src>>
-        ensures ok { IfOk result (λ is_there. accepted kind (left self.old) ≡ Read is_there (left self.new)) }
-        ensures refused { IfErr result (IsRefused (accepted kind (left self.old))) }
+        ensures ok { IfOk result (λ is_there. accepted kind (unread self.old) ≡ Read is_there (unread self.new)) }
+        ensures refused { IfErr result (IsPhraseRefused (accepted kind (unread self.old))) }
     {
         if !self.cursor.is_at(0, kind) {
             return Ok(false);
@@ -123,14 +123,14 @@ impl<'src> Parser<'_, 'src> {
 
     /// The refusal of the next token, where one of this kind was expected.
     pub(crate) fn expected(&self, kind: TokenKind) -> ParseError<'src>
-        ensures { IsRefusalAt (expected kind) (left self.now) result }
+        ensures { IsPhraseRefusalAt (expected kind) (unread self.now) result }
     {
         self.unexpected(Fault::Syntax(syntax::Fault::Expected(kind)))
     }
 
     /// The refusal of the next token.
     pub(crate) fn unexpected(&self, fault: Fault) -> ParseError<'src>
-        ensures { IsRefusalAt fault (left self.now) result }
+        ensures { IsPhraseRefusalAt fault (unread self.now) result }
     {
         let token = match self.cursor.rest().first() {
             Some(lexeme) => Some(lexeme.token),
@@ -142,7 +142,7 @@ impl<'src> Parser<'_, 'src> {
 
 // The refusal of an expression.
 fn of_syntax<'src>(refusal: syntax::ParseError<'src>) -> ParseError<'src>
-    ensures { IsRefusalOf refusal.entry result }
+    ensures { IsSameRefusal refusal.entry result }
 {
     match refusal {
         syntax::ParseError::Unexpected { fault, token } => ParseError::Unexpected {

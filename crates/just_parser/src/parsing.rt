@@ -4,7 +4,7 @@ ghost use Rattle.std.specs.Prelude.{IfErr, IfOk, map, ◌≡◌};
 ghost use Rattle.just_lexer.specs.View.{lexeme_view};
 ghost use Rattle.just_expression_parser.specs.Tokens.{Tokens, significant};
 ghost use Rattle.just_parser.specs.Items.{items};
-ghost use Rattle.just_parser.specs.Parsed.{AreItems, IsNoJustfile, IsRefused};
+ghost use Rattle.just_parser.specs.Parsed.{AreItems, IsNoJustfile, IsPhraseRefused};
 ghost use Rattle.just_parser.specs.Phrase.{Read};
 ghost use Rattle.just_parser.specs.View.{item_view};
 
@@ -57,7 +57,7 @@ fn parse_lexemes<'src>(
 ) -> Result<Vec<Item<'src>>, ParseError<'src>>
     ensures exact { IfOk result (λ all. (rest : Tokens)
         × (items (significant (map lexeme_view lexemes.now)) ≡ Read (map item_view all.items) rest)) }
-    ensures refused { IfErr result (IsRefused (items (significant (map lexeme_view lexemes.now)))) }
+    ensures refused { IfErr result (IsPhraseRefused (items (significant (map lexeme_view lexemes.now)))) }
 {
     match significant(alloc, lexemes) {
         Ok(tokens) => {

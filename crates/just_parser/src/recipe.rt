@@ -2,8 +2,8 @@
 
 ghost use Rattle.std.specs.Prelude.{IfErr, IfOk, OnOk, [], map, ◌++◌, ◌∷◌, ◌≡◌};
 ghost use Rattle.just_syntax.specs.View.{attributes_view, name_view};
-ghost use Rattle.just_parser.specs.Attributes.{args_of, attributes_of};
-ghost use Rattle.just_parser.specs.Parsed.{IsRefused, left};
+ghost use Rattle.just_parser.specs.Attributes.{args_of, recipe_attributes};
+ghost use Rattle.just_parser.specs.Parsed.{IsPhraseRefused, unread};
 ghost use Rattle.just_parser.specs.Phrase.{Read};
 ghost use Rattle.just_parser.specs.Recipes.{bare, parts, recipe};
 ghost use Rattle.just_parser.specs.View.{arg_view, recipe_definition_view, written_view};
@@ -26,9 +26,10 @@ impl<'src> Parser<'_, 'src> {
         &mut self,
         attributes: &mut Vec<WrittenAttribute<'src>>,
     ) -> Result<RecipeDefinition<'src>, ParseError<'src>>
-        ensures ok { IfOk result (λ r. recipe (map written_view attributes.old.items) (left self.old)
-            ≡ Read (recipe_definition_view r) (left self.new)) }
-        ensures refused { IfErr result (IsRefused (recipe (map written_view attributes.old.items) (left self.old))) }
+        ensures ok { IfOk result (λ r. recipe (map written_view attributes.old.items) (unread self.old)
+            ≡ Read (recipe_definition_view r) (unread self.new)) }
+        ensures refused { IfErr result
+            (IsPhraseRefused (recipe (map written_view attributes.old.items) (unread self.old))) }
     {
         let quiet = self.accepted(TokenKind::At)?;
         let name = self.name()?;
@@ -53,10 +54,11 @@ impl<'src> Parser<'_, 'src> {
     ) -> Result<(), ParseError<'src>>
         requires bare { let r = recipe_definition_view recipe.old in r ≡ bare [] r.quiet r.recipe.name }
         ensures ok { let r = recipe_definition_view recipe.old in
-            OnOk result (parts (bare (map written_view attributes.old.items) r.quiet r.recipe.name) (left self.old)
-            ≡ Read (recipe_definition_view recipe.new) (left self.new)) }
+            OnOk result (parts (bare (map written_view attributes.old.items) r.quiet r.recipe.name) (unread self.old)
+            ≡ Read (recipe_definition_view recipe.new) (unread self.new)) }
         ensures refused { let r = recipe_definition_view recipe.old in IfErr result
-            (IsRefused (parts (bare (map written_view attributes.old.items) r.quiet r.recipe.name) (left self.old))) }
+            (IsPhraseRefused
+            (parts (bare (map written_view attributes.old.items) r.quiet r.recipe.name) (unread self.old))) }
     {
         keep_attributes(attributes, &mut recipe.args, &mut recipe.recipe.attributes)?;
         self.parts(recipe)
@@ -69,9 +71,9 @@ impl<'src> Parser<'_, 'src> {
         requires dependencies { recipe.old.dependencies.items ≡ [] }
         requires parameters { recipe.old.parameters.items ≡ [] }
         requires subsequents { recipe.old.subsequents.items ≡ [] }
-        ensures ok { OnOk result (parts (recipe_definition_view recipe.old) (left self.old)
-            ≡ Read (recipe_definition_view recipe.new) (left self.new)) }
-        ensures refused { IfErr result (IsRefused (parts (recipe_definition_view recipe.old) (left self.old))) }
+        ensures ok { OnOk result (parts (recipe_definition_view recipe.old) (unread self.old)
+            ≡ Read (recipe_definition_view recipe.new) (unread self.new)) }
+        ensures refused { IfErr result (IsPhraseRefused (parts (recipe_definition_view recipe.old) (unread self.old))) }
     {
         self.recipe_parameters(&mut recipe.parameters)?;
         self.one(TokenKind::Colon)?;
@@ -91,7 +93,7 @@ fn keep_attributes<'src>(
     ensures args { OnOk result (map arg_view args.new.items
         ≡ map arg_view args.old.items ++ args_of (map written_view attributes.old.items)) }
     ensures attributes { OnOk result (attributes_view kept.new
-        ≡ attributes_view kept.old ++ attributes_of (map written_view attributes.old.items)) }
+        ≡ attributes_view kept.old ++ recipe_attributes (map written_view attributes.old.items)) }
     ensures refused { IfErr result (λ refusal. refusal ≡ ParseError.OutOfMemory) }
 {
     attributes.reverse();
@@ -110,7 +112,7 @@ fn keep_attribute<'src>(
     ensures args { OnOk result (map arg_view args.new.items
         ≡ map arg_view args.old.items ++ args_of (written_view attribute.entry ∷ [])) }
     ensures attributes { OnOk result (attributes_view kept.new
-        ≡ attributes_view kept.old ++ attributes_of (written_view attribute.entry ∷ [])) }
+        ≡ attributes_view kept.old ++ recipe_attributes (written_view attribute.entry ∷ [])) }
     ensures refused { IfErr result (λ refusal. refusal ≡ ParseError.OutOfMemory) }
 {
     let WrittenAttribute {

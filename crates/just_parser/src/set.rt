@@ -2,8 +2,8 @@
 
 ghost use Rattle.std.specs.Prelude.{IfErr, IfOk, ◌≡◌};
 ghost use Rattle.just_syntax.specs.View.{name_view, set_view, setting_view};
-ghost use Rattle.just_parser.specs.Items.{set, setting, setting_name};
-ghost use Rattle.just_parser.specs.Parsed.{IsRefused, left};
+ghost use Rattle.just_parser.specs.Items.{set, setting, setting_with_form};
+ghost use Rattle.just_parser.specs.Parsed.{IsPhraseRefused, unread};
 ghost use Rattle.just_parser.specs.Phrase.{Read, in_line};
 
 use crate::parse_error::{Fault, ParseError};
@@ -18,8 +18,8 @@ impl<'src> Parser<'_, 'src> {
     /// `set NAME`, or `set NAME := value`.
     #[tactic(auto, unfolding(crate::specs::Items::set))]
     pub(crate) fn set(&mut self) -> Result<Set<'src>, ParseError<'src>>
-        ensures ok { IfOk result (λ s. set (left self.old) ≡ Read (set_view s) (left self.new)) }
-        ensures refused { IfErr result (IsRefused (set (left self.old))) }
+        ensures ok { IfOk result (λ s. set (unread self.old) ≡ Read (set_view s) (unread self.new)) }
+        ensures refused { IfErr result (IsPhraseRefused (set (unread self.old))) }
     {
         self.name()?;
         let (name, form) = self.setting_name()?;
@@ -30,10 +30,11 @@ impl<'src> Parser<'_, 'src> {
     }
 
     // The name of a setting, with the form of value that it takes.
-    #[tactic(auto, unfolding(crate::specs::Items::setting_name))]
+    #[tactic(auto, unfolding(crate::specs::Items::setting_with_form))]
     fn setting_name(&mut self) -> Result<(Name<'src>, SettingForm), ParseError<'src>>
-        ensures ok { IfOk result (λ p. setting_name (left self.old) ≡ Read (name_view p.0, p.1) (left self.new)) }
-        ensures refused { IfErr result (IsRefused (setting_name (left self.old))) }
+        ensures ok { IfOk result
+            (λ p. setting_with_form (unread self.old) ≡ Read (name_view p.0, p.1) (unread self.new)) }
+        ensures refused { IfErr result (IsPhraseRefused (setting_with_form (unread self.old))) }
     {
         let otherwise = self.unexpected(Fault::UnknownSetting);
         let name = self.name()?;
@@ -49,10 +50,10 @@ impl<'src> Parser<'_, 'src> {
         form: SettingForm,
         name: Name<'src>,
     ) -> Result<Setting<'src>, ParseError<'src>>
-        ensures ok { IfOk result (λ s. in_line (setting form name.entry.token.lexeme.now) (left self.old)
-            ≡ Read (setting_view s) (left self.new)) }
+        ensures ok { IfOk result (λ s. in_line (setting form name.entry.token.lexeme.now) (unread self.old)
+            ≡ Read (setting_view s) (unread self.new)) }
         ensures refused { IfErr result
-            (IsRefused (in_line (setting form name.entry.token.lexeme.now) (left self.old))) }
+            (IsPhraseRefused (in_line (setting form name.entry.token.lexeme.now) (unread self.old))) }
     {
         match self.setting(form, name.lexeme()) {
             Ok(value) => followed(value, self.line_end()),

@@ -2,9 +2,9 @@
 
 ghost use Rattle.std.specs.Prelude.{IfErr, IfOk, None, Some, ◌≡◌};
 ghost use Rattle.just_syntax.specs.View.{expression_interpreter_view, literal_view, setting_view, view};
-ghost use Rattle.just_parser.specs.Attributes.{string};
-ghost use Rattle.just_parser.specs.Items.{boolean, flag, given, indentation, setting};
-ghost use Rattle.just_parser.specs.Parsed.{IsRefusalAt, IsRefused, left};
+ghost use Rattle.just_parser.specs.Attributes.{string_phrase};
+ghost use Rattle.just_parser.specs.Items.{boolean, colon_equals, flag, indentation_setting, setting};
+ghost use Rattle.just_parser.specs.Parsed.{IsPhraseRefusalAt, IsPhraseRefused, unread};
 ghost use Rattle.just_parser.specs.Phrase.{Read, expression, value_as};
 ghost use Rattle.just_parser.specs.Settings.{interpreter_of};
 ghost use Rattle.just_parser.specs.declared.parse_error.Fault.TheVariants.{ExpectedCommand, UnknownSetting};
@@ -29,8 +29,9 @@ impl<'src> Parser<'_, 'src> {
         form: SettingForm,
         name: &str,
     ) -> Result<Setting<'src>, ParseError<'src>>
-        ensures ok { IfOk result (λ s. setting form name.now (left self.old) ≡ Read (setting_view s) (left self.new)) }
-        ensures refused { IfErr result (IsRefused (setting form name.now (left self.old))) }
+        ensures ok { IfOk result
+            (λ s. setting form name.now (unread self.old) ≡ Read (setting_view s) (unread self.new)) }
+        ensures refused { IfErr result (IsPhraseRefused (setting form name.now (unread self.old))) }
     {
         match form {
             SettingForm::Expression => match self.given_expression() {
@@ -57,15 +58,15 @@ impl<'src> Parser<'_, 'src> {
     fn known(&self, setting: Option<Setting<'src>>) -> Result<Setting<'src>, ParseError<'src>>
         ensures ok { IfOk result (λ known. setting.entry ≡ Some known) }
         ensures refused { IfErr result
-            (λ refusal. IsRefusalAt UnknownSetting (left self.now) refusal × (setting.entry ≡ None)) }
+            (λ refusal. IsPhraseRefusalAt UnknownSetting (unread self.now) refusal × (setting.entry ≡ None)) }
     {
         found(setting, self.unexpected(Fault::UnknownSetting))
     }
 
     // `:=` and an expression.
     fn given_expression(&mut self) -> Result<Expression<'src>, ParseError<'src>>
-        ensures ok { IfOk result (λ e. given expression (left self.old) ≡ Read (view e) (left self.new)) }
-        ensures refused { IfErr result (IsRefused (given expression (left self.old))) }
+        ensures ok { IfOk result (λ e. colon_equals expression (unread self.old) ≡ Read (view e) (unread self.new)) }
+        ensures refused { IfErr result (IsPhraseRefused (colon_equals expression (unread self.old))) }
     {
         self.one(TokenKind::ColonEquals)?;
         self.expression()
@@ -74,8 +75,8 @@ impl<'src> Parser<'_, 'src> {
     // `:= true` or `:= false`; without a value, a setting is on.
     #[tactic(auto, unfolding(crate::specs::Items::flag))]
     fn flag(&mut self) -> Result<bool, ParseError<'src>>
-        ensures ok { IfOk result (λ on. flag (left self.old) ≡ Read on (left self.new)) }
-        ensures refused { IfErr result (IsRefused (flag (left self.old))) }
+        ensures ok { IfOk result (λ on. flag (unread self.old) ≡ Read on (unread self.new)) }
+        ensures refused { IfErr result (IsPhraseRefused (flag (unread self.old))) }
     {
         if !self.cursor.is_at(0, TokenKind::ColonEquals) {
             return Ok(true);
@@ -87,8 +88,8 @@ impl<'src> Parser<'_, 'src> {
     // `true` or `false`.
     #[tactic(auto, unfolding(crate::specs::Items::boolean))]
     fn boolean(&mut self) -> Result<bool, ParseError<'src>>
-        ensures ok { IfOk result (λ on. boolean (left self.old) ≡ Read on (left self.new)) }
-        ensures refused { IfErr result (IsRefused (boolean (left self.old))) }
+        ensures ok { IfOk result (λ on. boolean (unread self.old) ≡ Read on (unread self.new)) }
+        ensures refused { IfErr result (IsPhraseRefused (boolean (unread self.old))) }
     {
         let is_true = self.cursor.is_at_word("true");
         if !is_true && !self.cursor.is_at_word("false") {
@@ -103,9 +104,10 @@ impl<'src> Parser<'_, 'src> {
     // `:=` and a list of a command and its first arguments.
     #[tactic(auto, unfolding(crate::specs::Phrase::value_as))]
     fn interpreter(&mut self) -> Result<Interpreter<Expression<'src>>, ParseError<'src>>
-        ensures ok { IfOk result (λ i. given (value_as ExpectedCommand interpreter_of) (left self.old)
-            ≡ Read (expression_interpreter_view i) (left self.new)) }
-        ensures refused { IfErr result (IsRefused (given (value_as ExpectedCommand interpreter_of) (left self.old))) }
+        ensures ok { IfOk result (λ i. colon_equals (value_as ExpectedCommand interpreter_of) (unread self.old)
+            ≡ Read (expression_interpreter_view i) (unread self.new)) }
+        ensures refused { IfErr result
+            (IsPhraseRefused (colon_equals (value_as ExpectedCommand interpreter_of) (unread self.old))) }
     {
         self.one(TokenKind::ColonEquals)?;
         let otherwise = self.unexpected(Fault::ExpectedCommand);
@@ -117,18 +119,20 @@ impl<'src> Parser<'_, 'src> {
 
     // `:=` and a string.
     fn version(&mut self) -> Result<StringLiteral<'src>, ParseError<'src>>
-        ensures ok { IfOk result (λ l. given string (left self.old) ≡ Read (literal_view l) (left self.new)) }
-        ensures refused { IfErr result (IsRefused (given string (left self.old))) }
+        ensures ok { IfOk result
+            (λ l. colon_equals string_phrase (unread self.old) ≡ Read (literal_view l) (unread self.new)) }
+        ensures refused { IfErr result (IsPhraseRefused (colon_equals string_phrase (unread self.old))) }
     {
         self.one(TokenKind::ColonEquals)?;
         self.string()
     }
 
     // `:=` and the indentation of recipes, by the token of its string.
-    #[tactic(auto, unfolding(crate::specs::Items::indentation, crate::specs::Phrase::value_as))]
+    #[tactic(auto, unfolding(crate::specs::Items::indentation_setting, crate::specs::Phrase::value_as))]
     fn indentation(&mut self) -> Result<Setting<'src>, ParseError<'src>>
-        ensures ok { IfOk result (λ s. given indentation (left self.old) ≡ Read (setting_view s) (left self.new)) }
-        ensures refused { IfErr result (IsRefused (given indentation (left self.old))) }
+        ensures ok { IfOk result
+            (λ s. colon_equals indentation_setting (unread self.old) ≡ Read (setting_view s) (unread self.new)) }
+        ensures refused { IfErr result (IsPhraseRefused (colon_equals indentation_setting (unread self.old))) }
     {
         self.one(TokenKind::ColonEquals)?;
         let token = match self.cursor.rest().first() {

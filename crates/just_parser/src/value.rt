@@ -3,7 +3,7 @@
 ghost use Rattle.std.specs.Prelude.{IfNone, IfSome, [], option_map, ◌==◌, ◌∷◌, ◌≡◌};
 ghost use Rattle.std.specs.List.{list_all};
 ghost use Rattle.just_syntax.specs.View.{expression_interpreter_view, literal_view, view};
-ghost use Rattle.just_parser.specs.Settings.{indentation_of, indentation_of_text, interpreter_of, literal_of};
+ghost use Rattle.just_parser.specs.Settings.{indentation_of, indentation_of_text, interpreter_of, literal_of_string};
 
 use just_syntax::expression::Expression;
 use just_syntax::indentation::Indentation;
@@ -37,7 +37,7 @@ fn first_and_rest<T: Drop>(mut elements: Vec<T>) -> Option<Interpreter<T>>
 
 /// The literal that a string is.
 pub(crate) fn literal_of<'src>(value: Expression<'src>) -> Option<StringLiteral<'src>>
-    ensures { option_map literal_view result ≡ literal_of (view value.entry) }
+    ensures { option_map literal_view result ≡ literal_of_string (view value.entry) }
 {
     match value {
         Expression::StringLiteral { string_literal } => Some(string_literal),

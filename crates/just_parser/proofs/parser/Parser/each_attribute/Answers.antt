@@ -3,7 +3,7 @@ use Rattle.just_parser.specs.View.{written_view}
 use Rattle.just_lexer.specs.declared.kind.TokenKind.TheVariants as kinds
 use Rattle.just_expression_parser.specs.Tokens.{is_at}
 use Rattle.just_parser.proofs.Repeated.{turn_refused, turned, turns_end, turns_over}
-use Rattle.just_parser.specs.Parsed.{IsRefused, left}
+use Rattle.just_parser.specs.Parsed.{IsPhraseRefused, unread}
 use Rattle.just_parser.specs.Phrase.{many}
 use Rattle.just_parser.specs.Attributes.{attribute}
 use Rattle.just_parser.proofs.parser.Parser.each_attribute.Goals as goal
@@ -11,24 +11,24 @@ use Rattle.just_parser.proofs.parser.Parser.each_attribute.Goals as goal
 pub returns-then-is_at-clause-ok : goal.returns-then-is_at-clause-ok
 returns-then-is_at-clause-ok c =
     turns_end (is_at 0 kinds.BracketR) attribute (map written_view c.loop.into.items) (map written_view c.args.into.now.items) _
-    (left c.loop.self) (left c.args.self.now) (sym c.is_at.ensures ∙ c.if-is_at.true) c.loop.invariant
+    (unread c.loop.self) (unread c.args.self.now) (sym c.is_at.ensures ∙ c.if-is_at.true) c.loop.invariant
 
 pub returns-in_err-attribute-clause-refused : goal.returns-in_err-attribute-clause-refused
 returns-in_err-attribute-clause-refused c =
-    let refused : IsRefused (many (is_at 0 kinds.BracketR) attribute (left c.args.self.now)) c.in_err-attribute.field-0.0 =
+    let refused : IsPhraseRefused (many (is_at 0 kinds.BracketR) attribute (unread c.args.self.now)) c.in_err-attribute.field-0.0 =
     turn_refused (length c.rest-end.result.now) c.loop.counter (is_at 0 kinds.BracketR) attribute (map written_view c.loop.into.items)
-    (map written_view c.args.into.now.items) (left c.loop.self) (many (is_at 0 kinds.BracketR) attribute (left c.args.self.now))
+    (map written_view c.args.into.now.items) (unread c.loop.self) (many (is_at 0 kinds.BracketR) attribute (unread c.args.self.now))
     c.in_err-attribute.field-0.0 c.loop-test.true (sym c.is_at.ensures ∙ c.if-is_at.false) c.in_err-attribute.ensures.refused c.loop.invariant in
     search rules
 
 pub loop-preserved : goal.loop-preserved
 loop-preserved c =
     turned (length c.rest-end.result.now) c.loop.counter (is_at 0 kinds.BracketR) attribute (map written_view c.loop.into.items)
-    (map written_view c.attribute.new.into.items) (left c.loop.self)
-    (left c.attribute.new.self) c.loop-test.true (sym c.is_at.ensures ∙ c.if-is_at.false) c.in_ok-attribute.ensures.ok ∙ c.loop.invariant
+    (map written_view c.attribute.new.into.items) (unread c.loop.self)
+    (unread c.attribute.new.self) c.loop-test.true (sym c.is_at.ensures ∙ c.if-is_at.false) c.in_ok-attribute.ensures.ok ∙ c.loop.invariant
 
 pub returns-clause-ok : goal.returns-clause-ok
 returns-clause-ok c =
     turns_over (is_at 0 kinds.BracketR) attribute (map written_view c.loop.into.items)
-    (map written_view c.args.into.now.items) (length c.rest-end.result.now - c.loop.counter) (left c.loop.self)
-    (left c.args.self.now) (omega (arith, c.loop-test.false)) c.loop.invariant
+    (map written_view c.args.into.now.items) (length c.rest-end.result.now - c.loop.counter) (unread c.loop.self)
+    (unread c.args.self.now) (omega (arith, c.loop-test.false)) c.loop.invariant

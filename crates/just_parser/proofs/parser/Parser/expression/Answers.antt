@@ -1,7 +1,7 @@
 use Rattle.std.proofs.Common.{ap, sym, ◌∙◌}
 use Rattle.just_syntax.specs.View.{view}
 use Rattle.just_parser.proofs.Reading.{expression_refused}
-use Rattle.just_parser.specs.Parsed.{left}
+use Rattle.just_parser.specs.Parsed.{unread}
 use Rattle.just_parser.specs.Phrase.{Read, expression, of_machine}
 use Rattle.just_parser.proofs.parser.Parser.expression.Goals as goal
 
@@ -11,4 +11,4 @@ returns-in-Ok-clause-ok c = ap of_machine (rw c.rest.ensures at c.in-Ok.ensures.
 
 pub returns-in-Err-clause-refused : goal.returns-in-Err-clause-refused
 returns-in-Err-clause-refused c =
-    expression_refused (left c.args.self.now) c.in-Err.refusal c.of_syntax.result (rw c.rest.ensures at c.in-Err.ensures.refused) c.of_syntax.ensures
+    expression_refused (unread c.args.self.now) c.in-Err.refusal c.of_syntax.result (rw c.rest.ensures at c.in-Err.ensures.refused) c.of_syntax.ensures

@@ -2,12 +2,13 @@ use Rattle.std.proofs.Common.{map, ◌-◌}
 use Rattle.just_parser.specs.View.{item_view}
 use Rattle.just_lexer.specs.declared.kind.TokenKind.TheVariants as kinds
 use Rattle.just_expression_parser.specs.Tokens.{is_at}
-use Rattle.just_parser.proofs.Repeated.{Turns}
-use Rattle.just_parser.specs.Parsed.{left}
-use Rattle.just_parser.specs.Items.{line}
+use Rattle.just_parser.proofs.Repeated.{RepeatsAlike}
+use Rattle.just_parser.specs.Parsed.{unread}
+use Rattle.just_parser.specs.Items.{item_line}
 use Rattle.just_parser.proofs.parser.Parser.lines.Given as goal
 
 -- what is left gives the rest
 abbrev pub invariant-loop : goal.invariant-loop
 invariant-loop l =
-    Turns (is_at 0 kinds.Eof) line (map item_view l.into.items) (map item_view l.fn.into.items) (l.end - l.counter) (left l.self) (left l.fn.self)
+    RepeatsAlike (is_at 0 kinds.Eof) item_line (map item_view l.into.items) (map item_view l.fn.into.items) (l.end - l.counter) (unread l.self)
+    (unread l.fn.self)

@@ -1,7 +1,7 @@
 use Rattle.std.proofs.Common.{ap, sym, ◌∙◌}
 use Rattle.just_syntax.specs.View.{view}
 use Rattle.just_parser.proofs.Reading.{value_refused}
-use Rattle.just_parser.specs.Parsed.{left}
+use Rattle.just_parser.specs.Parsed.{unread}
 use Rattle.just_parser.specs.Phrase.{Read, of_machine, value}
 use Rattle.just_parser.proofs.parser.Parser.value.Goals as goal
 
@@ -11,4 +11,4 @@ returns-in-Ok-clause-ok c = ap of_machine (rw c.rest.ensures at c.in-Ok.ensures.
 
 pub returns-in-Err-clause-refused : goal.returns-in-Err-clause-refused
 returns-in-Err-clause-refused c =
-    value_refused (left c.args.self.now) c.in-Err.refusal c.of_syntax.result (rw c.rest.ensures at c.in-Err.ensures.refused) c.of_syntax.ensures
+    value_refused (unread c.args.self.now) c.in-Err.refusal c.of_syntax.result (rw c.rest.ensures at c.in-Err.ensures.refused) c.of_syntax.ensures
