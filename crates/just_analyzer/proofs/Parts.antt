@@ -6,9 +6,9 @@ use Rattle.just_syntax.proofs.Tables.{seen_at}
 use Rattle.just_syntax.specs.Keyed.{value_at, with_value}
 use Rattle.just_syntax.specs.Plain.{Set, Text}
 use Rattle.just_parser.specs.Plain.{RecipeDefinition}
-use Rattle.just_analyzer.specs.Outcome.{Outcome, Grown, next}
+use Rattle.just_analyzer.specs.Outcome.{Analyzed, Grown, after_analyzed}
 use Rattle.just_analyzer.specs.Parameters.{configured}
-use Rattle.just_analyzer.specs.View.{IsFault}
+use Rattle.just_analyzer.specs.View.{IsAnalysisFault}
 use Rattle.just_analyzer.specs.declared.analysis_error.AnalysisError.{AnalysisError}
 use Rattle.just_analyzer.specs.declared.analysis_error.AnalysisError.TheVariants.{Fault, OutOfMemory}
 use Rattle.just_analyzer.specs.Analysis.{Alias, Analysis, and_recipe, has_alias, has_recipe, has_set}
@@ -32,20 +32,20 @@ alias_added a alias all no_alias no_recipe is = rw (no_alias, no_recipe) (ap (λ
 
 -- a recipe that fits is what its attributes say
 pub recipe_goes : (may_replace : Bool) (a : Analysis) (r : RecipeDefinition) → has_alias a r.recipe.name ≡ false
-    → (not may_replace && has_recipe a r.recipe.name) ≡ false → with_recipe may_replace a r ≡ next (configured r) (and_recipe a)
+    → (not may_replace && has_recipe a r.recipe.name) ≡ false → with_recipe may_replace a r ≡ after_analyzed (configured r) (and_recipe a)
 unfolding with_recipe
 recipe_goes may_replace a r no_alias no_recipe = rw (no_alias, no_recipe) refl
 
-pub recipe_added : (a : Analysis) (r made : RecipeDefinition) (all : List RecipeDefinition) (whole : Outcome Analysis)
-    → whole ≡ next (configured r) (and_recipe a) → configured r ≡ Grown made
+pub recipe_added : (a : Analysis) (r made : RecipeDefinition) (all : List RecipeDefinition) (whole : Analyzed Analysis)
+    → whole ≡ after_analyzed (configured r) (and_recipe a) → configured r ≡ Grown made
     → all ≡ with_value (λ other. other.recipe.name.lexeme) a.recipes made → whole ≡ Grown (record a { recipes = all })
 recipe_added a r made all whole goes is inserted =
-    goes ∙ ap (λ o. next o (and_recipe a)) is ∙ ap (λ xs. Grown (record a { recipes = xs })) (sym inserted)
+    goes ∙ ap (λ o. after_analyzed o (and_recipe a)) is ∙ ap (λ xs. Grown (record a { recipes = xs })) (sym inserted)
 
 -- what follows something that does not fit does not fit
-pub next_fault : {A B : Type 0} (outcome : Outcome A) (more : A → Outcome B) (whole : Outcome B) (error : AnalysisError)
-    → whole ≡ next outcome more → IsFault outcome error → IsFault whole error
-next_fault outcome more whole (Fault kind name) goes fault = goes ∙ ap (λ o. next o more) fault
+pub next_fault : {A B : Type 0} (outcome : Analyzed A) (more : A → Analyzed B) (whole : Analyzed B) (error : AnalysisError)
+    → whole ≡ after_analyzed outcome more → IsAnalysisFault outcome error → IsAnalysisFault whole error
+next_fault outcome more whole (Fault kind name) goes fault = goes ∙ ap (λ o. after_analyzed o more) fault
 next_fault outcome more whole OutOfMemory goes fault = tt
 
 pub set_added : (a : Analysis) (s : Set) (all : List Set) → has_set a s.name ≡ false → all ≡ with_value (λ t. t.name.lexeme) a.sets s

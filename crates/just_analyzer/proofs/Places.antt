@@ -7,7 +7,7 @@ use Rattle.std.proofs.Common.{◌∙◌, add-zero, ap, arith, cond, get_or, refl
 use Rattle.std.proofs.lemmas.Slice.Eq.{bytes_eq-Decides}
 use Rattle.just_syntax.specs.Plain.{Parameter, Text}
 use Rattle.just_parser.specs.Plain.{ArgOption, Flag, Multiple, Value}
-use Rattle.just_analyzer.specs.Parameters.{duplicate, is_named, place_of, repeated, with_option, with_options, with_options_at}
+use Rattle.just_analyzer.specs.Parameters.{duplicate, is_named, parameter_place, repeated_name, with_option, with_options, with_options_at}
 
 -- ---- one parameter more
 
@@ -32,8 +32,8 @@ or_none None = refl
 or_none (Some x) = refl
 
 -- a new name is at the end
-placed : (t : Text) (ps : List Parameter) (p : Parameter) → place_of p.name.lexeme ps ≡ None
-    → place_of t (ps ++ p ∷ []) ≡ cond (bytes_eq p.name.lexeme t) (Some (length ps)) (place_of t ps)
+placed : (t : Text) (ps : List Parameter) (p : Parameter) → parameter_place p.name.lexeme ps ≡ None
+    → parameter_place t (ps ++ p ∷ []) ≡ cond (bytes_eq p.name.lexeme t) (Some (length ps)) (parameter_place t ps)
 placed t ps p none =
     at_end t 0 ps p ∙ by (bytes_eq t p.name.lexeme) (bytes_eq p.name.lexeme t) (bytes_eq-Decides t p.name.lexeme) (bytes_eq-Decides p.name.lexeme t)
   where
@@ -41,25 +41,25 @@ placed t ps p none =
     from_zero = omega arith
 
     by : (a b : Bool) → Decides a (t ≡ p.name.lexeme) → Decides b (p.name.lexeme ≡ t)
-        → option_or (place_of t ps) (cond a (Some (0 + length ps)) None) ≡ cond b (Some (length ps)) (place_of t ps)
+        → option_or (parameter_place t ps) (cond a (Some (0 + length ps)) None) ≡ cond b (Some (length ps)) (parameter_place t ps)
     by true true d e =
-        ap (λ o. option_or o (Some (0 + length ps))) (ap (λ name. place_of name ps) (d.0 refl) ∙ none) ∙ ap Some from_zero
+        ap (λ o. option_or o (Some (0 + length ps))) (ap (λ name. parameter_place name ps) (d.0 refl) ∙ none) ∙ ap Some from_zero
     by true false d e = let bad : false ≡ true = e.1 (sym (d.0 refl)) in absurd (cc)
     by false true d e = let bad : false ≡ true = d.1 (sym (e.0 refl)) in absurd (cc)
-    by false false d e = or_none (place_of t ps)
+    by false false d e = or_none (parameter_place t ps)
 
 -- the places after one parameter more, whose name is new
 pub next_place : (old new : Text → Option ℕ) (ps rest all : List Parameter) (p : Parameter) (i : ℕ) → i ≡ length ps
-    → ((t : Text) → old t ≡ place_of t ps) → old p.name.lexeme ≡ None → ((t : Text) → new t ≡ cond (bytes_eq p.name.lexeme t) (Some i) (old t))
+    → ((t : Text) → old t ≡ parameter_place t ps) → old p.name.lexeme ≡ None → ((t : Text) → new t ≡ cond (bytes_eq p.name.lexeme t) (Some i) (old t))
     → duplicate ps (p ∷ rest) ≡ duplicate [] all
-    → ((t : Text) → new t ≡ place_of t (ps ++ p ∷ [])) × (duplicate (ps ++ p ∷ []) rest ≡ duplicate [] all)
+    → ((t : Text) → new t ≡ parameter_place t (ps ++ p ∷ [])) × (duplicate (ps ++ p ∷ []) rest ≡ duplicate [] all)
 next_place old new ps rest all p i size before none more distinct = (
   λ t. more t ∙ ap (cond (bytes_eq p.name.lexeme t) (Some i)) (before t)
-      ∙ ap (λ k. cond (bytes_eq p.name.lexeme t) (Some k) (place_of t ps)) size ∙ sym (placed t ps p missing),
-  sym (ap (λ found. option_or (repeated found p.name) (duplicate (ps ++ p ∷ []) rest)) missing) ∙ distinct,
+      ∙ ap (λ k. cond (bytes_eq p.name.lexeme t) (Some k) (parameter_place t ps)) size ∙ sym (placed t ps p missing),
+  sym (ap (λ found. option_or (repeated_name found p.name) (duplicate (ps ++ p ∷ []) rest)) missing) ∙ distinct,
 )
   where
-    missing : place_of p.name.lexeme ps ≡ None
+    missing : parameter_place p.name.lexeme ps ≡ None
     missing = sym (before p.name.lexeme) ∙ none
 
 -- ---- options change no name
@@ -79,7 +79,7 @@ kept_from t k i os [] = refl
 kept_from t k zero os (p ∷ ps) = ap (λ name. cond (bytes_eq t name.lexeme) (Some k) (position_from (is_named t) (k + 1) ps)) (name_kept p os)
 kept_from t k (suc i) os (p ∷ ps) = ap (cond (is_named t p) (Some k)) (kept_from t (k + 1) i os ps)
 
-pub places_kept : (t : Text) (i : ℕ) (os : List ArgOption) (ps : List Parameter) → place_of t (with_options_at i os ps) ≡ place_of t ps
+pub places_kept : (t : Text) (i : ℕ) (os : List ArgOption) (ps : List Parameter) → parameter_place t (with_options_at i os ps) ≡ parameter_place t ps
 places_kept t i os ps = kept_from t 0 i os ps
 
 -- ---- a place is one of a parameter
@@ -93,7 +93,7 @@ within_from t k i (p ∷ ps) is = by (is_named t p) is (within_from t (k + 1) i 
     by true here later = let same : k ≡ i = cc in omega (arith, same)
     by false there later = let less = later there in omega (arith, less)
 
-pub within : (t : Text) (i : ℕ) (ps : List Parameter) → place_of t ps ≡ Some i → i < length ps
+pub within : (t : Text) (i : ℕ) (ps : List Parameter) → parameter_place t ps ≡ Some i → i < length ps
 within t i ps is = let less = within_from t 0 i ps is in omega (arith, less)
 
 -- the parameter at a place is another one

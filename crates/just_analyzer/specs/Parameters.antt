@@ -4,7 +4,7 @@ use Rattle.std.specs.List.{position_from}
 use Rattle.std.specs.Option.{option_or}
 use Rattle.just_syntax.specs.Plain.{Parameter, Text, Token}
 use Rattle.just_parser.specs.Plain.{ArgAttribute, ArgOption, Flag, Multiple, RecipeDefinition, Value}
-use Rattle.just_analyzer.specs.Outcome.{Outcome, Faulty, Grown, next}
+use Rattle.just_analyzer.specs.Outcome.{Analyzed, Faulty, Grown, after_analyzed}
 use Rattle.just_analyzer.specs.declared.analysis_error.Fault.TheVariants.{DuplicateParameter, UndefinedParameter}
 
 -- a parameter has this name
@@ -12,22 +12,22 @@ abbrev pub is_named : Text → Parameter → Bool
 is_named name p = bytes_eq name p.name.lexeme
 
 -- the place of the first parameter of a name
-abbrev pub place_of : Text → List Parameter → Option ℕ
-place_of name ps = position_from (is_named name) 0 ps
+abbrev pub parameter_place : Text → List Parameter → Option ℕ
+parameter_place name ps = position_from (is_named name) 0 ps
 
 -- this name, if it is at a place already
-abbrev pub repeated : Option ℕ → Token → Option Token
-repeated None name = None
-repeated (Some i) name = Some name
+abbrev pub repeated_name : Option ℕ → Token → Option Token
+repeated_name None name = None
+repeated_name (Some i) name = Some name
 
 -- after these parameters: the name of the first one that has the name of one before it
 abbrev pub duplicate : List Parameter → List Parameter → Option Token
 duplicate before [] = None
 duplicate before (p ∷ ps) =
-    option_or (repeated (place_of p.name.lexeme before) p.name) (duplicate (before ++ p ∷ []) ps)
+    option_or (repeated_name (parameter_place p.name.lexeme before) p.name) (duplicate (before ++ p ∷ []) ps)
 
 -- no name is there twice
-abbrev pub distinct : Option Token → Outcome Unit
+abbrev pub distinct : Option Token → Analyzed Unit
 distinct None = Grown tt
 distinct (Some name) = Faulty DuplicateParameter name
 
@@ -51,20 +51,20 @@ with_options_at zero os (p ∷ ps) = with_options p os ∷ ps
 with_options_at (suc i) os (p ∷ ps) = p ∷ with_options_at i os ps
 
 -- the parameters with what an attribute says of the one at this place
-abbrev pub at_place : ArgAttribute → List Parameter → Option ℕ → Outcome (List Parameter)
+abbrev pub at_place : ArgAttribute → List Parameter → Option ℕ → Analyzed (List Parameter)
 at_place a ps None = Faulty UndefinedParameter a.name
 at_place a ps (Some i) = Grown (with_options_at i a.options ps)
 
 -- the parameters with what attributes say of them
-abbrev pub with_args : List ArgAttribute → List Parameter → Outcome (List Parameter)
+abbrev pub with_args : List ArgAttribute → List Parameter → Analyzed (List Parameter)
 with_args [] ps = Grown ps
-with_args (a ∷ rest) ps = next (at_place a ps (place_of a.parameter.cooked ps)) (with_args rest)
+with_args (a ∷ rest) ps = after_analyzed (at_place a ps (parameter_place a.parameter.cooked ps)) (with_args rest)
 
 -- a recipe with these parameters
-abbrev pub with_parameters : RecipeDefinition → List Parameter → RecipeDefinition
-with_parameters r ps = record r { args = []; parameters = ps }
+abbrev pub recipe_with_parameters : RecipeDefinition → List Parameter → RecipeDefinition
+recipe_with_parameters r ps = record r { args = []; parameters = ps }
 
 -- a recipe whose parameters are what its attributes say, if their names differ
-unfoldable pub configured : RecipeDefinition → Outcome RecipeDefinition
-configured r = next (distinct (duplicate [] r.parameters))
-    (λ (all : Unit). next (with_args r.args r.parameters) (λ ps. Grown (with_parameters r ps)))
+unfoldable pub configured : RecipeDefinition → Analyzed RecipeDefinition
+configured r = after_analyzed (distinct (duplicate [] r.parameters))
+    (λ (all : Unit). after_analyzed (with_args r.args r.parameters) (λ ps. Grown (recipe_with_parameters r ps)))

@@ -9,7 +9,7 @@ use Rattle.just_syntax.specs.View.{name_view, set_view}
 use Rattle.just_host.specs.View.{justfile_view}
 use Rattle.just_parser.specs.View.{recipe_definition_view}
 use Rattle.just_analyzer.specs.Analysis as plain
-use Rattle.just_analyzer.specs.Outcome.{Outcome, Faulty}
+use Rattle.just_analyzer.specs.Outcome.{Analyzed, Faulty}
 use Rattle.just_analyzer.specs.declared.added.Allowed.{Allowed}
 use Rattle.just_analyzer.specs.declared.alias.Alias.{Alias}
 use Rattle.just_analyzer.specs.declared.analysis.Analysis.{Analysis}
@@ -31,14 +31,14 @@ abbrev pub allowed_view : Allowed → plain.Allowed
 allowed_view allowed = record { recipes = allowed.recipes; variables = allowed.variables }
 
 -- the token of an error, if it has one
-abbrev pub error_token : AnalysisError → Option Token
-error_token (Fault kind name) = Some (name_view name)
-error_token OutOfMemory = None
+abbrev pub analysis_error_token : AnalysisError → Option Token
+analysis_error_token (Fault kind name) = Some (name_view name)
+analysis_error_token OutOfMemory = None
 
 -- an item does not fit, by its name; of `OutOfMemory` nothing is said
-abbrev pub IsFault : {A : Type 0} → Outcome A → AnalysisError → Type 0
-IsFault outcome (Fault kind name) = outcome ≡ Faulty kind (name_view name)
-IsFault outcome OutOfMemory = Unit {0}
+abbrev pub IsAnalysisFault : {A : Type 0} → Analyzed A → AnalysisError → Type 0
+IsAnalysisFault outcome (Fault kind name) = outcome ≡ Faulty kind (name_view name)
+IsAnalysisFault outcome OutOfMemory = Unit {0}
 
 -- the place of a name
 abbrev pub place_in : BTreeMap (Bor Text) ℕ → Text → Option ℕ

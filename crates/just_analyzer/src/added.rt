@@ -7,9 +7,9 @@ ghost use Rattle.just_syntax.specs.View.{assignment_view, function_view, name_vi
 ghost use Rattle.just_parser.specs.View.{item_view, recipe_definition_view};
 ghost use Rattle.just_analyzer.specs.Analysis.{added, has_alias, has_function, has_recipe, has_set};
 ghost use Rattle.just_analyzer.specs.Analysis.{has_variable, with_alias, with_definition, with_recipe, with_set};
-ghost use Rattle.just_analyzer.specs.Analysis.{with_unexport, with_variable};
+ghost use Rattle.just_analyzer.specs.Analysis.{with_assigned_variable, with_unexport};
 ghost use Rattle.just_analyzer.specs.Outcome.{Grown};
-ghost use Rattle.just_analyzer.specs.View.{IsFault, alias_view, allowed_view, analysis_view};
+ghost use Rattle.just_analyzer.specs.View.{IsAnalysisFault, alias_view, allowed_view, analysis_view};
 
 use crate::alias::Alias;
 use crate::analysis::Analysis;
@@ -45,7 +45,7 @@ impl<'src> Analysis<'src> {
         ensures ok { OnOk result (added (allowed_view allowed) (analysis_view self.old) (item_view item.entry)
             ≡ Grown (analysis_view self.new)) }
         ensures err { IfErr result
-            (IsFault (added (allowed_view allowed) (analysis_view self.old) (item_view item.entry))) }
+            (IsAnalysisFault (added (allowed_view allowed) (analysis_view self.old) (item_view item.entry))) }
     {
         match item {
             Item::Alias { name, target } => self.add_alias(Alias { name, target }),
@@ -62,7 +62,7 @@ impl<'src> Analysis<'src> {
     fn add_alias(&mut self, alias: Alias<'src>) -> Result<(), AnalysisError<'src>>
         ensures ok { OnOk result (with_alias (analysis_view self.old) (alias_view alias.entry)
             ≡ Grown (analysis_view self.new)) }
-        ensures err { IfErr result (IsFault (with_alias (analysis_view self.old) (alias_view alias.entry))) }
+        ensures err { IfErr result (IsAnalysisFault (with_alias (analysis_view self.old) (alias_view alias.entry))) }
     {
         if self.has_alias(alias.name) || self.has_recipe(alias.name) {
             return Err(fault(Fault::DuplicateRecipe, alias.name));
@@ -71,16 +71,16 @@ impl<'src> Analysis<'src> {
     }
 
     // Adds a variable.
-    #[tactic(auto, unfolding(crate::specs::Analysis::with_variable))]
+    #[tactic(auto, unfolding(crate::specs::Analysis::with_assigned_variable))]
     fn add_assignment(
         &mut self,
         allowed: Allowed,
         assignment: Assignment<'src>,
     ) -> Result<(), AnalysisError<'src>>
-        ensures ok { OnOk result (with_variable allowed.variables (analysis_view self.old)
+        ensures ok { OnOk result (with_assigned_variable allowed.variables (analysis_view self.old)
             (assignment_view assignment.entry) ≡ Grown (analysis_view self.new)) }
-        ensures err { IfErr result (IsFault
-            (with_variable allowed.variables (analysis_view self.old) (assignment_view assignment.entry))) }
+        ensures err { IfErr result (IsAnalysisFault
+            (with_assigned_variable allowed.variables (analysis_view self.old) (assignment_view assignment.entry))) }
     {
         let name = assignment.name;
         if !allowed.variables && self.has_variable(name) {
@@ -98,7 +98,8 @@ impl<'src> Analysis<'src> {
     ) -> Result<(), AnalysisError<'src>>
         ensures ok { OnOk result (with_definition (analysis_view self.old) (function_view function.entry)
             ≡ Grown (analysis_view self.new)) }
-        ensures err { IfErr result (IsFault (with_definition (analysis_view self.old) (function_view function.entry))) }
+        ensures err { IfErr result
+            (IsAnalysisFault (with_definition (analysis_view self.old) (function_view function.entry))) }
     {
         let name = function.name;
         if self.has_function(name) {
@@ -118,7 +119,7 @@ impl<'src> Analysis<'src> {
     ) -> Result<(), AnalysisError<'src>>
         ensures ok { OnOk result (with_recipe allowed.recipes (analysis_view self.old)
             (recipe_definition_view recipe.entry) ≡ Grown (analysis_view self.new)) }
-        ensures err { IfErr result (IsFault
+        ensures err { IfErr result (IsAnalysisFault
             (with_recipe allowed.recipes (analysis_view self.old) (recipe_definition_view recipe.entry))) }
     {
         let name = recipe.recipe.name;
@@ -137,7 +138,7 @@ impl<'src> Analysis<'src> {
     fn add_set(&mut self, set: Set<'src>) -> Result<(), AnalysisError<'src>>
         ensures ok { OnOk result (with_set (analysis_view self.old) (set_view set.entry)
             ≡ Grown (analysis_view self.new)) }
-        ensures err { IfErr result (IsFault (with_set (analysis_view self.old) (set_view set.entry))) }
+        ensures err { IfErr result (IsAnalysisFault (with_set (analysis_view self.old) (set_view set.entry))) }
     {
         let name = set.name;
         if self.has_set(name) {
@@ -152,7 +153,7 @@ impl<'src> Analysis<'src> {
     fn add_unexport(&mut self, alloc: Global, name: Name<'src>) -> Result<(), AnalysisError<'src>>
         ensures ok { OnOk result (with_unexport (analysis_view self.old) (name_view name.entry)
             ≡ Grown (analysis_view self.new)) }
-        ensures err { IfErr result (IsFault (with_unexport (analysis_view self.old) (name_view name.entry))) }
+        ensures err { IfErr result (IsAnalysisFault (with_unexport (analysis_view self.old) (name_view name.entry))) }
     {
         allocated(self.unexport(alloc, name))
     }

@@ -2,7 +2,7 @@
 
 ghost use Rattle.std.specs.Prelude.{option_map, ◌≡◌};
 ghost use Rattle.just_syntax.specs.View.{token_view};
-ghost use Rattle.just_analyzer.specs.View.{error_token};
+ghost use Rattle.just_analyzer.specs.View.{analysis_error_token};
 
 use just_syntax::name::Name;
 use just_syntax::out_of_memory::OutOfMemory;
@@ -42,7 +42,7 @@ pub enum AnalysisError<'src> {
 impl<'src> AnalysisError<'src> {
     /// The token of the item's name; `None` for `OutOfMemory`.
     pub fn token(&self) -> Option<Token<'src>>
-        ensures { option_map token_view result ≡ error_token self.now }
+        ensures { option_map token_view result ≡ analysis_error_token self.now }
     {
         match self {
             AnalysisError::Fault { name, .. } => Some(name.token),

@@ -3,10 +3,10 @@
 ghost use Rattle.std.specs.Prelude.{IfErr, IfOk, OnOk, map, ◌≡◌};
 ghost use Rattle.std.specs.List.{list_any};
 ghost use Rattle.just_parser.specs.View.{item_view};
-ghost use Rattle.just_analyzer.specs.Analysis.{allowed_by, allows_recipes, allows_variables, analyzed, grown};
-ghost use Rattle.just_analyzer.specs.Analysis.{is_set};
+ghost use Rattle.just_analyzer.specs.Analysis.{allowed_by, allows_recipes, allows_variables, analyzed, with_items};
+ghost use Rattle.just_analyzer.specs.Analysis.{sets_this};
 ghost use Rattle.just_analyzer.specs.Outcome.{Grown};
-ghost use Rattle.just_analyzer.specs.View.{IsFault, allowed_view, analysis_view};
+ghost use Rattle.just_analyzer.specs.View.{IsAnalysisFault, allowed_view, analysis_view};
 
 use crate::added::Allowed;
 use crate::analysis::Analysis;
@@ -39,7 +39,7 @@ pub fn analyze<'src>(
 ) -> Result<Analysis<'src>, AnalysisError<'src>>
     ensures parts { IfOk result (λ a. analyzed source.now working_directory.now (map item_view items.entry.items)
         ≡ Grown (analysis_view a)) }
-    ensures fault { IfErr result (IsFault
+    ensures fault { IfErr result (IsAnalysisFault
         (analyzed source.now working_directory.now (map item_view items.entry.items))) }
 {
     let mut items = items;
@@ -62,9 +62,9 @@ fn grow<'src>(
     analysis: &mut Analysis<'src>,
     items: &mut Vec<Item<'src>>,
 ) -> Result<(), AnalysisError<'src>>
-    ensures ok { OnOk result (grown (allowed_by (map item_view items.old.items)) (analysis_view analysis.old)
+    ensures ok { OnOk result (with_items (allowed_by (map item_view items.old.items)) (analysis_view analysis.old)
         (map item_view items.old.items) ≡ Grown (analysis_view analysis.new)) }
-    ensures err { IfErr result (IsFault (grown (allowed_by (map item_view items.old.items))
+    ensures err { IfErr result (IsAnalysisFault (with_items (allowed_by (map item_view items.old.items))
         (analysis_view analysis.old) (map item_view items.old.items))) }
 {
     let allowed = allowed(items);
@@ -87,21 +87,21 @@ fn allowed(items: &[Item]) -> Allowed
 
 // Whether recipes may have one name.
 fn are_recipes_allowed(items: &[Item]) -> bool
-    ensures { result ≡ list_any (λ item. is_set allows_recipes (item_view item)) items.now }
+    ensures { result ≡ list_any (λ item. sets_this allows_recipes (item_view item)) items.now }
 {
     items.iter().any(|item| allows_recipes(item))
 }
 
 // Whether variables may have one name.
 fn are_variables_allowed(items: &[Item]) -> bool
-    ensures { result ≡ list_any (λ item. is_set allows_variables (item_view item)) items.now }
+    ensures { result ≡ list_any (λ item. sets_this allows_variables (item_view item)) items.now }
 {
     items.iter().any(|item| allows_variables(item))
 }
 
 // Whether an item sets that recipes may have one name.
 fn allows_recipes(item: &Item) -> bool
-    ensures { result ≡ is_set allows_recipes (item_view item.now) }
+    ensures { result ≡ sets_this allows_recipes (item_view item.now) }
 {
     match item {
         Item::Set(set) => matches!(set.value, Setting::AllowDuplicateRecipes(true)),
@@ -111,7 +111,7 @@ fn allows_recipes(item: &Item) -> bool
 
 // Whether an item sets that variables may have one name.
 fn allows_variables(item: &Item) -> bool
-    ensures { result ≡ is_set allows_variables (item_view item.now) }
+    ensures { result ≡ sets_this allows_variables (item_view item.now) }
 {
     match item {
         Item::Set(set) => matches!(set.value, Setting::AllowDuplicateVariables(true)),

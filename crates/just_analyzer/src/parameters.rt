@@ -5,9 +5,10 @@ ghost use Rattle.std.specs.Prelude.{bytes_eq, if◌then◌else◌};
 ghost use Rattle.just_syntax.specs.View.{name_view, recipe_parameter_view};
 ghost use Rattle.just_parser.specs.View.{arg_option_view, arg_view, recipe_definition_view};
 ghost use Rattle.just_analyzer.specs.Outcome.{Grown};
-ghost use Rattle.just_analyzer.specs.Parameters.{at_place, configured, distinct, duplicate, place_of, repeated};
+ghost use Rattle.just_analyzer.specs.Parameters.{at_place, configured, distinct, duplicate, parameter_place};
+ghost use Rattle.just_analyzer.specs.Parameters.{repeated_name};
 ghost use Rattle.just_analyzer.specs.Parameters.{with_args, with_option, with_options};
-ghost use Rattle.just_analyzer.specs.View.{IsFault, place_in};
+ghost use Rattle.just_analyzer.specs.View.{IsAnalysisFault, place_in};
 
 use crate::added::fault;
 use crate::analysis_error::{AnalysisError, Fault};
@@ -26,7 +27,7 @@ pub(crate) fn configure<'src>(
 ) -> Result<(), AnalysisError<'src>>
     ensures ok { OnOk result
         (configured (recipe_definition_view recipe.old) ≡ Grown (recipe_definition_view recipe.new)) }
-    ensures err { IfErr result (IsFault (configured (recipe_definition_view recipe.old))) }
+    ensures err { IfErr result (IsAnalysisFault (configured (recipe_definition_view recipe.old))) }
 {
     let mut places = BTreeMap::new(alloc);
     add_places(&mut places, &recipe.parameters)?;
@@ -40,9 +41,9 @@ fn add_places<'src>(
 ) -> Result<(), AnalysisError<'src>>
     requires { (t : List ℕ) → place_in places.old t ≡ None }
     ensures places { OnOk result ((t : List ℕ) → place_in places.new t
-        ≡ place_of t (map recipe_parameter_view parameters.now)) }
+        ≡ parameter_place t (map recipe_parameter_view parameters.now)) }
     ensures ok { OnOk result (distinct (duplicate [] (map recipe_parameter_view parameters.now)) ≡ Grown tt) }
-    ensures err { IfErr result (IsFault (distinct (duplicate [] (map recipe_parameter_view parameters.now)))) }
+    ensures err { IfErr result (IsAnalysisFault (distinct (duplicate [] (map recipe_parameter_view parameters.now)))) }
 {
     for index in 0..parameters.len() {
         add_place(places, parameters[index].name, index)?;
@@ -59,8 +60,8 @@ fn add_place<'src>(
     ensures places { OnOk result ((t : List ℕ) → place_in places.new t
         ≡ (if bytes_eq (name_view name.entry).lexeme t then Some place else place_in places.old t)) }
     ensures ok { OnOk result (place_in places.old (name_view name.entry).lexeme ≡ None) }
-    ensures err { IfErr result (IsFault
-        (distinct (repeated (place_in places.old (name_view name.entry).lexeme) (name_view name.entry)))) }
+    ensures err { IfErr result (IsAnalysisFault
+        (distinct (repeated_name (place_in places.old (name_view name.entry).lexeme) (name_view name.entry)))) }
 {
     if places.contains_key(name.lexeme()) {
         return Err(fault(Fault::DuplicateParameter, name));
@@ -77,11 +78,12 @@ fn apply_all<'src>(
     args: &mut Vec<ArgAttribute<'src>>,
     parameters: &mut Vec<Parameter<'src>>,
 ) -> Result<(), AnalysisError<'src>>
-    requires { (t : List ℕ) → place_in places.now t ≡ place_of t (map recipe_parameter_view parameters.old.items) }
+    requires { (t : List ℕ) → place_in places.now t
+        ≡ parameter_place t (map recipe_parameter_view parameters.old.items) }
     ensures args { OnOk result (args.new.items ≡ []) }
     ensures ok { OnOk result (with_args (map arg_view args.old.items) (map recipe_parameter_view parameters.old.items)
         ≡ Grown (map recipe_parameter_view parameters.new.items)) }
-    ensures err { IfErr result (IsFault
+    ensures err { IfErr result (IsAnalysisFault
         (with_args (map arg_view args.old.items) (map recipe_parameter_view parameters.old.items))) }
 {
     args.reverse();
@@ -97,14 +99,15 @@ fn apply<'src>(
     arg: ArgAttribute<'src>,
     parameters: &mut Vec<Parameter<'src>>,
 ) -> Result<(), AnalysisError<'src>>
-    requires { (t : List ℕ) → place_in places.now t ≡ place_of t (map recipe_parameter_view parameters.old.items) }
+    requires { (t : List ℕ) → place_in places.now t
+        ≡ parameter_place t (map recipe_parameter_view parameters.old.items) }
     ensures places { OnOk result ((t : List ℕ) → place_in places.now t
-        ≡ place_of t (map recipe_parameter_view parameters.new.items)) }
+        ≡ parameter_place t (map recipe_parameter_view parameters.new.items)) }
     ensures ok { let a = arg_view arg.entry in let ps = map recipe_parameter_view parameters.old.items in
-        OnOk result (at_place a ps (place_of a.parameter.cooked ps)
+        OnOk result (at_place a ps (parameter_place a.parameter.cooked ps)
         ≡ Grown (map recipe_parameter_view parameters.new.items)) }
     ensures err { let a = arg_view arg.entry in let ps = map recipe_parameter_view parameters.old.items in
-        IfErr result (IsFault (at_place a ps (place_of a.parameter.cooked ps))) }
+        IfErr result (IsAnalysisFault (at_place a ps (parameter_place a.parameter.cooked ps))) }
 {
     match places.get(arg.parameter.cooked.as_str()) {
         Some(place) => {

@@ -8,7 +8,7 @@ use Rattle.just_resolve.specs.Numbered.{first_named}
 use Rattle.just_resolve.proofs.Lookups.{first_named-append}
 use Rattle.just_parser.specs.Plain.{Dependency, Line, RecipeDefinition}
 use Rattle.just_recipe.specs.Numbered.{numbered_attributes, numbered_dependency, numbered_in_turn, numbered_line, numbered_parameter}
-use Rattle.just_recipe.specs.Numbered.{numbered_recipe, with_parameters}
+use Rattle.just_recipe.specs.Numbered.{number_with_parameters, numbered_recipe}
 
 -- The copies so far and those that are left are all. The names have the parameters so far.
 pub record AreNumbered (outside : Text → Option ℕ) (parameters : List Parameter) (numbers : List (Token × ℕ)) (copies : List Parameter)
@@ -32,9 +32,9 @@ module _ {outside : Text → Option ℕ} {parameters : List Parameter} {numbers 
     pairs = append_assoc are.before (q ∷ []) more ∙ ap (λ xs. are.before ++ xs) (sym second) ∙ are.pairs;
     long = let both : length (q ∷ more) ≡ length (p ∷ left) = ap length (sym second) ∙ are.long ∙ ap length first in cc;
     copied =
-        let names : (λ (t : Text). option_or (own t) (others t)) ≡ with_parameters are.before outside =
+        let names : (λ (t : Text). option_or (own t) (others t)) ≡ number_with_parameters are.before outside =
         fun_ext (λ t. ap (λ o. option_or o (others t)) (are.own_names t) ∙ ap (option_or (first_named are.before t)) (are.other_names t)) in
-        let here : copy ≡ numbered_parameter (with_parameters are.before outside) p q.1 = is ∙ ap (λ f. numbered_parameter f p q.1) names in
+        let here : copy ≡ numbered_parameter (number_with_parameters are.before outside) p q.1 = is ∙ ap (λ f. numbered_parameter f p q.1) names in
         let rest = numbered_in_turn outside (are.before ++ q ∷ []) left more in
         ap (λ cs. cs ++ rest) added ∙ append_assoc copies (copy ∷ []) rest ∙ ap (λ c. copies ++ c ∷ rest) here
         ∙ ap (λ xs. copies ++ numbered_in_turn outside are.before xs (q ∷ more)) (sym first)
@@ -52,7 +52,7 @@ added_to_none view copy {part = part} added empty is =
 -- a recipe is its parts
 pub numbered_of : {outside before after : Text → Option ℕ} (parameters : List (Token × ℕ)) (definition : RecipeDefinition) {body : List Line}
     {dependencies subsequents : List Dependency} {ps : List Parameter} {recipe : Recipe} → ((t : Text) → before t ≡ outside t)
-    → ((t : Text) → after t ≡ with_parameters parameters outside t) → body ≡ map (numbered_line after) definition.body
+    → ((t : Text) → after t ≡ number_with_parameters parameters outside t) → body ≡ map (numbered_line after) definition.body
     → dependencies ≡ map (numbered_dependency after) definition.dependencies → ps ≡ numbered_in_turn outside [] definition.parameters parameters
     → recipe ≡ record { attributes = numbered_attributes before definition.recipe.attributes; name = definition.recipe.name }
     → subsequents ≡ map (numbered_dependency after) definition.subsequents
@@ -60,5 +60,5 @@ pub numbered_of : {outside before after : Text → Option ℕ} (parameters : Lis
     ≡ numbered_recipe outside parameters definition
 numbered_of {outside = outside} {before = before} {after = after} parameters definition outer inner body dependencies turn recipe subsequents =
     let b : before ≡ outside = fun_ext outer in
-    let a : after ≡ with_parameters parameters outside = fun_ext inner in
+    let a : after ≡ number_with_parameters parameters outside = fun_ext inner in
     rw (body, dependencies, turn, recipe, subsequents, a, b) refl

@@ -29,8 +29,8 @@ abbrev pub numbered_dependency : (Text → Option ℕ) → Dependency → Depend
 numbered_dependency names d = record d { arguments = map (numbered names) d.arguments }
 
 -- the number of a parameter, the first with the name, or else the number that the name has outside
-abbrev pub with_parameters : List (Token × ℕ) → (Text → Option ℕ) → Text → Option ℕ
-with_parameters parameters names name = option_or (first_named parameters name) (names name)
+abbrev pub number_with_parameters : List (Token × ℕ) → (Text → Option ℕ) → Text → Option ℕ
+number_with_parameters parameters names name = option_or (first_named parameters name) (names name)
 
 -- a parameter with this number
 abbrev pub numbered_parameter : (Text → Option ℕ) → Parameter → ℕ → Parameter
@@ -43,7 +43,7 @@ numbered_parameter names p n = record p {
 -- Parameters with the numbers of these pairs. The expressions of each can read those before it.
 abbrev pub numbered_in_turn : (Text → Option ℕ) → List (Token × ℕ) → List Parameter → List (Token × ℕ) → List Parameter
 numbered_in_turn names before (p ∷ ps) (q ∷ qs) =
-    numbered_parameter (with_parameters before names) p q.1 ∷ numbered_in_turn names (before ++ q ∷ []) ps qs
+    numbered_parameter (number_with_parameters before names) p q.1 ∷ numbered_in_turn names (before ++ q ∷ []) ps qs
 numbered_in_turn names before _ _ = []
 
 -- a recipe whose variables have numbers, as plain data
@@ -66,7 +66,7 @@ numbered_recipe_view r = record {
 -- A recipe with these parameters, where each other name has the number that it has outside. Attributes can read what is
 -- outside, a parameter also those before it, and lines and dependencies all parameters.
 abbrev pub numbered_recipe : (Text → Option ℕ) → List (Token × ℕ) → RecipeDefinition → Numbered
-numbered_recipe outside parameters definition = let names = with_parameters parameters outside in record {
+numbered_recipe outside parameters definition = let names = number_with_parameters parameters outside in record {
   body = map (numbered_line names) definition.body;
   dependencies = map (numbered_dependency names) definition.dependencies;
   parameters = numbered_in_turn outside [] definition.parameters parameters;

@@ -4,7 +4,7 @@ ghost use Rattle.std.specs.Prelude.{IfOk, None, OnOk, [], length, map, option_ma
 ghost use Rattle.just_recipe.specs.Numbered.{IsNumberedCopy, numbered_attribute, numbered_attributes};
 ghost use Rattle.just_recipe.specs.Numbered.{numbered_dependency, numbered_fragment, numbered_in_turn, numbered_line};
 ghost use Rattle.just_recipe.specs.Numbered.{numbered_parameter, numbered_recipe, numbered_recipe_view};
-ghost use Rattle.just_recipe.specs.Numbered.{with_parameters};
+ghost use Rattle.just_recipe.specs.Numbered.{number_with_parameters};
 ghost use Rattle.just_parser.specs.View.{dependency_view, recipe_definition_view};
 ghost use Rattle.just_resolve.specs.Prelude.{Text, assignment_view, frames_view, functions_view, name_view, named};
 ghost use Rattle.just_resolve.specs.Prelude.{numbered, parameter_named, parameter_view, variable_named, view};
@@ -172,7 +172,7 @@ fn add_parameters<'src>(
     ensures copies { OnOk result (map recipe_parameter_view copies.new.items ≡ numbered_in_turn
         (variable_named names.old) [] (map recipe_parameter_view parameters.now) (map parameter_view numbers.now)) }
     ensures names { OnOk result ((t : Text) → named names.new t
-        ≡ with_parameters (map parameter_view numbers.now) (variable_named names.old) t) }
+        ≡ number_with_parameters (map parameter_view numbers.now) (variable_named names.old) t) }
     ensures variables { (t : Text) → variable_named names.new t ≡ variable_named names.old t }
 {
     for (parameter, (name, number)) in parameters.iter().zip(numbers) {

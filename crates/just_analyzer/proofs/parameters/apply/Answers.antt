@@ -4,7 +4,7 @@ use Rattle.just_syntax.specs.View.{recipe_parameter_view}
 use Rattle.just_parser.specs.View.{arg_option_view, arg_view}
 use Rattle.just_analyzer.proofs.Places.{changed, places_kept, within}
 use Rattle.just_analyzer.specs.Outcome.{Grown}
-use Rattle.just_analyzer.specs.Parameters.{at_place, place_of, with_options}
+use Rattle.just_analyzer.specs.Parameters.{at_place, parameter_place, with_options}
 use Rattle.just_analyzer.specs.View.{place_in}
 use Rattle.just_analyzer.proofs.parameters.apply.Goals as goal
 
@@ -26,7 +26,7 @@ returns-in-Some-clause-places c = λ t.
     let less = rw (length-map xs recipe_parameter_view) at (within name place ps there) in
     let one = c.set_options.ensures ∙ ap (λ p. with_options (recipe_parameter_view p) os) c.index_mut.ensures.value in
     c.requires t ∙ sym (places_kept t place os ps)
-    ∙ ap (place_of t) (sym (changed recipe_parameter_view xs place c.index_mut.result.now c.set_options.new.parameter os less one))
+    ∙ ap (parameter_place t) (sym (changed recipe_parameter_view xs place c.index_mut.result.now c.set_options.new.parameter os less one))
 
 pub returns-in-Some-clause-ok : goal.returns-in-Some-clause-ok
 returns-in-Some-clause-ok c =
