@@ -3,7 +3,7 @@ use Rattle.std.proofs.Common.{◌≡◌, ◌≢◌, inl, inr, Option, Some, None
 use Rattle.just_bench.specs.Prelude.{Answer, AnswersByScript, Asked, Blind, Chain, Checked, CommandOf, Event, ExistsAt, Kept, NoMemory, Noted, NumberOf}
 use Rattle.just_bench.specs.Prelude.{Question, Script, Text, TextOf, by_script, recording, unchecked}
 use Rattle.just_host.specs.Question.{Failed, UnlessNoMemory}
-use Rattle.just_script.specs.Script.{AnswersCommand, AnswersNext, text_for}
+use Rattle.just_script.specs.Script.{AnswersCommand, IsNextReply, text_for}
 use Rattle.just_laws.specs.Decided.{AgreeUpToAnswers}
 use Rattle.just_bench.proofs.Heeded.{AllAnswered}
 
@@ -16,7 +16,7 @@ wanted a w (inr none) some = absurd (some none)
 both_wanted : (a b w : Answer) → UnlessNoMemory a w → UnlessNoMemory b w → a ≢ Failed NoMemory → b ≢ Failed NoMemory → a ≡ b
 both_wanted a b w p q here there = wanted a w p here ∙ sym (wanted b w q there)
 
-next_one : (replies : List Answer) (a b : Answer) → AnswersNext replies a → AnswersNext replies b → a ≢ Failed NoMemory → b ≢ Failed NoMemory → a ≡ b
+next_one : (replies : List Answer) (a b : Answer) → IsNextReply replies a → IsNextReply replies b → a ≢ Failed NoMemory → b ≢ Failed NoMemory → a ≡ b
 next_one [] a b p q here there = both_wanted a b _ p q here there
 next_one (reply ∷ replies) a b p q here there = p ∙ sym q
 

@@ -2,7 +2,7 @@
 use Rattle.std.proofs.Common.{inl, inr, Bool, true, false, List, [], ◌∷◌, ◌++◌, Option, Some, None, codes, refl, sym, ap, subst, ◌∙◌, append_assoc, flat_map}
 use Rattle.std.proofs.lemmas.List.{append-nil}
 use Rattle.just_bench.specs.Prelude.{AreLines, Frames, Gave, Kept, Outcome, PrintedBlock, Refusal, Refused, Stopped, Text, Token, block_lines, end_line}
-use Rattle.just_bench.specs.Prelude.{name_words, order_line, question_lines, refusal_line, unresolved_line, with_newline, words}
+use Rattle.just_bench.specs.Prelude.{name_words, order_line, question_lines, refusal_line, space_between, unresolved_line, with_newline}
 use Rattle.just_host.specs.Printed.{kept_printed}
 use Rattle.just_bench.specs.Printed.{question_line, refused_text}
 
@@ -13,7 +13,7 @@ pub is_order : (names : List Token) → AreLines (order_line names)
 is_order names = are_line (codes "order" ++ name_words names)
 
 are_refused : (r : Option Refusal) → AreLines (refusal_line r)
-are_refused r = are_line (words (codes "refused") (refused_text r))
+are_refused r = are_line (space_between (codes "refused") (refused_text r))
 
 -- lines followed by lines
 pub lines_after : (a b : Text) → AreLines a → AreLines b → AreLines (a ++ b)

@@ -6,7 +6,7 @@ use Rattle.just_bench.specs.Prelude.{case_constants, case_module, dynamically, i
 use Rattle.just_bench.specs.Prelude.{unresolved_line}
 use Rattle.just_value.specs.Outcome.{UnlessStopped}
 use Rattle.just_case_reader.specs.Case.{Run, Const}
-use Rattle.just_case_reader.specs.Line.{line_of, lines_of}
+use Rattle.just_case_reader.specs.Line.{case_line_of, lines_of}
 use Rattle.just_case_reader.specs.Reading.{described}
 use Rattle.just_laws.proofs.Decide.{answers_decide}
 use Rattle.just_bench.proofs.Decided.{chains_one}
@@ -95,4 +95,4 @@ lines_one (Describes c) p q i j one other had also = evaluated_one c c.evaluatio
 lines_one (BadLine n) p q i j (text, status) (same, one) had also = (text ∙ sym same, status ∙ sym one)
 
 pub one_answer : OneAnswer
-one_answer case p q i j one other had also = lines_one (described (map line_of (lines_of case))) p q i j one other had also
+one_answer case p q i j one other had also = lines_one (described (map case_line_of (lines_of case))) p q i j one other had also

@@ -10,7 +10,8 @@ use Rattle.std.specs.declared.string.String.{String}
 use Rattle.std.specs.Borrow.{Bor}
 use Rattle.just_bench.specs.Prelude.{Added, Extends, Frames, Gave, Goes, Kept, Module, OrderPrints, Outcome, PrintedBlock, Refusal, RunResult, Step, Text}
 use Rattle.just_bench.specs.Prelude.{Token, Walks, block_lines, block_of, blocks_in, dynamically, end_line, found_by, in_order, name_view, names_of}
-use Rattle.just_bench.specs.Prelude.{next_number, order_line, recording, refusal_line, still_coming, taken_in, taken_view, text_numbered, turn, with_block}
+use Rattle.just_bench.specs.Prelude.{next_number, order_line, recording, refusal_line, still_coming, taken_in, taken_view, text_numbered, turn_between}
+use Rattle.just_bench.specs.Prelude.{with_block}
 use Rattle.just_bench.specs.Prelude.{with_blocks, without_value}
 use Rattle.just_syntax.specs.declared.name.Name.{Name}
 use Rattle.just_bench.specs.Blocks.{Breaks, Finished}
@@ -39,7 +40,7 @@ front view items i d fits = ap (map view) (drop-cons items i d fits) ∙ ap (λ 
 
 -- the block of a name that is evaluated between two states, if there is one
 abbrev own : {S : Type 0} → Token → S × List Kept → S × List Kept → List (Token × ℕ) → List PrintedBlock
-own t old new coming = block_of (turn t old new) (next_number coming t)
+own t old new coming = block_of (turn_between t old new) (next_number coming t)
 
 module _ {S : Type 0} {step : Step S} {m : Module} where
   finished : (h : S × List Kept) (frames : Frames) (coming : List (Token × ℕ)) (asked : ℕ → Option Text)
@@ -55,7 +56,7 @@ module _ {S : Type 0} {step : Step S} {m : Module} where
       let bs = own t h mid coming in
       let cs = blocks_in w.turns (still_coming coming (next_number coming t)) in
       record {
-        turns = turn t h mid ∷ w.turns;
+        turns = turn_between t h mid ∷ w.turns;
         outcome = w.outcome;
         new = w.new;
         walk = Goes e w.walk;
@@ -69,7 +70,7 @@ module _ {S : Type 0} {step : Step S} {m : Module} where
   refused h new frames t left coming asked r e =
       let bs = own t h new coming in
       record {
-        turns = turn t h new ∷ [];
+        turns = turn_between t h new ∷ [];
         outcome = without_value r;
         new = new;
         walk = Breaks r e;

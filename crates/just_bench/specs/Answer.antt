@@ -5,7 +5,7 @@ use Rattle.just_value.specs.Frames.{Frames}
 use Rattle.just_host.specs.Interaction.{Step}
 use Rattle.just_bench.specs.Printed.{with_newline}
 use Rattle.just_case_reader.specs.Case.{Case, Evaluation, Run, Const, Blocks}
-use Rattle.just_case_reader.specs.Line.{line_of, lines_of}
+use Rattle.just_case_reader.specs.Line.{case_line_of, lines_of}
 use Rattle.just_case_reader.specs.Reading.{Described, Describes, BadLine, described}
 use Rattle.just_script.specs.Script.{Script}
 use Rattle.just_bench.specs.Blocks.{BlocksPrints}
@@ -27,4 +27,4 @@ AnswersLines step Starts (BadLine n) printed status =
 -- the answer to the bytes of a case: a text and a status
 abbrev pub AnswersCase : {S : Type 0} → Step S → (Script → S → Type 0) → Text → Text → ℕ → Type 0
 AnswersCase step Starts case printed status =
-    AnswersLines step Starts (described (map line_of (lines_of case))) printed status
+    AnswersLines step Starts (described (map case_line_of (lines_of case))) printed status

@@ -51,8 +51,8 @@ abbrev pub asked_since : {S : Type 0} → S × List Kept → S × List Kept → 
 asked_since old new = drop (length old.1) new.1
 
 -- a name that was evaluated between two states
-abbrev pub turn : {S : Type 0} → Token → S × List Kept → S × List Kept → Turn
-turn t old new = record { name = t; asked = asked_since old new }
+abbrev pub turn_between : {S : Type 0} → Token → S × List Kept → S × List Kept → Turn
+turn_between t old new = record { name = t; asked = asked_since old new }
 
 -- The names of an order are evaluated in turn, starting from some frames: each in a run of its own, on the frames that
 -- the names before it left. A refusal ends it.
@@ -62,10 +62,10 @@ pub data Turns (closing : Closing) {S : Type 0} (step : Step S) (m : Module) : S
   Goes : {h mid new : S × List Kept} {frames more : Frames} {t : Token} {left : List Token} {turns : List Turn}
       {o : Outcome Frames} → Extends closing (recording step) h (in_order m (t ∷ [])) frames (Gave more) mid
       → Turns closing step m mid more left turns o new
-      → Turns closing step m h frames (t ∷ left) (turn t h mid ∷ turns) o new
+      → Turns closing step m h frames (t ∷ left) (turn_between t h mid ∷ turns) o new
   Breaks : {h new : S × List Kept} {frames : Frames} {t : Token} {left : List Token} (r : Option Refusal)
       → Extends closing (recording step) h (in_order m (t ∷ [])) frames (without_value r) new
-      → Turns closing step m h frames (t ∷ left) (turn t h new ∷ []) (without_value r) new
+      → Turns closing step m h frames (t ∷ left) (turn_between t h new ∷ []) (without_value r) new
 
 -- ---- its output
 

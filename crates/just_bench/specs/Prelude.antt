@@ -1,7 +1,7 @@
 -- The names that the contracts and proofs of this crate share, passed on from one place. Declares nothing.
 pub use Rattle.just_case_reader.specs.Case.{Blocks, Case, Evaluation}
 pub use Rattle.just_case_reader.specs.Reading.{BadLine, Described, Describes}
-pub use Rattle.just_case_reader.specs.View.{case_view, number_set_view, reply_view}
+pub use Rattle.just_case_reader.specs.View.{case_view, command_reply_view, number_set_view}
 pub use Rattle.just_eval.specs.View.{stage_state_of}
 pub use Rattle.just_host.specs.Interaction.{Asked, Behaves, Chain, Checked, Event, Noted, Rules, Step, Tree, freely}
 pub use Rattle.just_host.specs.Interaction.{unchecked}
@@ -31,20 +31,20 @@ pub use Rattle.just_bench.specs.Answer.{AnswersCase, AnswersLines, Evaluated}
 pub use Rattle.just_bench.specs.Blocks.{BlocksPrints, BothPrint, BothResolvedPrint, Compared, Extends, FirstRefused}
 pub use Rattle.just_bench.specs.Blocks.{Goes, OrderPrints, PrintedBlock, RunResult, SecondRefused, Turn, Turns, Walks}
 pub use Rattle.just_bench.specs.Blocks.{agree, agreement_line, block_lines, block_of, blocks_in, end_line, found_by}
-pub use Rattle.just_bench.specs.Blocks.{grown, in_order, names_of, next_number, still_coming, turn, with_block}
+pub use Rattle.just_bench.specs.Blocks.{grown, in_order, names_of, next_number, still_coming, turn_between, with_block}
 pub use Rattle.just_bench.specs.Blocks.{with_blocks}
 pub use Rattle.just_bench.specs.FirstBinding.{first_bound, first_given, without_attributes}
 pub use Rattle.just_bench.specs.Hosts.{MadeOf, case_script, script_of, without_answers}
 pub use Rattle.just_bench.specs.Laws.{AreLines, HadMemory, OneAnswer}
 pub use Rattle.just_bench.specs.Module.{case_module}
 pub use Rattle.just_bench.specs.Printed.{binding_lines, const_refusal_line, name_words, open_line, order_line}
-pub use Rattle.just_bench.specs.Printed.{question_lines, refusal_line, value_line, with_newline, words}
+pub use Rattle.just_bench.specs.Printed.{question_lines, refusal_line, space_between, value_line, with_newline}
 pub use Rattle.just_bench.specs.Run.{CaseRuns, RunPrints, by_script, outcome_lines, recording, status_of}
 pub use Rattle.just_bench.specs.Run.{unresolved_line}
 pub use Rattle.just_bench.specs.Settled.{ConstPrints, assigned_in, case_constants, const_references, stage_lines}
 pub use Rattle.just_bench.specs.Settled.{variable_line}
 pub use Rattle.just_bench.specs.Taken.{first_places, referenced_number, taken_in, taken_view}
-pub use Rattle.just_bench.specs.View.{found_view, run_view, seen, stage_view}
+pub use Rattle.just_bench.specs.View.{found_view, module_run_view, seen, stage_view}
 pub use Rattle.just_bench.specs.Written.{Added, AppendsFront, Part, Whole, Written, or_one}
 pub use Rattle.just_bench.specs.declared.stream.StreamError.TheVariants.{Failed, OutOfMemory as Wanted}
 pub use Rattle.just_bench.specs.declared.stream.TheConstants.{LIMIT}

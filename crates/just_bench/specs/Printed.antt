@@ -45,25 +45,27 @@ abbrev pub order_line : List Token → Text
 order_line names = with_newline (codes "order" ++ name_words names)
 
 -- two texts separated by a space
-abbrev pub words : Text → Text → Text
-words one other = (one ++ codes " ") ++ other
+abbrev pub space_between : Text → Text → Text
+space_between one other = (one ++ codes " ") ++ other
 
 -- why a run was refused: a number, a name, and the message; no run is refused for an empty interpreter
 abbrev pub run_refusal_text : Refusal → Text
-run_refusal_text (Assert message t) = words (codes "1 Assert") (quoted message)
-run_refusal_text (Backtick t fault) = words (codes "2 Backtick") (quoted (fault_text fault))
+run_refusal_text (Assert message t) = space_between (codes "1 Assert") (quoted message)
+run_refusal_text (Backtick t fault) = space_between (codes "2 Backtick") (quoted (fault_text fault))
 run_refusal_text (Const c) = codes "3 Const"
-run_refusal_text (EmptyListArgument parameter recipe) = words (words (codes "4 EmptyListArgument") parameter) recipe
+run_refusal_text (EmptyListArgument parameter recipe) =
+    space_between (space_between (codes "4 EmptyListArgument") parameter) recipe
 run_refusal_text (FunctionCall function message) =
-    words (words (codes "5 FunctionCall") function.lexeme) (quoted message)
-run_refusal_text (Internal message t) = words (codes "6 Internal") (quoted message)
-run_refusal_text (LeftOut function) = words (codes "7 LeftOut") function.lexeme
+    space_between (space_between (codes "5 FunctionCall") function.lexeme) (quoted message)
+run_refusal_text (Internal message t) = space_between (codes "6 Internal") (quoted message)
+run_refusal_text (LeftOut function) = space_between (codes "7 LeftOut") function.lexeme
 run_refusal_text (LeftOutRegex t) = codes "8 LeftOutRegex"
-run_refusal_text (ListInStringContext context value) = words (codes "9 ListInStringContext") (shown value)
+run_refusal_text (ListInStringContext context value) = space_between (codes "9 ListInStringContext") (shown value)
 run_refusal_text (ListOperation l operator r t) =
-    words (words (words (codes "10 ListOperation") (shown l)) (operator_text operator)) (shown r)
-run_refusal_text (RecursionLimit last) = words (codes "11 RecursionLimit") last.lexeme
-run_refusal_text (Check parameter message) = words (codes "13 Check") (quoted message)
+    space_between (space_between (space_between (codes "10 ListOperation") (shown l)) (operator_text operator))
+    (shown r)
+run_refusal_text (RecursionLimit last) = space_between (codes "11 RecursionLimit") last.lexeme
+run_refusal_text (Check parameter message) = space_between (codes "13 Check") (quoted message)
 run_refusal_text (EmptyInterpreter t) = []
 
 -- the same, or `OutOfMemory` if there is no refusal
@@ -72,7 +74,7 @@ refused_text (Some r) = run_refusal_text r
 refused_text None = codes "12 OutOfMemory"
 
 abbrev pub refusal_line : Option Refusal → Text
-refusal_line r = with_newline (words (codes "refused") (refused_text r))
+refusal_line r = with_newline (space_between (codes "refused") (refused_text r))
 
 -- why assignments were refused before any run
 abbrev pub const_refused_text : Option Refusal → Text

@@ -11,23 +11,23 @@ abbrev pub taken_view : Bor Name × ℕ → Token × ℕ
 taken_view variable = (name_view variable.0.now, variable.1)
 
 -- the number of an assignment, if it is referenced
-abbrev pub number_in : (ℕ → Bool) → Option Assignment → Option ℕ
-number_in referenced None = None
-number_in referenced (Some a) = if referenced a.number then Some a.number else None
+abbrev pub number_if_referenced : (ℕ → Bool) → Option Assignment → Option ℕ
+number_if_referenced referenced None = None
+number_if_referenced referenced (Some a) = if referenced a.number then Some a.number else None
 
 -- the number of a name's assignment, if it is referenced
 abbrev pub referenced_number : Assignments → Token → Option ℕ
-referenced_number m t = number_in m.referenced (assignment_at m t.lexeme)
+referenced_number m t = number_if_referenced m.referenced (assignment_at m t.lexeme)
 
 -- a name before the rest, if it has a number
-abbrev pub with_number : Token → Option ℕ → List (Token × ℕ) → List (Token × ℕ)
-with_number t None rest = rest
-with_number t (Some n) rest = (t, n) ∷ rest
+abbrev pub with_numbered_name : Token → Option ℕ → List (Token × ℕ) → List (Token × ℕ)
+with_numbered_name t None rest = rest
+with_numbered_name t (Some n) rest = (t, n) ∷ rest
 
 -- the names whose assignments are referenced, with their numbers
 abbrev pub referenced_names : Assignments → List Token → List (Token × ℕ)
 referenced_names m [] = []
-referenced_names m (t ∷ ts) = with_number t (referenced_number m t) (referenced_names m ts)
+referenced_names m (t ∷ ts) = with_numbered_name t (referenced_number m t) (referenced_names m ts)
 
 -- the first occurrence of each number that did not occur before
 abbrev pub first_places : (ℕ → Bool) → List (Token × ℕ) → List (Token × ℕ)

@@ -15,8 +15,8 @@ use Rattle.just_bench.specs.declared.blocks.Blocks.{Blocks}
 use Rattle.just_bench.specs.declared.module_run.ModuleRun.{ModuleRun}
 use Rattle.just_bench.specs.declared.settled.Stage.{Stage}
 
-abbrev pub run_view : ModuleRun → Module
-run_view run = record {
+abbrev pub module_run_view : ModuleRun → Module
+module_run_view run = record {
   program = record {
     fixed = record {
       config = config_view run.config;

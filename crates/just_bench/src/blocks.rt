@@ -6,7 +6,8 @@ ghost use Rattle.just_bench.specs.Prelude.{Added, BlocksPrints, BothResolvedPrin
 ghost use Rattle.just_bench.specs.Prelude.{OrderPrints, Walks, agreement_line, block_lines, block_of, bound_at};
 ghost use Rattle.just_bench.specs.Prelude.{bound_view, case_view, dynamically, ended, found_view, frames_view};
 ghost use Rattle.just_bench.specs.Prelude.{in_order, inner_host, name_view, own_frame, recorded_view, recording};
-ghost use Rattle.just_bench.specs.Prelude.{records_view, run_view, seen, still_coming, taken_view, text_numbered, turn};
+ghost use Rattle.just_bench.specs.Prelude.{module_run_view, records_view, seen, still_coming, taken_view};
+ghost use Rattle.just_bench.specs.Prelude.{text_numbered, turn_between};
 ghost use Rattle.just_bench.specs.Prelude.{with_block, with_blocks};
 ghost use Rattle.just_bench.specs.Printed as answer;
 ghost use Rattle.just_bench.specs.Blocks as plain;
@@ -81,8 +82,9 @@ fn print_runs<'call, 'src, H: Host>(
     requires other_fresh { records_view other_host.old ≡ [] }
     ensures status { IfOk result (λ status. status ≤ 2) }
     ensures answer { IfOk result (λ status. Added (string_bytes text.old) (string_bytes text.new) (λ printed.
-        BothResolvedPrint H.step (inner_host one_host.old) (inner_host other_host.old) (run_view run.old)
-        (in_order (run_view run.old) (map name_view second.entry.items)) (frames_view parent.now) printed status)) }
+        BothResolvedPrint H.step (inner_host one_host.old) (inner_host other_host.old) (module_run_view run.old)
+        (in_order (module_run_view run.old) (map name_view second.entry.items))
+        (frames_view parent.now) printed status)) }
 {
     let resolved = are_resolved(alloc, run, &mut second, parent)?;
     print_unless_resolved(text, resolved)?;
@@ -100,10 +102,11 @@ fn are_resolved<'src>(
     second: &mut Vec<Name<'src>>,
     parent: &Scope<'src, '_>,
 ) -> Result<bool, OutOfMemory>
-    ensures answer { let m = run_view run.old in let other = in_order m (map name_view second.old.items) in let outer =
-        frames_view parent.now in
+    ensures answer { let m = module_run_view run.old in
+        let other = in_order m (map name_view second.old.items) in
+        let outer = frames_view parent.now in
         IfOk result (λ answer. IsTrue answer ↔ IsResolvedModule m outer × IsResolvedModule other outer) }
-    ensures run { OnOk result (run_view run.new ≡ run_view run.old) }
+    ensures run { OnOk result (module_run_view run.new ≡ module_run_view run.old) }
     ensures order { OnOk result (map name_view second.new.items ≡ map name_view second.old.items) }
 {
     if !run.is_resolved(alloc, parent)? {
@@ -129,8 +132,8 @@ fn print_both<'call, 'src, H: Host>(
     ensures status { IfOk result (λ status. status ≤ 2) }
     ensures answer { IfOk result (λ status. Added (string_bytes text.old) (string_bytes text.new) (λ printed.
         plain.BothPrint H.step (inner_host one_host.old) (inner_host other_host.old)
-        (in_order (run_view run.old) (map name_view first.now))
-        (in_order (run_view run.old) (map name_view second.now)) (frames_view parent.now) printed status)) }
+        (in_order (module_run_view run.old) (map name_view first.now))
+        (in_order (module_run_view run.old) (map name_view second.now)) (frames_view parent.now) printed status)) }
 {
     let Some(one) = print_run(alloc, text, run, one_host, first, parent)? else {
         return Ok(2);
@@ -156,9 +159,9 @@ fn print_run<'call, 'src, 'run, H: Host>(
 ) -> Result<Option<Blocks<'src, 'run>>, OutOfMemory>
     requires fresh { records_view host.old ≡ [] }
     ensures prints { IfOk result (λ found. Added (string_bytes text.old) (string_bytes text.new) (λ printed.
-        OrderPrints H.step (inner_host host.old) (in_order (run_view run.old) (map name_view order.now))
+        OrderPrints H.step (inner_host host.old) (in_order (module_run_view run.old) (map name_view order.now))
         (frames_view parent.entry.now) printed (option_map found_view found))) }
-    ensures run { OnOk result (in_order (run_view run.new) [] ≡ in_order (run_view run.old) []) }
+    ensures run { OnOk result (in_order (module_run_view run.new) [] ≡ in_order (module_run_view run.old) []) }
 {
     let references = run.references.as_ref();
     let taken = taken_variables(alloc, &run.module.assignments, order, references)?;
@@ -182,10 +185,10 @@ fn print_turns<'call, 'src, 'run, H: Host>(
     mut blocks: Blocks<'src, 'run>,
 ) -> Result<Option<Blocks<'src, 'run>>, OutOfMemory>
     ensures walks { IfOk result (λ found. Added (string_bytes text.old) (string_bytes text.new) (λ printed.
-        Walks H.step (in_order (run_view run.old) (map name_view order.now)) (seen host.old)
+        Walks H.step (in_order (module_run_view run.old) (map name_view order.now)) (seen host.old)
         (frames_view blocks.entry.scope) (map name_view order.now) (map taken_view taken.now)
         (text_numbered blocks.entry.questions) printed (option_map found_view found))) }
-    ensures run { OnOk result (in_order (run_view run.new) [] ≡ in_order (run_view run.old) []) }
+    ensures run { OnOk result (in_order (module_run_view run.new) [] ≡ in_order (module_run_view run.old) []) }
 {
     let mut at: usize = 0;
     for name in order {
@@ -212,9 +215,10 @@ fn print_turn<'call, 'src, H: Host>(
     at: usize,
     blocks: &mut Blocks<'src, '_>,
 ) -> Result<Result<usize, Error<'src>>, OutOfMemory>
-    ensures run { OnOk result (run_view run.new ≡ in_order (run_view run.old) (name_view name.entry ∷ [])) }
+    ensures run { OnOk result
+        (module_run_view run.new ≡ in_order (module_run_view run.old) (name_view name.entry ∷ [])) }
     ensures extends { IfOk result (λ next. Extends dynamically (recording H.step) (seen host.old)
-        (in_order (run_view run.old) (name_view name.entry ∷ [])) (frames_view blocks.old.scope)
+        (in_order (module_run_view run.old) (name_view name.entry ∷ [])) (frames_view blocks.old.scope)
         (ended (λ _. frames_view blocks.new.scope) next) (seen host.new)) }
     ensures rest { let coming = drop at (map taken_view taken.now) in
         IfOk result
@@ -222,11 +226,11 @@ fn print_turn<'call, 'src, H: Host>(
         ≡ still_coming coming (plain.next_number coming (name_view name.entry)))) }
     ensures text { let coming = drop at (map taken_view taken.now) in
         OnOk result (string_bytes text.new ≡ string_bytes text.old ++ flat_map block_lines
-        (block_of (turn (name_view name.entry) (seen host.old) (seen host.new))
+        (block_of (turn_between (name_view name.entry) (seen host.old) (seen host.new))
         (plain.next_number coming (name_view name.entry)))) }
     ensures asked { let coming = drop at (map taken_view taken.now) in
         OnOk result (text_numbered blocks.new.questions ≡ with_blocks (text_numbered blocks.old.questions)
-        (block_of (turn (name_view name.entry) (seen host.old) (seen host.new))
+        (block_of (turn_between (name_view name.entry) (seen host.old) (seen host.new))
         (plain.next_number coming (name_view name.entry)))) }
 {
     let before = count(host);

@@ -4,7 +4,7 @@ ghost use Rattle.std.specs.Prelude.{IfOk, IsTrue, OnOk, [], map, option_map, ◌
 ghost use Rattle.just_bench.specs.Prelude.{Behaves, Extends, IsResolved, IsResolvedModule, IsResolvedRun, Outcome};
 ghost use Rattle.just_bench.specs.Prelude.{bound_view, case_module, case_view, dynamically, ended, first_bound};
 ghost use Rattle.just_bench.specs.Prelude.{first_given, frames_view, freely, in_order, lexically, name_view, own_frame};
-ghost use Rattle.just_bench.specs.Prelude.{run, run_view, unchecked, without_attributes};
+ghost use Rattle.just_bench.specs.Prelude.{module_run_view, run, unchecked, without_attributes};
 ghost use Rattle.std.specs.Map.{values_of};
 
 use crate::context::{case_config, case_module, case_search};
@@ -43,7 +43,7 @@ pub struct ModuleRun<'src> {
 impl<'src> ModuleRun<'src> {
     /// The run of a case's module, in the order of the case.
     pub fn of_case(alloc: Global, case: Case<'src>) -> Result<ModuleRun<'src>, OutOfMemory>
-        ensures { IfOk result (λ run. run_view run ≡ case_module (case_view case.entry)) }
+        ensures { IfOk result (λ run. module_run_view run ≡ case_module (case_view case.entry)) }
     {
         let order = case.evaluation_order;
         Ok(ModuleRun {
@@ -59,8 +59,8 @@ impl<'src> ModuleRun<'src> {
 
     /// Whether the module is resolved in a scope.
     pub fn is_resolved(&self, alloc: Global, parent: &Scope<'src, '_>) -> Result<bool, OutOfMemory>
-        ensures { IfOk result (λ answer. IsTrue answer ↔ IsResolved (run_view self.now).program.functions
-            (run_view self.now).assignments (frames_view parent.now)) }
+        ensures { IfOk result (λ answer. IsTrue answer ↔ IsResolved (module_run_view self.now).program.functions
+            (module_run_view self.now).assignments (frames_view parent.now)) }
     {
         resolved(alloc, &self.module, parent, self.references.as_ref())
     }
@@ -73,9 +73,9 @@ impl<'src> ModuleRun<'src> {
         order: &mut Vec<Name<'src>>,
         parent: &Scope<'src, '_>,
     ) -> Result<bool, OutOfMemory>
-        ensures answer { let m = in_order (run_view self.old) (map name_view order.old.items) in
+        ensures answer { let m = in_order (module_run_view self.old) (map name_view order.old.items) in
             IfOk result (λ answer. IsTrue answer ↔ IsResolvedModule m (frames_view parent.now)) }
-        ensures run { OnOk result (run_view self.new ≡ run_view self.old) }
+        ensures run { OnOk result (module_run_view self.new ≡ module_run_view self.old) }
         ensures order { OnOk result (map name_view order.new.items ≡ map name_view order.old.items) }
     {
         mem::swap(&mut self.module.evaluation_order, order);
@@ -86,8 +86,8 @@ impl<'src> ModuleRun<'src> {
 
     /// Replaces the module's order by another, and returns the old one. It allocates nothing.
     pub(crate) fn replace_order(&mut self, order: Vec<Name<'src>>) -> Vec<Name<'src>>
-        ensures run { run_view self.new ≡ in_order (run_view self.old) (map name_view order.entry.items) }
-        ensures order { map name_view result.items ≡ (run_view self.old).assignments.order }
+        ensures run { module_run_view self.new ≡ in_order (module_run_view self.old) (map name_view order.entry.items) }
+        ensures order { map name_view result.items ≡ (module_run_view self.old).assignments.order }
     {
         mem::replace(&mut self.module.evaluation_order, order)
     }
@@ -99,11 +99,11 @@ impl<'src> ModuleRun<'src> {
         host: &mut H,
         parent: &'run Scope<'src, 'run>,
     ) -> Result<Scope<'src, 'run>, Error<'src>>
-        ensures headline { let m = run_view self.entry.now in let outer = frames_view parent.entry.now in
+        ensures headline { let m = module_run_view self.entry.now in let outer = frames_view parent.entry.now in
             IsResolvedRun m outer
             → Behaves freely H.step unchecked host.old (run lexically m ([] ∷ outer) m.assignments.order)
             (ended frames_view result) host.new }
-        ensures dynamic { let m = run_view self.entry.now in
+        ensures dynamic { let m = module_run_view self.entry.now in
             Behaves freely H.step unchecked host.old
             (run dynamically m ([] ∷ frames_view parent.entry.now) m.assignments.order)
             (ended frames_view result) host.new }
@@ -131,9 +131,11 @@ impl<'src> ModuleRun<'src> {
         name: Name<'src>,
         scope: &mut Scope<'src, '_>,
     ) -> Result<Result<(), Error<'src>>, OutOfMemory>
-        ensures run { OnOk result (run_view self.new ≡ in_order (run_view self.old) (name_view name.entry ∷ [])) }
+        ensures run { OnOk result
+            (module_run_view self.new ≡ in_order (module_run_view self.old) (name_view name.entry ∷ [])) }
         ensures extends { IfOk result
-            (λ bound. Extends dynamically H.step host.old (in_order (run_view self.old) (name_view name.entry ∷ []))
+            (λ bound. Extends dynamically H.step host.old
+            (in_order (module_run_view self.old) (name_view name.entry ∷ []))
             (frames_view scope.old) (ended (λ _. frames_view scope.new) bound) host.new) }
     {
         self.module.evaluation_order = vec![in alloc; name]?;
@@ -155,7 +157,8 @@ impl<'src> ModuleRun<'src> {
         scope: &Scope<'src, '_>,
     ) -> Result<Result<Option<Binding<'src>>, Error<'src>>, OutOfMemory>
         ensures { IfOk result (λ found. (given : Outcome _) × Behaves freely H.step unchecked host.old
-            (run dynamically (run_view self.now) ([] ∷ frames_view scope.now) (run_view self.now).assignments.order)
+            (run dynamically (module_run_view self.now) ([] ∷ frames_view scope.now)
+            (module_run_view self.now).assignments.order)
             given host.new
             × (ended (option_map bound_view) found ≡ first_given given)) }
     {

@@ -5,7 +5,7 @@ ghost use Rattle.std.specs.Map.{values_of};
 ghost use Rattle.just_bench.specs.Prelude.{FunctionCall, binding_lines, compile_refusal, const_refusal_line};
 ghost use Rattle.just_bench.specs.Prelude.{frames_view, name_view, open_line, order_line, own_frame, question_lines};
 ghost use Rattle.just_bench.specs.Prelude.{quoted, recorded_view, refusal, refusal_line, value_line, with_newline};
-ghost use Rattle.just_bench.specs.Prelude.{words};
+ghost use Rattle.just_bench.specs.Prelude.{space_between};
 
 use just_host::fault::fault_text;
 use just_host::recorded::Recorded;
@@ -124,7 +124,7 @@ pub fn print_refusal(alloc: Global, text: &mut String, error: &Error) -> Result<
 // Adds the line of a refusal with this number and name, and a quoted text.
 fn print_said(text: &mut String, refusal: &str, said: &str) -> Result<(), OutOfMemory>
     ensures { OnOk result (string_bytes text.new ≡ string_bytes text.old ++ with_newline
-        (words (words (codes "refused") refusal.now) (quoted said.now))) }
+        (space_between (space_between (codes "refused") refusal.now) (quoted said.now))) }
 {
     let said = Element(said);
     writeln!(text, "refused {refusal} {said}")?;

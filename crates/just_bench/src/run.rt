@@ -2,7 +2,7 @@
 
 ghost use Rattle.std.specs.Prelude.{IfOk, OnOk, [], string_bytes, ◌++◌, ◌≡◌, ◌≤◌};
 ghost use Rattle.just_bench.specs.Prelude.{Added, CaseRuns, MadeOf, RunPrints, case_view, ended, frames_view};
-ghost use Rattle.just_bench.specs.Prelude.{inner_host, outcome_lines, records_view, run_view, status_of};
+ghost use Rattle.just_bench.specs.Prelude.{inner_host, module_run_view, outcome_lines, records_view, status_of};
 ghost use Rattle.just_bench.specs.Prelude.{unresolved_line};
 
 use crate::around::Around;
@@ -47,7 +47,7 @@ fn evaluate_module<'call, 'src, H: Host>(
     requires fresh { records_view host.old ≡ [] }
     ensures status { IfOk result (λ status. status ≤ 2) }
     ensures answer { IfOk result (λ status. Added (string_bytes text.old) (string_bytes text.new) (λ printed.
-        RunPrints H.step (inner_host host.old) (run_view run.now) (frames_view parent.now) printed status)) }
+        RunPrints H.step (inner_host host.old) (module_run_view run.now) (frames_view parent.now) printed status)) }
 {
     let resolved = run.is_resolved(alloc, parent)?;
     print_unless_resolved(text, resolved)?;

@@ -1,7 +1,8 @@
 // The hosts of a case.
 
 ghost use Rattle.std.specs.Prelude.{IfOk, map, ◌≡◌};
-ghost use Rattle.just_bench.specs.Prelude.{case_view, pair_view, reply_view, script_of, script_view, without_answers};
+ghost use Rattle.just_bench.specs.Prelude.{case_view, command_reply_view, pair_view, script_of, script_view};
+ghost use Rattle.just_bench.specs.Prelude.{without_answers};
 ghost use Rattle.just_bench.specs.Hosts as cases;
 
 use just_case_reader::case::Case;
@@ -37,7 +38,7 @@ fn scripted(
     always: Vec<(String, String)>,
     replies: Vec<Result<String, CommandFault>>,
 ) -> ScriptedHost
-    ensures { script_view result ≡ script_of (map pair_view always.items) (map reply_view replies.items) }
+    ensures { script_view result ≡ script_of (map pair_view always.items) (map command_reply_view replies.items) }
 {
     ScriptedHost::new(
         always,
@@ -68,7 +69,7 @@ fn replies_copy(
     alloc: Global,
     replies: &[Result<String, CommandFault>],
 ) -> Result<Vec<Result<String, CommandFault>>, OutOfMemory>
-    ensures { IfOk result (λ copies. map reply_view copies.items ≡ map reply_view replies.now) }
+    ensures { IfOk result (λ copies. map command_reply_view copies.items ≡ map command_reply_view replies.now) }
 {
     let mut copies = Vec::with_capacity(alloc, replies.len())?;
     for reply in replies {
@@ -82,7 +83,7 @@ fn reply_copy(
     alloc: Global,
     reply: &Result<String, CommandFault>,
 ) -> Result<Result<String, CommandFault>, OutOfMemory>
-    ensures { IfOk result (λ copy. reply_view copy ≡ reply_view reply.now) }
+    ensures { IfOk result (λ copy. command_reply_view copy ≡ command_reply_view reply.now) }
 {
     Ok(match reply {
         Ok(text) => Ok(String::from_str(alloc, text)?),

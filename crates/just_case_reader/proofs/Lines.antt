@@ -7,15 +7,15 @@ use Rattle.std.proofs.lemmas.List.{take_all, drop_all, map-append}
 use Rattle.std.proofs.lemmas.List.Splits.{slice_split_first, length-slice_split}
 use Rattle.std.proofs.lemmas.Str.{IsUtf8-from_is_utf8, is_utf8-from_IsUtf8}
 use Rattle.just_case_reader.proofs.Split.{split_whole}
-use Rattle.just_case_reader.specs.Prelude.{Bad, line_of, line_of_text, lines_of}
-use Rattle.just_case_reader.specs.Line.{Line, without_empty_end}
+use Rattle.just_case_reader.specs.Prelude.{Bad, case_line_of, line_of_text, lines_of}
+use Rattle.just_case_reader.specs.Line.{CaseLine, without_empty_end}
 
 -- bytes that are text give the line of that text
-pub line_of-text : (bytes text : List ℕ) → text ≡ bytes → IsUtf8 bytes → line_of_text text ≡ line_of bytes
+pub line_of-text : (bytes text : List ℕ) → text ≡ bytes → IsUtf8 bytes → line_of_text text ≡ case_line_of bytes
 line_of-text bytes text same is_text = rw (same, is_utf8-from_IsUtf8 bytes is_text) refl
 
 -- bytes that are not text give a bad line
-pub line_of-no_text : (bytes : List ℕ) → (IsUtf8 bytes → ⊥) → Bad ≡ line_of bytes
+pub line_of-no_text : (bytes : List ℕ) → (IsUtf8 bytes → ⊥) → Bad ≡ case_line_of bytes
 line_of-no_text bytes no_text = rw (false_from_ne_true (is_utf8 bytes) (λ e. no_text (IsUtf8-from_is_utf8 bytes e))) (refl {a = Bad})
 
 -- an empty last piece can only come after the first
@@ -52,10 +52,10 @@ lines_of-first bytes some =
     ⊎_elim (first_ended bytes) (first_open bytes some) (cases_lt (position_or_len (λ b. eqb b 10) bytes) (length bytes))
 
 -- the lines so far and the rest, after one more line
-pub lines_more : {A : Type 0} (view : A → Line) (case rest : List ℕ) (lines : List A) (line : A) → 0 < length rest
-    → view line ≡ line_of (before_first (λ b. eqb b 10) rest) → map view lines ++ map line_of (lines_of rest) ≡ map line_of (lines_of case)
-    → map view (lines ++ line ∷ []) ++ map line_of (lines_of (after_first (λ b. eqb b 10) rest)) ≡ map line_of (lines_of case)
+pub lines_more : {A : Type 0} (view : A → CaseLine) (case rest : List ℕ) (lines : List A) (line : A) → 0 < length rest
+    → view line ≡ case_line_of (before_first (λ b. eqb b 10) rest) → map view lines ++ map case_line_of (lines_of rest) ≡ map case_line_of (lines_of case)
+    → map view (lines ++ line ∷ []) ++ map case_line_of (lines_of (after_first (λ b. eqb b 10) rest)) ≡ map case_line_of (lines_of case)
 lines_more view case rest lines line some said so_far =
-    let after : List Line = map line_of (lines_of (after_first (λ b. eqb b 10) rest)) in
+    let after : List CaseLine = map case_line_of (lines_of (after_first (λ b. eqb b 10) rest)) in
     ap (λ xs. xs ++ after) (map-append view lines (line ∷ [])) ∙ append_assoc (map view lines) (view line ∷ []) after
-    ∙ ap (λ x. map view lines ++ x ∷ after) said ∙ ap (λ xs. map view lines ++ map line_of xs) (sym (lines_of-first rest some)) ∙ so_far
+    ∙ ap (λ x. map view lines ++ x ∷ after) said ∙ ap (λ xs. map view lines ++ map case_line_of xs) (sym (lines_of-first rest some)) ∙ so_far

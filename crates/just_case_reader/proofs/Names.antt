@@ -5,7 +5,7 @@ use Rattle.std.specs.List.{before_first, after_first, position_or_len}
 use Rattle.std.specs.Borrow.{Bor}
 use Rattle.std.proofs.lemmas.List.{map-append}
 use Rattle.std.proofs.lemmas.List.Splits.{slice_split_first}
-use Rattle.just_case_reader.specs.Prelude.{Text, if_names, is_name, pieces}
+use Rattle.just_case_reader.specs.Prelude.{Text, if_names, is_name, spaced_pieces}
 use Rattle.just_case_reader.proofs.Split.{split_whole}
 
 -- names prepended one by one
@@ -32,11 +32,11 @@ names_last xs x rest whole parts passes so_far = rw (parts, passes) at so_far
 
 -- a text with a space: the part before it, and the pieces of the part after it
 pub pieces_first : (text name after : Text) → position_or_len (λ b. eqb b 32) text < length text → name ≡ before_first (λ b. eqb b 32) text
-    → after ≡ after_first (λ b. eqb b 32) text → pieces text ≡ name ∷ pieces after
+    → after ≡ after_first (λ b. eqb b 32) text → spaced_pieces text ≡ name ∷ spaced_pieces after
 pieces_first text name after within same_name same_after = rw (same_name, same_after) (slice_split_first (λ b. eqb b 32) text 0 within)
 
 -- a text without a space is one piece
-pub pieces_only : (text : Text) → position_or_len (λ b. eqb b 32) text ≡ length text → pieces text ≡ text ∷ []
+pub pieces_only : (text : Text) → position_or_len (λ b. eqb b 32) text ≡ length text → spaced_pieces text ≡ text ∷ []
 pieces_only text none = split_whole 32 text (omega (arith, none))
 
 -- a property of `None`, if there is no value

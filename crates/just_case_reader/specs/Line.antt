@@ -13,40 +13,40 @@ use Rattle.just_case_reader.specs.declared.operator.BinaryOperator.TheVariants.{
 use Rattle.just_case_reader.specs.Rest.{is_name, names, number, word_of, rest_of}
 
 -- a line; literals and commands have their text and their lexeme
-pub data Line : Type 0 where
-  Skipped : Line
-  Bad : Line
-  Literal : Text → Text → Line
-  Command : Text → Text → Line
-  Variable : Text → Line
-  Unary : UnaryOperator → Line
-  Binary : BinaryOperator → Line
-  If : Line
-  ListOf : ℕ → Line
-  Call : Text → ℕ → Line
-  Assign : Text → Bool → Line
-  Function : Text → Line
-  Override : Text → Text → Line
-  Dotenv : Text → Text → Line
-  Order : Text → Line
-  Only : Text → Line
-  Reply : Text → Line
-  Fail : ℕ → Line
-  Always : Text → Line
-  Lists : Line
-  Dry : Line
-  Limit : ℕ → Line
-  Run : Line
-  Const : Line
-  Blocks : Text → Line
+pub data CaseLine : Type 0 where
+  Skipped : CaseLine
+  Bad : CaseLine
+  Literal : Text → Text → CaseLine
+  Command : Text → Text → CaseLine
+  Variable : Text → CaseLine
+  Unary : UnaryOperator → CaseLine
+  Binary : BinaryOperator → CaseLine
+  If : CaseLine
+  ListOf : ℕ → CaseLine
+  Call : Text → ℕ → CaseLine
+  Assign : Text → Bool → CaseLine
+  Function : Text → CaseLine
+  Override : Text → Text → CaseLine
+  Dotenv : Text → Text → CaseLine
+  Order : Text → CaseLine
+  Only : Text → CaseLine
+  Reply : Text → CaseLine
+  Fail : ℕ → CaseLine
+  Always : Text → CaseLine
+  Lists : CaseLine
+  Dry : CaseLine
+  Limit : ℕ → CaseLine
+  Run : CaseLine
+  Const : CaseLine
+  Blocks : Text → CaseLine
 
 -- whether a line is skipped
-abbrev pub says_nothing : Line → Bool
+abbrev pub says_nothing : CaseLine → Bool
 says_nothing Skipped = true
 says_nothing _ = false
 
 -- a line of a single word that combines expressions
-abbrev pub operator_line : Text → Line
+abbrev pub operator_line : Text → CaseLine
 operator_line word =
     if bytes_eq word (codes "root") then Unary Root else
     if bytes_eq word (codes "not") then Unary Not else
@@ -66,7 +66,7 @@ operator_line word =
     Bad
 
 -- a line of a single word
-abbrev pub bare_line : Text → Line
+abbrev pub bare_line : Text → CaseLine
 bare_line word =
     if bytes_eq word (codes "if") then If else
     if bytes_eq word (codes "lists") then Lists else
@@ -76,32 +76,32 @@ bare_line word =
     operator_line word
 
 -- a line with a name; bad if it is not one
-abbrev pub name_line : Text → Line → Line
+abbrev pub name_line : Text → CaseLine → CaseLine
 name_line name line = if is_name name then line else Bad
 
 -- a line with a number; bad if there is none
-abbrev pub number_line : Option ℕ → (ℕ → Line) → Line
+abbrev pub number_line : Option ℕ → (ℕ → CaseLine) → CaseLine
 number_line None line = Bad
 number_line (Some n) line = line n
 
 -- a line with names; bad if one of them is not a name
-abbrev pub names_line : Option (List Text) → Line → Line
+abbrev pub names_line : Option (List Text) → CaseLine → CaseLine
 names_line None line = Bad
 names_line (Some names) line = line
 
 -- a line with at least one name
-abbrev pub first_name_line : Option (List Text) → Line → Line
+abbrev pub first_name_line : Option (List Text) → CaseLine → CaseLine
 first_name_line None line = Bad
 first_name_line (Some []) line = Bad
 first_name_line (Some (name ∷ names)) line = line
 
 -- a limit is not 0
-abbrev pub limit : ℕ → Line
+abbrev pub limit : ℕ → CaseLine
 limit zero = Bad
 limit (suc n) = Limit (suc n)
 
 -- a line with a rarer word, by its word and the text after it
-abbrev pub rare_line : Text → Text → Line
+abbrev pub rare_line : Text → Text → CaseLine
 rare_line word rest =
     if bytes_eq word (codes "fun") then first_name_line (names rest) (Function rest) else
     if bytes_eq word (codes "order") then names_line (names rest) (Order rest) else
@@ -113,7 +113,7 @@ rare_line word rest =
     Bad
 
 -- a line by its word and the text after it
-abbrev pub line_of_word : Text → Text → Line
+abbrev pub line_of_word : Text → Text → CaseLine
 line_of_word word rest =
     if bytes_eq word (codes "var") then name_line rest (Variable rest) else
     if bytes_eq word (codes "assign") then name_line rest (Assign rest false) else
@@ -134,12 +134,12 @@ abbrev pub is_skipped : Text → Bool
 is_skipped [] = true
 is_skipped (byte ∷ bytes) = byte == 35
 
-abbrev pub line_of_text : Text → Line
+abbrev pub line_of_text : Text → CaseLine
 line_of_text text = if is_skipped text then Skipped else line_of_word (word_of text) (rest_of text)
 
 -- a line by its bytes; bad if they are not text
-abbrev pub line_of : Text → Line
-line_of bytes = if is_utf8 bytes then line_of_text bytes else Bad
+abbrev pub case_line_of : Text → CaseLine
+case_line_of bytes = if is_utf8 bytes then line_of_text bytes else Bad
 
 -- the pieces without an empty last one
 abbrev pub without_empty_end : List Text → List Text

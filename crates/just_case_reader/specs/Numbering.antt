@@ -37,8 +37,8 @@ abbrev pub with_numbers : {A : Type 0} → (Text → ℕ → A) → KnownNames �
 with_numbers make names [] = []
 with_numbers make names (x ∷ xs) = make x (number_of names x) ∷ with_numbers make (with_name names x) xs
 
-abbrev pub numbers_of : KnownNames → List Text → List ℕ
-numbers_of = with_numbers (λ name number. number)
+abbrev pub numbers_of_names : KnownNames → List Text → List ℕ
+numbers_of_names = with_numbers (λ name number. number)
 
 abbrev pub parameters_with_numbers : KnownNames → List Text → List (Token × ℕ)
 parameters_with_numbers = with_numbers (λ name number. (token_of name, number))

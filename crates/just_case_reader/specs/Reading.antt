@@ -12,9 +12,10 @@ use Rattle.just_syntax.specs.Plain.{Text, Token, Expr}
 use Rattle.just_value.specs.Refusal.{Code}
 use Rattle.just_case_reader.specs.Case as cases
 use Rattle.just_case_reader.specs.Case.{Case}
-use Rattle.just_case_reader.specs.Line.{Line, Bad, Command, Variable, Assign, Function, Override, Dotenv, Order, Only}
+use Rattle.just_case_reader.specs.Line.{CaseLine, Bad, Command, Variable, Assign, Function, Override, Dotenv, Order}
+use Rattle.just_case_reader.specs.Line.{Only}
 use Rattle.just_case_reader.specs.Line.{Reply, Fail, Always, Lists, Dry, Limit, Run, Const, Blocks, says_nothing}
-use Rattle.just_case_reader.specs.Numbering.{KnownNames, no_names, number_of, numbers_of, parameters_with_numbers}
+use Rattle.just_case_reader.specs.Numbering.{KnownNames, no_names, number_of, numbers_of_names, parameters_with_numbers}
 use Rattle.just_case_reader.specs.Numbering.{with_name, with_names}
 use Rattle.just_case_reader.specs.Rest.{names}
 use Rattle.just_case_reader.specs.Stack.{stack_after}
@@ -54,7 +55,7 @@ is_new (name ∷ parameters) functions = not (is_some (value_at defined_name nam
 
 -- A line does not fit if it is not valid, if it assigns a name or defines a function a second time, if one of its names
 -- is not valid, or if it answers the last command when there is none.
-abbrev pub fits : Line → Reading → Bool
+abbrev pub fits : CaseLine → Reading → Bool
 fits Bad r = false
 fits (Assign name export) r = not (is_some (value_at assigned_name name r.case.assignments))
 fits (Function text) r = is_new (names_in text) r.case.functions
@@ -66,7 +67,7 @@ fits _ r = true
 
 -- ---- the changes by a line, part by part
 
-abbrev pub names_after : Line → KnownNames → KnownNames
+abbrev pub names_after : CaseLine → KnownNames → KnownNames
 names_after (Variable name) known = with_name known name
 names_after (Assign name export) known = with_name known name
 names_after (Override name text) known = with_name known name
@@ -74,9 +75,9 @@ names_after (Only text) known = with_names known (names_in text)
 names_after (Function text) known = with_names known (parameters_in (names_in text))
 names_after _ known = known
 
-abbrev pub assigns : Text → Bool → ℕ → List Expr → List plain.Assignment → List plain.Assignment
-assigns name export number [] assignments = assignments
-assigns name export number (e ∷ es) assignments =
+abbrev pub with_assigned : Text → Bool → ℕ → List Expr → List plain.Assignment → List plain.Assignment
+with_assigned name export number [] assignments = assignments
+with_assigned name export number (e ∷ es) assignments =
     with_value assigned_name assignments (record {
       eager = false;
       export = export;
@@ -87,11 +88,11 @@ assigns name export number (e ∷ es) assignments =
     })
 
 -- the expression on top is assigned
-abbrev pub assignments_after : Line → Reading → List plain.Assignment
-assignments_after (Assign name export) r = assigns name export (number_of r.names name) r.stack r.case.assignments
+abbrev pub assignments_after : CaseLine → Reading → List plain.Assignment
+assignments_after (Assign name export) r = with_assigned name export (number_of r.names name) r.stack r.case.assignments
 assignments_after _ r = r.case.assignments
 
-abbrev pub order_after : Line → List Token → List Token
+abbrev pub order_after : CaseLine → List Token → List Token
 order_after (Assign name export) order = order ++ token_of name ∷ []
 order_after _ order = order
 
@@ -102,66 +103,67 @@ defines (name ∷ parameters) known (e ∷ es) functions =
 defines _ known _ functions = functions
 
 -- the expression on top becomes the body of the function with the first name, whose parameters are the other names
-abbrev pub functions_after : Line → Reading → List plain.Function
+abbrev pub functions_after : CaseLine → Reading → List plain.Function
 functions_after (Function text) r = defines (names_in text) r.names r.stack r.case.functions
 functions_after _ r = r.case.functions
 
-abbrev pub overrides_after : Line → Reading → ℕ → Option Text
+abbrev pub overrides_after : CaseLine → Reading → ℕ → Option Text
 overrides_after (Override name text) r =
     λ n. if nat_eq (number_of r.names name) n then Some text else r.case.overrides n
 overrides_after _ r = r.case.overrides
 
-abbrev pub references_after : Line → Reading → Option (ℕ → Bool)
-references_after (Only text) r = Some (λ n. list_any (λ number. nat_eq number n) (numbers_of r.names (names_in text)))
+abbrev pub references_after : CaseLine → Reading → Option (ℕ → Bool)
+references_after (Only text) r =
+    Some (λ n. list_any (λ number. nat_eq number n) (numbers_of_names r.names (names_in text)))
 references_after _ r = r.case.references
 
-abbrev pub dotenv_after : Line → List (Text × Text) → List (Text × Text)
+abbrev pub dotenv_after : CaseLine → List (Text × Text) → List (Text × Text)
 dotenv_after (Dotenv key text) dotenv = insert_entry (slice_cmp nat_cmp) dotenv key text
 dotenv_after _ dotenv = dotenv
 
-abbrev pub command_after : Line → Option Text → Option Text
+abbrev pub command_after : CaseLine → Option Text → Option Text
 command_after (Command text lexeme) last = Some text
 command_after _ last = last
 
 -- the last command always gets this answer
-abbrev pub always_after : Line → Reading → List (Text × Text)
+abbrev pub always_after : CaseLine → Reading → List (Text × Text)
 always_after (Always text) r = r.case.always ++ (unwrap_or r.last_command [], text) ∷ []
 always_after _ r = r.case.always
 
-abbrev pub replies_after : Line → List cases.CommandReply → List cases.CommandReply
+abbrev pub replies_after : CaseLine → List cases.CommandReply → List cases.CommandReply
 replies_after (Reply text) replies = replies ++ cases.Output text ∷ []
 replies_after (Fail code) replies = replies ++ cases.Broken (Code (pos code)) ∷ []
 replies_after _ replies = replies
 
-abbrev pub lists_after : Line → Bool → Bool
+abbrev pub lists_after : CaseLine → Bool → Bool
 lists_after Lists on = true
 lists_after _ on = on
 
-abbrev pub dry_run_after : Line → Bool → Bool
+abbrev pub dry_run_after : CaseLine → Bool → Bool
 dry_run_after Dry on = true
 dry_run_after _ on = on
 
-abbrev pub limit_after : Line → ℕ → ℕ
+abbrev pub limit_after : CaseLine → ℕ → ℕ
 limit_after (Limit n) limit = n
 limit_after _ limit = limit
 
-abbrev pub evaluation_after : Line → cases.Evaluation → cases.Evaluation
+abbrev pub evaluation_after : CaseLine → cases.Evaluation → cases.Evaluation
 evaluation_after Run evaluation = cases.Run
 evaluation_after Const evaluation = cases.Const
 evaluation_after (Blocks text) evaluation = cases.Blocks (map token_of (names_in text))
 evaluation_after _ evaluation = evaluation
 
-abbrev pub given_order_after : Line → Option (List Token) → Option (List Token)
+abbrev pub given_order_after : CaseLine → Option (List Token) → Option (List Token)
 given_order_after (Order text) parts = Some (map token_of (names_in text))
 given_order_after _ parts = parts
 
-abbrev pub is_over_after : Line → Bool → Bool
+abbrev pub is_over_after : CaseLine → Bool → Bool
 is_over_after Run over = true
 is_over_after Const over = true
 is_over_after (Blocks text) over = true
 is_over_after _ over = over
 
-abbrev pub case_after : Line → Reading → Case
+abbrev pub case_after : CaseLine → Reading → Case
 case_after line r = record {
   assignments = assignments_after line r;
   evaluation_order = order_after line r.case.evaluation_order;
@@ -178,7 +180,7 @@ case_after line r = record {
 }
 
 -- the state after a line that leaves these expressions
-abbrev pub with_stack : Line → Reading → List Expr → Reading
+abbrev pub with_stack : CaseLine → Reading → List Expr → Reading
 with_stack line r stack = record {
   case = case_after line r;
   is_over = is_over_after line r.is_over;
@@ -191,11 +193,11 @@ with_stack line r stack = record {
 -- ---- the lines
 
 -- the state after a line; `None` if the line is bad
-abbrev pub read : Line → Reading → Option Reading
+abbrev pub read : CaseLine → Reading → Option Reading
 read line r = if fits line r then option_map (with_stack line r) (stack_after line r.names r.stack) else None
 
 -- the same, but after the end each line that is not skipped is bad
-abbrev pub step : Line → Reading → Option Reading
+abbrev pub step : CaseLine → Reading → Option Reading
 step line r = if r.is_over && not (says_nothing line) then None else read line r
 
 -- the state before the first line
@@ -241,10 +243,10 @@ or_bad n None after = BadLine n
 or_bad n (Some r) after = after r
 
 -- the result of lines, the first of which has number n; a case without an end is bad after its last line
-abbrev pub described_from : ℕ → Reading → List Line → Described
+abbrev pub described_from : ℕ → Reading → List CaseLine → Described
 described_from n r [] = if r.is_over then Describes (whole_case r) else BadLine n
 described_from n r (line ∷ lines) = or_bad n (step line r) (λ next. described_from (suc n) next lines)
 
 -- the result of the lines of a case
-abbrev pub described : List Line → Described
+abbrev pub described : List CaseLine → Described
 described lines = described_from 1 nothing lines

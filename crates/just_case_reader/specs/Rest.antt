@@ -42,8 +42,8 @@ abbrev pub rest_of : Text → Text
 rest_of text = after_first (λ byte. byte == 32) text
 
 -- the pieces between spaces
-abbrev pub pieces : Text → List Text
-pieces text = slice_split (λ byte. byte == 32) text
+abbrev pub spaced_pieces : Text → List Text
+spaced_pieces text = slice_split (λ byte. byte == 32) text
 
 -- the pieces, if each is a name
 abbrev pub if_names : List Text → Option (List Text)
@@ -52,4 +52,4 @@ if_names (piece ∷ pieces) = if is_name piece then option_map (λ names. piece 
 
 -- the names in a text, separated by single spaces, if it contains nothing else
 abbrev pub names : Text → Option (List Text)
-names text = if length text == 0 then Some [] else if_names (pieces text)
+names text = if length text == 0 then Some [] else if_names (spaced_pieces text)

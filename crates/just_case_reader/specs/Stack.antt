@@ -12,7 +12,7 @@ use Rattle.just_case_reader.specs.declared.operator.BinaryOperator.TheVariants.{
 use Rattle.just_case_reader.specs.declared.operator.BinaryOperator.TheVariants.{NotEqual, Match, Mismatch}
 use Rattle.just_case_reader.specs.declared.operator.BinaryOperator.TheVariants.{AssertMessage, When}
 use Rattle.just_case_reader.specs.Token.{token_of}
-use Rattle.just_case_reader.specs.Line.{Line, Literal, Command, Variable, Unary, Binary, If, ListOf, Call, Assign}
+use Rattle.just_case_reader.specs.Line.{CaseLine, Literal, Command, Variable, Unary, Binary, If, ListOf, Call, Assign}
 use Rattle.just_case_reader.specs.Line.{Function, Run, Const, Blocks}
 use Rattle.just_case_reader.specs.Numbering.{KnownNames, number_of}
 
@@ -49,7 +49,7 @@ abbrev pub of_several : (Exprs → Expr) → Option (Exprs × List Expr) → Opt
 of_several form taken = option_map (λ taken. form taken.0 ∷ taken.1) taken
 
 -- the expressions after a line; `None` if the line needs more than there are, or ends the case and there are some
-abbrev pub stack_after : Line → KnownNames → List Expr → Option (List Expr)
+abbrev pub stack_after : CaseLine → KnownNames → List Expr → Option (List Expr)
 stack_after (Literal text lexeme) names es =
     Some (plain.StringLiteral (record { cooked = text; lexeme = lexeme; indented = false }) ∷ es)
 stack_after (Command text lexeme) names es = Some (plain.Backtick text (token_of lexeme) ∷ es)

@@ -24,7 +24,7 @@ use Rattle.just_case_reader.specs.declared.case.Case.{Case}
 use Rattle.just_case_reader.specs.declared.evaluation.Evaluation.{Evaluation}
 use Rattle.just_case_reader.specs.declared.evaluation.Evaluation.TheVariants as evaluations
 
-abbrev pub case_line_view : Line → plain.Line
+abbrev pub case_line_view : Line → plain.CaseLine
 case_line_view lines.Skipped = plain.Skipped
 case_line_view lines.Bad = plain.Bad
 case_line_view (lines.Literal text lexeme) = plain.Literal text.now lexeme.now
@@ -64,9 +64,9 @@ numbering_view numbering = record {
 abbrev pub number_set_view : {S : Type 0} → HashSet ℕ S → ℕ → Bool
 number_set_view set n = list_any (nat_eq n) set.keys
 
-abbrev pub reply_view : {A : Type 0} → Result (String A) CommandFault → cases.CommandReply
-reply_view (Ok text) = cases.Output (string_bytes text)
-reply_view (Err fault) = cases.Broken (fault_view fault)
+abbrev pub command_reply_view : {A : Type 0} → Result (String A) CommandFault → cases.CommandReply
+command_reply_view (Ok text) = cases.Output (string_bytes text)
+command_reply_view (Err fault) = cases.Broken (fault_view fault)
 
 abbrev pub evaluation_view : Evaluation → cases.Evaluation
 evaluation_view evaluations.Run = cases.Run
@@ -82,7 +82,7 @@ case_view c = record {
   references = option_map number_set_view c.references;
   dotenv = pairs_view c.dotenv;
   always = map pair_view c.always.items;
-  replies = map reply_view c.replies.items;
+  replies = map command_reply_view c.replies.items;
   lists = c.lists;
   dry_run = c.dry_run;
   recursion_limit = c.recursion_limit;

@@ -2,7 +2,7 @@
 
 ghost use Rattle.std.specs.Prelude.{IfOk, OnOk, [], length, map, ◌+◌, ◌≡◌, ◌≤◌};
 ghost use Rattle.just_case_reader.specs.Prelude.{BadLine, Describes, case_line_view, case_view, described};
-ghost use Rattle.just_case_reader.specs.Prelude.{described_from, line_of, lines_of, nothing, reading_view};
+ghost use Rattle.just_case_reader.specs.Prelude.{case_line_of, described_from, lines_of, nothing, reading_view};
 
 use crate::builder::Builder;
 use crate::evaluation::Evaluation;
@@ -115,9 +115,9 @@ pub fn parse<'case>(
     arena: &'case Bump,
     text: &'case [u8],
 ) -> Result<Case<'case>, CaseError>
-    ensures case { IfOk result (λ case. described (map line_of (lines_of text.now)) ≡ Describes (case_view case)) }
+    ensures case { IfOk result (λ case. described (map case_line_of (lines_of text.now)) ≡ Describes (case_view case)) }
     ensures bad { (place : _) → result ≡ Err (CaseError.BadLine place)
-        → described (map line_of (lines_of text.now)) ≡ BadLine place }
+        → described (map case_line_of (lines_of text.now)) ≡ BadLine place }
 {
     // Most lines have eight bytes or more.
     let Ok(mut builder) = Builder::new(alloc, text.len() / 8) else {
@@ -136,11 +136,12 @@ fn take_text<'case>(
     arena: &'case Bump,
     text: &'case [u8],
 ) -> Result<usize, CaseError>
-    ensures ok { IfOk result (λ count. described_from 1 (reading_view builder.old) (map line_of (lines_of text.now))
+    ensures ok { IfOk result
+        (λ count. described_from 1 (reading_view builder.old) (map case_line_of (lines_of text.now))
         ≡ described_from (count + 1) (reading_view builder.new) []) }
     ensures few { IfOk result (λ count. count ≤ length text.now) }
     ensures bad { (place : _) → result ≡ Err (CaseError.BadLine place)
-        → described_from 1 (reading_view builder.old) (map line_of (lines_of text.now)) ≡ BadLine place }
+        → described_from 1 (reading_view builder.old) (map case_line_of (lines_of text.now)) ≡ BadLine place }
 {
     let mut rest = text;
     let mut count: usize = 0;

@@ -4,7 +4,7 @@ ghost use Rattle.std.specs.Prelude.{IfOk, Some, [], if◌then◌else◌, length,
 ghost use Rattle.std.specs.Prelude.{◌==◌, ◌∷◌, ◌≡◌};
 ghost use Rattle.std.specs.List.{after_first, before_first};
 ghost use Rattle.just_case_reader.specs.Prelude.{Assign, Bad, Call, Dotenv, Fail, ListOf, Override, bare_line};
-ghost use Rattle.just_case_reader.specs.Prelude.{case_line_view, first_name_line, is_skipped, limit, line_of};
+ghost use Rattle.just_case_reader.specs.Prelude.{case_line_of, case_line_view, first_name_line, is_skipped, limit};
 ghost use Rattle.just_case_reader.specs.Prelude.{line_of_text, line_of_word, lines_of, name_line, number, number_line};
 ghost use Rattle.just_case_reader.specs.Prelude.{operator_line, rare_line, rest_of, says_nothing, word_of};
 
@@ -129,7 +129,7 @@ pub fn parse_lines<'case>(
     arena: &'case Bump,
     case: &'case [u8],
 ) -> Result<Vec<Line<'case>>, OutOfMemory>
-    ensures { IfOk result (λ lines. map case_line_view lines.items ≡ map line_of (lines_of case.now)) }
+    ensures { IfOk result (λ lines. map case_line_view lines.items ≡ map case_line_of (lines_of case.now)) }
 {
     // Most lines have eight bytes or more.
     let mut lines = Vec::with_capacity(alloc, case.len() / 8)?;
@@ -148,7 +148,7 @@ pub(crate) fn parse_line<'case>(
     arena: &'case Bump,
     bytes: &'case [u8],
 ) -> Result<Line<'case>, OutOfMemory>
-    ensures { IfOk result (λ line. case_line_view line ≡ line_of bytes.now) }
+    ensures { IfOk result (λ line. case_line_view line ≡ case_line_of bytes.now) }
 {
     match str::from_utf8(bytes) {
         Ok(text) => parse_text(alloc, arena, text),

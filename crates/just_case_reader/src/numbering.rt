@@ -17,7 +17,7 @@ pub struct Numbering<'src> {
 impl<'src> Numbering<'src> {
     ghost use Rattle.std.specs.Prelude.{◌≡◌, IfOk, OnOk, OnErr, map};
     ghost use Rattle.just_syntax.specs.View.{parameter_view};
-    ghost use Rattle.just_case_reader.specs.Numbering.{no_names, number_of, numbers_of, parameters_with_numbers};
+    ghost use Rattle.just_case_reader.specs.Numbering.{no_names, number_of, numbers_of_names, parameters_with_numbers};
     ghost use Rattle.just_case_reader.specs.Numbering.{with_name, with_names};
     ghost use Rattle.just_case_reader.specs.View.{numbering_view};
 
@@ -61,7 +61,7 @@ impl<'src> Numbering<'src> {
         alloc: Global,
         names: &[&'src str],
     ) -> Result<Vec<Number>, OutOfMemory>
-        ensures numbers { IfOk result (λ numbers. numbers.items ≡ numbers_of (numbering_view self.old)
+        ensures numbers { IfOk result (λ numbers. numbers.items ≡ numbers_of_names (numbering_view self.old)
             (map (λ name. name.now) names.now)) }
         ensures ok { OnOk result (numbering_view self.new ≡ with_names (numbering_view self.old)
             (map (λ name. name.now) names.now)) }

@@ -2,7 +2,8 @@
 
 ghost use Rattle.std.specs.Prelude.{IfOk, None, Some, [], map, option_map, position, ◌==◌, ◌≡◌};
 ghost use Rattle.std.specs.List.{list_all};
-ghost use Rattle.just_case_reader.specs.Prelude.{if_names, is_name, is_name_part, is_name_start, names, number, pieces};
+ghost use Rattle.just_case_reader.specs.Prelude.{if_names, is_name, is_name_part, is_name_start, names, number};
+ghost use Rattle.just_case_reader.specs.Prelude.{spaced_pieces};
 ghost use Rattle.just_case_reader.specs.Prelude.{rest_of, word_of};
 
 use just_syntax::out_of_memory::OutOfMemory;
@@ -109,7 +110,7 @@ fn parse_pieces<'case>(
     text: &'case str,
 ) -> Result<Option<Vec<&'case str>>, OutOfMemory>
     ensures { IfOk result (λ found. option_map (λ list. map (λ name. name.now) list.items) found
-        ≡ if_names (pieces text.now)) }
+        ≡ if_names (spaced_pieces text.now)) }
 {
     let mut names = Vec::new(alloc);
     let mut rest = text;

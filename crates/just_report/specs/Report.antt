@@ -17,12 +17,12 @@ abbrev pub columns : ℕ → ℕ
 columns c = if c == 9 then 4 else unwrap_or (char_width false c) 0
 
 -- a character as it is shown: four spaces for a tab, nothing for another control character
-abbrev pub shown : ℕ → Text
-shown c = if c == 9 then repeat 4 (32 ∷ []) else if is_some (char_width false c) then encode_utf8 c else []
+abbrev pub shown_character : ℕ → Text
+shown_character c = if c == 9 then repeat 4 (32 ∷ []) else if is_some (char_width false c) then encode_utf8 c else []
 
 -- a line, which is given by its characters, as it is shown
 abbrev pub shown_line : List ℕ → Text
-shown_line cs = flat_map shown cs
+shown_line cs = flat_map shown_character cs
 
 -- a space for each column of the characters that begin in the first `before` bytes, and a `^` for each column of those
 -- that begin in the next `left` bytes
@@ -58,12 +58,12 @@ place_line number t =
     padding number ++ (arrow ++ (t.path ++ (58 ∷ number ++ (58 ∷ decimal (ordinal t.column) ++ 10 ∷ []))))
 
 -- a line of the source after its number
-abbrev pub numbered : Text → Text → Text
-numbered number line = number ++ (bar ++ (32 ∷ shown_line (chars line) ++ 10 ∷ []))
+abbrev pub numbered_source_line : Text → Text → Text
+numbered_source_line number line = number ++ (bar ++ (32 ∷ shown_line (chars line) ++ 10 ∷ []))
 
 -- an empty line, and the line of the source
 abbrev pub source_lines : Text → Text → Text
-source_lines number line = padding number ++ (bar ++ (10 ∷ numbered number line))
+source_lines number line = padding number ++ (bar ++ (10 ∷ numbered_source_line number line))
 
 -- the line that has the marks
 abbrev pub mark_line : Text → Token → Text → Text

@@ -1,7 +1,7 @@
 // Reports of errors.
 
 ghost use Rattle.std.specs.Prelude.{IfOk, IfSome, OnOk, string_bytes, ◌++◌, ◌≡◌};
-ghost use Rattle.just_report.specs.Report.{line_at, mark_line, marks, numbered, place_line, report};
+ghost use Rattle.just_report.specs.Report.{line_at, mark_line, marks, numbered_source_line, place_line, report};
 ghost use Rattle.just_report.specs.Report.{report_in_line, source_lines};
 ghost use Rattle.just_syntax.specs.View.{token_view};
 
@@ -99,7 +99,7 @@ fn push_source(text: &mut String, number: &str, line: &str) -> Result<(), OutOfM
 
 // Adds a line of the source after its number.
 fn push_numbered(text: &mut String, number: &str, line: &str) -> Result<(), OutOfMemory>
-    ensures { OnOk result (string_bytes text.new ≡ string_bytes text.old ++ numbered number.now line.now) }
+    ensures { OnOk result (string_bytes text.new ≡ string_bytes text.old ++ numbered_source_line number.now line.now) }
 {
     write!(text, "{number} │ ")?;
     push_shown(text, line)?;

@@ -1,7 +1,7 @@
 // A line of source as it is shown.
 
 ghost use Rattle.std.specs.Prelude.{OnOk, chars, string_bytes, ◌++◌, ◌≡◌};
-ghost use Rattle.just_report.specs.Report.{shown, shown_line};
+ghost use Rattle.just_report.specs.Report.{shown_character, shown_line};
 
 use just_syntax::out_of_memory::OutOfMemory;
 use unicode_width::UnicodeWidthChar;
@@ -18,7 +18,7 @@ pub(crate) fn push_shown(text: &mut String, line: &str) -> Result<(), OutOfMemor
 
 // Adds a character as it is shown.
 fn push_character(text: &mut String, character: char) -> Result<(), OutOfMemory>
-    ensures { OnOk result (string_bytes text.new ≡ string_bytes text.old ++ shown character) }
+    ensures { OnOk result (string_bytes text.new ≡ string_bytes text.old ++ shown_character character) }
 {
     if character == '\t' {
         text.push_str("    ")?;

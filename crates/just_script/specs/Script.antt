@@ -36,9 +36,9 @@ after_first (answer ∷ answers) = answers
 
 -- The answer is the next reply; if none is left, it is the fault `no reply`, or `NoMemory` if there is no memory for
 -- its message.
-abbrev pub AnswersNext : List Answer → Answer → Type 0
-AnswersNext [] answer = UnlessNoMemory answer (Failed (Message (codes "no reply")))
-AnswersNext (reply ∷ replies) answer = answer ≡ reply
+abbrev pub IsNextReply : List Answer → Answer → Type 0
+IsNextReply [] answer = UnlessNoMemory answer (Failed (Message (codes "no reply")))
+IsNextReply (reply ∷ replies) answer = answer ≡ reply
 
 -- The same script with other remaining replies.
 abbrev pub with_replies : Script → List Answer → Script
@@ -49,7 +49,7 @@ with_replies old replies =
 -- next reply.
 abbrev pub AnswersCommand : Option Text → Script → Answer → Script → Type 0
 AnswersCommand (Some text) old answer new = UnlessNoMemory answer (Replied text) × (new ≡ old)
-AnswersCommand None old answer new = AnswersNext old.replies answer × (new ≡ with_replies old (after_first old.replies))
+AnswersCommand None old answer new = IsNextReply old.replies answer × (new ≡ with_replies old (after_first old.replies))
 
 -- Each other kind of question takes the next answer of its own list, or `Absent`, false or 0 if none is left.
 abbrev pub AnswersByScript : Script → Blind → Answer → Script → Type 0

@@ -1,12 +1,12 @@
 use Rattle.std.proofs.Common.{◌∙◌, [], ap, drop, map, string_bytes}
-use Rattle.just_bench.specs.Prelude.{Module, Walks, frames_view, in_order, name_view, refusal, run_view, seen, taken_view, text_numbered}
+use Rattle.just_bench.specs.Prelude.{Module, Walks, frames_view, in_order, module_run_view, name_view, refusal, seen, taken_view, text_numbered}
 use Rattle.just_bench.proofs.Walks.{walked_on, walked_refused, walked_whole}
 use Rattle.just_bench.proofs.blocks.print_turns.Goals as goal
 
 pub returns-in-Err-clause-walks : goal.returns-in-Err-clause-walks
 returns-in-Err-clause-walks g c =
-    let m = in_order (run_view c.args.run.now) (map name_view c.args.order.now) in
-    walked_refused (run_view c.loop-name.run) c.loop-name.invariant.run
+    let m = in_order (module_run_view c.args.run.now) (map name_view c.args.order.now) in
+    walked_refused (module_run_view c.loop-name.run) c.loop-name.invariant.run
     (λ printed found. Walks g.H.Host.step m (seen c.args.host.now) (frames_view c.args.blocks.scope) (map name_view c.args.order.now)
     (map taken_view c.args.taken.now) (text_numbered c.args.blocks.questions) printed found)
     (string_bytes c.args.text.now) (string_bytes c.loop-name.text) (seen c.loop-name.host) (frames_view c.loop-name.blocks.scope) name_view c.args.order.now
@@ -17,10 +17,10 @@ returns-in-Err-clause-walks g c =
 
 pub loop-name-preserved : goal.loop-name-preserved
 loop-name-preserved g c =
-    let m = in_order (run_view c.args.run.now) (map name_view c.args.order.now) in
+    let m = in_order (module_run_view c.args.run.now) (map name_view c.args.order.now) in
     record {
       run = ap (λ (m : Module). in_order m []) c.in_ok-next.ensures.run ∙ c.loop-name.invariant.run;
-      walks = walked_on (run_view c.loop-name.run) c.loop-name.invariant.run
+      walks = walked_on (module_run_view c.loop-name.run) c.loop-name.invariant.run
           (λ printed found. Walks g.H.Host.step m (seen c.args.host.now) (frames_view c.args.blocks.scope) (map name_view c.args.order.now)
           (map taken_view c.args.taken.now) (text_numbered c.args.blocks.questions) printed found)
           (string_bytes c.args.text.now) (string_bytes c.loop-name.text) (seen c.loop-name.host) (frames_view c.loop-name.blocks.scope) name_view
@@ -33,8 +33,8 @@ loop-name-preserved g c =
 
 pub returns-clause-walks : goal.returns-clause-walks
 returns-clause-walks g c =
-    let m = in_order (run_view c.args.run.now) (map name_view c.args.order.now) in
-    walked_whole (run_view c.loop-name.run) c.loop-name.invariant.run
+    let m = in_order (module_run_view c.args.run.now) (map name_view c.args.order.now) in
+    walked_whole (module_run_view c.loop-name.run) c.loop-name.invariant.run
     (λ printed found. Walks g.H.Host.step m (seen c.args.host.now) (frames_view c.args.blocks.scope) (map name_view c.args.order.now)
     (map taken_view c.args.taken.now) (text_numbered c.args.blocks.questions) printed found)
     (string_bytes c.args.text.now) (string_bytes c.loop-name.text) (seen c.loop-name.host) (frames_view c.loop-name.blocks.scope) name_view c.args.order.now

@@ -1,5 +1,5 @@
 use Rattle.std.proofs.Common.{◌≡◌, ◌++◌, length, map, option_map}
-use Rattle.just_case_reader.specs.Prelude.{if_names, pieces}
+use Rattle.just_case_reader.specs.Prelude.{if_names, spaced_pieces}
 use Rattle.just_case_reader.proofs.rest.parse_pieces.Given as goal
 use denote.Shadow.{shadow}
 use denote.Text.{Utf8}
@@ -8,7 +8,7 @@ use denote.Text.{Utf8}
 abbrev pub invariant-loop-name : goal.invariant-loop-name
 invariant-loop-name l = record {
   text : shadow (Utf8 l.rest);
-  same : option_map (λ list. map (λ name. name.now) l.names.items ++ list) (if_names (pieces l.rest)) ≡ if_names (pieces l.text);
+  same : option_map (λ list. map (λ name. name.now) l.names.items ++ list) (if_names (spaced_pieces l.rest)) ≡ if_names (spaced_pieces l.text);
 }
 
 abbrev pub decreases-loop-name : goal.decreases-loop-name

@@ -1,5 +1,5 @@
 use Rattle.std.proofs.Common.{[], ◌∷◌, ℕ, Bool, ap₂, subst}
-use Rattle.just_bench.specs.Prelude.{Behaves, IsResolvedRun, Module, dynamically, ended, frames_view, freely, lexically, run, run_view, unchecked}
+use Rattle.just_bench.specs.Prelude.{Behaves, IsResolvedRun, Module, dynamically, ended, frames_view, freely, lexically, module_run_view, run, unchecked}
 use Rattle.just_bench.specs.declared.module_run.ModuleRun.{ModuleRun}
 use Rattle.just_bench.proofs.References.{same_references}
 use Rattle.just_bench.proofs.module_run.ModuleRun.evaluate.Goals as goal
@@ -7,7 +7,7 @@ use Rattle.just_bench.proofs.module_run.ModuleRun.evaluate.Goals as goal
 -- the inputs of a run, but for what is referenced and for the limit
 abbrev run_with : ModuleRun → (ℕ → Bool) → ℕ → Module
 run_with r referenced limit =
-    let m = run_view r in
+    let m = module_run_view r in
     record m { assignments = record m.assignments { referenced = referenced }; limit = limit }
 
 pub returns-clause-headline : goal.returns-clause-headline
