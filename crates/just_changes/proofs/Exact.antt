@@ -5,7 +5,7 @@ use Rattle.std.specs.Global.{Global}
 use Rattle.std.specs.declared.hash.BuildHasherDefault.{BuildHasherDefault}
 use Rattle.std.specs.declared.hash.FoldHasher.{FoldHasher}
 use Rattle.std.specs.declared.string.String.{String}
-use Rattle.just_changes.specs.Prelude.{AreAlikeAt, Frames, HaveSameCone, IsIn, IsOver, IsReached, IsUnchanged, IsWhole, Module, OfVariable, PlainNode}
+use Rattle.just_changes.specs.Prelude.{AreAlikeAt, Frames, HaveSameCone, IsIn, IsOver, IsReadFrom, IsUnchanged, IsWhole, Module, OfVariable, PlainNode}
 use Rattle.just_changes.specs.Prelude.{ReadsItself, Version, assignment_numbered, assignment_view, function_at, function_view, version_view}
 use Rattle.just_syntax.specs.View.{text_numbered}
 use Rattle.just_host.specs.declared.justfile.Justfile.{Justfile}
@@ -28,7 +28,7 @@ pub exact : (m w : Module) (outer : Frames) (v u : Version) (readers : PlainNode
     → AreAlike v (version_of m) → AreAlike u (version_of w)
     → ((x y : PlainNode) → IsIn (readers x) y ↔ ReadsItself v outer y x) → ((x : PlainNode) → IsIn starts x → IsUnchanged v u x → ⊥)
     → ((x : PlainNode) → IsIn starts x ⊎ IsUnchanged v u x)
-    → ((x : PlainNode) → IsTrue (touched x) ↔ IsReached readers starts x) → (n : ℕ) → (touched (OfVariable n) ≡ false) ↔ HaveSameCone m w outer n
+    → ((x : PlainNode) → IsTrue (touched x) ↔ IsReadFrom readers starts x) → (n : ℕ) → (touched (OfVariable n) ≡ false) ↔ HaveSameCone m w outer n
 exact m w outer v u readers starts touched first second reading differ all reached =
     exactly m w outer readers starts touched
     (λ x y. (

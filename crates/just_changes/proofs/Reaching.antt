@@ -1,6 +1,6 @@
 -- Differences reach exactly the variables whose cones differ.
 use Rattle.std.proofs.Common.{◌≡◌, ◌↔◌, ◌⊎◌, inl, inr, ⊎_elim, ℕ, Bool, true, false, List, [], Some, IsTrue, refl, sym, ◌∙◌, subst}
-use Rattle.just_changes.specs.Prelude.{Assignment, AssignmentReads, Call, CallOf, Expr, Frames, Function, HaveSameCone, IsIn, IsReached, IsUnchanged, Mentions}
+use Rattle.just_changes.specs.Prelude.{Assignment, AssignmentReads, Call, CallOf, Expr, Frames, Function, HaveSameCone, IsIn, IsReadFrom, IsUnchanged, Mentions}
 use Rattle.just_changes.specs.Prelude.{Module, OfFunction, OfVariable, PlainNode, ReadsItself, Starts, Text, Version, assignment_numbered, function_at}
 use Rattle.just_syntax.specs.Plain.{Nil}
 use Rattle.just_meaning.specs.Reaches.{Reaches, Here, Later, ReadsBeyond, Occurs}
@@ -113,8 +113,8 @@ module _ (m w : Module) (outer : Frames) where
   module _ (readers : PlainNode → List PlainNode) (starts : List PlainNode) (touched : PlainNode → Bool) (reading : (x y : PlainNode) → IsIn (readers x) y
       ↔ ReadsItself before outer y x)
       (differ : (x : PlainNode) → IsIn starts x → IsUnchanged before after x → ⊥) (all : (x : PlainNode) → IsIn starts x ⊎ IsUnchanged before after x)
-      (reached : (x : PlainNode) → IsTrue (touched x) ↔ IsReached readers starts x) where
-    never : {x : PlainNode} → IsReached readers starts x → IsFine x → ⊥
+      (reached : (x : PlainNode) → IsTrue (touched x) ↔ IsReadFrom readers starts x) where
+    never : {x : PlainNode} → IsReadFrom readers starts x → IsFine x → ⊥
     never {x} (Starts listed) h = differ x listed (fine_same x h)
     never {x} (nodes.ReadBy z there listed) h = never there (passes x z ((reading z x).0 listed) h)
 

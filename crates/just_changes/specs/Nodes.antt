@@ -5,7 +5,7 @@ use Rattle.just_syntax.specs.Lists.{IsIn}
 use Rattle.just_value.specs.Frames.{Frames, value_in}
 use Rattle.just_meaning.specs.Reaches.{Mention, VariableOf, CallOf, IsAmong, Occurs}
 use Rattle.just_resolution.specs.Sites.{Site}
-use Rattle.just_needs.specs.Graph.{IsReached, PlainNode, OfFunction, OfVariable}
+use Rattle.just_needs.specs.Graph.{IsReadFrom, PlainNode, OfFunction, OfVariable}
 
 -- a module and its overrides: the assignment and the override of each number, and the function of each name
 pub record Version : Type 0 where
@@ -76,4 +76,4 @@ pub record IsTouchedBetween (v u : Version) (outer : Frames) (touched : PlainNod
   pub starts : List PlainNode
   pub differ : (x : PlainNode) → IsIn starts x → IsUnchanged v u x → ⊥
   pub all : (x : PlainNode) → IsIn starts x ⊎ IsUnchanged v u x
-  pub reached : (x : PlainNode) → IsTrue (touched x) ↔ IsReached readers starts x
+  pub reached : (x : PlainNode) → IsTrue (touched x) ↔ IsReadFrom readers starts x

@@ -2,7 +2,7 @@
 pub use Rattle.just_laws.specs.Cone.{HaveSameCone, assignment_numbered}
 pub use Rattle.just_meaning.specs.Module.{Module}
 pub use Rattle.just_meaning.specs.Reaches.{CallOf, function_at}
-pub use Rattle.just_needs.specs.Graph.{IsReached, OfFunction, OfVariable, PlainNode, Starts}
+pub use Rattle.just_needs.specs.Graph.{IsReadFrom, OfFunction, OfVariable, PlainNode, Starts}
 pub use Rattle.just_needs.specs.View.{has, is_reached, node_view, nodes_view}
 pub use Rattle.just_resolution.specs.Seen.{is_number_in, site_view, sites_view}
 pub use Rattle.just_resolution.specs.Sites.{Site, sites_in}

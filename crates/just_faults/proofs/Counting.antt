@@ -7,14 +7,14 @@ use Rattle.just_resolution.proofs.Sets.{no_member, one_member_more}
 use Rattle.just_faults.proofs.Adding.{Continues, continues_on}
 
 -- A list of the numbers seen so far, with the same members as the set; and what the rest adds is what all add.
-pub record IsCountedTo (seen : ℕ → Bool) (left all : List (Token × ℕ)) (old now : List ModuleFault) : Type 0 where
+pub record IsCountedWithFaults (seen : ℕ → Bool) (left all : List (Token × ℕ)) (old now : List ModuleFault) : Type 0 where
   pub earlier : List ℕ
   pub same : (n : ℕ) → IsIn earlier n ↔ IsTrue (seen n)
   pub continues : (functions : List Function) (assignments : Assignments) (outer : Frames) → Continues (IsSound functions assignments outer)
       (IsFaulty functions assignments outer) (number_places earlier left) (number_places [] all) old now
 
 -- no number was seen yet
-pub counts_from : (seen : ℕ → Bool) (all : List (Token × ℕ)) (old : List ModuleFault) → ((n : ℕ) → seen n ≡ false) → IsCountedTo seen all all old old
+pub counts_from : (seen : ℕ → Bool) (all : List (Token × ℕ)) (old : List ModuleFault) → ((n : ℕ) → seen n ≡ false) → IsCountedWithFaults seen all all old old
 counts_from seen all old none = record {
   earlier = [];
   same = no_member seen none;
@@ -32,10 +32,10 @@ at_number seen earlier p (Some f) same h = (h.0, (same p.1).1 h.1)
 
 -- one more number was seen
 pub counts_on : (seen more : ℕ → Bool) (p : Token × ℕ) (start left all : List (Token × ℕ)) (old now next : List ModuleFault) (r : Option ModuleFault)
-    → start ≡ p ∷ left → IsCountedTo seen start all old now → FindsSeen seen p r
-    → ((n : ℕ) → IsTrue (more n) ↔ ((p.1 ≡ n) ⊎ IsTrue (seen n))) → next ≡ with_some now r → IsCountedTo more left all old next
+    → start ≡ p ∷ left → IsCountedWithFaults seen start all old now → FindsSeen seen p r
+    → ((n : ℕ) → IsTrue (more n) ↔ ((p.1 ≡ n) ⊎ IsTrue (seen n))) → next ≡ with_some now r → IsCountedWithFaults more left all old next
 counts_on seen more p start left all old now next r is counted found adds same =
-    let c = subst (λ xs. IsCountedTo seen xs all old now) is counted in
+    let c = subst (λ xs. IsCountedWithFaults seen xs all old now) is counted in
     record {
       earlier = p.1 ∷ c.earlier;
       same = one_member_more seen more c.earlier p.1 c.same adds;
@@ -46,8 +46,8 @@ counts_on seen more p start left all old now next r is counted found adds same =
     }
 
 -- all were seen
-pub counts_end : (seen : ℕ → Bool) (left all : List (Token × ℕ)) (old now : List ModuleFault) → left ≡ [] → IsCountedTo seen left all old now
+pub counts_end : (seen : ℕ → Bool) (left all : List (Token × ℕ)) (old now : List ModuleFault) → left ≡ [] → IsCountedWithFaults seen left all old now
     → (functions : List Function) (assignments : Assignments) (outer : Frames) →
     Adds (IsSound functions assignments outer) (IsFaulty functions assignments outer) (number_places [] all) old now
 counts_end seen left all old now none counted functions assignments outer = let c =
-    subst (λ xs. IsCountedTo seen xs all old now) none counted in c.continues functions assignments outer now refl
+    subst (λ xs. IsCountedWithFaults seen xs all old now) none counted in c.continues functions assignments outer now refl

@@ -67,7 +67,7 @@ module _ (functions : List Function) (assignments : Assignments) where
 
   -- A list of the numbers taken so far, with the same members as the set; and what the rest of the order adds is what all
   -- of it adds.
-  pub record IsWalkedTo (outer : Frames) (taken readable : ℕ → Bool) (passed admitted : Text → Bool) (left all : List Token)
+  pub record IsWalkedWithFaults (outer : Frames) (taken readable : ℕ → Bool) (passed admitted : Text → Bool) (left all : List Token)
       (old now : List ModuleFault) : Type 0 where
     pub by_now : IsPassed functions assignments taken readable passed admitted
     pub readable_if : (n : ℕ) → IsTrue (readable n) ↔ (IsTrue (taken n) ⊎ HasValue (value_in outer) n)
@@ -78,9 +78,9 @@ module _ (functions : List Function) (assignments : Assignments) where
 
   module _ (outer : Frames) where
     module _ (taken readable : ℕ → Bool) (passed admitted : Text → Bool) (t : Token) (start left all : List Token) (old now : List ModuleFault)
-        (begins : start ≡ t ∷ left) (walked : IsWalkedTo outer taken readable passed admitted start all old now) where
-      w : IsWalkedTo outer taken readable passed admitted (t ∷ left) all old now
-      w = subst (λ l. IsWalkedTo outer taken readable passed admitted l all old now) begins walked
+        (begins : start ≡ t ∷ left) (walked : IsWalkedWithFaults outer taken readable passed admitted start all old now) where
+      w : IsWalkedWithFaults outer taken readable passed admitted (t ∷ left) all old now
+      w = subst (λ l. IsWalkedWithFaults outer taken readable passed admitted l all old now) begins walked
 
       same_readable : (n : ℕ) → IsTrue (readable n) ↔ IsTakenOrBound outer w.numbers n
       same_readable = taken_or_bound functions assignments outer taken readable w.numbers w.readable_if w.same
@@ -94,7 +94,7 @@ module _ (functions : List Function) (assignments : Assignments) where
       pub walks_on : (next more : ℕ → Bool) (passes admits : Text → Bool) (r : Option ModuleFault) (after : List ModuleFault)
           → IsPassed functions assignments next more passes admits → ((n : ℕ) → IsTrue (more n) ↔ (IsTrue (next n) ⊎ HasValue (value_in outer) n))
           → Changes taken next t → FindsMisplaced functions assignments readable t r → after ≡ with_some now r
-          → IsWalkedTo outer next more passes admits left all old after
+          → IsWalkedWithFaults outer next more passes admits left all old after
       walks_on next more passes admits r after by_then more_if number found becomes = record {
         by_now = by_then;
         readable_if = more_if;
@@ -107,17 +107,17 @@ module _ (functions : List Function) (assignments : Assignments) where
 
     -- all names were walked
     pub walked_all : (taken readable : ℕ → Bool) (passed admitted : Text → Bool) (start all : List Token) (old now : List ModuleFault) → start ≡ []
-        → IsWalkedTo outer taken readable passed admitted start all old now →
+        → IsWalkedWithFaults outer taken readable passed admitted start all old now →
         Adds (IsSound functions assignments outer) (IsFaulty functions assignments outer) (name_places assignments [] all) old now
     walked_all taken readable passed admitted start all old now is w =
-        let ended = subst (λ l. IsWalkedTo outer taken readable passed admitted l all old now) is w in
+        let ended = subst (λ l. IsWalkedWithFaults outer taken readable passed admitted l all old now) is w in
         ended.continues now refl
 
     -- nothing is taken yet
     pub walks_from : (taken readable : ℕ → Bool) (passed admitted : Text → Bool) (all : List Token) (old : List ModuleFault) → ((n : ℕ) → taken n ≡ false)
         → ((name : Text) → passed name ≡ false) → ((name : Text) → admitted name ≡ false)
         → ((n : ℕ) → IsTrue (readable n) ↔ (IsTrue (taken n) ⊎ HasValue (value_in outer) n)) →
-        IsWalkedTo outer taken readable passed admitted all all old old
+        IsWalkedWithFaults outer taken readable passed admitted all all old old
     walks_from taken readable passed admitted all old none nothing empty readable_if = record {
       by_now = record {
         closed = none_admitted functions readable admitted empty;

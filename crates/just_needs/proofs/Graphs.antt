@@ -11,7 +11,7 @@ use Rattle.std.proofs.lemmas.Slice.Eq.{bytes_eq-Decides}
 use Rattle.just_syntax.proofs.Lists.{in_first, in_second}
 use Rattle.just_needs.specs.declared.numbered.Valued.{Valued}
 use Rattle.just_needs.specs.Prelude.{AreAll, Expr, Function, IsIn, OfFunction, OfVariable, PlainNode, Text, function_at, function_view, graph_nodes}
-use Rattle.just_needs.specs.Prelude.{graph_view, looked_up, nodes_in, read_by, read_by_body, read_in, text_numbered, unless_overridden}
+use Rattle.just_needs.specs.Prelude.{graph_view, nodes_in, read_by, read_by_body, read_in, text_numbered, unless_overridden, values_looked_up}
 use Rattle.just_needs.specs.declared.graph.Graph.{Graph}
 
 abbrev variables : Graph → List PlainNode
@@ -22,14 +22,14 @@ functions g = map (λ f. OfFunction f.name.lexeme) (map function_view g.function
 
 -- a number that has no entry reads nothing
 variable_known : {A : Type 0} (is_followed : ℕ → Bool) (es : List (ℕ × Vec Valued A)) (n : ℕ)
-    → IsIn (map (λ e. OfVariable e.0) es) (OfVariable n) ⊎ (flat_map (nodes_in is_followed) (looked_up (lookup (nat_eq n) es)) ≡ [])
+    → IsIn (map (λ e. OfVariable e.0) es) (OfVariable n) ⊎ (flat_map (nodes_in is_followed) (values_looked_up (lookup (nat_eq n) es)) ≡ [])
 variable_known is_followed [] n = inr refl
 variable_known is_followed (e ∷ es) n = by (nat_eq n e.0) refl (variable_known is_followed es n)
   where
     by : (b : Bool) → nat_eq n e.0 ≡ b
-        → IsIn (map (λ e. OfVariable e.0) es) (OfVariable n) ⊎ (flat_map (nodes_in is_followed) (looked_up (lookup (nat_eq n) es)) ≡ [])
+        → IsIn (map (λ e. OfVariable e.0) es) (OfVariable n) ⊎ (flat_map (nodes_in is_followed) (values_looked_up (lookup (nat_eq n) es)) ≡ [])
         → IsIn (map (λ e. OfVariable e.0) (e ∷ es)) (OfVariable n)
-        ⊎ (flat_map (nodes_in is_followed) (looked_up (cond b (Some e.1) (lookup (nat_eq n) es))) ≡ [])
+        ⊎ (flat_map (nodes_in is_followed) (values_looked_up (cond b (Some e.1) (lookup (nat_eq n) es))) ≡ [])
     by true is rest = inl (inl (ap OfVariable (sym (eqb-true n e.0 is))))
     by false is rest = ⊎_elim (λ h. inl (inr h)) (λ none. inr none) rest
 

@@ -8,7 +8,7 @@ use Rattle.just_meaning.proofs.Reached.{reaches_on}
 use Rattle.just_syntax.proofs.Lists.{in_append}
 use Rattle.just_syntax.specs.Variables.{has_number, number_named}
 use Rattle.just_syntax.specs.declared.function_definition.FunctionDefinition.{FunctionDefinition}
-use Rattle.just_needs.specs.Prelude.{Assignment, CallOf, Expr, Frames, Function, IsFollowed, IsIn, IsNeeded, IsReached, Occurs, OfFunction, OfVariable}
+use Rattle.just_needs.specs.Prelude.{Assignment, CallOf, Expr, Frames, Function, IsFollowed, IsIn, IsNeeded, IsReadFrom, Occurs, OfFunction, OfVariable}
 use Rattle.just_needs.specs.Prelude.{PlainGraph, PlainNode, Text, function_at, function_view, graph_view, is_member, nodes_in, owns, read_by}
 use Rattle.just_needs.specs.Prelude.{overridden_graph, read_by_body, unless_overridden, values_in, values_numbered}
 use Rattle.just_needs.specs.declared.graph.Graph.{Graph}
@@ -74,7 +74,7 @@ module _ (g : PlainGraph) (all : List Assignment) (outer : Frames) (overrides : 
   Needs = IsNeeded functions all outer overrides names
 
   abbrev Goes : PlainNode → Type 0
-  Goes = IsReached (read_by g) starts
+  Goes = IsReadFrom (read_by g) starts
 
   -- ---- what is reached is needed
 
@@ -205,7 +205,8 @@ no_function_in (k ∷ keys) t h = ⊎_elim (λ bad. let e : OfVariable k ≡ OfF
 pub needed_exactly : (g : Graph) (fs : List FunctionDefinition) (all : List Assignment) (outer : Frames) (overrides : ℕ → Option Text) (names : List Text)
     (keys : List ℕ) (starts : List PlainNode) (reached : PlainNode → Bool) → g.functions.now ≡ fs → ((n : ℕ) → values_in g.numbered n ≡ values_numbered all n)
     → ((n : ℕ) → IsTrue (is_member g.followed n) ↔ IsFollowed all outer n) → ((n : ℕ) → list_any (nat_eq n) keys ≡ list_any (has_number all n) names)
-    → starts ≡ map OfVariable keys → ((x : PlainNode) → IsTrue (reached x) ↔ IsReached (read_by (overridden_graph overrides (graph_view g))) starts x) → (n : ℕ)
+    → starts ≡ map OfVariable keys → ((x : PlainNode) → IsTrue (reached x) ↔ IsReadFrom (read_by (overridden_graph overrides (graph_view g))) starts x)
+    → (n : ℕ)
     → IsTrue (reached (OfVariable n)) ↔ IsNeeded (map function_view fs) all outer overrides names n
 needed_exactly g fs all outer overrides names keys starts reached functions values followed refers are reaches n =
     let asked : (k : ℕ) → IsIn starts (OfVariable k) ↔ ((name : Text) × IsIn names name × (number_named all name ≡ Some k)) =

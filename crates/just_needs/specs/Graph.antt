@@ -64,9 +64,9 @@ abbrev pub AreAll : (PlainNode → List PlainNode) → List PlainNode → Type 0
 AreAll reads all = (x : PlainNode) → IsIn all x ⊎ (reads x ≡ [])
 
 -- some nodes, what they read, what that reads, and so on
-pub data IsReached (reads : PlainNode → List PlainNode) (starts : List PlainNode) : PlainNode → Type 0 where
-  Starts : {x : PlainNode} → IsIn starts x → IsReached reads starts x
-  ReadBy : {x : PlainNode} → (y : PlainNode) → IsReached reads starts y → IsIn (reads y) x → IsReached reads starts x
+pub data IsReadFrom (reads : PlainNode → List PlainNode) (starts : List PlainNode) : PlainNode → Type 0 where
+  Starts : {x : PlainNode} → IsIn starts x → IsReadFrom reads starts x
+  ReadBy : {x : PlainNode} → (y : PlainNode) → IsReadFrom reads starts y → IsIn (reads y) x → IsReadFrom reads starts x
 
 -- the values of the assignments with a number
 abbrev pub values_numbered : List Assignment → ℕ → List Expr

@@ -12,9 +12,10 @@ pub use Rattle.just_syntax.specs.View.{assignment_view, function_view, name_view
 pub use Rattle.just_syntax.specs.View.{text_numbered, unknown_name, view}
 pub use Rattle.just_value.specs.Frames.{Frames, value_in}
 pub use Rattle.just_value.specs.View.{frames_view}
-pub use Rattle.just_needs.specs.Graph.{AreAll, IsReached, OfFunction, OfVariable, PlainGraph, PlainNode, Starts}
+pub use Rattle.just_needs.specs.Graph.{AreAll, IsReadFrom, OfFunction, OfVariable, PlainGraph, PlainNode, Starts}
 pub use Rattle.just_needs.specs.Graph.{node_at, nodes_at, nodes_in, overridden_graph, owns, read_by, read_by_body}
 pub use Rattle.just_needs.specs.Graph.{unless_overridden, values_numbered, variable_at}
 pub use Rattle.just_needs.specs.Needed.{IsFollowed, IsNeeded, StaysResolved}
-pub use Rattle.just_needs.specs.View.{found_values, graph_nodes, graph_view, has, is_reached, looked_up, node_view}
+pub use Rattle.just_needs.specs.View.{found_values, graph_nodes, graph_view, has, is_reached, node_view}
+pub use Rattle.just_needs.specs.View.{values_looked_up}
 pub use Rattle.just_needs.specs.View.{nodes_view, read_in, values_in}

@@ -32,13 +32,13 @@ abbrev pub found_values : List Valued → List Expr
 found_values assignments = map (λ a. view a.value.now) assignments
 
 -- the values of the assignments that a look-up found
-abbrev pub looked_up : {A : Type 0} → Option (Vec Valued A) → List Expr
-looked_up None = []
-looked_up (Some assignments) = found_values assignments.items
+abbrev pub values_looked_up : {A : Type 0} → Option (Vec Valued A) → List Expr
+values_looked_up None = []
+values_looked_up (Some assignments) = found_values assignments.items
 
 -- the values of the assignments with a number
 abbrev pub values_in : {A S : Type 0} → HashMap ℕ (Vec Valued A) S → ℕ → List Expr
-values_in all n = looked_up (lookup (nat_eq n) all.entries)
+values_in all n = values_looked_up (lookup (nat_eq n) all.entries)
 
 abbrev pub graph_view : Graph → PlainGraph
 graph_view g = record {

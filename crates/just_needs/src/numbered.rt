@@ -2,7 +2,7 @@
 
 ghost use Rattle.std.specs.Prelude.{IfOk, IsTrue, OnOk, [], if◌then◌else◌, map, nat_eq, ℕ, ◌++◌, ◌↔◌, ◌∷◌, ◌≡◌};
 ghost use Rattle.just_needs.specs.Prelude.{IsFollowed, assignment_view, found_values, frames_view, is_member};
-ghost use Rattle.just_needs.specs.Prelude.{looked_up, values_in, values_numbered, view};
+ghost use Rattle.just_needs.specs.Prelude.{values_in, values_looked_up, values_numbered, view};
 
 use just_syntax::assignment::Assignment;
 use just_syntax::expression::Expression;
@@ -58,7 +58,7 @@ fn with_one<'a, 'src>(
     assignment: &'a Assignment<'src>,
 ) -> Result<Vec<Valued<'src, 'a>>, OutOfMemory>
     ensures { IfOk result (λ all. found_values all.items
-        ≡ looked_up found.entry ++ view assignment.entry.now.value ∷ []) }
+        ≡ values_looked_up found.entry ++ view assignment.entry.now.value ∷ []) }
 {
     let mut all = list(alloc, found);
     match all.push(Valued {
@@ -71,7 +71,7 @@ fn with_one<'a, 'src>(
 
 // The assignments found, or none.
 fn list<'a, 'src>(alloc: Global, found: Option<Vec<Valued<'src, 'a>>>) -> Vec<Valued<'src, 'a>>
-    ensures { found_values result.items ≡ looked_up found.entry }
+    ensures { found_values result.items ≡ values_looked_up found.entry }
 {
     match found {
         Some(assignments) => assignments,

@@ -1,7 +1,7 @@
 // What some nodes reach.
 
 ghost use Rattle.std.specs.Prelude.{IfOk, IsTrue, List, OnOk, false, not, ℕ, ◌++◌, ◌↔◌, ◌≡◌, ◌⊎◌};
-ghost use Rattle.just_needs.specs.Prelude.{AreAll, IsReached, OfVariable, PlainNode, graph_nodes, has, is_reached};
+ghost use Rattle.just_needs.specs.Prelude.{AreAll, IsReadFrom, OfVariable, PlainNode, graph_nodes, has, is_reached};
 ghost use Rattle.just_needs.specs.Prelude.{node_view, nodes_view, read_in};
 
 use crate::graph::Graph;
@@ -89,7 +89,7 @@ pub fn reached_from<'src, R: Reads<'src>>(
     mut pending: Vec<Node<'src>>,
 ) -> Result<Reached<'src>, OutOfMemory>
     ensures { IfOk result (λ reached. (x : PlainNode) → IsTrue (is_reached reached x)
-        ↔ IsReached (R.reads graph.now) (nodes_view pending.entry.items) x) }
+        ↔ IsReadFrom (R.reads graph.now) (nodes_view pending.entry.items) x) }
 {
     let mut reached = Reached::new(alloc);
     while let Some(node) = pending.pop() {

@@ -35,7 +35,7 @@ use Rattle.just_builtins.specs.declared.builtin.Builtin.TheVariants as builtin
 use Rattle.just_builtins.specs.declared.function.Function as built_in
 use Rattle.just_meaning.specs.Meaning.{Program, Situation, built_in_call, built_in_context, returned}
 use Rattle.just_reach.specs.Asking.{IsCommand, asks, is_shell}
-use Rattle.just_reach.proofs.Within.{Within, within_bind}
+use Rattle.just_reach.proofs.Within.{AllEvents, within_bind}
 
 -- ---- replies
 
@@ -238,19 +238,19 @@ abbrev pub IsQuestion : (Blind → Type 0) → Event → Type 0
 IsQuestion P (Asked q a) = P q.blind
 IsQuestion P _ = ⊥
 
-tree_asks : (P : Blind → Type 0) (shown : Frames) (r : Reply) → OnlyAsks P r → Within (IsQuestion P) (tree shown r)
+tree_asks : (P : Blind → Type 0) (shown : Frames) (r : Reply) → OnlyAsks P r → AllEvents (IsQuestion P) (tree shown r)
 tree_asks P shown (Answers v) h = tt
 tree_asks P shown (Fails message) h = tt
 tree_asks P shown (Asks q next) h = λ a. (h.0, tree_asks P shown (next a) (h.1 a))
 tree_asks P shown Stops h = tt
 
-asks_nothing : (P : Blind → Type 0) (t : Token) (r : Called) → Within (IsQuestion P) (returned t r)
+asks_nothing : (P : Blind → Type 0) (t : Token) (r : Called) → AllEvents (IsQuestion P) (returned t r)
 asks_nothing P t (Returned v) = tt
 asks_nothing P t (Said message) = tt
 
 -- a call of a built-in function makes no note, and asks only what is allowed
 pub built_in_asks : (c : Program) (s : Situation) (t : Token) (f : built_in.Function) (vs : List Value)
-    → Within (IsQuestion (IsAskedBy (builtin_of f))) (built_in_call c s t f vs)
+    → AllEvents (IsQuestion (IsAskedBy (builtin_of f))) (built_in_call c s t f vs)
 built_in_asks c s t f vs =
     let P = IsAskedBy (builtin_of f) in
     let answer = reply (builtin_of f) (built_in_context c s t) vs in

@@ -26,7 +26,7 @@ use Rattle.just_reach.specs.Member.{PlainMember, BuiltIn, Call, Command, Unknown
 use Rattle.just_reach.specs.Reached.{OccursAt, OccursAtRow, OccursAtPieces}
 use Rattle.just_reach.proofs.Asking.{IsAskedBy, IsQuestion, built_in_asks}
 use Rattle.just_reach.proofs.Calls.{defined_is}
-use Rattle.just_reach.proofs.Within.{Within, within_bind, within_if, within_path, within_traces}
+use Rattle.just_reach.proofs.Within.{AllEvents, within_bind, within_if, within_path, within_traces}
 
 -- ---- expressions
 
@@ -37,7 +37,7 @@ IsClosed functions reached = (t : Token) (f : Function) → reached (Call t) →
 
 module _ (c : Program) (environment : List (Text × Text)) (reached : PlainMember → Type 0) where
   abbrev Covers : {A : Type 0} → Tree A → Type 0
-  Covers t = Within (ComesFrom c environment reached) t
+  Covers t = AllEvents (ComesFrom c environment reached) t
 
   -- what occurs is reached
   abbrev AllReached : (PlainMember → Type 0) → Type 0

@@ -23,7 +23,7 @@ use Rattle.just_reach.proofs.Asking.{IsAskedBy, IsQuestion, built_in_asks}
 use Rattle.just_reach.proofs.Recipe.{line_reaches, parameters_reach}
 use Rattle.just_reach.proofs.Covered.{scoped_covered}
 use Rattle.just_reach.proofs.Reaching.{closed, closed_in_run}
-use Rattle.just_reach.proofs.Within.{Within, within_alike, within_bind, within_path}
+use Rattle.just_reach.proofs.Within.{AllEvents, within_alike, within_bind, within_path}
 
 expression_reaches : (c : Program) (d : Deeper) → IsScoped c d → (s : Situation) (e : Expr) (es : List Event) (o : Outcome Value)
     → Path freely (eval c d s e) es o → (x : Event) → IsIn es x → ComesFrom c s.environment (IsReached c.functions e) x
@@ -59,10 +59,10 @@ module _ (closing : Closing) (scoping : IsScoping closing) (m : Module) where
   Comes = ComesFrom m.program [] Reached
 
   value_covered : (frames : Frames) (a : Assignment) → IsIn m.assignments.all a → m.assignments.referenced a.number ≡ true
-      → Within Comes (assigned closing m frames a)
+      → AllEvents Comes (assigned closing m frames a)
   value_covered frames a among referenced = by (m.overrides a.number)
     where
-      by : (o : Option Text) → Within Comes (or_override o (eval m.program (closing m frames) (situation_at m.program.fixed.settings.lists frames) a.value))
+      by : (o : Option Text) → AllEvents Comes (or_override o (eval m.program (closing m frames) (situation_at m.program.fixed.settings.lists frames) a.value))
       by (Some text) = tt
       by None = scoped_covered m.program [] Reached (closed_in_run m.program.functions m.assignments.all m.assignments.referenced) (closing m frames)
           (scoping m frames) (situation_at m.program.fixed.settings.lists frames) refl a.value
@@ -78,7 +78,7 @@ module _ (closing : Closing) (scoping : IsScoping closing) (m : Module) where
   or_marks x h = h
 
   evaluated_covered : (frames : Frames) (a : Assignment) → IsIn m.assignments.all a → m.assignments.referenced a.number ≡ true
-      → Within ComesOrMarks (evaluated closing m frames a)
+      → AllEvents ComesOrMarks (evaluated closing m frames a)
   evaluated_covered frames a among referenced = (
     tt,
     within_bind ComesOrMarks (assigned closing m frames a) _
@@ -86,17 +86,17 @@ module _ (closing : Closing) (scoping : IsScoping closing) (m : Module) where
   )
 
   turn_covered : (frames : Frames) (t : Token) (x : Option Assignment) → assignment_at m.assignments t.lexeme ≡ x
-      → Within ComesOrMarks (turn_of closing m frames t x)
+      → AllEvents ComesOrMarks (turn_of closing m frames t x)
   turn_covered frames t None found = tt
   turn_covered frames t (Some a) found = by (m.assignments.referenced a.number) refl (innermost a.number frames)
     where
       by : (r : Bool) → m.assignments.referenced a.number ≡ r → (b : Option Bound)
-          → Within ComesOrMarks (if r && not (is_some b) then evaluated closing m frames a else gives frames)
+          → AllEvents ComesOrMarks (if r && not (is_some b) then evaluated closing m frames a else gives frames)
       by false e b = tt
       by true e (Some b) = tt
       by true e None = evaluated_covered frames a (assignment_in m.assignments.all t.lexeme a found) e
 
-  run_covered : (frames : Frames) (names : List Token) → Within ComesOrMarks (run closing m frames names)
+  run_covered : (frames : Frames) (names : List Token) → AllEvents ComesOrMarks (run closing m frames names)
   run_covered frames [] = tt
   run_covered frames (t ∷ left) =
       within_bind ComesOrMarks (turn closing m frames t) _ (turn_covered frames t (assignment_at m.assignments t.lexeme) refl)

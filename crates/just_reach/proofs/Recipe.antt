@@ -16,18 +16,19 @@ use Rattle.just_reach.specs.Member.{PlainMember}
 use Rattle.just_reach.specs.Reached.{IsReachedByOne}
 use Rattle.just_reach.proofs.Covered.{scoped_covered}
 use Rattle.just_reach.proofs.Reaching.{closed_by_one}
-use Rattle.just_reach.proofs.Within.{Within, within_alike, within_bind, within_if, within_path}
+use Rattle.just_reach.proofs.Within.{AllEvents, within_alike, within_bind, within_if, within_path}
 
 -- an expression is covered if it is one of those that reach
 one_covered : (c : Program) (d : Deeper) → IsScoped c d → (all : List Expr) (s : Situation) (e : Expr) → IsIn all e
-    → Within (ComesFrom c s.environment (IsReachedByOne c.functions all)) (eval c d s e)
+    → AllEvents (ComesFrom c s.environment (IsReachedByOne c.functions all)) (eval c d s e)
 one_covered c d scoped all s e among =
     scoped_covered c s.environment (IsReachedByOne c.functions all) (closed_by_one c.functions all) d scoped s refl e (λ x occurs. (e, among, inl occurs))
 
 -- ---- lines
 
 module _ (P : Event → Type 0) (means : Expr → Tree Value) where
-  line_within : (continued : Bool) (fs : List Fragment) → ((e : Expr) → IsIn (line_expressions fs) e → Within P (means e)) → Within P (line means continued fs)
+  line_within : (continued : Bool) (fs : List Fragment) → ((e : Expr) → IsIn (line_expressions fs) e → AllEvents P (means e))
+      → AllEvents P (line means continued fs)
   line_within continued [] h = tt
   line_within continued (TextFragment t ∷ fs) h = within_bind P (line means false fs) _ (line_within false fs h) (λ rest. tt)
   line_within continued (Interpolation e ∷ fs) h =
@@ -46,10 +47,10 @@ line_reaches c d scoped s continued fs es o path x i =
 module _ (P : Event → Type 0) (means : Situation → Expr → Tree Value) where
   -- these expressions are covered in each situation
   abbrev AreCovered : List Expr → Type 0
-  AreCovered es = (e : Expr) → IsIn es e → (s : Situation) → Within P (means s e)
+  AreCovered es = (e : Expr) → IsIn es e → (s : Situation) → AllEvents P (means s e)
 
   attributes_within : (attributes : List (Attribute × Token)) (s : Situation) → AreCovered (attribute_expressions attributes)
-      → Within P (environment means s attributes)
+      → AllEvents P (environment means s attributes)
   attributes_within [] s h = tt
   attributes_within ((Env key value, name) ∷ left) s h =
       within_bind P (string (means s) (EnvKey name) key) _ (within_bind P (means s key) _ (h key (inl refl) s) (λ v. tt))
@@ -57,17 +58,17 @@ module _ (P : Event → Type 0) (means : Situation → Expr → Tree Value) wher
   attributes_within ((Other, name) ∷ left) s h = attributes_within left s h
 
   default_within : (s : Situation) (recipe : Text) (p : Parameter) (o : Option Expr) → AreCovered (option_to_list o)
-      → Within P (default_or_none (means s) recipe p o)
+      → AllEvents P (default_or_none (means s) recipe p o)
   default_within s recipe p (Some e) h = h e (inl refl) s
   default_within s recipe p None h = tt
 
   value_within : (s : Situation) (is_dependency : Bool) (v : Value) (o : Option Expr) → AreCovered (option_to_list o)
-      → Within P (argument_or_value (means s) is_dependency v o)
+      → AllEvents P (argument_or_value (means s) is_dependency v o)
   value_within s is_dependency v None h = tt
   value_within s is_dependency v (Some e) h = within_if P is_dependency _ _ tt (within_bind P (means s e) _ (h e (inl refl) s) (λ w. tt))
 
   valued_within : (s : Situation) (recipe : Text) (p : Parameter) (v : Value) → AreCovered (expressions_of p)
-      → Within P (valued (means s) s.is_dependency recipe p v)
+      → AllEvents P (valued (means s) s.is_dependency recipe p v)
   valued_within s recipe p [] h =
       default_within s recipe p p.default (λ e among. h e (in_first (option_to_list p.default) (option_to_list p.value) e among))
   valued_within s recipe p (x ∷ xs) h =
@@ -78,7 +79,7 @@ module _ (P : Event → Type 0) (means : Situation → Expr → Tree Value) wher
   AllChecked ps = (p : Parameter) (v : Value) (a : Verdict) → IsIn ps p → P (Checked p v a)
 
   bindings_within : (recipe : Text) (ps : List Parameter) (arguments : List Value) (s : Situation) (words : List Text) → AllChecked ps
-      → AreCovered (parameter_expressions ps) → Within P (bindings means recipe s words ps arguments)
+      → AreCovered (parameter_expressions ps) → AllEvents P (bindings means recipe s words ps arguments)
   bindings_within recipe [] arguments s words checks h = tt
   bindings_within recipe (p ∷ ps) [] s words checks h = tt
   bindings_within recipe (p ∷ ps) (argument ∷ arguments) s words checks h =
@@ -90,7 +91,7 @@ module _ (P : Event → Type 0) (means : Situation → Expr → Tree Value) wher
       (λ e among. h e (in_second (expressions_of p) (parameter_expressions ps) e among)))
 
   parameters_within : (s : Situation) (recipe : Recipe) (ps : List Parameter) (arguments : List Value) → AllChecked ps
-      → AreCovered (attribute_expressions recipe.attributes ++ parameter_expressions ps) → Within P (parameters means s recipe ps arguments)
+      → AreCovered (attribute_expressions recipe.attributes ++ parameter_expressions ps) → AllEvents P (parameters means s recipe ps arguments)
   parameters_within s recipe ps arguments checks h =
       within_bind P (environment means s recipe.attributes) _
       (attributes_within recipe.attributes s (λ e among. h e (in_first (attribute_expressions recipe.attributes) (parameter_expressions ps) e among)))

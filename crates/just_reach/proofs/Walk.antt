@@ -10,14 +10,14 @@ use Rattle.just_reach.specs.Member.{BuiltIn, Call, Command, PlainMember, Unknown
 use Rattle.just_reach.specs.Members.{BeginsWith, HasBodiesOnce, all_body_members, body_members, members_of_body, name_of_call}
 use Rattle.just_reach.specs.Reached.{InBody, IsReachedFrom, OccursAt, Starts}
 use Rattle.just_reach.proofs.Listed.{added}
-use Rattle.just_reach.proofs.Work.{Adds, names, work, work_begins, work_kept, work_left}
+use Rattle.just_reach.proofs.Work.{Adds, function_names, member_work, work_begins, work_kept, work_left}
 
 -- The invariant of the walk. The list begins with the starting members, and with the bodies that are not called yet it is
 -- no longer than allowed. The members in the bodies of called names, and the pending ones, are listed; what is listed is
 -- reached; and a call that is listed is of a called name, or pending.
-pub record IsWalked (fs : List Function) (starts : List PlainMember) (called : Text → Bool) (all pending : List PlainMember) : Type 0 where
+pub record AreMembersWalked (fs : List Function) (starts : List PlainMember) (called : Text → Bool) (all pending : List PlainMember) : Type 0 where
   pub begun : BeginsWith starts all
-  pub few : length all + work fs (names fs) called ≤ length starts + length (all_body_members fs)
+  pub few : length all + member_work fs (function_names fs) called ≤ length starts + length (all_body_members fs)
   pub bodies : (name : Text) (f : Function) → IsTrue (called name) → function_at fs name ≡ Some f → (x : PlainMember) → OccursAt fs f.body x → IsIn all x
   pub listed : (x : PlainMember) → IsIn pending x → IsIn all x
   pub sound : (x : PlainMember) → IsIn all x → IsReachedFrom fs starts x
@@ -32,7 +32,7 @@ is_call (Unknown t) name is = absurd (let bad : None ≡ Some name = is in cc)
 is_call (Variable t number) name is = absurd (let bad : None ≡ Some name = is in cc)
 
 module _ (fs : List Function) (starts : List PlainMember) where
-  pub begins : (called : Text → Bool) → ((t : Text) → called t ≡ false) → IsWalked fs starts called starts starts
+  pub begins : (called : Text → Bool) → ((t : Text) → called t ≡ false) → AreMembersWalked fs starts called starts starts
   begins called none = record {
     begun = record { rest = []; is = sym (append-nil starts) };
     few = let all = work_begins fs called none fs in omega (arith, all);
@@ -42,9 +42,9 @@ module _ (fs : List Function) (starts : List PlainMember) where
     settled = λ t h. inr h;
   }
 
-  module _ (old : Text → Bool) (all rest : List PlainMember) (m : PlainMember) (w : IsWalked fs starts old all (m ∷ rest)) where
+  module _ (old : Text → Bool) (all rest : List PlainMember) (m : PlainMember) (w : AreMembersWalked fs starts old all (m ∷ rest)) where
     -- the first pending member calls no function of the file
-    pub passes : name_of_call m ≡ None → IsWalked fs starts old all rest
+    pub passes : name_of_call m ≡ None → AreMembersWalked fs starts old all rest
     passes none = record {
       begun = w.begun;
       few = w.few;
@@ -66,10 +66,10 @@ module _ (fs : List Function) (starts : List PlainMember) where
       settled_on t (inr (inr later)) = inr later
 
       -- the name was already called
-      pub repeats : IsTrue (old name) → IsWalked fs starts new all rest
+      pub repeats : IsTrue (old name) → AreMembersWalked fs starts new all rest
       repeats there = record {
         begun = w.begun;
-        few = let less = work_kept fs old new name adds (names fs) in let before = w.few in omega (arith, less, before);
+        few = let less = work_kept fs old new name adds (function_names fs) in let before = w.few in omega (arith, less, before);
         bodies = λ called f h found x occurs. ⊎_elim
             (λ same. w.bodies name f there (ap (function_at fs) same ∙ found) x occurs) (λ k. w.bodies called f k found x occurs) ((adds called).0 h);
         listed = λ x h. w.listed x (inr h);
@@ -89,7 +89,7 @@ module _ (fs : List Function) (starts : List PlainMember) where
       body_sound None found x h = absurd h
 
       -- the members in the body of the name's function are added
-      pub goes_on : old name ≡ false → IsWalked fs starts new (all ++ body_members fs name) (rest ++ body_members fs name)
+      pub goes_on : old name ≡ false → AreMembersWalked fs starts new (all ++ body_members fs name) (rest ++ body_members fs name)
       goes_on out =
           let body = body_members fs name in
           let kept : (x : PlainMember) → IsIn all x → IsIn (all ++ body) x = in_first all body in
@@ -107,7 +107,7 @@ module _ (fs : List Function) (starts : List PlainMember) where
           }
 
   -- nothing is pending
-  module _ (called : Text → Bool) (all : List PlainMember) (w : IsWalked fs starts called all []) where
+  module _ (called : Text → Bool) (all : List PlainMember) (w : AreMembersWalked fs starts called all []) where
     all_listed : {x : PlainMember} → IsReachedFrom fs starts x → IsIn all x
     all_listed {x} (Starts h) = subst (λ xs. IsIn xs x) (sym w.begun.is) (in_first starts w.begun.rest x h)
     all_listed {x} (InBody t f r found occurs) =

@@ -16,18 +16,18 @@ abbrev pub Adds : (Text → Bool) → (Text → Bool) → Text → Type 0
 Adds old new name = (t : Text) → IsTrue (new t) ↔ ((name ≡ t) ⊎ IsTrue (old t))
 
 -- the names of functions
-abbrev pub names : List Function → List Text
-names fs = map (λ f. f.name.lexeme) fs
+abbrev pub function_names : List Function → List Text
+function_names fs = map (λ f. f.name.lexeme) fs
 
 module _ (fs : List Function) where
   -- how many members the bodies of these names have, if they are not called yet
-  abbrev pub work : List Text → (Text → Bool) → ℕ
-  work [] called = 0
-  work (t ∷ ts) called = cond (called t) 0 (length (body_members fs t)) + work ts called
+  abbrev pub member_work : List Text → (Text → Bool) → ℕ
+  member_work [] called = 0
+  member_work (t ∷ ts) called = cond (called t) 0 (length (body_members fs t)) + member_work ts called
 
   -- with no name called, it is all members of bodies
   pub work_begins : (called : Text → Bool) → ((t : Text) → called t ≡ false) → (gs : List Function)
-      → work (names gs) called ≡ length (flat_map (λ (g : Function). body_members fs g.name.lexeme) gs)
+      → member_work (function_names gs) called ≡ length (flat_map (λ (g : Function). body_members fs g.name.lexeme) gs)
   work_begins called none [] = refl
   work_begins called none (g ∷ gs) =
       let rest = work_begins called none gs in
@@ -36,12 +36,12 @@ module _ (fs : List Function) where
       omega (arith, here, rest, length-append (body_members fs g.name.lexeme) (flat_map (λ (f : Function). body_members fs f.name.lexeme) gs))
 
   -- a name that no function has adds nothing
-  body_known : (gs : List Function) (name : Text) → IsIn (names gs) name ⊎ (function_at gs name ≡ None)
+  body_known : (gs : List Function) (name : Text) → IsIn (function_names gs) name ⊎ (function_at gs name ≡ None)
   body_known [] name = inr refl
   body_known (g ∷ gs) name = by (bytes_eq name g.name.lexeme) refl (body_known gs name)
     where
-      by : (b : Bool) → bytes_eq name g.name.lexeme ≡ b → IsIn (names gs) name ⊎ (function_at gs name ≡ None)
-          → IsIn (names (g ∷ gs)) name ⊎ (cond b (Some g) (function_at gs name) ≡ None)
+      by : (b : Bool) → bytes_eq name g.name.lexeme ≡ b → IsIn (function_names gs) name ⊎ (function_at gs name ≡ None)
+          → IsIn (function_names (g ∷ gs)) name ⊎ (cond b (Some g) (function_at gs name) ≡ None)
       by true is rest = inl (inl (sym ((bytes_eq-Decides name g.name.lexeme).0 is)))
       by false is rest = ⊎_elim (λ h. inl (inr h)) (λ none. inr none) rest
 
@@ -55,7 +55,7 @@ module _ (fs : List Function) where
     kept : (t : Text) → cond (new t) 0 (length (body_members fs t)) ≤ cond (old t) 0 (length (body_members fs t))
     kept t = part_kept (old t) (new t) (length (body_members fs t)) (λ h. (adds t).1 (inr h))
 
-    pub work_kept : (ts : List Text) → work ts new ≤ work ts old
+    pub work_kept : (ts : List Text) → member_work ts new ≤ member_work ts old
     work_kept [] = omega arith
     work_kept (t ∷ ts) = let here = kept t in let rest = work_kept ts in omega (arith, here, rest)
 
@@ -64,7 +64,7 @@ module _ (fs : List Function) where
     part_falls false true k off on = omega arith
     part_falls false false k off on = absurd (cc)
 
-    work_falls : (ts : List Text) → old name ≡ false → IsIn ts name → work ts new + length (body_members fs name) ≤ work ts old
+    work_falls : (ts : List Text) → old name ≡ false → IsIn ts name → member_work ts new + length (body_members fs name) ≤ member_work ts old
     work_falls [] off h = absurd h
     work_falls (t ∷ ts) off (inl same) =
         let here = part_falls (old t) (new t) (length (body_members fs t)) (ap old same ∙ off) ((adds t).1 (inl (sym same))) in
@@ -73,14 +73,14 @@ module _ (fs : List Function) where
         omega (arith, here, size, rest)
     work_falls (t ∷ ts) off (inr later) = let here = kept t in let rest = work_falls ts off later in omega (arith, here, rest)
 
-    pub work_left : old name ≡ false → work (names fs) new + length (body_members fs name) ≤ work (names fs) old
-    work_left off = ⊎_elim (work_falls (names fs) off)
+    pub work_left : old name ≡ false → member_work (function_names fs) new + length (body_members fs name) ≤ member_work (function_names fs) old
+    work_left off = ⊎_elim (work_falls (function_names fs) off)
         (λ none. let size : length (body_members fs name) ≡ 0 = ap (λ (o : Option Function). length (members_of_body fs [] o)) none in
-        let rest = work_kept (names fs) in omega (arith, size, rest)) (body_known fs name)
+        let rest = work_kept (function_names fs) in omega (arith, size, rest)) (body_known fs name)
 
     -- the first pending member is passed, and the members in the body of its name are pending
     pub falls : (m : PlainMember) (pending rest next : List PlainMember) → old name ≡ false → pending ≡ m ∷ rest → next ≡ rest ++ body_members fs name
-        → work (names fs) new + length next < work (names fs) old + length pending
+        → member_work (function_names fs) new + length next < member_work (function_names fs) old + length pending
     falls m pending rest next off is more =
         let left = work_left off in
         let size : length pending ≡ length (m ∷ rest) = ap length is in

@@ -8,11 +8,11 @@ use Rattle.just_value.specs.Frames.{Frames}
 use Rattle.just_parser.specs.Plain.{Dependency, Line, RecipeDefinition}
 use Rattle.just_parser.specs.View.{dependency_view}
 use Rattle.just_resolve.specs.Free.{AreFree, AreNew, numbers_of}
-use Rattle.just_resolve.specs.Numbered.{first_named, numbered, visible}
+use Rattle.just_resolve.specs.Numbered.{first_named, numbered_expression, visible}
 use Rattle.just_recipe.specs.declared.numbered_recipe.NumberedRecipe.{NumberedRecipe}
 
 abbrev pub numbered_attribute : (Text → Option ℕ) → Attribute → Attribute
-numbered_attribute names (Env key value) = Env (numbered names key) (numbered names value)
+numbered_attribute names (Env key value) = Env (numbered_expression names key) (numbered_expression names value)
 numbered_attribute names Other = Other
 
 abbrev pub numbered_attributes : (Text → Option ℕ) → List (Attribute × Token) → List (Attribute × Token)
@@ -20,13 +20,13 @@ numbered_attributes names attributes = map (λ a. (numbered_attribute names a.0,
 
 abbrev pub numbered_fragment : (Text → Option ℕ) → Fragment → Fragment
 numbered_fragment names (TextFragment text) = TextFragment text
-numbered_fragment names (Interpolation e) = Interpolation (numbered names e)
+numbered_fragment names (Interpolation e) = Interpolation (numbered_expression names e)
 
 abbrev pub numbered_line : (Text → Option ℕ) → Line → Line
 numbered_line names line = map (numbered_fragment names) line
 
 abbrev pub numbered_dependency : (Text → Option ℕ) → Dependency → Dependency
-numbered_dependency names d = record d { arguments = map (numbered names) d.arguments }
+numbered_dependency names d = record d { arguments = map (numbered_expression names) d.arguments }
 
 -- the number of a parameter, the first with the name, or else the number that the name has outside
 abbrev pub number_with_parameters : List (Token × ℕ) → (Text → Option ℕ) → Text → Option ℕ
@@ -35,9 +35,9 @@ number_with_parameters parameters names name = option_or (first_named parameters
 -- a parameter with this number
 abbrev pub numbered_parameter : (Text → Option ℕ) → Parameter → ℕ → Parameter
 numbered_parameter names p n = record p {
-  default = option_map (numbered names) p.default;
+  default = option_map (numbered_expression names) p.default;
   number = n;
-  value = option_map (numbered names) p.value;
+  value = option_map (numbered_expression names) p.value;
 }
 
 -- Parameters with the numbers of these pairs. The expressions of each can read those before it.

@@ -6,8 +6,10 @@ ghost use Rattle.just_recipe.specs.Numbered.{numbered_dependency, numbered_fragm
 ghost use Rattle.just_recipe.specs.Numbered.{numbered_parameter, numbered_recipe, numbered_recipe_view};
 ghost use Rattle.just_recipe.specs.Numbered.{number_with_parameters};
 ghost use Rattle.just_parser.specs.View.{dependency_view, recipe_definition_view};
-ghost use Rattle.just_resolve.specs.Prelude.{Text, assignment_view, frames_view, functions_view, name_view, named};
-ghost use Rattle.just_resolve.specs.Prelude.{numbered, parameter_named, parameter_view, variable_named, view};
+ghost use Rattle.just_resolve.specs.Prelude.{Text, assignment_view, frames_view, functions_view, name_number};
+ghost use Rattle.just_resolve.specs.Prelude.{name_view};
+ghost use Rattle.just_resolve.specs.Prelude.{numbered_expression, parameter_named, parameter_view, variable_named};
+ghost use Rattle.just_resolve.specs.Prelude.{view};
 ghost use Rattle.just_syntax.specs.View.{attribute_view, attributes_view, fragment_view, line_view, recipe_view};
 ghost use Rattle.just_syntax.specs.View.{recipe_parameter_view};
 
@@ -128,7 +130,7 @@ fn add_attributes<'src>(
     copies: &mut AttributeSet<'src>,
 ) -> Result<(), OutOfMemory>
     ensures { OnOk result (attributes_view copies.new ≡ attributes_view copies.old
-        ++ numbered_attributes (named names.now) (recipe_view recipe.now).attributes) }
+        ++ numbered_attributes (name_number names.now) (recipe_view recipe.now).attributes) }
 {
     for (attribute, name) in recipe.attributes.iter() {
         match numbered_attribute(alloc, attribute, names) {
@@ -146,7 +148,7 @@ fn numbered_attribute<'src>(
     names: &Names<'src>,
 ) -> Result<Attribute<'src>, OutOfMemory>
     ensures { IfOk result
-        (λ copy. attribute_view copy ≡ numbered_attribute (named names.now) (attribute_view attribute.now)) }
+        (λ copy. attribute_view copy ≡ numbered_attribute (name_number names.now) (attribute_view attribute.now)) }
 {
     match attribute {
         Attribute::Env(key, value) => {
@@ -171,7 +173,7 @@ fn add_parameters<'src>(
     requires numbers { length numbers.now ≡ length parameters.now }
     ensures copies { OnOk result (map recipe_parameter_view copies.new.items ≡ numbered_in_turn
         (variable_named names.old) [] (map recipe_parameter_view parameters.now) (map parameter_view numbers.now)) }
-    ensures names { OnOk result ((t : Text) → named names.new t
+    ensures names { OnOk result ((t : Text) → name_number names.new t
         ≡ number_with_parameters (map parameter_view numbers.now) (variable_named names.old) t) }
     ensures variables { (t : Text) → variable_named names.new t ≡ variable_named names.old t }
 {
@@ -191,7 +193,7 @@ fn numbered_parameter<'src>(
     names: &Names<'src>,
 ) -> Result<Parameter<'src>, OutOfMemory>
     ensures { IfOk result (λ copy. recipe_parameter_view copy
-        ≡ numbered_parameter (named names.now) (recipe_parameter_view parameter.now) number) }
+        ≡ numbered_parameter (name_number names.now) (recipe_parameter_view parameter.now) number) }
 {
     let default = numbered_option(alloc, parameter.default.as_ref(), names)?;
     let value = numbered_option(alloc, parameter.value.as_ref(), names);
@@ -215,7 +217,7 @@ fn numbered_option<'src>(
     names: &Names<'src>,
 ) -> Result<Option<Expression<'src>>, OutOfMemory>
     ensures { IfOk result (λ copy. option_map view copy
-        ≡ option_map (λ e. numbered (named names.now) (view e.now)) expression.entry) }
+        ≡ option_map (λ e. numbered_expression (name_number names.now) (view e.now)) expression.entry) }
 {
     match expression {
         Some(expression) => match numbered(expression, names) {
@@ -234,7 +236,7 @@ fn add_lines<'src>(
     copies: &mut Vec<Line<'src>>,
 ) -> Result<(), OutOfMemory>
     ensures { OnOk result (map line_view copies.new.items ≡ map line_view copies.old.items
-        ++ map (numbered_line (named names.now)) (map line_view lines.now)) }
+        ++ map (numbered_line (name_number names.now)) (map line_view lines.now)) }
 {
     for line in lines {
         let mut fragments = Vec::new(alloc);
@@ -252,7 +254,7 @@ fn add_fragments<'src>(
     copies: &mut Vec<Fragment<'src>>,
 ) -> Result<(), OutOfMemory>
     ensures { OnOk result (map fragment_view copies.new.items ≡ map fragment_view copies.old.items
-        ++ map (numbered_fragment (named names.now)) (map fragment_view fragments.now)) }
+        ++ map (numbered_fragment (name_number names.now)) (map fragment_view fragments.now)) }
 {
     for fragment in fragments {
         pushed(copies, numbered_fragment(alloc, fragment, names)?)?;
@@ -267,7 +269,7 @@ fn numbered_fragment<'src>(
     names: &Names<'src>,
 ) -> Result<Fragment<'src>, OutOfMemory>
     ensures { IfOk result
-        (λ copy. fragment_view copy ≡ numbered_fragment (named names.now) (fragment_view fragment.now)) }
+        (λ copy. fragment_view copy ≡ numbered_fragment (name_number names.now) (fragment_view fragment.now)) }
 {
     match fragment {
         Fragment::Text { token } => Ok(Fragment::Text { token: *token }),
@@ -286,7 +288,7 @@ fn add_dependencies<'src>(
     copies: &mut Vec<Dependency<'src>>,
 ) -> Result<(), OutOfMemory>
     ensures { OnOk result (map dependency_view copies.new.items ≡ map dependency_view copies.old.items
-        ++ map (numbered_dependency (named names.now)) (map dependency_view dependencies.now)) }
+        ++ map (numbered_dependency (name_number names.now)) (map dependency_view dependencies.now)) }
 {
     for dependency in dependencies {
         let mut arguments = Vec::new(alloc);

@@ -2,7 +2,7 @@
 
 ghost use Rattle.std.specs.Prelude.{IfOk, IsOkAnd, OnOk, map, option_map, ◌++◌, ◌≡◌};
 ghost use Rattle.just_recipe.specs.Setting.{numbered_interpreter, numbered_setting};
-ghost use Rattle.just_resolve.specs.Prelude.{named, numbered, view};
+ghost use Rattle.just_resolve.specs.Prelude.{name_number, numbered_expression, view};
 ghost use Rattle.just_syntax.specs.View.{expression_interpreter_view, setting_view};
 
 use crate::outcome::{followed, pushed};
@@ -32,7 +32,7 @@ pub fn numbered_setting<'src>(
     names: &Names<'src>,
 ) -> Result<Option<Setting<'src>>, OutOfMemory>
     ensures { IfOk result
-        (λ copy. option_map setting_view copy ≡ numbered_setting (named names.now) (setting_view setting.now)) }
+        (λ copy. option_map setting_view copy ≡ numbered_setting (name_number names.now) (setting_view setting.now)) }
 {
     match setting {
         Setting::DotenvCommand(value)
@@ -59,7 +59,7 @@ fn numbered_interpreter<'src>(
     names: &Names<'src>,
 ) -> Result<Interpreter<Expression<'src>>, OutOfMemory>
     ensures { IfOk result (λ copy. expression_interpreter_view copy
-        ≡ numbered_interpreter (named names.now) (expression_interpreter_view interpreter.now)) }
+        ≡ numbered_interpreter (name_number names.now) (expression_interpreter_view interpreter.now)) }
 {
     let mut arguments = Vec::new(alloc);
     let added = add_numbered(&interpreter.arguments, names, &mut arguments);
@@ -86,7 +86,7 @@ pub(crate) fn add_numbered<'src>(
     copies: &mut Vec<Expression<'src>>,
 ) -> Result<(), OutOfMemory>
     ensures { OnOk result (map view copies.new.items ≡ map view copies.old.items
-        ++ map (numbered (named names.now)) (map view expressions.now)) }
+        ++ map (numbered_expression (name_number names.now)) (map view expressions.now)) }
 {
     for expression in expressions {
         pushed(copies, numbered(expression, names)?)?;

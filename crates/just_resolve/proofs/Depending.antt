@@ -8,7 +8,7 @@ use Rattle.just_value.specs.Value.{Value}
 use Rattle.just_syntax.specs.declared.function_definition.FunctionDefinition.{FunctionDefinition}
 use Rattle.just_meaning.specs.Reaches.{Here, Later, Reaches, Reads}
 use Rattle.just_needs.specs.Graph as graphs
-use Rattle.just_needs.specs.Graph.{IsReached, Starts}
+use Rattle.just_needs.specs.Graph.{IsReadFrom, Starts}
 use Rattle.just_needs.specs.Prelude.{CallOf, IsFollowed, Occurs, PlainGraph, function_at, is_member, nodes_in, owns, read_by_body, values_in, values_numbered}
 use Rattle.just_needs.specs.declared.graph.Graph.{Graph}
 use Rattle.just_needs.proofs.Needing.{in_all, in_values}
@@ -67,7 +67,7 @@ module _ (functions : List Function) (all : List Assignment) (outer : Frames) wh
   body_reads t f x found h = subst (λ o. IsIn (read_by_body follows o) x) (sym found) h
 
   function_reached : (starts : List PlainNode) {e : Expr} {name : Text} → Reaches functions e name
-      → ((t : Text) (k : ℕ) → Occurs e (CallOf t k) → IsReached reads starts (OfFunction t)) → IsReached reads starts (OfFunction name)
+      → ((t : Text) (k : ℕ) → Occurs e (CallOf t k) → IsReadFrom reads starts (OfFunction t)) → IsReadFrom reads starts (OfFunction name)
   function_reached starts {name = name} (Here k occurs) called = called name k occurs
   function_reached starts (Later mid k occurs f found rest) called =
       function_reached starts rest (λ t j there. graphs.ReadBy (OfFunction mid) (called mid k occurs)

@@ -1,14 +1,14 @@
 -- Numbers that are taken one after another.
 use Rattle.std.proofs.Common.{◌≡◌, ◌≤◌, inl, inr, ℕ, suc, List, [], ◌∷◌, ◌++◌, refl, ap, sym, ◌∙◌, subst, arith}
 use Rattle.just_resolve.specs.Prelude.{AreDistinct, AreFree, AreTaken, Frames, HasValue, IsIn, IsNextFree, value_in}
-use Rattle.just_resolve.specs.Free.{after}
+use Rattle.just_resolve.specs.Free.{number_after}
 
 module _ (outer : Frames) where
-  free_append : (start : ℕ) (xs ys : List ℕ) → AreFree outer start xs → AreFree outer (after start xs) ys → AreFree outer start (xs ++ ys)
+  free_append : (start : ℕ) (xs ys : List ℕ) → AreFree outer start xs → AreFree outer (number_after start xs) ys → AreFree outer start (xs ++ ys)
   free_append start [] ys f g = g
   free_append start (x ∷ xs) ys f g = (f.0, free_append (suc x) xs ys f.1 g)
 
-  after_append : (start : ℕ) (xs ys : List ℕ) → after start (xs ++ ys) ≡ after (after start xs) ys
+  after_append : (start : ℕ) (xs ys : List ℕ) → number_after start (xs ++ ys) ≡ number_after (number_after start xs) ys
   after_append start [] ys = refl
   after_append start (x ∷ xs) ys = after_append (suc x) xs ys
 
@@ -16,7 +16,7 @@ module _ (outer : Frames) where
   pub taken_append : (start mid end : ℕ) (xs ys : List ℕ) → AreTaken outer start xs mid → AreTaken outer mid ys end → AreTaken outer start (xs ++ ys) end
   taken_append start mid end xs ys a b = record {
     free = free_append start xs ys a.free (subst (λ m. AreFree outer m ys) a.next b.free);
-    next = b.next ∙ ap (λ m. after m ys) a.next ∙ sym (after_append start xs ys);
+    next = b.next ∙ ap (λ m. number_after m ys) a.next ∙ sym (after_append start xs ys);
   }
 
   pub none_taken : (start : ℕ) → AreTaken outer start [] start

@@ -4,7 +4,7 @@ use Rattle.std.proofs.Common.{sym, ◌∙◌, subst}
 use Rattle.std.proofs.lemmas.Bool.{not-false, not-true}
 use Rattle.std.proofs.lemmas.List.{append_assoc, append-nil, reverse-append}
 use Rattle.just_syntax.proofs.Lists.{in_append}
-use Rattle.just_needs.proofs.Walk.{Adds}
+use Rattle.just_needs.proofs.Walk.{AddsNode}
 use Rattle.just_resolve.specs.Prelude.{AreDistinct, Enter, IsIn, Leave, OfFunction, OfVariable, PlainNode, PlainStep, all_entered, variable_in}
 use Rattle.just_resolve.specs.Prelude.{variables_in}
 use Rattle.just_resolve.proofs.Steps.{in_entered, in_reverse, in_variables, on_path, on_path-begun, on_path-enter, on_path-leave, path_entered}
@@ -89,7 +89,7 @@ module _ (starts : List ℕ) where
           known = λ n h. w.known n (⊎_elim (λ k. inl (sym (same (OfVariable n)) ∙ k)) (λ k. inr (back n k)) h);
         }
 
-    module _ (adds : Adds old new x) (is : steps ≡ front ++ Enter x ∷ []) where
+    module _ (adds : AddsNode old new x) (is : steps ≡ front ++ Enter x ∷ []) where
       before : on_path steps ++ w.done ≡ on_path front ++ w.done
       before = ap (λ ns. ns ++ w.done) (ap on_path is ∙ on_path-enter front x)
 
@@ -194,7 +194,7 @@ module _ (starts : List ℕ) where
 
 -- a node that is to be entered, whether it is new or not
 pub order_goes : (starts : List ℕ) (old new : PlainNode → Bool) (front steps next : List PlainStep) (left : List ℕ) (x : PlainNode) (reads : List PlainNode)
-    (is_new : Bool) → IsOrderedTo starts old steps left → Adds old new x → steps ≡ front ++ Enter x ∷ []
+    (is_new : Bool) → IsOrderedTo starts old steps left → AddsNode old new x → steps ≡ front ++ Enter x ∷ []
     → ((n : ℕ) → IsIn reads (OfVariable n) → IsIn starts n) → is_new ≡ not (old x)
     → next ≡ (if is_new then front ++ Leave x ∷ all_entered reads else front) → IsOrderedTo starts new next left
 order_goes starts old new front steps next left x reads true w adds is known fresh more =

@@ -17,7 +17,8 @@ use Rattle.just_value.specs.View.{outer_view}
 use Rattle.just_meaning.specs.Reaches.{CallOf, IsAmong, Occurs, OccursIn, OccursInPieces, Reads, VariableOf}
 use Rattle.just_resolution.proofs.Faults.{numbers_alone}
 use Rattle.just_resolve.specs.Prelude.{Assignment, Expr, Frames, Function, HasValue, IsIn, IsRenumbered, IsRenumberedAssignment, IsRenumberedFunction, Pairwise}
-use Rattle.just_resolve.specs.Prelude.{Text, Token, bound_names, bound_view, first_named, frame_names, frame_view, frames_view, numbered, numbered_assignments}
+use Rattle.just_resolve.specs.Prelude.{Text, Token, bound_names, bound_view, first_named, frame_names, frame_view, frames_view, numbered_assignments}
+use Rattle.just_resolve.specs.Prelude.{numbered_expression}
 use Rattle.just_resolve.specs.Prelude.{value_in, visible}
 use Rattle.just_syntax.specs.Renumbered.{Numbering, renumbered_pieces, renumbered_row}
 use Rattle.just_resolve.proofs.Lookups.{found_there}
@@ -30,7 +31,7 @@ module _ (names : Text → Option ℕ) (P : ℕ → Type 0) (given : (t : Text) 
 
   mutual
     -- each number that is read is that of a name
-    pub number_read : (e : Expr) (n : ℕ) → Occurs (numbered names e) (VariableOf (Some n)) → P n
+    pub number_read : (e : Expr) (n : ℕ) → Occurs (numbered_expression names e) (VariableOf (Some n)) → P n
     number_read (And l r) n h = ⊎_elim (λ k. number_read l n k) (λ k. number_read r n k) h
     number_read (Assert e m t) n h = ⊎_elim (λ k. number_read e n k) (λ k. number_read m n k) h
     number_read (AssertOnly e t) n h = number_read e n h

@@ -3,8 +3,8 @@ use Rattle.std.proofs.Common.{◌≡◌, ◌⊎◌, inl, inr, ⊎_elim, Bool, tr
 use Rattle.std.proofs.lemmas.Bool.{not-false, not-true}
 use Rattle.just_syntax.proofs.Lists.{in_append}
 use Rattle.just_needs.specs.Graph as graphs
-use Rattle.just_needs.specs.Graph.{IsReached, Starts}
-use Rattle.just_needs.proofs.Walk.{Adds}
+use Rattle.just_needs.specs.Graph.{IsReadFrom, Starts}
+use Rattle.just_needs.proofs.Walk.{AddsNode}
 use Rattle.just_resolve.specs.Prelude.{Enter, IsIn, Leave, PlainNode, PlainStep, all_entered}
 use Rattle.just_resolve.proofs.Postorder.{none_on}
 use Rattle.just_resolve.proofs.Steps.{in_entered}
@@ -41,7 +41,7 @@ module _ (reads : PlainNode → List PlainNode) (start : PlainNode) where
           closed = λ y z h r. ⊎_elim (λ k. inl (same z ∙ k.0, k.1)) (λ k. inr (keeps z k)) (w.closed y z (sym (same y) ∙ h) r);
         }
 
-    module _ (adds : Adds old new x) (is : steps ≡ front ++ Enter x ∷ []) where
+    module _ (adds : AddsNode old new x) (is : steps ≡ front ++ Enter x ∷ []) where
       grown : (z : PlainNode) → IsTrue (old z) → IsTrue (new z)
       grown z k = (adds z).1 (inr k)
 
@@ -92,17 +92,17 @@ module _ (reads : PlainNode → List PlainNode) (start : PlainNode) where
     started : IsTrue (entered start)
     started = ⊎_elim (λ k. absurd (subst (λ ss. IsIn ss (Enter start)) none k.1)) (λ k. k) w.begun
 
-    all_apart : {z : PlainNode} → IsReached reads (reads start) z → IsTrue (entered z) × (z ≡ start → ⊥)
+    all_apart : {z : PlainNode} → IsReadFrom reads (reads start) z → IsTrue (entered z) × (z ≡ start → ⊥)
     all_apart {z} (Starts h) = closed_all start z started h
     all_apart {z} (graphs.ReadBy y r h) = closed_all y z (all_apart r).0 h
 
     -- the start does not reach itself
-    pub search_ends : IsReached reads (reads start) start → ⊥
+    pub search_ends : IsReadFrom reads (reads start) start → ⊥
     search_ends r = (all_apart r).1 refl
 
 -- a node that is to be entered, whether it is new or not
 pub search_goes : (reads : PlainNode → List PlainNode) (start : PlainNode) (old new : PlainNode → Bool) (front steps next : List PlainStep) (x : PlainNode)
-    (is_new : Bool) → IsSearched reads start old steps → Adds old new x → steps ≡ front ++ Enter x ∷ [] → is_new ≡ not (old x)
+    (is_new : Bool) → IsSearched reads start old steps → AddsNode old new x → steps ≡ front ++ Enter x ∷ [] → is_new ≡ not (old x)
     → next ≡ (if is_new then front ++ Leave x ∷ all_entered (reads x) else front) → (is_new ≡ false → x ≡ start → ⊥)
     → IsSearched reads start new next
 search_goes reads start old new front steps next x true w adds is fresh more other =

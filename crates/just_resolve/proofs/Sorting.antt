@@ -6,8 +6,8 @@ use Rattle.std.proofs.lemmas.List.{append-nil}
 use Rattle.std.proofs.lemmas.List.Concat.{flat_map-append}
 use Rattle.just_syntax.proofs.Lists.{in_append, in_first}
 use Rattle.just_needs.specs.Graph as graphs
-use Rattle.just_needs.specs.Graph.{IsReached, Starts}
-use Rattle.just_needs.proofs.Walk.{Adds}
+use Rattle.just_needs.specs.Graph.{IsReadFrom, Starts}
+use Rattle.just_needs.proofs.Walk.{AddsNode}
 use Rattle.just_resolve.specs.Prelude.{AreSorted, DependsOn, Enter, IsIn, Leave, OfFunction, OfVariable, PlainNode, PlainStep, all_entered, path_in}
 use Rattle.just_resolve.specs.Prelude.{variable_in, variables_in}
 use Rattle.just_resolve.specs.Walk.{entered_node}
@@ -67,18 +67,18 @@ module _ (reads : PlainNode → List PlainNode) where
   -- ---- along the path
 
   -- the nodes of the path reach its last one
-  carried : (starts : List PlainNode) (a y : PlainNode) (ss : List PlainStep) → IsPath reads (Some y) (ss ++ Leave a ∷ []) → IsReached reads starts y
-      → IsReached reads starts a
+  carried : (starts : List PlainNode) (a y : PlainNode) (ss : List PlainStep) → IsPath reads (Some y) (ss ++ Leave a ∷ []) → IsReadFrom reads starts y
+      → IsReadFrom reads starts a
   carried starts a y [] h r = graphs.ReadBy y r h.0
   carried starts a y (Enter z ∷ ss) h r = carried starts a y ss h.1 r
   carried starts a y (Leave z ∷ ss) h r = carried starts a z ss h.1 (graphs.ReadBy y r h.0)
 
   carried_from : (starts : List PlainNode) (a z : PlainNode) (before : Option PlainNode) (ss : List PlainStep)
-      → IsPath reads before (ss ++ Leave a ∷ []) → IsIn (path_in (ss ++ Leave a ∷ [])) z → IsReached reads starts z → IsReached reads starts a
-  carried_from starts a z before [] h k r = ⊎_elim (λ e. subst (IsReached reads starts) (sym e) r) (λ bad. absurd bad) k
+      → IsPath reads before (ss ++ Leave a ∷ []) → IsIn (path_in (ss ++ Leave a ∷ [])) z → IsReadFrom reads starts z → IsReadFrom reads starts a
+  carried_from starts a z before [] h k r = ⊎_elim (λ e. subst (IsReadFrom reads starts) (sym e) r) (λ bad. absurd bad) k
   carried_from starts a z before (Enter y ∷ ss) h k r = carried_from starts a z before ss h.1 k r
   carried_from starts a z before (Leave y ∷ ss) h k r =
-      ⊎_elim (λ e. carried starts a y ss h.1 (subst (IsReached reads starts) (sym e) r)) (λ j. carried_from starts a z (Some y) ss h.1 j r) k
+      ⊎_elim (λ e. carried starts a y ss h.1 (subst (IsReadFrom reads starts) (sym e) r)) (λ j. carried_from starts a z (Some y) ss h.1 j r) k
 
   -- ---- the invariant
 
@@ -106,8 +106,8 @@ module _ (reads : PlainNode → List PlainNode) where
 
   -- what the last node depends on was entered, or the node depends on itself
   entered_or : (entered : PlainNode → Bool) (front : List PlainStep) (a : PlainNode) → IsPath reads None (front ++ Leave a ∷ [])
-      → IsPending entered (front ++ Leave a ∷ []) → AreClosed entered (front ++ Leave a ∷ []) → {x : PlainNode} → IsReached reads (reads a) x
-      → IsTrue (entered x) ⊎ IsReached reads (reads a) a
+      → IsPending entered (front ++ Leave a ∷ []) → AreClosed entered (front ++ Leave a ∷ []) → {x : PlainNode} → IsReadFrom reads (reads a) x
+      → IsTrue (entered x) ⊎ IsReadFrom reads (reads a) a
   entered_or entered front a path pending closed {x} (Starts h) = inl (pending_last entered front a pending x h)
   entered_or entered front a path pending closed {x} (graphs.ReadBy y r h) =
       ⊎_elim (λ e. ⊎_elim (λ k. inr (carried_from (reads a) a y None front path k r)) (λ f. inl (f x h)) (closed y e)) (λ c. inr c)
@@ -169,7 +169,7 @@ module _ (reads : PlainNode → List PlainNode) where
           sorted = subst (AreSorted reads []) (sym added) (left_sorted o x is);
         }
 
-    module _ (adds : Adds old new x) (is : steps ≡ front ++ Enter x ∷ []) where
+    module _ (adds : AddsNode old new x) (is : steps ≡ front ++ Enter x ∷ []) where
       grown : (z : PlainNode) → IsTrue (old z) → IsTrue (new z)
       grown z k = (adds z).1 (inr k)
 
@@ -212,7 +212,7 @@ module _ (reads : PlainNode → List PlainNode) where
 
 -- a node that is to be entered, whether it is new or not
 pub sort_goes : (reads : PlainNode → List PlainNode) (starts : List ℕ) (old new : PlainNode → Bool) (front steps next : List PlainStep) (left : List ℕ)
-    (x : PlainNode) (is_new : Bool) → IsSortedTo reads old steps left → Adds old new x → steps ≡ front ++ Enter x ∷ [] → is_new ≡ not (old x)
+    (x : PlainNode) (is_new : Bool) → IsSortedTo reads old steps left → AddsNode old new x → steps ≡ front ++ Enter x ∷ [] → is_new ≡ not (old x)
     → next ≡ (if is_new then front ++ Leave x ∷ all_entered (reads x) else front) → IsSortedTo reads new next left
 sort_goes reads starts old new front steps next left x true w adds is fresh more = sort_enters reads starts old new front steps left x w adds is next more
 sort_goes reads starts old new front steps next left x false w adds is fresh more =

@@ -6,7 +6,7 @@ use Rattle.just_syntax.specs.Lists.{IsIn}
 use Rattle.just_syntax.specs.Plain.{Text, Token, Assignment, Function}
 use Rattle.just_syntax.specs.Variables.{number_named}
 use Rattle.just_value.specs.Frames.{Frames, value_in}
-use Rattle.just_needs.specs.Graph.{IsReached, OfVariable, PlainGraph, PlainNode, read_by, values_numbered}
+use Rattle.just_needs.specs.Graph.{IsReadFrom, OfVariable, PlainGraph, PlainNode, read_by, values_numbered}
 use Rattle.just_resolve.specs.Order.{HasNames}
 
 -- whether the number is that of an assignment and no frame binds it
@@ -24,7 +24,7 @@ graph_of functions assignments outer = record {
 
 -- the variable n reads the variable m, by itself or through functions and other variables
 abbrev pub DependsOn : (PlainNode → List PlainNode) → ℕ → ℕ → Type 0
-DependsOn reads n m = IsReached reads (reads (OfVariable n)) (OfVariable m)
+DependsOn reads n m = IsReadFrom reads (reads (OfVariable n)) (OfVariable m)
 
 -- Each of these variables comes after those that it depends on, or it depends on itself. The variables before the first
 -- one are given.

@@ -19,14 +19,14 @@ AreFree outer start [] = Unit {0}
 AreFree outer start (n ∷ ns) = IsNextFree outer start n × AreFree outer (suc n) ns
 
 -- the number after the last of these or, if there is none, `start`
-abbrev pub after : ℕ → List ℕ → ℕ
-after start [] = start
-after start (n ∷ ns) = after (suc n) ns
+abbrev pub number_after : ℕ → List ℕ → ℕ
+number_after start [] = start
+number_after start (n ∷ ns) = number_after (suc n) ns
 
 -- the same of numbers that were taken one after another, until the next one to be tried was `end`
 pub record AreTaken (outer : Frames) (start : ℕ) (ns : List ℕ) (end : ℕ) : Type 0 where
   pub free : AreFree outer start ns
-  pub next : end ≡ after start ns
+  pub next : end ≡ number_after start ns
 
 -- these numbers are less than n
 abbrev pub AreBelow : ℕ → List ℕ → Type 0

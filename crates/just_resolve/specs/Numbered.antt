@@ -29,5 +29,5 @@ visible assignments outer = numbered_assignments assignments ++ bound_names oute
 -- ---- expressions
 
 -- the expression in which each variable has the number of its name
-abbrev pub numbered : (Text → Option ℕ) → Expr → Expr
-numbered names = renumbered (λ name number. names name)
+abbrev pub numbered_expression : (Text → Option ℕ) → Expr → Expr
+numbered_expression names = renumbered (λ name number. names name)

@@ -15,7 +15,7 @@ pub use Rattle.just_resolve.specs.Dependence.{AreSorted, DependsOn, DependsOnIts
 pub use Rattle.just_resolve.specs.Dependence.{is_followed_in}
 pub use Rattle.just_resolve.specs.Free.{AreBelow, AreFree, AreNew, AreTaken, IsNextFree, numbers_of}
 pub use Rattle.just_resolve.specs.Hopeless.{AreFoundByName, NoOrderResolvesACycle}
-pub use Rattle.just_resolve.specs.Numbered.{bound_names, first_named, frame_names, numbered}
+pub use Rattle.just_resolve.specs.Numbered.{bound_names, first_named, frame_names, numbered_expression}
 pub use Rattle.just_resolve.specs.Numbered.{visible}
 pub use Rattle.just_resolve.specs.Order.{HasNames, IsNameOf, IsOrder, ordered}
 pub use Rattle.just_resolve.specs.Renumbered.{IsRenumbered, IsRenumberedAssignment, IsRenumberedFunction, Pairwise}
@@ -23,9 +23,9 @@ pub use Rattle.just_resolve.specs.Renumbered.{with_number}
 pub use Rattle.just_resolve.specs.Resolve.{AreFaultsInSomeOrder, AreNameFaults}
 pub use Rattle.just_resolve.specs.Resolve.{IsCircular, IsFaultAnyway, IsFaultInEachOrder, IsOfCycle, IsOfMention}
 pub use Rattle.just_resolve.specs.Resolve.{IsUntaken}
-pub use Rattle.just_resolve.specs.Resolve.{arrow_text, cycle_in, cycle_text, error_token, fault_in, no_memory}
+pub use Rattle.just_resolve.specs.Resolve.{arrow_text, cycle_in, cycle_text, fault_in, no_memory, resolve_error_token}
 pub use Rattle.just_resolve.specs.Resolve.{resolve_error_text, ring_text}
-pub use Rattle.just_resolve.specs.View.{declared_view, entered_in, name_numbered, named, next_free, number_in}
+pub use Rattle.just_resolve.specs.View.{declared_view, entered_in, name_number, name_numbered, next_free, number_in}
 pub use Rattle.just_resolve.specs.View.{parameter_named, step_view, steps_in, variable_named}
 pub use Rattle.just_resolve.specs.Walk.{Enter, IsPathBack, Leave, PlainStep, all_entered, path_in, variable_in}
 pub use Rattle.just_resolve.specs.Walk.{variables_in}

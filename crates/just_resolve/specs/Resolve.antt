@@ -91,10 +91,10 @@ fault_in (errors.Fault fault) = Some (module_fault_view fault)
 fault_in errors.OutOfMemory = None
 
 -- the token of the first name of a cycle, or of a fault
-abbrev pub error_token : ResolveError → Option Token
-error_token (errors.Circular names) = option_map name_view (slice_get names.items 0)
-error_token (errors.Fault fault) = Some (fault_token (module_fault_view fault))
-error_token errors.OutOfMemory = None
+abbrev pub resolve_error_token : ResolveError → Option Token
+resolve_error_token (errors.Circular names) = option_map name_view (slice_get names.items 0)
+resolve_error_token (errors.Fault fault) = Some (fault_token (module_fault_view fault))
+resolve_error_token errors.OutOfMemory = None
 
 -- ---- messages
 

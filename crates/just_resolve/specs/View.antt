@@ -36,8 +36,8 @@ abbrev pub parameter_named : Names → Text → Option ℕ
 parameter_named names name = number_in names.parameters name
 
 -- the number of a parameter or, if no parameter has the name, of a variable
-abbrev pub named : Names → Text → Option ℕ
-named names name = option_or (parameter_named names name) (variable_named names name)
+abbrev pub name_number : Names → Text → Option ℕ
+name_number names name = option_or (parameter_named names name) (variable_named names name)
 
 -- the name of a number
 abbrev pub name_numbered : {S : Type 0} → HashMap ℕ Name S → ℕ → Option Token

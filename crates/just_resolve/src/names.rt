@@ -4,7 +4,8 @@ ghost use Rattle.std.specs.Prelude.{IfOk, OnOk, [], None, Some, bytes_eq, if◌t
 ghost use Rattle.std.specs.Prelude.{◌≡◌};
 ghost use Rattle.std.specs.Option.{option_or};
 ghost use Rattle.just_resolve.specs.Prelude.{assignment_view, bound_names, first_named, frame_names, frame_view};
-ghost use Rattle.just_resolve.specs.Prelude.{frames_view, named, name_view, number_in, parameter_named, parameter_view};
+ghost use Rattle.just_resolve.specs.Prelude.{frames_view, name_number, name_view, number_in, parameter_named};
+ghost use Rattle.just_resolve.specs.Prelude.{parameter_view};
 ghost use Rattle.just_resolve.specs.Prelude.{variable_named, visible};
 
 use just_host::justfile::Justfile;
@@ -42,7 +43,7 @@ impl<'src> Names<'src> {
         module: &Justfile<'src>,
         outer: &Scope<'src, '_>,
     ) -> Result<Names<'src>, OutOfMemory>
-        ensures named { IfOk result (λ names. (t : List ℕ) → named names t
+        ensures named { IfOk result (λ names. (t : List ℕ) → name_number names t
             ≡ first_named (visible (map assignment_view «module».now.assignments) (frames_view outer.now)) t) }
         ensures parameters { IfOk result (λ names. (t : List ℕ) → parameter_named names t ≡ None) }
     {
@@ -56,9 +57,9 @@ impl<'src> Names<'src> {
         variables: &[(Name<'src>, Number)],
         outer: &Scope<'src, '_>,
     ) -> Result<Names<'src>, OutOfMemory>
-        ensures named { IfOk result (λ names. (t : List ℕ) → named names t
+        ensures named { IfOk result (λ names. (t : List ℕ) → name_number names t
             ≡ first_named (map parameter_view variables.now ++ bound_names (frames_view outer.now)) t) }
-        ensures variables { IfOk result (λ names. (t : List ℕ) → variable_named names t ≡ named names t) }
+        ensures variables { IfOk result (λ names. (t : List ℕ) → variable_named names t ≡ name_number names t) }
         ensures parameters { IfOk result (λ names. (t : List ℕ) → parameter_named names t ≡ None) }
     {
         let mut all = BTreeMap::new(alloc);
@@ -76,7 +77,7 @@ impl<'src> Names<'src> {
     ///
     /// `OutOfMemory`, if an allocation fails: some of the parameters may be missing.
     pub fn set_parameters(&mut self, parameters: &[(Name<'src>, Number)]) -> Result<(), OutOfMemory>
-        ensures parameters { OnOk result ((t : List ℕ) → named self.new t
+        ensures parameters { OnOk result ((t : List ℕ) → name_number self.new t
             ≡ option_or (first_named (map parameter_view parameters.now) t) (variable_named self.old t)) }
         ensures variables { (t : List ℕ) → variable_named self.new t ≡ variable_named self.old t }
     {
@@ -107,7 +108,7 @@ impl<'src> Names<'src> {
 
     /// The number of a name, if it has one.
     pub fn get(&self, name: &str) -> Option<Number>
-        ensures { result ≡ named self.now name.now }
+        ensures { result ≡ name_number self.now name.now }
     {
         match self.parameters.get(name) {
             Some(number) => Some(*number),

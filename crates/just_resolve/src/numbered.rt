@@ -1,7 +1,7 @@
 // Copies of expressions, in which each variable has the number of its name.
 
 ghost use Rattle.std.specs.Prelude.{IfOk, ◌≡◌};
-ghost use Rattle.just_resolve.specs.Prelude.{named, numbered, view};
+ghost use Rattle.just_resolve.specs.Prelude.{name_number, numbered_expression, view};
 
 use crate::names::Names;
 use just_syntax::expression::Expression;
@@ -11,7 +11,7 @@ use just_syntax::out_of_memory::OutOfMemory;
 
 // A variable has the number of its name.
 impl Numbers for Names<'_> {
-    ghost number_of = { λ names name number. named names name };
+    ghost number_of = { λ names name number. name_number names name };
 
     fn number(&self, name: &str, _: Option<Number>) -> Option<Number> {
         self.get(name)
@@ -38,7 +38,7 @@ pub fn numbered<'src>(
     expression: &Expression<'src>,
     names: &Names<'src>,
 ) -> Result<Expression<'src>, OutOfMemory>
-    ensures { IfOk result (λ e. view e ≡ numbered (named names.now) (view expression.now)) }
+    ensures { IfOk result (λ e. view e ≡ numbered_expression (name_number names.now) (view expression.now)) }
 {
     Ok(expression.with_numbers(names)?)
 }

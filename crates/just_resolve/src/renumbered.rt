@@ -3,7 +3,7 @@
 ghost use Rattle.std.specs.Prelude.{IfOk, List, OnOk, [], map, ℕ, ◌++◌, ◌∷◌, ◌≡◌};
 ghost use Rattle.just_resolve.specs.Prelude.{AreTaken, IsInOrder, IsRenumbered, IsRenumberedFunction, Pairwise, Token};
 ghost use Rattle.just_resolve.specs.Prelude.{assignment_view, declared_view, first_named, frames_view, function_view};
-ghost use Rattle.just_resolve.specs.Prelude.{functions_view, name_view, named, next_free, parameter_numbers};
+ghost use Rattle.just_resolve.specs.Prelude.{functions_view, name_number, name_view, next_free, parameter_numbers};
 ghost use Rattle.just_resolve.specs.Prelude.{parameter_view, variable_named, with_number};
 
 use crate::free::Free;
@@ -147,7 +147,7 @@ fn add_assignments<'src>(
     requires empty { made.old ≡ [] }
     requires in_order { IsInOrder (λ a. a.name.lexeme) (map (λ d. d.0) (map declared_view declared.now)) }
     ensures { OnOk result (map assignment_view made.new
-        ≡ map (with_number (named names.now)) (map declared_view declared.now)) }
+        ≡ map (with_number (name_number names.now)) (map declared_view declared.now)) }
 {
     for one in declared {
         let copy = with_number(alloc, one.assignment, one.number, names)?;
@@ -164,7 +164,7 @@ fn with_number<'src>(
     names: &Names<'src>,
 ) -> Result<Assignment<'src>, OutOfMemory>
     ensures { IfOk result (λ a. assignment_view a
-        ≡ with_number (named names.now) (assignment_view assignment.now, number)) }
+        ≡ with_number (name_number names.now) (assignment_view assignment.now, number)) }
 {
     Ok(Assignment {
         eager: assignment.eager,

@@ -3,7 +3,8 @@
 ghost use Rattle.std.specs.Prelude.{map, option_map, slice_get, ◌≡◌};
 ghost use Rattle.std.specs.Fmt.{WritesStyledOnOk};
 ghost use Rattle.std.specs.List.{flat_map};
-ghost use Rattle.just_resolve.specs.Prelude.{arrow_text, cycle_text, error_token, name_view, ring_text, token_view};
+ghost use Rattle.just_resolve.specs.Prelude.{arrow_text, cycle_text, name_view, resolve_error_token, ring_text};
+ghost use Rattle.just_resolve.specs.Prelude.{token_view};
 
 use just_resolution::fault::Fault;
 use just_syntax::name::Name;
@@ -30,7 +31,7 @@ impl<'src> ResolveError<'src> {
     /// The token where the error occurs: the name of the first assignment of a cycle, or the token of a fault. `None`
     /// for `OutOfMemory`.
     pub fn token(&self) -> Option<Token<'src>>
-        ensures { option_map token_view result ≡ error_token self.now }
+        ensures { option_map token_view result ≡ resolve_error_token self.now }
     {
         match self {
             ResolveError::Circular(names) => first_token(names),

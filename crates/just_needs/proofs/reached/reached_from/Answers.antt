@@ -2,7 +2,7 @@ use Rattle.std.proofs.Common.{arith, ◌≡◌, ◌∙◌, true, false, sym, sub
 use Rattle.std.proofs.lemmas.Bool.{not-false, not-true}
 use Rattle.just_resolution.proofs.Closure.{last_popped, none_popped}
 use Rattle.just_needs.specs.Prelude.{is_reached, node_view, nodes_view}
-use Rattle.just_needs.proofs.Walk.{IsWalked, begins, ends, falls_on, falls_passed, goes_on, passes}
+use Rattle.just_needs.proofs.Walk.{AreNodesWalked, begins, ends, falls_on, falls_passed, goes_on, passes}
 use Rattle.just_needs.proofs.reached.reached_from.Goals as goal
 
 pub loop-node-init : goal.loop-node-init
@@ -26,7 +26,7 @@ loop-node-smaller-then-not-is_new g c =
 pub loop-node-preserved : goal.loop-node-preserved
 loop-node-preserved g c =
     let last = last_popped node_view c.loop-node.pending.items c.pop.new.self.items c.pop.result c.in-Some.node c.pop.ensures.items c.in-Some.is in
-    subst (IsWalked (g.R.Reads.reads c.args.graph.now) (nodes_view c.args.pending.items) (is_reached c.insert.new.self))
+    subst (AreNodesWalked (g.R.Reads.reads c.args.graph.now) (nodes_view c.args.pending.items) (is_reached c.insert.new.self))
     (sym c.in_ok-add_read_by.ensures.added)
     (goes_on (g.R.Reads.reads c.args.graph.now) (nodes_view c.args.pending.items) (is_reached c.loop-node.reached)
     (is_reached c.insert.new.self) (nodes_view c.pop.new.self.items) (node_view c.in-Some.node)

@@ -5,7 +5,7 @@ use Rattle.just_syntax.proofs.Lists.{rest_from}
 use Rattle.just_reach.specs.Prelude.{Text, body_members, function_at, function_view, member_view, members_view, name_of_call}
 use Rattle.just_reach.proofs.Listed.{body_appended}
 use Rattle.just_meaning.proofs.Names.{is_name_in, name_added, no_name}
-use Rattle.just_reach.proofs.Walk.{IsWalked, begins, ends, goes_on, once, passes, repeats}
+use Rattle.just_reach.proofs.Walk.{AreMembersWalked, begins, ends, goes_on, once, passes, repeats}
 use Rattle.just_reach.proofs.Work.{falls, rest_added}
 use Rattle.just_reach.proofs.reach.add_bodies.Goals.{In-Some, In_ok-add_body}
 use Rattle.just_reach.proofs.reach.add_bodies.Goals as goal
@@ -80,7 +80,7 @@ returns c =
     let none : members_view (drop c.loop-next.next c.loop-next.all.items) ≡ [] =
     ap members_view (drop_all c.loop-next.next c.loop-next.all.items (omega arith)) in
     let known = map function_view c.args.functions.now in
-    let walked : IsWalked known (members_view c.args.all.now.items) (is_name_in c.loop-next.called) (members_view c.loop-next.all.items) [] =
+    let walked : AreMembersWalked known (members_view c.args.all.now.items) (is_name_in c.loop-next.called) (members_view c.loop-next.all.items) [] =
     rw none at c.loop-next.invariant in
     record {
       exact = ends known (members_view c.args.all.now.items) (is_name_in c.loop-next.called) (members_view c.loop-next.all.items) walked;

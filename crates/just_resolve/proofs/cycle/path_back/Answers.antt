@@ -3,7 +3,7 @@ use Rattle.std.proofs.lemmas.Bool.{not-false}
 use mathlib.Core.Path.{fun_ext}
 use Rattle.just_needs.specs.View.{graph_nodes}
 use Rattle.just_needs.proofs.Graphs.{are_all}
-use Rattle.just_needs.proofs.Walk.{Adds}
+use Rattle.just_needs.proofs.Walk.{AddsNode}
 use Rattle.just_resolve.specs.Prelude.{Leave, OfVariable, PlainNode, PlainStep, all_entered, entered_in, graph_view, path_in, variables_in, node_view}
 use Rattle.just_resolve.specs.Prelude.{read_by, step_view, steps_in}
 use Rattle.just_resolve.proofs.Measure.{falls_goes, falls_left}
@@ -46,7 +46,7 @@ loop-step-preserved c =
     let x = node_view step.node in
     let is_new = c.in_ok-is_new.is_new in
     let last = entered_last front steps step c.in-Some.ensures.steps c.if-step.false in
-    let adds = subst (λ (e : PlainNode → Bool). Adds e new x) (fun_ext c.pop.ensures.entered) c.in_ok-is_new.ensures.entered in record {
+    let adds = subst (λ (e : PlainNode → Bool). AddsNode e new x) (fun_ext c.pop.ensures.entered) c.in_ok-is_new.ensures.entered in record {
       way = way_goes reads c.args.start old new front steps next x is_new c.loop-step.invariant.way last c.in_ok-is_new.ensures.steps;
       search = search_goes reads (OfVariable c.args.start) old new front steps next x is_new c.loop-step.invariant.search adds last
           (c.in_ok-is_new.ensures.fresh ∙ ap not (c.pop.ensures.entered x)) c.in_ok-is_new.ensures.steps
@@ -69,7 +69,7 @@ loop-step-smaller c =
     let steps = steps_in c.loop-step.walk in
     let step = c.in-Some.step in
     let x = node_view step.node in
-    let adds = subst (λ (e : PlainNode → Bool). Adds e (entered_in c.enter.new.self) x) (fun_ext c.pop.ensures.entered) c.in_ok-is_new.ensures.entered in
+    let adds = subst (λ (e : PlainNode → Bool). AddsNode e (entered_in c.enter.new.self) x) (fun_ext c.pop.ensures.entered) c.in_ok-is_new.ensures.entered in
     falls_goes (read_by g) (graph_nodes c.args.graph.now) (entered_in c.loop-step.walk) (entered_in c.enter.new.self) front steps (steps_in c.enter.new.self) x
     c.in_ok-is_new.is_new adds (are_all c.args.graph.now) (entered_last front steps step c.in-Some.ensures.steps c.if-step.false)
     (c.in_ok-is_new.ensures.fresh ∙ ap not (c.pop.ensures.entered x)) c.in_ok-is_new.ensures.steps

@@ -1,5 +1,5 @@
 use Rattle.std.proofs.Common.{◌∙◌, Bool, List, ℕ, ap, map, not, subst, sym}
-use Rattle.just_needs.proofs.Walk.{Adds}
+use Rattle.just_needs.proofs.Walk.{AddsNode}
 use mathlib.Core.Path.{fun_ext}
 use Rattle.just_needs.specs.View.{graph_nodes}
 use Rattle.just_needs.proofs.Graphs.{are_all}
@@ -69,7 +69,7 @@ loop-step-smaller c =
     let steps = steps_in c.loop-step.walk in
     let step = c.in-Some.step in
     let x = node_view step.node in
-    let adds = subst (λ (e : PlainNode → Bool). Adds e (entered_in c.enter.new.self) x) (fun_ext c.pop.ensures.entered) c.in_ok-enter.ensures.entered in
+    let adds = subst (λ (e : PlainNode → Bool). AddsNode e (entered_in c.enter.new.self) x) (fun_ext c.pop.ensures.entered) c.in_ok-enter.ensures.entered in
     falls_goes (read_by g) (graph_nodes c.args.graph.now) (entered_in c.loop-step.walk) (entered_in c.enter.new.self) front steps (steps_in c.enter.new.self) x
     c.in_ok-enter.field-0 adds (are_all c.args.graph.now) (entered_last front steps step c.in-Some.ensures.steps c.if-step.false)
     (c.in_ok-enter.ensures.fresh ∙ ap not (c.pop.ensures.entered x)) c.in_ok-enter.ensures.steps

@@ -1,7 +1,7 @@
 use Rattle.std.proofs.Common.{◌≡◌, ◌∙◌, ◌++◌, ℕ, List, Result, Ok, Err, OnOk, ap, map, subst, sym}
 use Rattle.just_syntax.specs.declared.name.Name.{Name}
 use Rattle.just_resolve.specs.Prelude.{AreTaken, Assignment, IsRenumbered, Text, Token, assignment_view, bound_names, declared_view, first_named, frames_view}
-use Rattle.just_resolve.specs.Prelude.{function_view, functions_view, named, parameter_view, with_number}
+use Rattle.just_resolve.specs.Prelude.{function_view, functions_view, name_number, parameter_view, with_number}
 use Rattle.just_resolve.specs.declared.renumbered.Declared.{Declared}
 use Rattle.just_resolve.proofs.Renumbering.{renumbered_all}
 use Rattle.just_resolve.proofs.renumbered.add_all.Goals as goal
@@ -15,7 +15,7 @@ pub returns : goal.returns
 returns c =
     let outer = frames_view c.args.outer.now in
     let ds = map declared_view c.in_ok-declared.declared.items in
-    let nm = named c.in_ok-names.names in
+    let nm = name_number c.in_ok-names.names in
     let vs = map parameter_view c.in_ok-variables.variables.items in
     let bound = bound_names outer in
     let pair : Assignment × ℕ → Token × ℕ = λ d. (d.0.name, d.1) in

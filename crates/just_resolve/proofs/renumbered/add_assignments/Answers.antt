@@ -4,14 +4,14 @@ use Rattle.std.specs.List.Sorted.{IsStrictlySortedBy}
 use Rattle.std.specs.Ordering.{nat_cmp}
 use Rattle.std.proofs.lemmas.List.{map-append, take-append-drop}
 use Rattle.just_resolution.proofs.Sets.{front, taken_more}
-use Rattle.just_resolve.specs.Prelude.{Assignment, Text, assignment_view, declared_view, named, with_number}
+use Rattle.just_resolve.specs.Prelude.{Assignment, Text, assignment_view, declared_view, name_number, with_number}
 use Rattle.just_resolve.specs.declared.renumbered.Declared.{Declared}
 use Rattle.just_resolve.proofs.Appending.{map_map, viewed_at_end}
 use Rattle.just_resolve.proofs.renumbered.add_assignments.Goals as goal
 
 pub loop-one-preserved : goal.loop-one-preserved
 loop-one-preserved c =
-    let nm = named c.args.names.now in
+    let nm = name_number c.args.names.now in
     let key : Assignment → Text = λ a. a.name.lexeme in
     let name : Declared → Text = λ d. d.assignment.now.name.token.lexeme.now in
     let ds = c.args.declared.now in

@@ -3,7 +3,7 @@ use Rattle.std.proofs.lemmas.Result.{on_ok_weaker}
 use Rattle.std.specs.Option.{option_or}
 use Rattle.just_syntax.specs.Plain.{Recipe}
 use Rattle.just_syntax.specs.View.{line_view, name_view, recipe_parameter_view}
-use Rattle.just_resolve.specs.Prelude.{named, parameter_view, variable_named}
+use Rattle.just_resolve.specs.Prelude.{name_number, parameter_view, variable_named}
 use Rattle.just_parser.specs.View.{dependency_view, recipe_definition_view}
 use Rattle.just_recipe.specs.Numbered.{numbered_attributes, numbered_dependency, numbered_in_turn, numbered_line}
 use Rattle.just_recipe.proofs.Numbered.{added_to_none, numbered_of}
@@ -14,8 +14,8 @@ returns-clause-copy c =
     let definition = recipe_definition_view c.args.definition.now in
     let numbers = map parameter_view c.args.numbers.now in
     let outside = variable_named c.args.names.now in
-    let inside = named c.add_parameters.new.names in
-    let attributes = numbered_attributes (named c.args.names.now) definition.recipe.attributes in
+    let inside = name_number c.add_parameters.new.names in
+    let attributes = numbered_attributes (name_number c.args.names.now) definition.recipe.attributes in
     let old = c.requires.recipe in
     on_ok_weaker c.add_dependencies-2.result (λ subsequents.
     numbered_of numbers definition (λ t. ap (λ o. option_or o (outside t)) (c.requires.unset t)) c.in_ok-add_parameters.ensures.names
