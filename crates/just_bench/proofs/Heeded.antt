@@ -18,7 +18,7 @@ use Rattle.just_builtins.specs.Asking.{first_set, number_answered, or_asks, text
 use Rattle.just_builtins.specs.Called.{Called, Returned, Said, tree}
 use Rattle.just_builtins.specs.Meaning.{has_lists, or_fails, reply, says_truth, truth, value_truth}
 use Rattle.just_builtins.specs.Reply as replies
-use Rattle.just_builtins.specs.Reply.{Reply, Stops, says}
+use Rattle.just_builtins.specs.Reply.{FunctionReply, Stops, says}
 use Rattle.just_builtins.specs.Shape.{builtin_of, is_text}
 use Rattle.just_builtins.specs.declared.builtin.Builtin.{Builtin}
 use Rattle.just_builtins.specs.declared.builtin.Builtin.TheVariants as builtin
@@ -70,17 +70,17 @@ all_answered (Shuts e) h some = tt
 
 -- ---- built-in functions
 
-abbrev HeedsReply : Reply → Type 0
+abbrev HeedsReply : FunctionReply → Type 0
 HeedsReply (replies.Asks q next) = (next (Failed NoMemory) ≡ Stops) × ((a : Answer) → HeedsReply (next a))
 HeedsReply _ = Unit {0}
 
-heeds_tree : (shown : Frames) (r : Reply) → HeedsReply r → Heeds Called (tree shown r)
+heeds_tree : (shown : Frames) (r : FunctionReply) → HeedsReply r → Heeds Called (tree shown r)
 heeds_tree shown (replies.Asks q next) (stops, h) = (ap (tree shown) stops, λ a. heeds_tree shown (next a) (h a))
 heeds_tree shown (replies.Answers v) h = tt
 heeds_tree shown (replies.Fails message) h = tt
 heeds_tree shown Stops h = tt
 
-or_heeds : (text : Option Text) (message : Text) (go : Text → Reply) → ((text : Text) → HeedsReply (go text)) → HeedsReply (or_fails text message go)
+or_heeds : (text : Option Text) (message : Text) (go : Text → FunctionReply) → ((text : Text) → HeedsReply (go text)) → HeedsReply (or_fails text message go)
 or_heeds (Some text) message go h = h text
 or_heeds None message go h = tt
 
@@ -92,7 +92,7 @@ truth_heeds lists (Ok b) = tt
 truth_heeds lists (Err message) = tt
 
 -- the question itself does not matter here
-text_heeds : (absent : Reply) (odd faulty : Text → Text) → HeedsReply absent → HeedsReply (asks_text Executable absent odd faulty)
+text_heeds : (absent : FunctionReply) (odd faulty : Text → Text) → HeedsReply absent → HeedsReply (asks_text Executable absent odd faulty)
 text_heeds absent odd faulty h = (refl, at)
   where
     at : (a : Answer) → HeedsReply (text_answered absent odd faulty a)
@@ -121,11 +121,11 @@ unset_heeds : (keys : List Text) (default : Option Value) → HeedsReply (none_s
 unset_heeds keys (Some v) = tt
 unset_heeds keys None = tt
 
-or_asks_heeds : (text : Option Text) (other : Reply) → HeedsReply other → HeedsReply (or_asks text other)
+or_asks_heeds : (text : Option Text) (other : FunctionReply) → HeedsReply other → HeedsReply (or_asks text other)
 or_asks_heeds (Some text) other h = tt
 or_asks_heeds None other h = h
 
-first_set_heeds : (dotenv : List (Text × Text)) (rest : Reply) → HeedsReply rest → (keys : List Text) → HeedsReply (first_set dotenv rest keys)
+first_set_heeds : (dotenv : List (Text × Text)) (rest : FunctionReply) → HeedsReply rest → (keys : List Text) → HeedsReply (first_set dotenv rest keys)
 first_set_heeds dotenv rest h [] = h
 first_set_heeds dotenv rest h (key ∷ keys) = or_asks_heeds (entry dotenv key) _ (text_heeds _ _ _ (first_set_heeds dotenv rest h keys))
 

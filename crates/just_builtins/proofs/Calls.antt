@@ -2,7 +2,7 @@
 use Rattle.std.proofs.Common.{◌≡◌, ◌≢◌, ℕ, refl, sym, List, [], ◌∷◌, Option, Some, None, Result, Ok, Err, string_bytes, subst, inl, inr}
 use Rattle.std.specs.List.{AllByRecursion}
 use Rattle.just_builtins.specs.Prelude.{Answer, Asked, AskedBy, AskedOr, Asks, AsksOnce, Called, Context, Frames, Gave, GivesOr, Internal, IsExpected, IsReply}
-use Rattle.just_builtins.specs.Prelude.{Behaves, IsUnnamed, Replies, RepliesAmong, Reply, Returned, Step, Text, TextOf, Value, asks_text, builtin_of}
+use Rattle.just_builtins.specs.Prelude.{Behaves, FunctionReply, IsUnnamed, Replies, RepliesAmong, Returned, Step, Text, TextOf, Value, asks_text, builtin_of}
 use Rattle.just_builtins.specs.Prelude.{frameless, unchecked}
 use Rattle.just_builtins.specs.Prelude.{frames_view, freely, function_context_view, outcome, reply, text_answered, tree}
 use Rattle.just_value.specs.Refusal.{NoMemory}
@@ -16,21 +16,21 @@ use Rattle.just_host.specs.declared.function.Context as declared
 use Rattle.just_builtins.specs.Called.{Said, frames_for}
 
 -- a reply without a question has a path without events
-path : (shown : Frames) (reply : Reply) (result : Result Value CallFault) → IsReply reply result → Path freely (tree shown reply) [] (outcome result)
+path : (shown : Frames) (reply : FunctionReply) (result : Result Value CallFault) → IsReply reply result → Path freely (tree shown reply) [] (outcome result)
 path shown reply (Ok v) is = subst (λ r. Path freely (tree shown r) [] (Gave (Returned v))) (sym is) Ends
 path shown reply (Err (Message message)) is = subst (λ r. Path freely (tree shown r) [] (Gave (Said (string_bytes message)))) (sym is) Ends
 path shown reply (Err OutOfMemory) is = Stops
 path shown reply (Err Internal) is = absurd is
 
 -- a given result is not `Internal`
-named : (reply : Reply) (result : Result Value CallFault) → IsReply reply result → result ≡ Err Internal → ⊥
+named : (reply : FunctionReply) (result : Result Value CallFault) → IsReply reply result → result ≡ Err Internal → ⊥
 named reply (Ok v) is e = absurd (cc)
 named reply (Err (Message message)) is e = absurd (cc)
 named reply (Err OutOfMemory) is e = absurd (cc)
 named reply (Err Internal) is e = absurd is
 
 -- an error is the same, whatever the rest would be
-gives_err : (next : Reply → Reply) (e : CallFault) → GivesOr next (Err e) → (rest : Reply) → IsReply (next rest) (Err e)
+gives_err : (next : FunctionReply → FunctionReply) (e : CallFault) → GivesOr next (Err e) → (rest : FunctionReply) → IsReply (next rest) (Err e)
 gives_err next (Message message) is rest = is rest
 gives_err next OutOfMemory is rest = tt
 gives_err next Internal is rest = absurd is
@@ -47,7 +47,7 @@ expected f g n same is = subst (λ h. IsExpected h n) same is
 module _ {S : Type 0} {step : Step S} where
   -- ---- functions that ask nothing: the host's state is unchanged
 
-  pub unasked : {h : S} (shown : Frames) (reply : Reply) (result : Result Value CallFault) → IsReply reply result → Asked step h shown reply result h
+  pub unasked : {h : S} (shown : Frames) (reply : FunctionReply) (result : Result Value CallFault) → IsReply reply result → Asked step h shown reply result h
   unasked shown reply result is = (record { events = []; path = path shown reply result is; chain = refl }, named reply result is)
 
   -- memory runs out before the first question
@@ -56,7 +56,7 @@ module _ {S : Type 0} {step : Step S} where
   at_once {h = h} {t = t} result is =
       (subst (λ r. Behaves freely step unchecked h t (outcome r) h) (sym is) (record { events = []; path = Stops; chain = refl }), λ e. absurd (cc))
 
-  pub unasked_by : {h : S} (f : Function) (shown : Frames) (reply : Reply) (result : Result Value CallFault) → Replies f reply result
+  pub unasked_by : {h : S} (f : Function) (shown : Frames) (reply : FunctionReply) (result : Result Value CallFault) → Replies f reply result
       → AskedBy f step h shown reply result h
   unasked_by f shown reply (Ok v) is = (record { events = []; path = path shown reply (Ok v) is; chain = refl }, λ e. absurd (cc))
   unasked_by f shown reply (Err (Message message)) is =
@@ -65,7 +65,7 @@ module _ {S : Type 0} {step : Step S} where
   unasked_by f shown reply (Err Internal) is = (record { events = []; path = Stops; chain = refl }, λ e. (is, refl))
 
   -- the same for the functions of a shape that ask nothing
-  pub unasked_among : {h : S} (f : Function) (those : List Builtin) (b : Builtin) (shown : Frames) (reply : Reply) (result : Result Value CallFault)
+  pub unasked_among : {h : S} (f : Function) (those : List Builtin) (b : Builtin) (shown : Frames) (reply : FunctionReply) (result : Result Value CallFault)
       → RepliesAmong those b reply result → (AllByRecursion (λ other. other ≢ b) those → IsUnnamed f) → AskedBy f step h shown reply result h
   unasked_among f those b shown reply (Ok v) is unnamed = unasked_by f shown reply (Ok v) is
   unasked_among f those b shown reply (Err (Message message)) is unnamed = unasked_by f shown reply (Err (Message message)) is
@@ -75,20 +75,20 @@ module _ {S : Type 0} {step : Step S} where
   -- ---- functions that ask
 
   -- a question, and the result for its answer
-  pub asked : {old new : S} (shown : Frames) (q : Blind) (next : Answer → Reply) (a : Answer) (result : Result Value CallFault)
+  pub asked : {old new : S} (shown : Frames) (q : Blind) (next : Answer → FunctionReply) (a : Answer) (result : Result Value CallFault)
       → step old (record { blind = q; shown = frames_for q shown }) a new → IsReply (next a) result → Asked step old shown (Asks q next) result new
   asked shown q next a result taken is =
       (record { events = answered _ a ∷ []; path = asks (path shown (next a) result is); chain = (_, taken, refl) }, named (next a) result is)
 
   -- the same for a text
-  pub asked_text : {old new : S} (shown : Frames) (q wanted : TextQuestion) (absent : Reply) (odd faulty : Text → Text) (a : Answer)
+  pub asked_text : {old new : S} (shown : Frames) (q wanted : TextQuestion) (absent : FunctionReply) (odd faulty : Text → Text) (a : Answer)
       (result : Result Value CallFault) → q ≡ wanted → step old (frameless (TextOf q)) a new → IsReply (text_answered absent odd faulty a) result
       → Asked step old shown (asks_text wanted absent odd faulty) result new
   asked_text {old = old} {new = new} shown q wanted absent odd faulty a result same taken is =
       asked shown (TextOf wanted) (text_answered absent odd faulty) a result (subst (λ x. step old (frameless (TextOf x)) a new) same taken) is
 
   -- the same, if memory may run out before the question is asked
-  pub asked_once : {old new : S} (shown : Frames) (q : Blind) (next : Answer → Reply) (a : Answer) (result : Result Value CallFault)
+  pub asked_once : {old new : S} (shown : Frames) (q : Blind) (next : Answer → FunctionReply) (a : Answer) (result : Result Value CallFault)
       → AsksOnce step old (record { blind = q; shown = frames_for q shown }) a new → IsReply (next a) result → (a ≡ Failed NoMemory → result ≡ Err OutOfMemory)
       → Asked step old shown (Asks q next) result new
   asked_once shown q next a result (inl taken) is wanting = asked shown q next a result taken is
@@ -104,7 +104,7 @@ module _ {S : Type 0} {step : Step S} where
       (subst (λ x. Behaves freely step unchecked old (tree shown (reply x c vs)) (outcome result) new) (sym is) run, λ e. absurd (not_internal e))
 
   -- a function without a name
-  pub internal : {h : S} (f : Function) (shown : Frames) (reply : Reply) → IsUnnamed f → AskedBy f step h shown reply (Err Internal) h
+  pub internal : {h : S} (f : Function) (shown : Frames) (reply : FunctionReply) → IsUnnamed f → AskedBy f step h shown reply (Err Internal) h
   internal f shown reply unnamed = unasked_by f shown reply (Err Internal) unnamed
 
   -- a call of the same function with the same arguments
@@ -121,7 +121,8 @@ module _ {S : Type 0} {step : Step S} where
 
 module _ {S : Type 0} (step : Step S) where
   -- a question whose answer gives a result, or leaves it to the rest
-  pub asked_or : {old new : S} (shown : Frames) (q : Blind) (next : Reply → Answer → Reply) (a : Answer) (result : Result (Option Value) CallFault)
+  pub asked_or : {old new : S} (shown : Frames) (q : Blind) (next : FunctionReply → Answer → FunctionReply) (a : Answer)
+      (result : Result (Option Value) CallFault)
       → step old (record { blind = q; shown = frames_for q shown }) a new → GivesOr (λ rest. next rest a) result
       → AskedOr step old shown (λ rest. Asks q (next rest)) result new
   asked_or shown q next a (Ok (Some v)) taken is = λ rest. (asked shown q (next rest) a (Ok v) taken (is rest)).0

@@ -8,7 +8,8 @@ use Rattle.std.specs.Ordering.{is_eq, nat_cmp}
 use Rattle.std.specs.declared.string.String.{String}
 use Rattle.std.proofs.lemmas.Cmp.{nat_list_eq_equiv}
 use Rattle.std.proofs.lemmas.Map.Text.{is_eq-slice_cmp}
-use Rattle.just_builtins.specs.Prelude.{Answer, Answers, Asked, AskedOr, Behaves, Called, Context, Frames, Gave, GivesOr, IsReply, Outcome, Reply, Returned}
+use Rattle.just_builtins.specs.Prelude.{Answer, Answers, Asked, AskedOr, Behaves, Called, Context, Frames, FunctionReply, Gave, GivesOr, IsReply, Outcome}
+use Rattle.just_builtins.specs.Prelude.{Returned}
 use Rattle.just_builtins.specs.Prelude.{Step, unchecked}
 use Rattle.just_builtins.specs.Prelude.{Text, TextOf, Value, asks_environment, asks_text, entry, first_set, frameless, freely, outcome, text_answered, tree}
 use Rattle.just_builtins.specs.Prelude.{variable_not_unicode, variable_reply, variable_unreadable}
@@ -34,7 +35,7 @@ entry_is key (e ∷ es) =
     (nat_list_eq_equiv.symm (string_bytes e.0) key ∙ sym (is_eq-slice_cmp key (string_bytes e.0))) refl (entry_is key es)
 
 -- a variable of the dotenv map
-pub from_dotenv : (dotenv : List (Text × Text)) (key : Text) (rest : Reply) (text : Text) (v : Value) → entry dotenv key ≡ Some text → v ≡ text ∷ []
+pub from_dotenv : (dotenv : List (Text × Text)) (key : Text) (rest : FunctionReply) (text : Text) (v : Value) → entry dotenv key ≡ Some text → v ≡ text ∷ []
     → variable_reply dotenv key rest ≡ Answers v
 from_dotenv dotenv key rest text v found is =
     ap (λ e. or_asks e (asks_text (Variable key) rest (variable_not_unicode key) (variable_unreadable key))) found ∙ ap Answers (sym is)
@@ -53,13 +54,13 @@ module _ {S : Type 0} (step : Step S) (shown : Frames) where
   -- one of several variables, if a run from it on is a run of all
   module _ (dotenv : List (Text × Text)) (old mid new : S) (keys : List Text) (i : ℕ) (s key : Text) (within : i < length keys)
       (here : s ≡ get_or keys i s) (same : key ≡ s)
-      (so_far : (rest : Reply) (o : Outcome Called) (last : S) → Behaves freely step unchecked mid (tree shown (first_set dotenv rest (drop i keys))) o
+      (so_far : (rest : FunctionReply) (o : Outcome Called) (last : S) → Behaves freely step unchecked mid (tree shown (first_set dotenv rest (drop i keys))) o
       last → Behaves freely step unchecked old (tree shown (first_set dotenv rest keys)) o last)
       (r : Result (Option Value) CallFault) (turn : AskedOr step mid shown (variable_reply dotenv key) r new) where
     abbrev left : List Text
     left = drop (i + 1) keys
 
-    from : (rest : Reply) (o : Outcome Called) (last : S) → Behaves freely step unchecked mid (tree shown (first_set dotenv rest (key ∷ left))) o last
+    from : (rest : FunctionReply) (o : Outcome Called) (last : S) → Behaves freely step unchecked mid (tree shown (first_set dotenv rest (key ∷ left))) o last
         → Behaves freely step unchecked old (tree shown (first_set dotenv rest keys)) o last
     from rest o last run =
         let with_key : (t : Text) → t ≡ key → t ∷ left ≡ key ∷ left = λ t is. ap (λ x. x ∷ left) is in
@@ -67,13 +68,13 @@ module _ {S : Type 0} (step : Step S) (shown : Frames) where
         let all = next ∙ ap (λ j. s ∷ drop j keys) (sym (add-one i)) ∙ with_key s (sym same) in
         so_far rest o last (subst (λ ks. Behaves freely step unchecked mid (tree shown (first_set dotenv rest ks)) o last) (sym all) run)
 
-    pub not_set : r ≡ Ok None → (rest : Reply) (o : Outcome Called) (last : S)
+    pub not_set : r ≡ Ok None → (rest : FunctionReply) (o : Outcome Called) (last : S)
         → Behaves freely step unchecked new (tree shown (first_set dotenv rest left)) o last
         → Behaves freely step unchecked old (tree shown (first_set dotenv rest keys)) o last
     not_set is rest o last run =
         from rest o last (subst (λ x. AskedOr step mid shown (variable_reply dotenv key) x new) is turn (first_set dotenv rest left) o last run)
 
-    pub set : (v : Value) → r ≡ Ok (Some v) → (rest : Reply)
+    pub set : (v : Value) → r ≡ Ok (Some v) → (rest : FunctionReply)
         → Behaves freely step unchecked old (tree shown (first_set dotenv rest keys)) (Gave (Returned v)) new
     set v is rest =
         from rest (Gave (Returned v)) new (subst (λ x. AskedOr step mid shown (variable_reply dotenv key) x new) is turn (first_set dotenv rest left))

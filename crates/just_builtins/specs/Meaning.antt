@@ -22,12 +22,12 @@ use Rattle.just_builtins.specs.Asking.{asks_canonical, asks_contents, asks_direc
 use Rattle.just_builtins.specs.Asking.{asks_existence, asks_number, asks_shell, asks_system, asks_which}
 use Rattle.just_builtins.specs.Message.{not_extracted, no_parent, no_justfile_directory, not_boolean, many_for_boolean}
 use Rattle.just_builtins.specs.Message.{past_ascii, outside_recipe, no_executable}
-use Rattle.just_builtins.specs.Reply.{Reply, Answers, Fails, says}
+use Rattle.just_builtins.specs.Reply.{FunctionReply, Answers, Fails, says}
 use Rattle.just_builtins.specs.declared.builtin.Builtin.{Builtin}
 use Rattle.just_builtins.specs.declared.builtin.Builtin.TheVariants as builtin
 
 -- the reply for a text, or the message if there is none
-abbrev pub or_fails : Option Text → Text → (Text → Reply) → Reply
+abbrev pub or_fails : Option Text → Text → (Text → FunctionReply) → FunctionReply
 or_fails (Some text) message go = go text
 or_fails None message go = Fails message
 
@@ -57,7 +57,7 @@ value_truth [] = Ok false
 value_truth (text ∷ []) = text_truth text
 value_truth (text ∷ next ∷ texts) = Err many_for_boolean
 
-abbrev pub says_truth : Bool → Result Bool Text → Reply
+abbrev pub says_truth : Bool → Result Bool Text → FunctionReply
 says_truth lists (Ok b) = Answers (truth lists b)
 says_truth lists (Err message) = Fails message
 
@@ -68,11 +68,11 @@ each true change v = map change v
 each false change v = joined (map change (words (joined v))) ∷ []
 
 -- the text in another case, if it is ASCII
-abbrev pub cased : (Text → Option Text) → Text → Reply
+abbrev pub cased : (Text → Option Text) → Text → FunctionReply
 cased change text = or_fails (change text) (past_ascii text) says
 
 -- a part of a path, if it has that part
-abbrev pub part : Text → (Text → Option Text) → Text → Reply
+abbrev pub part : Text → (Text → Option Text) → Text → FunctionReply
 part name of p = or_fails (of p) (not_extracted name p) says
 
 -- `.` instead of the empty path
@@ -80,11 +80,11 @@ abbrev pub or_dot : Text → Text
 or_dot [] = codes "."
 or_dot (b ∷ bs) = b ∷ bs
 
-abbrev pub parent_directory : Text → Reply
+abbrev pub parent_directory : Text → FunctionReply
 parent_directory p =
     or_fails (path.parent p) (not_extracted (codes "parent directory") p) (λ directory. says (or_dot directory))
 
-abbrev pub without_extension : Text → Reply
+abbrev pub without_extension : Text → FunctionReply
 without_extension p =
     or_fails (path.parent p) (not_extracted (codes "parent") p) (λ directory.
     or_fails (path.file_stem p) (not_extracted (codes "file stem") p) (λ stem.
@@ -96,14 +96,14 @@ all_joined base [] = base
 all_joined base (v ∷ vs) = all_joined (path.joined_paths base (first v)) vs
 
 -- the reply for the parent of a path, which must have one
-abbrev pub with_parent : Text → (Text → Reply) → Reply
+abbrev pub with_parent : Text → (Text → FunctionReply) → FunctionReply
 with_parent p go = or_fails (path.parent p) (no_parent p) go
 
 -- the reply for the path of the file that contains the call
-abbrev pub with_source : Context → (Text → Reply) → Reply
+abbrev pub with_source : Context → (Text → FunctionReply) → FunctionReply
 with_source c go = with_parent c.fixed.justfile (λ directory. go (path.joined_paths directory c.name.path))
 
-abbrev pub justfile_directory : Text → Reply
+abbrev pub justfile_directory : Text → FunctionReply
 justfile_directory justfile = or_fails (path.parent justfile) (no_justfile_directory justfile) says
 
 abbrev pub jobs : Option ℕ → Value
@@ -115,7 +115,7 @@ abbrev pub split_at : Text → Option Text → Value
 split_at text None = words text
 split_at text (Some separator) = split text separator
 
-abbrev pub reply : Builtin → Context → List Value → Reply
+abbrev pub reply : Builtin → Context → List Value → FunctionReply
 reply builtin.Append c vs = Answers (each (has_lists c) (λ text. text ++ text_at vs 0) (argument_at vs 1))
 reply builtin.Arch c vs = asks_system (codes "arch") Arch
 reply builtin.Bool c vs = says_truth (has_lists c) (value_truth (argument_at vs 0))

@@ -30,8 +30,8 @@ outside_recipe = codes "`recipe_name()` can only be used within a recipe"
 abbrev pub not_found : Text
 not_found = codes "not found"
 
-abbrev pub no_answer : Text → Text
-no_answer name = codes "`" ++ (name ++ codes "` has no answer")
+abbrev pub unanswered : Text → Text
+unanswered name = codes "`" ++ (name ++ codes "` has no answer")
 
 abbrev pub no_directory : Text → Text
 no_directory word = word ++ codes " directory not found"

@@ -23,12 +23,12 @@ pub use Rattle.just_builtins.specs.Called.{Asked, AskedBy, AskedOr, Called, Give
 pub use Rattle.just_builtins.specs.Called.{Returned, outcome, tree}
 pub use Rattle.just_builtins.specs.Meaning.{all_joined, each, has_lists, or_fails, reply, truth}
 pub use Rattle.just_builtins.specs.Message.{canonical_not_unicode, directory_not_unicode, directory_unreadable}
-pub use Rattle.just_builtins.specs.Message.{executable_not_unicode, executable_unknown, no_answer, no_directory}
+pub use Rattle.just_builtins.specs.Message.{executable_not_unicode, executable_unknown, no_directory, unanswered}
 pub use Rattle.just_builtins.specs.Message.{no_executable, no_parent, not_canonicalized, not_extracted, not_found}
 pub use Rattle.just_builtins.specs.Message.{not_read, outside_recipe, past_ascii, variable_not_unicode}
 pub use Rattle.just_builtins.specs.Message.{variable_unreadable}
 pub use Rattle.just_builtins.specs.Order.{begins_below, rises}
-pub use Rattle.just_builtins.specs.Reply.{Answers, Asks, Fails, Reply, says}
+pub use Rattle.just_builtins.specs.Reply.{Answers, Asks, Fails, FunctionReply, says}
 pub use Rattle.just_builtins.specs.Shape.{builtin_of, fewest_arguments, is_text, most_arguments, unasked_nullary}
 pub use Rattle.just_builtins.specs.Shape.{unasked_unary, unasked_value_unary}
 pub use Rattle.just_builtins.specs.Table.{IsUnnamed, find_in, table, whole_name}

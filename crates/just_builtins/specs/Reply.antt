@@ -6,12 +6,12 @@ use Rattle.just_host.specs.Question.{Blind, Answer}
 
 -- A value; a message of the function; a question, with the reply for each answer; or a stop, because memory ran out. It
 -- shows no frames.
-pub data Reply : Type 0 where
-  Answers : Value → Reply
-  Fails : Text → Reply
-  Asks : Blind → (Answer → Reply) → Reply
-  Stops : Reply
+pub data FunctionReply : Type 0 where
+  Answers : Value → FunctionReply
+  Fails : Text → FunctionReply
+  Asks : Blind → (Answer → FunctionReply) → FunctionReply
+  Stops : FunctionReply
 
 -- the reply of one text
-abbrev pub says : Text → Reply
+abbrev pub says : Text → FunctionReply
 says text = Answers (text ∷ [])

@@ -65,7 +65,7 @@ pub fn outside_recipe(alloc: Global) -> Result<String, OutOfMemory>
 
 /// The host has no text for a built-in function.
 pub fn no_answer(alloc: Global, name: &str) -> Result<String, OutOfMemory>
-    ensures { IfOk result (λ message. string_bytes message ≡ spec.no_answer name.now) }
+    ensures { IfOk result (λ message. string_bytes message ≡ spec.unanswered name.now) }
 {
     Ok(format!(in alloc; "`{name}` has no answer")?)
 }

@@ -1,7 +1,7 @@
 // Questions about the system and the running program.
 
 ghost use Rattle.just_builtins.specs.Prelude.{Asked, Fails, Frames, IsReply, asks_executable, asks_number, asks_system};
-ghost use Rattle.just_builtins.specs.Prelude.{executable_not_unicode, executable_unknown, no_answer, not_found};
+ghost use Rattle.just_builtins.specs.Prelude.{executable_not_unicode, executable_unknown, not_found, unanswered};
 ghost use Rattle.just_builtins.specs.Prelude.{number_answer, number_answered, text_answered, text_question_view};
 ghost use Rattle.just_builtins.specs.Prelude.{text_replied};
 
@@ -35,8 +35,8 @@ pub fn system<H: Host>(
 
 // The result for the host's answer.
 fn system_answered(alloc: Global, name: &str, answer: TextAnswer) -> Result<Value, CallFault>
-    ensures { IsReply (text_answered (Fails (no_answer name.now)) (λ text. no_answer name.now)
-        (λ text. no_answer name.now) (text_replied answer)) result }
+    ensures { IsReply (text_answered (Fails (unanswered name.now)) (λ text. unanswered name.now)
+        (λ text. unanswered name.now) (text_replied answer)) result }
 {
     match answer {
         TextAnswer::Text(text) => Ok(Value::from_string(alloc, text)?),

@@ -18,24 +18,24 @@ cut (c ∷ d ∷ front) = ap (λ cs. c ∷ cs) (cut (d ∷ front))
 -- ---- without one
 
 -- no text before a backslash is this one
-abbrev pub Lacks : Text → Type 0
-Lacks text = (front : Text) → text ≢ front ++ 92 ∷ []
+abbrev pub EndsWithNoBackslash : Text → Type 0
+EndsWithNoBackslash text = (front : Text) → text ≢ front ++ 92 ∷ []
 
-lacks_rest : (c : ℕ) (cs : Text) → Lacks (c ∷ cs) → Lacks cs
+lacks_rest : (c : ℕ) (cs : Text) → EndsWithNoBackslash (c ∷ cs) → EndsWithNoBackslash cs
 lacks_rest c cs none front is = none (c ∷ front) (ap (λ x. c ∷ x) is)
 
-single : (c : ℕ) → Lacks (c ∷ []) → (c == 92) ≡ false
+single : (c : ℕ) → EndsWithNoBackslash (c ∷ []) → (c == 92) ≡ false
 single c none = elim (eqb_tells c 92) [
   | inl is ↦ absurd (none [] (ap (λ x. x ∷ []) is.1))
   | inr other ↦ other.0
 ]
 
-pub no_end : (text : Text) → Lacks text → ends_with_backslash text ≡ false
+pub no_end : (text : Text) → EndsWithNoBackslash text → ends_with_backslash text ≡ false
 no_end [] none = refl
 no_end (c ∷ []) none = single c none
 no_end (c ∷ d ∷ cs) none = no_end (d ∷ cs) (lacks_rest c (d ∷ cs) none)
 
-pub kept : (text : Text) → Lacks text → without_backslash text ≡ text
+pub kept : (text : Text) → EndsWithNoBackslash text → without_backslash text ≡ text
 kept [] none = refl
 kept (c ∷ []) none = rw (single c none) refl
 kept (c ∷ d ∷ cs) none = ap (λ x. c ∷ x) (kept (d ∷ cs) (lacks_rest c (d ∷ cs) none))

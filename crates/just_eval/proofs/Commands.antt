@@ -4,7 +4,7 @@ use Rattle.std.specs.List.{AllByRecursion}
 use Rattle.std.proofs.lemmas.List.{drop_all}
 use Rattle.just_eval.specs.Prelude.{Behaves, Expr, Gave, Outcome, Refusal, Step, Stopped, Text, Tree, Value, bind, commands, commands_of, dynamic_meaning}
 use Rattle.just_eval.specs.Prelude.{gives, unchecked}
-use Rattle.just_eval.specs.Prelude.{line, line_expressions, line_view, lines_expressions, rules_of, unjoined, with_line, without_value}
+use Rattle.just_eval.specs.Prelude.{line, line_expressions, line_view, lines_expressions, rules_of, unjoined, with_further_line, without_value}
 use Rattle.just_syntax.specs.Plain.{Fragment}
 use Rattle.just_syntax.specs.declared.line.Line.{Line}
 use Rattle.just_syntax.proofs.Lists.{all_append}
@@ -31,7 +31,7 @@ related_commands R congruence means other P lined j [] h = congruence.gave _ _
 related_commands R congruence means other P lined j (l ∷ ls) h =
     let both = (all_append P (line_expressions l) (lines_expressions ls)).0 h in
     related_bind R congruence (lined j.continues l both.0)
-    (λ text. related_commands R congruence means other P lined (with_line j l text) ls both.1)
+    (λ text. related_commands R congruence means other P lined (with_further_line j l text) ls both.1)
 
 pub commands_made : (ls : List (List Fragment)) → IsMadeOf (λ means. commands means ls) (lines_expressions ls)
 commands_made ls = record {
@@ -73,7 +73,7 @@ module _ {S : Type 0} {step : Step S} {e : Evaluator} {start : S} {ls : List Lin
       first = line (dynamic_meaning e) j.continues (line_view l)
 
       abbrev more : Text → Tree (List Text)
-      more text = commands_in e (with_line j (line_view l) text) (drop (i + 1) ls)
+      more text = commands_in e (with_further_line j (line_view l) text) (drop (i + 1) ls)
 
       fronted : {o : Outcome (List Text)} {last : S} → Behaves (rules_of e) step unchecked here (bind first more) o last
           → Behaves (rules_of e) step unchecked start (commands_in e unjoined ls) o last
@@ -82,7 +82,7 @@ module _ {S : Type 0} {step : Step S} {e : Evaluator} {start : S} {ls : List Lin
           left.rest o last (subst (λ gs. Behaves (rules_of e) step unchecked here (commands_after (dynamic_meaning e) j gs) o last) (sym split) r)
 
       pub lines_next : {mid : S} (text : Text) → Behaves (rules_of e) step unchecked here first (Gave text) mid
-          → LinesLeft step e start ls (i + 1) mid (with_line j (line_view l) text)
+          → LinesLeft step e start ls (i + 1) mid (with_further_line j (line_view l) text)
       lines_next text r = record { rest = λ o last q. fronted (runs_on first more r q) }
 
       pub lines_ends : {new : S} (r : Option Refusal) → Behaves (rules_of e) step unchecked here first (without_value r) new

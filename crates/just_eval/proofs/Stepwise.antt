@@ -4,7 +4,7 @@ use Rattle.std.specs.HashSet.{HashSet}
 use Rattle.std.proofs.Common.{◌≡◌, inl, inr, ℕ, ◌-◌, List, Option, Some, None, [], ◌∷◌, ◌++◌, Result, Ok, Err, OnOk, ap, subst, sym, refl, max, arith}
 use Rattle.just_syntax.specs.Plain.{Token}
 use Rattle.just_value.specs.declared.error.Error.{Error}
-use Rattle.just_eval.specs.Prelude.{Assignment, Behaves, Frames, Gave, IsIn, IsNext, IsNotInternal, IsResolvedRun, Module, Outcome, Reached, Refused}
+use Rattle.just_eval.specs.Prelude.{Assignment, Behaves, Frames, Gave, IsIn, IsNext, IsNotInternal, IsResolvedRun, Module, Outcome, ReachedFrames, Refused}
 use Rattle.just_eval.specs.Prelude.{Step, Stopped, assigned, assignment_at, dynamically, ended, freely, lexically, module_view, run, turn, unchecked}
 use Rattle.just_eval.specs.Prelude.{with_limit}
 use Rattle.just_host.specs.declared.execution_context.ExecutionContext.{ExecutionContext}
@@ -67,7 +67,7 @@ module _ (m : Module) (outer : Frames) (resolved : IsResolvedRun m outer) (t : T
       path_turn lexically m frames t (subst (λ u. Path freely u es o)
       (dynamic_turn m outer resolved t (subst (λ order. IsIn order t) (sym next.order) (in_middle done next.left t)) frames) path)
 
-  next_reached : {made : Frames} → Path freely (turn dynamically m frames t) es (Gave made) → Reached lexically m outer (done ++ t ∷ []) made
+  next_reached : {made : Frames} → Path freely (turn dynamically m frames t) es (Gave made) → ReachedFrames lexically m outer (done ++ t ∷ []) made
   next_reached path = record {
     events = next.reached.events ++ es;
     path = path_then lexically m ([] ∷ outer) frames done (t ∷ []) next.reached.path (next_lexical path);
@@ -83,6 +83,6 @@ module _ (m : Module) (outer : Frames) (resolved : IsResolvedRun m outer) (t : T
   next_never Stopped path = tt
 
   pub reached_if_ok : (made : Frames) (result : Result Unit Error) → Path freely (turn dynamically m frames t) es (ended (λ _. made) result)
-      → OnOk result (Reached lexically m outer (done ++ t ∷ []) made)
+      → OnOk result (ReachedFrames lexically m outer (done ++ t ∷ []) made)
   reached_if_ok made (Ok x) path = next_reached path
   reached_if_ok made (Err e) path = tt

@@ -40,8 +40,8 @@ abbrev pub unjoined : Joined
 unjoined = record { commands = []; text = []; continues = false }
 
 -- After a further line with this text. A continued line loses its backslash; any other ends a command.
-abbrev pub with_line : Joined → List Fragment → Text → Joined
-with_line j l text =
+abbrev pub with_further_line : Joined → List Fragment → Text → Joined
+with_further_line j l text =
     if is_continued l
     then record { commands = j.commands; text = j.text ++ without_backslash text; continues = true }
     else record { commands = j.commands ++ (j.text ++ text) ∷ []; text = []; continues = false }
@@ -54,7 +54,7 @@ commands_of j = if j.continues then j.commands ++ j.text ∷ [] else j.commands
 abbrev pub commands_after : (Expr → Tree Value) → Joined → List (List Fragment) → Tree (List Text)
 commands_after means j [] = gives (commands_of j)
 commands_after means j (l ∷ ls) =
-    bind (line means j.continues l) (λ text. commands_after means (with_line j l text) ls)
+    bind (line means j.continues l) (λ text. commands_after means (with_further_line j l text) ls)
 
 abbrev pub commands : (Expr → Tree Value) → List (List Fragment) → Tree (List Text)
 commands means ls = commands_after means unjoined ls

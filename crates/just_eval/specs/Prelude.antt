@@ -42,9 +42,9 @@ pub use Rattle.just_value.specs.View.{HasOwnToken, bound_view, compile_refusal, 
 pub use Rattle.just_value.specs.View.{refusal}
 pub use Rattle.just_eval.specs.Check.{GivesVerdict, IsJudged, verdict_view}
 pub use Rattle.just_eval.specs.Commands.{commands, commands_of, ends_with_backslash, is_continued, is_continued_by}
-pub use Rattle.just_eval.specs.Commands.{lines_expressions, unjoined, with_line, without_backslash}
+pub use Rattle.just_eval.specs.Commands.{lines_expressions, unjoined, with_further_line, without_backslash}
 pub use Rattle.just_eval.specs.Joined.{joined_view, texts_view}
-pub use Rattle.just_eval.specs.Steps.{IsNext, Reached, frames_of, module_of, outer_of}
+pub use Rattle.just_eval.specs.Steps.{IsNext, ReachedFrames, frames_of, module_of, outer_of}
 pub use Rattle.just_eval.specs.Survey.{AreNotInternal, Survey, opened_for, refused_view, stage_outcome}
 pub use Rattle.just_eval.specs.View.{Assigned, IsAtStart, IsBound, IsConst, IsInRun, IsResolvedIn, IsSameButScope}
 pub use Rattle.just_eval.specs.View.{IsSameButScopeAndEnvironment, MayCall, MayCallIn, OpensOrEnds, Resolves, WasBound}

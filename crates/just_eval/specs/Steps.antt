@@ -22,7 +22,7 @@ abbrev pub frames_of : Steps → Frames
 frames_of s = frames_view s.scope
 
 -- Some run of these names, from an empty frame on the outer ones, finds these frames.
-pub record Reached (closing : Closing) (m : Module) (outer : Frames) (done : List Token)
+pub record ReachedFrames (closing : Closing) (m : Module) (outer : Frames) (done : List Token)
     (frames : Frames) : Type 0 where
   pub events : List Event
   pub path : Path freely (run closing m ([] ∷ outer) done) events (Gave frames)
@@ -31,4 +31,4 @@ pub record Reached (closing : Closing) (m : Module) (outer : Frames) (done : Lis
 pub record IsNext (m : Module) (outer : Frames) (done : List Token) (t : Token) (frames : Frames) : Type 0 where
   pub left : List Token
   pub order : m.assignments.order ≡ done ++ t ∷ left
-  pub reached : Reached lexically m outer done frames
+  pub reached : ReachedFrames lexically m outer done frames

@@ -2,7 +2,8 @@
 
 ghost use Rattle.std.specs.Prelude.{IfOk, OnOk, Some, ◌≡◌};
 ghost use Rattle.just_eval.specs.Prelude.{commands_of, ends_with_backslash, fragment_view, is_continued};
-ghost use Rattle.just_eval.specs.Prelude.{is_continued_by, joined_view, line_view, texts_view, unjoined, with_line};
+ghost use Rattle.just_eval.specs.Prelude.{is_continued_by, joined_view, line_view, texts_view, unjoined};
+ghost use Rattle.just_eval.specs.Prelude.{with_further_line};
 ghost use Rattle.just_eval.specs.Prelude.{without_backslash};
 
 use just_syntax::fragment::Fragment;
@@ -33,7 +34,8 @@ impl Joined {
 
     // Adds a line with this text.
     pub(crate) fn add(&mut self, alloc: Global, line: &Line, text: &str) -> Result<(), OutOfMemory>
-        ensures { OnOk result (joined_view self.new ≡ with_line (joined_view self.old) (line_view line.now) text.now) }
+        ensures { OnOk result
+            (joined_view self.new ≡ with_further_line (joined_view self.old) (line_view line.now) text.now) }
     {
         self.continues = is_continued(line);
         if self.continues {

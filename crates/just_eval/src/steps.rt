@@ -2,7 +2,8 @@
 
 ghost use Rattle.std.specs.Prelude.{IfOk, List, OnErr, OnOk, [], ◌++◌, ◌∷◌, ◌≡◌};
 ghost use Rattle.just_eval.specs.Prelude.{Behaves, GoesByAnswers, IfRefused, IsFinal, IsIn, IsNext, IsNotInternal};
-ghost use Rattle.just_eval.specs.Prelude.{IsResolvedRun, Reached, Token, dynamically, ended, frames_of, frames_view};
+ghost use Rattle.just_eval.specs.Prelude.{IsResolvedRun, ReachedFrames, Token, dynamically, ended, frames_of};
+ghost use Rattle.just_eval.specs.Prelude.{frames_view};
 ghost use Rattle.just_eval.specs.Prelude.{freely, lexically, module_of, module_view, name_view, outer_of, turn};
 ghost use Rattle.just_eval.specs.Prelude.{unchecked};
 
@@ -89,7 +90,7 @@ impl<'src, 'run> Steps<'src, 'run> {
         // If the names are those of the order so far, the bindings are those of a run of these names.
         ensures reached { let m = module_of self.old in let outer = outer_of self.old in let t = name_view name.now in
             (done : List Token) → IsResolvedRun m outer → IsNext m outer done t (frames_of self.old)
-            → OnOk result (Reached lexically m outer (done ++ t ∷ []) (frames_of self.new)) }
+            → OnOk result (ReachedFrames lexically m outer (done ++ t ∷ []) (frames_of self.new)) }
         ensures never_internal { let m = module_of self.old in let outer = outer_of self.old in
             (done : List Token) → IsResolvedRun m outer
             → IsNext m outer done (name_view name.now) (frames_of self.old)

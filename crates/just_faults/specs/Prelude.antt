@@ -16,7 +16,8 @@ pub use Rattle.just_resolution.specs.Fault.{NumberOf, ParameterOf, ReadsUntaken,
 pub use Rattle.just_resolution.specs.Fault.{number_places, numbered_assignments, numbered_parameters, parameter_places}
 pub use Rattle.just_resolution.specs.Fault.{places, site_places}
 pub use Rattle.just_resolution.specs.First.{IsFirstFaulty}
-pub use Rattle.just_resolution.specs.Seen.{is_name_in, is_readable, is_taken, module_fault_view, site_view, sites_view}
+pub use Rattle.just_resolution.specs.Seen.{is_name_in, is_number_taken, is_readable, module_fault_view, site_view}
+pub use Rattle.just_resolution.specs.Seen.{sites_view}
 pub use Rattle.just_resolution.specs.Sites.{Site, all_sites, sites_in}
 pub use Rattle.just_faults.specs.All.{Adds, AddsFaults, AddsUnknown, AreFaults, FindsAll, with_some}
 pub use Rattle.just_faults.specs.Passed.{IsPassed}

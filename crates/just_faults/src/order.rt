@@ -3,7 +3,7 @@
 ghost use Rattle.std.specs.Prelude.{IfOk, IsTrue, OnOk, [], map, option_map, ℕ, ◌↔◌, ◌≡◌, ◌⊎◌};
 ghost use Rattle.just_faults.specs.Prelude.{AddsFaults, FindsMisplaced, IsNumberOf, IsPassed};
 ghost use Rattle.just_faults.specs.Prelude.{frames_view, function_view};
-ghost use Rattle.just_faults.specs.Prelude.{is_name_in, is_readable, is_taken, module_fault_view, name_places};
+ghost use Rattle.just_faults.specs.Prelude.{is_name_in, is_number_taken, is_readable, module_fault_view, name_places};
 ghost use Rattle.just_faults.specs.Prelude.{name_view, ordered_view};
 
 use crate::pushing::add_some;
@@ -77,17 +77,17 @@ fn take_next<'src>(
     name: &Name<'src>,
 ) -> Result<Option<Fault<'src>>, OutOfMemory>
     requires passed { let all = ordered_view assignments.now [] variable_references in
-        IsPassed (map function_view functions.now) all (is_taken readable.old) (is_readable readable.old)
+        IsPassed (map function_view functions.now) all (is_number_taken readable.old) (is_readable readable.old)
         (is_name_in passed.old) (is_name_in admitted.old) }
     ensures outer { readable.new.outer ≡ readable.old.outer }
     ensures exact { let all = ordered_view assignments.now [] variable_references.entry in
         IfOk result (λ fault. FindsMisplaced (map function_view functions.now) all (is_readable readable.old)
         (name_view name.now) (option_map module_fault_view fault)) }
     ensures number { let all = ordered_view assignments.now [] variable_references.entry in
-        OnOk result ((n : ℕ) → IsTrue (is_taken readable.new n)
-        ↔ (IsTrue (is_taken readable.old n) ⊎ IsNumberOf all (name_view name.now) n)) }
+        OnOk result ((n : ℕ) → IsTrue (is_number_taken readable.new n)
+        ↔ (IsTrue (is_number_taken readable.old n) ⊎ IsNumberOf all (name_view name.now) n)) }
     ensures passed { let all = ordered_view assignments.now [] variable_references.entry in
-        OnOk result (IsPassed (map function_view functions.now) all (is_taken readable.new)
+        OnOk result (IsPassed (map function_view functions.now) all (is_number_taken readable.new)
         (is_readable readable.new) (is_name_in passed.new) (is_name_in admitted.new)) }
 {
     match assignments.get(name.lexeme()) {

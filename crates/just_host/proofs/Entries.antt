@@ -3,13 +3,13 @@ use Rattle.std.proofs.Common.{◌≡◌, ◌∙◌, ℕ, ◌+◌, ◌<◌, Bool,
 use Rattle.std.proofs.lemmas.List.{at_drop_more}
 use Rattle.std.specs.Borrow.{Bor}
 use Rattle.std.specs.Str.{bytes_eq}
-use Rattle.just_host.specs.Prelude.{Text, entry_view, setting_value_view, value_named}
+use Rattle.just_host.specs.Prelude.{Text, setting_entry_view, setting_value_view, value_named}
 use Rattle.just_host.specs.SettingValue.{SettingValue}
 use Rattle.just_host.specs.declared.setting_value.SettingValue as declared
 
 -- the value with a name among entries
 abbrev pub named_among : Text → List (Bor Text × declared.SettingValue) → Option SettingValue
-named_among name xs = value_named name (map entry_view xs)
+named_among name xs = value_named name (map setting_entry_view xs)
 
 -- whether the next entry has the name decides
 pub named_more : (name : Text) (xs : List (Bor Text × declared.SettingValue)) (i : ℕ) (x : Bor Text × declared.SettingValue) → i < length xs

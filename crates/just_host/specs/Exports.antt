@@ -47,10 +47,10 @@ changed e (Sets key text) name = if bytes_eq key name then Some text else e name
 changed e (Removes key) name = if bytes_eq key name then None else e name
 
 -- the environment after a list of changes
-abbrev pub after : Environment → List Change → Environment
-after e [] = e
-after e (c ∷ cs) = after (changed e c) cs
+abbrev pub after_changes : Environment → List Change → Environment
+after_changes e [] = e
+after_changes e (c ∷ cs) = after_changes (changed e c) cs
 
 -- both lists of changes have the same effect on every environment
 abbrev pub ComeToTheSame : List Change → List Change → Type 0
-ComeToTheSame xs ys = (e : Environment) (name : Text) → after e xs name ≡ after e ys name
+ComeToTheSame xs ys = (e : Environment) (name : Text) → after_changes e xs name ≡ after_changes e ys name

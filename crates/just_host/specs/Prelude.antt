@@ -5,7 +5,7 @@ pub use Rattle.just_value.specs.Outcome.{Gave, Outcome, Refused, Stopped, withou
 pub use Rattle.just_value.specs.Refusal.{Refusal}
 pub use Rattle.just_value.specs.View.{fault_view, frame_view, frames_view}
 pub use Rattle.just_host.specs.CommandLine.{command_line}
-pub use Rattle.just_host.specs.Exports.{ComeToTheSame, Removes, after, exports, frame_exports, frames_exports}
+pub use Rattle.just_host.specs.Exports.{ComeToTheSame, Removes, after_changes, exports, frame_exports, frames_exports}
 pub use Rattle.just_host.specs.Exports.{framewise}
 pub use Rattle.just_host.specs.Fault.{fault_text}
 pub use Rattle.just_host.specs.Fixed.{base_directory, working_directory}
@@ -17,7 +17,7 @@ pub use Rattle.just_host.specs.NoHost.{not_run}
 pub use Rattle.just_host.specs.Printed.{command_printed, directory_word, spaced, spaced_given, text_printed}
 pub use Rattle.just_host.specs.Question.{Answer, Failed, Question, TextOf, UnlessNoMemory, command_question}
 pub use Rattle.just_host.specs.Recorded.{directory_of, kind_of, recorded, text_of}
-pub use Rattle.just_host.specs.SettingValue.{entries, entry_view, interpreter_shown, is_set, setting_value_view}
+pub use Rattle.just_host.specs.SettingValue.{entries, interpreter_shown, is_set, setting_entry_view, setting_value_view}
 pub use Rattle.just_host.specs.SettingValue.{line_of, value_named}
 pub use Rattle.just_host.specs.Settings.{called_in, default_shell_arguments, shell_of, unset}
 pub use Rattle.just_host.specs.View.{change_view, command_view, config_view, existence_answer, existence_question}

@@ -60,5 +60,5 @@ kept_printed (KeptExistence path) = codes "exists " ++ quoted path
 kept_printed (KeptNumber q) = number_printed q
 
 -- a question is printed as its record
-abbrev pub printed : Blind → Text
-printed q = kept_printed (recorded q)
+abbrev pub printed_question : Blind → Text
+printed_question q = kept_printed (recorded q)

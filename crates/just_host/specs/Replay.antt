@@ -2,7 +2,7 @@
 use Rattle.std.specs.Prelude.{◌≡◌, ◌++◌, ℕ, Bool, true, false, List, [], ◌∷◌, Option, Some, None, map, codes}
 use Rattle.std.specs.Vec.Iter.{into_iter_items}
 use Rattle.just_value.specs.Refusal.{Message}
-use Rattle.just_host.specs.Printed.{printed}
+use Rattle.just_host.specs.Printed.{printed_question}
 use Rattle.just_host.specs.Question.{Blind, CommandOf, TextOf, ExistsAt, NumberOf, Answer, Failed, Found, Numbered}
 use Rattle.just_host.specs.Question.{UnlessNoMemory}
 use Rattle.just_host.specs.View.{replied, text_replied}
@@ -53,7 +53,7 @@ after_next (reply ∷ replies) = replies
 abbrev pub no_answer : Blind → Answer
 no_answer (ExistsAt path) = Found false
 no_answer (NumberOf q) = Numbered 0
-no_answer q = Failed (Message (codes "no answer to " ++ printed q))
+no_answer q = Failed (Message (codes "no answer to " ++ printed_question q))
 
 -- a question with its answer, or one without
 abbrev pub IsAnswered : Option Answer → Blind → Answer → Bool → Bool → Type 0

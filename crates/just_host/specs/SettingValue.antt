@@ -30,8 +30,8 @@ setting_value_view (values.Interpreter i) = InterpreterOf (option_map (λ i. int
 setting_value_view (values.Text t) = OneText (option_map (λ t. t.now) t)
 setting_value_view (values.Texts v) = Texts v.now
 
-abbrev pub entry_view : Bor Text × declared.SettingValue → Text × SettingValue
-entry_view e = (e.0.now, setting_value_view e.1)
+abbrev pub setting_entry_view : Bor Text × declared.SettingValue → Text × SettingValue
+setting_entry_view e = (e.0.now, setting_value_view e.1)
 
 -- whether it is something else than in a module that sets nothing
 abbrev pub is_set : SettingValue → Bool

@@ -77,12 +77,12 @@ fn add_texts<'text>(words: &mut Vec<&'text str>, texts: &'text [String]) -> Resu
 // The command and its arguments, if it takes any, as `command "a" "b"`.
 impl fmt::Display for CommandQuestion<'_, '_, '_> {
     ghost use Rattle.std.specs.Prelude.{Some};
-    ghost use Rattle.just_host.specs.Printed.{printed};
+    ghost use Rattle.just_host.specs.Printed.{printed_question};
     ghost use Rattle.just_host.specs.View.{question_view};
 
-    ghost output = { λ question. Some (printed (question_view question).blind) };
+    ghost output = { λ question. Some (printed_question (question_view question).blind) };
 
-    ghost styled_output = { λ question _. Some (printed (question_view question).blind) };
+    ghost styled_output = { λ question _. Some (printed_question (question_view question).blind) };
 
     fn fmt<W: fmt::Write>(&self, f: &mut fmt::Formatter<W>) -> fmt::Result {
         write_command(f, self.command, self.arguments)

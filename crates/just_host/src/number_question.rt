@@ -14,12 +14,12 @@ pub enum NumberQuestion {
 // `number process_id` or `number cpus`.
 impl fmt::Display for NumberQuestion {
     ghost use Rattle.std.specs.Prelude.{Some};
-    ghost use Rattle.just_host.specs.Printed.{printed};
+    ghost use Rattle.just_host.specs.Printed.{printed_question};
     ghost use Rattle.just_host.specs.Question.{NumberOf};
 
-    ghost output = { λ question. Some (printed (NumberOf question)) };
+    ghost output = { λ question. Some (printed_question (NumberOf question)) };
 
-    ghost styled_output = { λ question _. Some (printed (NumberOf question)) };
+    ghost styled_output = { λ question _. Some (printed_question (NumberOf question)) };
 
     fn fmt<W: fmt::Write>(&self, f: &mut fmt::Formatter<W>) -> fmt::Result {
         match self {

@@ -3,7 +3,8 @@
 ghost use Rattle.std.specs.Prelude.{map, option_map, string_bytes, ◌++◌, ◌≡◌};
 ghost use Rattle.std.specs.Fmt.{WritesStyledOnOk};
 ghost use Rattle.std.specs.List.{flat_map};
-ghost use Rattle.just_host.specs.Prelude.{entries, entry_view, interpreter_shown, is_set, line_of, setting_value_view};
+ghost use Rattle.just_host.specs.Prelude.{entries, interpreter_shown, is_set, line_of, setting_entry_view};
+ghost use Rattle.just_host.specs.Prelude.{setting_value_view};
 ghost use Rattle.just_host.specs.Prelude.{settings_view, value_named};
 ghost use Rattle.just_syntax.specs.View.{interpreter_view};
 ghost use Rattle.just_value.specs.Prelude.{quoted};
@@ -91,7 +92,7 @@ impl Settings {
     /// The value of each setting by its name in a justfile, in the byte order of the names, whether it is set or not.
     /// The minimum version is none of them: it concerns the reader of the file.
     pub fn entries(&self) -> [(&'static str, SettingValue<'_>); 28]
-        ensures { map entry_view result ≡ entries (settings_view self.now) }
+        ensures { map setting_entry_view result ≡ entries (settings_view self.now) }
     {
         [
             (
@@ -159,7 +160,7 @@ impl Settings {
 
 // The value with a name among pairs of a name and a value.
 fn value_named<'a>(entries: &[(&str, SettingValue<'a>)], name: &str) -> Option<SettingValue<'a>>
-    ensures { option_map setting_value_view result ≡ value_named name.now (map entry_view entries.now) }
+    ensures { option_map setting_value_view result ≡ value_named name.now (map setting_entry_view entries.now) }
 {
     for (key, value) in entries {
         if *key == name {
@@ -189,7 +190,8 @@ fn write_entries<W: fmt::Write>(
     f: &mut fmt::Formatter<W>,
     entries: &[(&str, SettingValue)],
 ) -> fmt::Result
-    ensures { WritesStyledOnOk W.write_str_gives f.old result (flat_map line_of (map entry_view entries.now)) f.new }
+    ensures { WritesStyledOnOk W.write_str_gives f.old result
+        (flat_map line_of (map setting_entry_view entries.now)) f.new }
 {
     for (name, value) in entries {
         write_entry(f, name, value)?;

@@ -35,13 +35,13 @@ pub enum TextQuestion<'question> {
 // omitted.
 impl fmt::Display for TextQuestion<'_> {
     ghost use Rattle.std.specs.Prelude.{Some};
-    ghost use Rattle.just_host.specs.Printed.{printed};
+    ghost use Rattle.just_host.specs.Printed.{printed_question};
     ghost use Rattle.just_host.specs.Question.{TextOf};
     ghost use Rattle.just_host.specs.View.{text_question_view};
 
-    ghost output = { λ question. Some (printed (TextOf (text_question_view question))) };
+    ghost output = { λ question. Some (printed_question (TextOf (text_question_view question))) };
 
-    ghost styled_output = { λ question _. Some (printed (TextOf (text_question_view question))) };
+    ghost styled_output = { λ question _. Some (printed_question (TextOf (text_question_view question))) };
 
     fn fmt<W: fmt::Write>(&self, f: &mut fmt::Formatter<W>) -> fmt::Result {
         write_text_question(f, kind_of(*self), text_of(*self))

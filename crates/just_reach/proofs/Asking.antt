@@ -25,10 +25,10 @@ use Rattle.just_builtins.specs.Asking.{number_answered, or_asks, shell_call, tex
 use Rattle.just_builtins.specs.Called.{Called, Returned, Said, tree}
 use Rattle.just_builtins.specs.Meaning.{cased, has_lists, or_dot, or_fails, part, reply, says_truth, truth, value_truth, with_parent}
 use Rattle.just_builtins.specs.Message.{canonical_not_unicode, directory_not_unicode, directory_unreadable, executable_not_unicode, executable_unknown}
-use Rattle.just_builtins.specs.Message.{no_answer}
+use Rattle.just_builtins.specs.Message.{unanswered}
 use Rattle.just_builtins.specs.Message.{no_directory, no_executable, no_justfile_directory, no_parent, not_canonicalized, not_extracted, not_found, not_read}
 use Rattle.just_builtins.specs.Message.{outside_recipe, past_ascii, variable_not_unicode, variable_unreadable}
-use Rattle.just_builtins.specs.Reply.{Answers, Asks, Fails, Reply, Stops, says}
+use Rattle.just_builtins.specs.Reply.{Answers, Asks, Fails, FunctionReply, Stops, says}
 use Rattle.just_builtins.specs.Shape.{builtin_of}
 use Rattle.just_builtins.specs.declared.builtin.Builtin.{Builtin}
 use Rattle.just_builtins.specs.declared.builtin.Builtin.TheVariants as builtin
@@ -40,14 +40,14 @@ use Rattle.just_reach.proofs.Within.{AllEvents, within_bind}
 -- ---- replies
 
 -- each question of the reply has the property
-abbrev pub OnlyAsks : (Blind → Type 0) → Reply → Type 0
+abbrev pub OnlyAsks : (Blind → Type 0) → FunctionReply → Type 0
 OnlyAsks P (Answers v) = Unit {0}
 OnlyAsks P (Fails message) = Unit {0}
 OnlyAsks P (Asks q next) = P q × ((a : Answer) → OnlyAsks P (next a))
 OnlyAsks P Stops = Unit {0}
 
 module _ (P : Blind → Type 0) where
-  asks_or_fails : (o : Option Text) (message : Text) (go : Text → Reply) → ((text : Text) → OnlyAsks P (go text)) → OnlyAsks P (or_fails o message go)
+  asks_or_fails : (o : Option Text) (message : Text) (go : Text → FunctionReply) → ((text : Text) → OnlyAsks P (go text)) → OnlyAsks P (or_fails o message go)
   asks_or_fails (Some text) message go h = h text
   asks_or_fails None message go h = tt
 
@@ -55,7 +55,8 @@ module _ (P : Blind → Type 0) where
   asks_truth lists (Ok b) = tt
   asks_truth lists (Err message) = tt
 
-  text_asked : (q : TextQuestion) (absent : Reply) (odd faulty : Text → Text) → P (TextOf q) → OnlyAsks P absent → OnlyAsks P (asks_text q absent odd faulty)
+  text_asked : (q : TextQuestion) (absent : FunctionReply) (odd faulty : Text → Text) → P (TextOf q) → OnlyAsks P absent
+      → OnlyAsks P (asks_text q absent odd faulty)
   text_asked q absent odd faulty h k = (h, by)
     where
       by : (a : Answer) → OnlyAsks P (text_answered absent odd faulty a)
@@ -69,7 +70,7 @@ module _ (P : Blind → Type 0) where
       by (Numbered n) = tt
 
   system_asked : (name : Text) (q : TextQuestion) → P (TextOf q) → OnlyAsks P (asks_system name q)
-  system_asked name q h = text_asked q (Fails (no_answer name)) (λ text. no_answer name) (λ text. no_answer name) h tt
+  system_asked name q h = text_asked q (Fails (unanswered name)) (λ text. unanswered name) (λ text. unanswered name) h tt
 
   executable_asked : P (TextOf Executable) → OnlyAsks P asks_executable
   executable_asked h = text_asked Executable (Fails (executable_unknown not_found)) executable_not_unicode executable_unknown h tt
@@ -86,13 +87,14 @@ module _ (P : Blind → Type 0) where
   contents_asked : (c : Context) (p : Text) → ((q : TextQuestion) → P (TextOf q)) → OnlyAsks P (asks_contents c p)
   contents_asked c p h = text_asked (Read (in_working_directory c p)) (Fails (not_read p not_found)) (not_read p) (not_read p) (h _) tt
 
-  which_asked : (c : Context) (name : Text) (absent : Reply) → ((q : TextQuestion) → P (TextOf q)) → OnlyAsks P absent → OnlyAsks P (asks_which c name absent)
+  which_asked : (c : Context) (name : Text) (absent : FunctionReply) → ((q : TextQuestion) → P (TextOf q)) → OnlyAsks P absent
+      → OnlyAsks P (asks_which c name absent)
   which_asked c name absent h k = text_asked (Which name (working_directory c.fixed)) absent (λ text. text) (λ text. text) (h _) k
 
   cased_asked : (change : Text → Option Text) (text : Text) → OnlyAsks P (cased change text)
   cased_asked change text = asks_or_fails (change text) (past_ascii text) says (λ t. tt)
 
-  parent_asked : (p : Text) (go : Text → Reply) → ((text : Text) → OnlyAsks P (go text)) → OnlyAsks P (with_parent p go)
+  parent_asked : (p : Text) (go : Text → FunctionReply) → ((text : Text) → OnlyAsks P (go text)) → OnlyAsks P (with_parent p go)
   parent_asked p go h = asks_or_fails (path.parent p) (no_parent p) go h
 
   part_asked : (name : Text) (of : Text → Option Text) (p : Text) → OnlyAsks P (part name of p)
@@ -121,11 +123,11 @@ module _ (P : Blind → Type 0) where
       by (Found there) = tt
       by (Numbered n) = tt
 
-  or_asked : (o : Option Text) (other : Reply) → OnlyAsks P other → OnlyAsks P (or_asks o other)
+  or_asked : (o : Option Text) (other : FunctionReply) → OnlyAsks P other → OnlyAsks P (or_asks o other)
   or_asked (Some text) other h = tt
   or_asked None other h = h
 
-  variables_asked : (dotenv : List (Text × Text)) (none : Reply) (keys : List Text) → ((q : TextQuestion) → P (TextOf q)) → OnlyAsks P none
+  variables_asked : (dotenv : List (Text × Text)) (none : FunctionReply) (keys : List Text) → ((q : TextQuestion) → P (TextOf q)) → OnlyAsks P none
       → OnlyAsks P (first_set dotenv none keys)
   variables_asked dotenv none [] h k = k
   variables_asked dotenv none (key ∷ keys) h k =
@@ -238,7 +240,7 @@ abbrev pub IsQuestion : (Blind → Type 0) → Event → Type 0
 IsQuestion P (Asked q a) = P q.blind
 IsQuestion P _ = ⊥
 
-tree_asks : (P : Blind → Type 0) (shown : Frames) (r : Reply) → OnlyAsks P r → AllEvents (IsQuestion P) (tree shown r)
+tree_asks : (P : Blind → Type 0) (shown : Frames) (r : FunctionReply) → OnlyAsks P r → AllEvents (IsQuestion P) (tree shown r)
 tree_asks P shown (Answers v) h = tt
 tree_asks P shown (Fails message) h = tt
 tree_asks P shown (Asks q next) h = λ a. (h.0, tree_asks P shown (next a) (h.1 a))

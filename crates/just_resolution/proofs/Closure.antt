@@ -64,8 +64,8 @@ module _ (functions : List Function) where
       reached_admitted readable admitted closed (λ t k there. closed.calls mid f (start mid n s) found t k there) rest
 
   module _ (e : Expr) (here readable : ℕ → Bool) where
-    abbrev pub AllReadable : Type 0
-    AllReadable = ReadsWithin functions e here readable
+    abbrev pub ReadsOnlyReadable : Type 0
+    ReadsOnlyReadable = ReadsWithin functions e here readable
 
     -- at the start nothing more is admitted, and what the expression calls is pending
     pub begins : (admitted : Text → Bool) (pending : List Text) → IsAdmitted functions readable admitted → pending ≡ called_names (sites_in e)
@@ -168,7 +168,7 @@ module _ (functions : List Function) where
       calls = λ name f h found further n s. ⊎_elim (λ k. k) (λ k. absurd k) (w.calls name f h found further n s);
     }
 
-    pub all_readable : (admitted : Text → Bool) → IsWalked functions e here readable admitted [] → AllReadable
+    pub all_readable : (admitted : Text → Bool) → IsWalked functions e here readable admitted [] → ReadsOnlyReadable
     all_readable admitted w = (
       w.own,
       λ n b. ⊎_elim (λ k. absurd (b.beyond k)) (λ k. k)

@@ -4,7 +4,8 @@ use Rattle.std.proofs.Common.{◌∙◌, subst, IsTrue, IfOk, Result, Ok, Err, M
 use Rattle.std.proofs.lemmas.Bool.{or_cases, or_left, or_right}
 use Rattle.just_resolution.specs.Prelude.{AreDistinct, Assignment, Assignments, Expr, Finds, FindsMisplaced, Frames, Function, HasValue, IsAdmitted, IsAmong}
 use Rattle.just_resolution.specs.Prelude.{IsFaulty, IsIn, IsMisplaced, IsNumberOf, IsSound, IsTakenBy, IsUnreadable, MayComeNext, ModuleFault, NameOf}
-use Rattle.just_resolution.specs.Prelude.{ReadsReadable, ReadsUntaken, Text, Token, Value, assignment_at, frames_view, is_readable, is_taken, name_places}
+use Rattle.just_resolution.specs.Prelude.{ReadsReadable, ReadsUntaken, Text, Token, Value, assignment_at, frames_view, is_number_taken, is_readable}
+use Rattle.just_resolution.specs.Prelude.{name_places}
 use Rattle.just_resolution.specs.Prelude.{name_view, sites_in, value_at, value_in, with_taken}
 use Rattle.just_value.specs.declared.scope.Scope.{Scope}
 use Rattle.just_resolution.specs.Fault.{IsTakenOrBound}
@@ -47,18 +48,19 @@ bound_if (Some v) = ((λ h. (v, refl)), (λ h. refl))
 
 -- what is taken or bound outside
 pub readable_if : (r : Readable) (outer : Frames) → frames_view r.outer.now ≡ outer → (n : ℕ) → IsTrue (is_readable r n)
-    ↔ (IsTrue (is_taken r n) ⊎ HasValue (value_in outer) n)
+    ↔ (IsTrue (is_number_taken r n) ⊎ HasValue (value_in outer) n)
 readable_if r outer is n =
     let bound = bound_if (value_in (frames_view r.outer.now) n) in (
       (λ h. ⊎_elim (λ k. inl k) (λ k. inr (subst (λ frames. HasValue (value_in frames) n) is (bound.0 k)))
-          (or_cases (is_taken r n) (is_some (value_in (frames_view r.outer.now) n)) h)),
-      (λ h. ⊎_elim (λ k. or_left (is_taken r n) (is_some (value_in (frames_view r.outer.now) n)) k)
-          (λ k. or_right (is_taken r n) (is_some (value_in (frames_view r.outer.now) n)) (bound.1 (subst (λ frames. HasValue (value_in frames) n) (sym is) k)))
+          (or_cases (is_number_taken r n) (is_some (value_in (frames_view r.outer.now) n)) h)),
+      (λ h. ⊎_elim (λ k. or_left (is_number_taken r n) (is_some (value_in (frames_view r.outer.now) n)) k)
+          (λ k. or_right (is_number_taken r n) (is_some (value_in (frames_view r.outer.now) n))
+          (bound.1 (subst (λ frames. HasValue (value_in frames) n) (sym is) k)))
           h),
     )
 
 -- if more is taken, more is readable
-pub more_readable : (old new : Readable) → new.outer ≡ old.outer → ((n : ℕ) → IsTrue (is_taken old n) → IsTrue (is_taken new n)) → (n : ℕ)
+pub more_readable : (old new : Readable) → new.outer ≡ old.outer → ((n : ℕ) → IsTrue (is_number_taken old n) → IsTrue (is_number_taken new n)) → (n : ℕ)
     → IsTrue (is_readable old n) → IsTrue (is_readable new n)
 more_readable old new same on n h =
     let was = readable_if old (frames_view old.outer.now) refl n in

@@ -1,6 +1,6 @@
 -- Readers that differ only in the functions scanned, and what may be read besides what was taken.
 use Rattle.std.proofs.Common.{◌≡◌, ◌↔◌, ◌⊎◌, inl, inr, ⊎_elim, ℕ, Bool, false, List, map, Bor, refl, ap, sym, ◌∙◌, subst, IsTrue}
-use Rattle.just_resolution.specs.Prelude.{Function, HasValue, IsSameReader, frames_view, function_view, is_readable, is_taken, value_in}
+use Rattle.just_resolution.specs.Prelude.{Function, HasValue, IsSameReader, frames_view, function_view, is_number_taken, is_readable, value_in}
 use Rattle.just_syntax.specs.declared.function_definition.FunctionDefinition.{FunctionDefinition}
 use Rattle.just_value.specs.declared.scope.Scope.{Scope}
 use Rattle.just_resolution.specs.declared.here.Reader.{Reader}
@@ -30,7 +30,7 @@ pub alike_back : (P : List Function → (ℕ → Bool) → (ℕ → Bool) → Ty
 alike_back P old new same h = alike P new old (same_back old new same) h
 
 -- if nothing is taken, what is bound may be read
-pub bound_alone : (r : Readable) (scope : Bor Scope) → ((n : ℕ) → is_taken r n ≡ false) → r.outer ≡ scope → (n : ℕ) → IsTrue (is_readable r n)
+pub bound_alone : (r : Readable) (scope : Bor Scope) → ((n : ℕ) → is_number_taken r n ≡ false) → r.outer ≡ scope → (n : ℕ) → IsTrue (is_readable r n)
     ↔ HasValue (value_in (frames_view scope.now)) n
 bound_alone r scope none is n =
     let readable = readable_if r (frames_view scope.now) (ap (λ (s : Bor Scope). frames_view s.now) is) n in (
@@ -39,7 +39,8 @@ bound_alone r scope none is n =
     )
 
 -- one more number is taken
-pub grown : (old new : Readable) (k : ℕ) → new.outer ≡ old.outer → ((n : ℕ) → IsTrue (is_taken new n) ↔ (IsTrue (is_taken old n) ⊎ (k ≡ n))) → (n : ℕ)
+pub grown : (old new : Readable) (k : ℕ) → new.outer ≡ old.outer → ((n : ℕ) → IsTrue (is_number_taken new n) ↔ (IsTrue (is_number_taken old n) ⊎ (k ≡ n)))
+    → (n : ℕ)
     → IsTrue (is_readable new n) ↔ (IsTrue (is_readable old n) ⊎ (k ≡ n))
 grown old new k same taken n =
     let was = readable_if old (frames_view old.outer.now) refl n in

@@ -29,7 +29,7 @@ pub use Rattle.just_resolution.specs.Fault.{fault_token, is_unknown, mention_fau
 pub use Rattle.just_resolution.specs.Fault.{numbered_assignments, numbered_parameters, parameter_places}
 pub use Rattle.just_resolution.specs.First.{Finds}
 pub use Rattle.just_resolution.specs.Seen.{IsSameReader, attributes_of, expressions_view, is_name_in, is_number_in}
-pub use Rattle.just_resolution.specs.Seen.{is_readable, is_taken, mention_view, module_fault_view, site_view}
+pub use Rattle.just_resolution.specs.Seen.{is_number_taken, is_readable, mention_view, module_fault_view, site_view}
 pub use Rattle.just_resolution.specs.Seen.{sites_view, texts}
 pub use Rattle.just_resolution.specs.Sites.{Site, all_sites, called_names, calls_of, name_called, sites, sites_in}
 pub use Rattle.just_resolution.specs.Sites.{sites_of_call, sites_of_pieces, sites_of_row, sites_of_some, with_call_site}

@@ -56,12 +56,12 @@ abbrev pub is_name_in : BTreeSet (Bor Text) → Text → Bool
 is_name_in set name = contains_by (λ key. slice_cmp nat_cmp name key.now) set
 
 -- whether a number was taken
-abbrev pub is_taken : Readable → ℕ → Bool
-is_taken r n = is_member r.taken n
+abbrev pub is_number_taken : Readable → ℕ → Bool
+is_number_taken r n = is_member r.taken n
 
 -- whether a number was taken, or is bound outside
 abbrev pub is_readable : Readable → ℕ → Bool
-is_readable r n = is_taken r n || is_some (value_in (frames_view r.outer.now) n)
+is_readable r n = is_number_taken r n || is_some (value_in (frames_view r.outer.now) n)
 
 -- borrowed expressions
 abbrev pub expressions_view : List (Bor Expression) → List Expr

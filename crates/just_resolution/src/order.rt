@@ -4,7 +4,7 @@ ghost use Rattle.std.specs.Prelude.{IfOk, IsNone, IsTrue, MatchOption, OnOk, Som
 ghost use Rattle.std.specs.Prelude.{◌↔◌, ◌≡◌, ◌⊎◌};
 ghost use Rattle.just_resolution.specs.Prelude.{AreDistinct, Finds, FindsMisplaced, IsAdmitted, IsFaulty, IsNumberOf};
 ghost use Rattle.just_resolution.specs.Prelude.{IsSound, IsTakenBy, ReadsReadable, ReadsUntaken, assignment_view};
-ghost use Rattle.just_resolution.specs.Prelude.{frames_view, function_view, is_name_in, is_readable, is_taken};
+ghost use Rattle.just_resolution.specs.Prelude.{frames_view, function_view, is_name_in, is_number_taken, is_readable};
 ghost use Rattle.just_resolution.specs.Prelude.{module_fault_view, name_places, name_view, ordered_view};
 
 use crate::admitted::first_unreadable;
@@ -77,17 +77,18 @@ fn take_next<'src>(
 ) -> Result<Option<Fault<'src>>, OutOfMemory>
     requires distinct { AreDistinct (map (λ a. a.number) (map assignment_view assignments.now)) }
     requires taken { let all = ordered_view assignments.now [] variable_references in
-        IsTakenBy (map function_view functions.now) all (is_taken readable.old) (is_readable readable.old)
+        IsTakenBy (map function_view functions.now) all (is_number_taken readable.old) (is_readable readable.old)
         (is_name_in admitted.old) }
     ensures outer { readable.new.outer ≡ readable.old.outer }
     ensures exact { let all = ordered_view assignments.now [] variable_references.entry in
         IfOk result (λ fault. FindsMisplaced (map function_view functions.now) all (is_readable readable.old)
         (name_view name.now) (option_map module_fault_view fault)) }
     ensures number { let all = ordered_view assignments.now [] variable_references.entry in
-        IfOk result (λ fault. IsNone fault → (n : ℕ) → IsTrue (is_taken readable.new n)
-        ↔ (IsTrue (is_taken readable.old n) ⊎ IsNumberOf all (name_view name.now) n)) }
+        IfOk result (λ fault. IsNone fault → (n : ℕ) → IsTrue (is_number_taken readable.new n)
+        ↔ (IsTrue (is_number_taken readable.old n) ⊎ IsNumberOf all (name_view name.now) n)) }
     ensures taken { let all = ordered_view assignments.now [] variable_references.entry in
-        IfOk result (λ fault. IsNone fault → IsTakenBy (map function_view functions.now) all (is_taken readable.new)
+        IfOk result
+        (λ fault. IsNone fault → IsTakenBy (map function_view functions.now) all (is_number_taken readable.new)
         (is_readable readable.new) (is_name_in admitted.new)) }
 {
     match assignments.get(name.lexeme()) {
@@ -132,8 +133,8 @@ pub fn take<'src>(
         (λ fault. MatchOption fault (ReadsReadable (map function_view functions.now) (is_readable readable.old)
         seen) (λ found. ReadsUntaken (map function_view functions.now)
         (λ n. IsTrue (is_readable readable.old n)) seen (module_fault_view found))) }
-    ensures taken { OnOk result ((n : ℕ) → IsTrue (is_taken readable.new n)
-        ↔ (IsTrue (is_taken readable.old n) ⊎ (assignment.now.number ≡ n))) }
+    ensures taken { OnOk result ((n : ℕ) → IsTrue (is_number_taken readable.new n)
+        ↔ (IsTrue (is_number_taken readable.old n) ⊎ (assignment.now.number ≡ n))) }
     ensures closed { OnOk result (IsAdmitted (map function_view functions.now) (is_readable readable.old)
         (is_name_in admitted.new)) }
 {

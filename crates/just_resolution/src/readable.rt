@@ -16,7 +16,7 @@ pub struct Readable<'src, 'scope, 'run> {
 }
 
 impl<'src, 'scope, 'run> Readable<'src, 'scope, 'run> {
-    ghost use Rattle.just_resolution.specs.Seen.{is_readable, is_taken};
+    ghost use Rattle.just_resolution.specs.Seen.{is_number_taken, is_readable};
 
     /// With nothing taken. It allocates a byte for each number below `bound`.
     ///
@@ -28,7 +28,7 @@ impl<'src, 'scope, 'run> Readable<'src, 'scope, 'run> {
         outer: &'scope Scope<'src, 'run>,
         bound: usize,
     ) -> Result<Readable<'src, 'scope, 'run>, OutOfMemory>
-        ensures taken { IfOk result (λ readable. (n : ℕ) → is_taken readable n ≡ false) }
+        ensures taken { IfOk result (λ readable. (n : ℕ) → is_number_taken readable n ≡ false) }
         ensures outer { IfOk result (λ readable. readable.outer ≡ outer.entry) }
     {
         let taken = NumberSet::new(alloc, bound)?;
@@ -37,7 +37,7 @@ impl<'src, 'scope, 'run> Readable<'src, 'scope, 'run> {
 
     /// Whether a number was taken.
     pub fn has_taken(&self, number: Number) -> bool
-        ensures { result ≡ is_taken self.now number }
+        ensures { result ≡ is_number_taken self.now number }
     {
         self.taken.contains(number)
     }
@@ -55,8 +55,8 @@ impl<'src, 'scope, 'run> Readable<'src, 'scope, 'run> {
     ///
     /// `OutOfMemory` if an allocation fails.
     pub fn take(&mut self, number: Number) -> Result<(), OutOfMemory>
-        ensures taken { OnOk result ((n : ℕ) → IsTrue (is_taken self.new n)
-            ↔ (IsTrue (is_taken self.old n) ⊎ (number ≡ n))) }
+        ensures taken { OnOk result ((n : ℕ) → IsTrue (is_number_taken self.new n)
+            ↔ (IsTrue (is_number_taken self.old n) ⊎ (number ≡ n))) }
         ensures outer { self.new.outer ≡ self.old.outer }
     {
         self.taken.insert(number)?;

@@ -15,7 +15,7 @@ use Rattle.just_host.specs.Interaction.{freely}
 use Rattle.just_builtins.specs.Called.{tree}
 use Rattle.just_builtins.specs.Meaning.{reply}
 use Rattle.just_builtins.specs.Reply as replies
-use Rattle.just_builtins.specs.Reply.{Reply}
+use Rattle.just_builtins.specs.Reply.{FunctionReply}
 use Rattle.just_builtins.specs.Shape.{builtin_of}
 use Rattle.just_builtins.specs.Table.{function_named, is_left_out}
 use Rattle.just_builtins.specs.declared.function.Function as built_in
@@ -38,9 +38,9 @@ pub data Sight : Type 0 where
   Whole : Sight
   UpTo : (Note → Bool) → (Note → Bool) → Sight
 
-abbrev pub IsWhole : Sight → Type 0
-IsWhole Whole = Unit {0}
-IsWhole (UpTo one other) = ⊥
+abbrev pub IsWholeSight : Sight → Type 0
+IsWholeSight Whole = Unit {0}
+IsWholeSight (UpTo one other) = ⊥
 
 abbrev pub ends_at : Sight → Note → Bool
 ends_at Whole x = false
@@ -54,9 +54,10 @@ IsSteady (UpTo one other) x = one x ≡ other x
 -- the same questions, frames aside, and the same outcomes
 pub data Alike {A : Type 0} (m : Sight) : Tree A → Tree A → Type 0 where
   Done : {o : Outcome A} → Alike m (done o) (done o)
-  Both : {q r : Question} {k l : Answer → Tree A} → IsWhole m → q.blind ≡ r.blind → ((a : Answer) → Alike m (k a) (l a)) → Alike m (ask q k) (ask r l)
+  Both : {q r : Question} {k l : Answer → Tree A} → IsWholeSight m → q.blind ≡ r.blind → ((a : Answer) → Alike m (k a) (l a)) → Alike m (ask q k) (ask r l)
   Same : {x : Note} {t u : Tree A} → IsSteady m x → (ends_at m x ≡ false → Alike m t u) → Alike m (note x t) (note x u)
-  SameCheck : {p : Parameter} {v : Value} {k l : Verdict → Tree A} → IsWhole m → ((a : Verdict) → Alike m (k a) (l a)) → Alike m (check p v k) (check p v l)
+  SameCheck : {p : Parameter} {v : Value} {k l : Verdict → Tree A} → IsWholeSight m → ((a : Verdict) → Alike m (k a) (l a))
+      → Alike m (check p v k) (check p v l)
 
 -- continues with the values that have this property
 alike_such : {A B : Type 0} {m : Sight} (P : Outcome A → Type 0) {t u : Tree A} {k l : A → Tree B} → AllEnd P t → Alike m t u
@@ -116,7 +117,7 @@ module _ (m : Sight) (c c' : Program) (d d' : Deeper) (s s' : Situation) (lists 
 
 -- ---- to the end, by the number of calls left
 
-alike_reply : (shown other : Frames) (r : Reply) → Alike Whole (tree shown r) (tree other r)
+alike_reply : (shown other : Frames) (r : FunctionReply) → Alike Whole (tree shown r) (tree other r)
 alike_reply shown other (replies.Answers v) = Done
 alike_reply shown other (replies.Fails message) = Done
 alike_reply shown other (replies.Asks q next) = Both tt refl (λ a. alike_reply shown other (next a))
@@ -129,11 +130,11 @@ module _ (fixed : Fixed) (functions others : List Function) (base other : Names)
     (closed : (name further : Text) (f : Function) (n : ℕ) → C name → function_at functions name ≡ Some f → Occurs f.body (CallOf further n) → C further)
     (held : (name : Text) (f : Function) (n : ℕ) → C name → function_at functions name ≡ Some f → Occurs f.body (VariableOf (Some n))
     → (IsAmong f.parameters n → ⊥) → base n ≡ other n) where
-  abbrev pub one : Program
-  one = record { fixed = fixed; functions = functions }
+  abbrev pub one_program : Program
+  one_program = record { fixed = fixed; functions = functions }
 
-  abbrev pub another : Program
-  another = record { fixed = fixed; functions = others }
+  abbrev pub other_program : Program
+  other_program = record { fixed = fixed; functions = others }
 
   -- calls of these functions, with this many values, are alike
   abbrev AreDeeperAlike : Deeper → Deeper → Type 0
@@ -146,7 +147,7 @@ module _ (fixed : Fixed) (functions others : List Function) (base other : Names)
   module _ (s : Situation) (names : Names) (shown below : Frames) where
     module _ (t : Token) (n : ℕ) (row row' : Row) (counted : AllEnd (HasCount n) (row as_it_is)) (h : AreRowsRelated (λ A t u. Alike Whole t u) row row') where
       defined_alike : (f : Function) (d d' : Deeper) → AreDeeperAlike d d' → C t.lexeme → function_at functions t.lexeme ≡ Some f
-          → Alike Whole (called one t (Defined f) d s n row) (called another t (Defined f) d' (moved names shown below s) n row')
+          → Alike Whole (called one_program t (Defined f) d s n row) (called other_program t (Defined f) d' (moved names shown below s) n row')
       defined_alike f AtLimit AtLimit deep reached found = Done
       defined_alike f (WithinLimit run) (WithinLimit run') deep reached found = counted_alike (nat_eq n (length f.parameters)) refl
         where
@@ -161,40 +162,42 @@ module _ (fixed : Fixed) (functions others : List Function) (base other : Names)
 
       undefined_alike : (d d' : Deeper) (out : Bool) (found : Option built_in.Function) →
           let callee = if out then LeftOut else built_in_or_unknown found in
-          Alike Whole (called one t callee d s n row) (called another t callee d' (moved names shown below s) n row')
+          Alike Whole (called one_program t callee d s n row) (called other_program t callee d' (moved names shown below s) n row')
       undefined_alike d d' true found = Done
       undefined_alike d d' false None = Done
       undefined_alike d d' false (Some f) =
           alike_if (accepts (BuiltIn f) n)
           (alike_bind (h (texts_of f t) (λ i v. alike_itself (texts_of f t i v)))
-          (λ vs. alike_bind (alike_reply s.shown shown (reply (builtin_of f) (built_in_context one s t) vs)) (λ r. alike_itself (returned t r)))) Done
+          (λ vs. alike_bind (alike_reply s.shown shown (reply (builtin_of f) (built_in_context one_program s t) vs)) (λ r. alike_itself (returned t r)))) Done
 
       called_alike : (d d' : Deeper) → AreDeeperAlike d d' → C t.lexeme → (found : Option Function) → function_at functions t.lexeme ≡ found
-          → Alike Whole (called one t (defined_or found (undefined t.lexeme)) d s n row)
-          (called another t (defined_or found (undefined t.lexeme)) d' (moved names shown below s) n row')
+          → Alike Whole (called one_program t (defined_or found (undefined t.lexeme)) d s n row)
+          (called other_program t (defined_or found (undefined t.lexeme)) d' (moved names shown below s) n row')
       called_alike d d' deep reached None e = undefined_alike d d' (is_left_out t.lexeme) (function_named t.lexeme)
       called_alike d d' deep reached (Some f) e = defined_alike f d d' deep reached e
 
       whole_call : (d d' : Deeper) → AreDeeperAlike d d' → C t.lexeme
-          → Alike Whole (called one t (callee functions t.lexeme) d s n row) (called another t (callee others t.lexeme) d' (moved names shown below s) n row')
+          → Alike Whole (called one_program t (callee functions t.lexeme) d s n row)
+          (called other_program t (callee others t.lexeme) d' (moved names shown below s) n row')
       whole_call d d' deep reached =
-          subst (λ found. Alike Whole (called one t (callee functions t.lexeme) d s n row)
-          (called another t (defined_or found (undefined t.lexeme)) d' (moved names shown below s) n row')) (same t.lexeme reached)
+          subst (λ found. Alike Whole (called one_program t (callee functions t.lexeme) d s n row)
+          (called other_program t (defined_or found (undefined t.lexeme)) d' (moved names shown below s) n row')) (same t.lexeme reached)
           (called_alike d d' deep reached (function_at functions t.lexeme) refl)
 
     whole_eval : (d d' : Deeper) → AreDeeperAlike d d' → (e : Expr) → ((x : Mention) → Occurs e x → ReadsAlike Whole C s.names names x)
-        → Alike Whole (eval one d s e) (eval another d' (moved names shown below s) e)
+        → Alike Whole (eval one_program d s e) (eval other_program d' (moved names shown below s) e)
     whole_eval d d' deep =
-        alike_eval Whole one another d d' s (moved names shown below s) refl C
+        alike_eval Whole one_program other_program d d' s (moved names shown below s) refl C
         (λ text t. Same tt (λ e. alike_if fixed.config.dry_run Done (Both tt refl (λ a. Done))))
-        (λ t es reached h. Same tt (λ e. whole_call t (count es) (eval_row one d s 0 es) (eval_row another d' (moved names shown below s) 0 es)
-        (row_counts one d s 0 es as_it_is) h d d' deep reached))
+        (λ t es reached h. Same tt (λ e. whole_call t (count es) (eval_row one_program d s 0 es) (eval_row other_program d' (moved names shown below s) 0 es)
+        (row_counts one_program d s 0 es as_it_is) h d d' deep reached))
 
-  deeper_alike : (k : ℕ) → AreDeeperAlike (lexical one base k) (lexical another other k)
+  deeper_alike : (k : ℕ) → AreDeeperAlike (lexical one_program base k) (lexical other_program other k)
   deeper_alike zero = tt
   deeper_alike (suc k) = λ name f s names shown below vs reached found fits.
       let frame = with_parameters [] f.parameters vs in
-      whole_eval (inside base s f vs) (over frame other) (frame ∷ below) (frame ∷ below) (lexical one base k) (lexical another other k) (deeper_alike k) f.body
+      whole_eval (inside base s f vs) (over frame other) (frame ∷ below) (frame ∷ below) (lexical one_program base k) (lexical other_program other k)
+      (deeper_alike k) f.body
       (same_reads name f vs reached found fits s)
     where
       same_reads : (name : Text) (f : Function) (vs : List Value) → C name → function_at functions name ≡ Some f → length f.parameters ≡ length vs

@@ -13,7 +13,8 @@ use Rattle.just_meaning.specs.Assignments.{assignment_at}
 use Rattle.just_meaning.specs.Module.{Module, assigned, dynamically, evaluated, is_taken, run, turn, turn_of}
 use Rattle.just_meaning.specs.Reaches.{Mention, VariableOf, CallOf}
 use Rattle.just_soundness.proofs.Ends.{ends_path}
-use Rattle.just_soundness.proofs.Refused.{AllRefused, Fits, IsRowRefused, Permits, refused_bind, refused_built_in, refused_eval, refused_if, refused_override}
+use Rattle.just_soundness.proofs.Refused.{AllRefused, IsRowRefused, MentionFits, Permits, refused_bind, refused_built_in, refused_eval, refused_if}
+use Rattle.just_soundness.proofs.Refused.{refused_override}
 
 -- no outcome of the tree is a refusal of the const rules
 abbrev pub AllFinal : {A : Type 0} → Tree A → Type 0
@@ -49,7 +50,7 @@ module _ (c : Program) (s : Situation) where
   final_called t LeftOut d n row deeper h = tt
   final_called t Unknown d n row deeper h = tt
 
-  final_mention : (x : Mention) → Fits IsFinal Any s.names x
+  final_mention : (x : Mention) → MentionFits IsFinal Any s.names x
   final_mention (VariableOf None) = λ t. tt
   final_mention (VariableOf (Some n)) = λ t. final_named t (s.names n)
   final_mention (CallOf f n) = tt

@@ -29,7 +29,7 @@ use Rattle.just_soundness.proofs.Overlays.{parameters_have}
 use Rattle.just_soundness.proofs.Taken.{AllHave, have_more, have_put, none_taken, order_on}
 use Rattle.just_meaning.proofs.Reached.{reaches_on}
 use Rattle.just_soundness.proofs.Reached.{known_found}
-use Rattle.just_soundness.proofs.Refused.{Fits, IsRowRefused, Permits, refused_built_in, refused_eval, refused_override, refused_such}
+use Rattle.just_soundness.proofs.Refused.{IsRowRefused, MentionFits, Permits, refused_built_in, refused_eval, refused_override, refused_such}
 
 -- ---- trees
 
@@ -88,7 +88,7 @@ module _ (c : Program) (d : Deeper) (s : Situation) (C : Text → Type 0) (sound
   called_never t n row reached counted h None e fits = undefined_never t n row h (is_left_out t.lexeme) (function_named t.lexeme) fits
   called_never t n row reached counted h (Some f) e fits = defined_never t n row reached counted h f e fits d sound
 
-  holds_fit : (x : Mention) → Holds C c.functions s.names x → Fits IsOther IsCallable s.names x
+  holds_fit : (x : Mention) → Holds C c.functions s.names x → MentionFits IsOther IsCallable s.names x
   holds_fit (VariableOf None) h = absurd h
   holds_fit (VariableOf (Some n)) h = λ t. subst (λ o. IsNotInternal (named t o)) (sym h.1) tt
   holds_fit (CallOf f n) h = h

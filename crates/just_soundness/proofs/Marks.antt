@@ -14,7 +14,7 @@ use Rattle.just_host.specs.Question.{Answer}
 use Rattle.just_builtins.specs.Called.{Called, Returned, Said, tree}
 use Rattle.just_builtins.specs.Meaning.{reply}
 use Rattle.just_builtins.specs.Reply as replies
-use Rattle.just_builtins.specs.Reply.{Reply}
+use Rattle.just_builtins.specs.Reply.{FunctionReply}
 use Rattle.just_builtins.specs.Shape.{builtin_of, is_text}
 use Rattle.just_meaning.specs.Blocks.{Block, blocks_of, ending, events_of, up_to_mark}
 use Rattle.just_meaning.specs.Callee.{Callee, Defined, BuiltIn, LeftOut, Unknown, accepts, callee}
@@ -27,21 +27,21 @@ use Rattle.just_soundness.proofs.Running.{Running, Finished, Passes, Skips, Bind
 use Rattle.just_soundness.proofs.Running as running
 
 -- the event is no mark
-abbrev pub IsPlain : Event → Type 0
-IsPlain (Noted (Begins n)) = ⊥
-IsPlain (Noted (interaction.Binds n v)) = ⊥
-IsPlain _ = Unit {0}
+abbrev pub IsNoMark : Event → Type 0
+IsNoMark (Noted (Begins n)) = ⊥
+IsNoMark (Noted (interaction.Binds n v)) = ⊥
+IsNoMark _ = Unit {0}
 
 abbrev AllPlain : List Event → Type 0
 AllPlain [] = Unit {0}
-AllPlain (e ∷ es) = IsPlain e × AllPlain es
+AllPlain (e ∷ es) = IsNoMark e × AllPlain es
 
 -- ---- trees without marks
 
 abbrev pub IsUnmarked : (A : Type 0) → Tree A → Type 0
 IsUnmarked A (done o) = Unit {0}
 IsUnmarked A (ask q next) = (a : Answer) → IsUnmarked A (next a)
-IsUnmarked A (note x rest) = IsPlain (Noted x) × IsUnmarked A rest
+IsUnmarked A (note x rest) = IsNoMark (Noted x) × IsUnmarked A rest
 IsUnmarked A (check p v next) = (a : Verdict) → IsUnmarked A (next a)
 
 unmarked_bind : (A B : Type 0) (t : Tree A) (go : A → Tree B) → IsUnmarked A t → ((a : A) → IsUnmarked B (go a)) → IsUnmarked B (bind t go)
@@ -66,7 +66,7 @@ plain_trace t h (Shuts e) = tt
 
 -- ---- expressions
 
-unmarked_reply : (shown : Frames) (r : Reply) → IsUnmarked Called (tree shown r)
+unmarked_reply : (shown : Frames) (r : FunctionReply) → IsUnmarked Called (tree shown r)
 unmarked_reply shown (replies.Answers v) = tt
 unmarked_reply shown (replies.Fails message) = tt
 unmarked_reply shown (replies.Asks q next) = λ a. unmarked_reply shown (next a)

@@ -13,7 +13,7 @@ use Rattle.just_host.specs.Interaction.{Tree, done, bind}
 use Rattle.just_builtins.specs.Called.{Called, Returned, Said, tree}
 use Rattle.just_builtins.specs.Meaning.{reply}
 use Rattle.just_builtins.specs.Reply as replies
-use Rattle.just_builtins.specs.Reply.{Reply}
+use Rattle.just_builtins.specs.Reply.{FunctionReply}
 use Rattle.just_builtins.specs.Shape.{builtin_of, is_text}
 use Rattle.just_builtins.specs.declared.function.Function as built_in
 use Rattle.just_meaning.specs.Callee.{callee}
@@ -35,9 +35,9 @@ abbrev pub IsRowRefused : (Refusal → Type 0) → Row → Type 0
 IsRowRefused P row = AreRowsRelated (λ A t u. AllRefused P t) row row
 
 -- the refusals of reading a variable have this property, and a call is one of these, with this many arguments
-abbrev pub Fits : (Refusal → Type 0) → (Text → ℕ → Type 0) → Names → Mention → Type 0
-Fits P C names (VariableOf number) = (t : Token) → AllRefused P (variable t number names)
-Fits P C names (CallOf f n) = C f n
+abbrev pub MentionFits : (Refusal → Type 0) → (Text → ℕ → Type 0) → Names → Mention → Type 0
+MentionFits P C names (VariableOf number) = (t : Token) → AllRefused P (variable t number names)
+MentionFits P C names (CallOf f n) = C f n
 
 -- the refusals of forms, commands and built-in functions, whatever their inputs
 pub record Permits (P : Refusal → Type 0) : Type 0 where
@@ -78,7 +78,7 @@ module _ (P : Refusal → Type 0) where
   refused_if true x y h k = h
   refused_if false x y h k = k
 
-  refused_reply : (shown : Frames) (r : Reply) → AllRefused P (tree shown r)
+  refused_reply : (shown : Frames) (r : FunctionReply) → AllRefused P (tree shown r)
   refused_reply shown (replies.Answers v) = tt
   refused_reply shown (replies.Fails message) = tt
   refused_reply shown (replies.Asks q next) = λ a. refused_reply shown (next a)
@@ -113,7 +113,7 @@ module _ (P : Refusal → Type 0) where
     module _ (c : Program) (d : Deeper) (s : Situation) (C : Text → ℕ → Type 0)
         (calls : (t : Token) (n : ℕ) (row : Row) → C t.lexeme n → AllEnd (HasCount n) (row as_it_is) → IsRowRefused P row
         → AllRefused P (called c t (callee c.functions t.lexeme) d s n row)) where
-      pub refused_eval : (e : Expr) → ((x : Mention) → Occurs e x → Fits P C s.names x) → AllRefused P (eval c d s e)
+      pub refused_eval : (e : Expr) → ((x : Mention) → Occurs e x → MentionFits P C s.names x) → AllRefused P (eval c d s e)
       refused_eval = related_eval (λ A t u. AllRefused P t) refused_congruence permits.forms
-          c c d d s s refl (Fits P C s.names) (λ text t. refused_if c.fixed.config.dry_run _ _ tt (λ a. refused_answer t a))
+          c c d d s s refl (MentionFits P C s.names) (λ text t. refused_if c.fixed.config.dry_run _ _ tt (λ a. refused_answer t a))
           (λ t es fit row. calls t (count es) (eval_row c d s 0 es) fit (row_counts c d s 0 es as_it_is) row) (λ number fit t. fit t)

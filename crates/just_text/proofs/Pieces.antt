@@ -17,7 +17,7 @@ use Rattle.just_text.specs.Prelude.{NoPieceHoldsSeparator, PiecesGiveTextBack, p
 use Rattle.just_text.specs.Replace.{interleaved}
 use Rattle.just_text.specs.Split.{pieces_after}
 use Rattle.just_text.proofs.Ends.{starts, starts_not}
-use Rattle.just_text.proofs.Joined.{joined, joined_more, joined_onto}
+use Rattle.just_text.proofs.Joined.{joined_by, joined_more, joined_onto}
 
 -- the remaining bytes of an occurrence are skipped
 passed : (p : List ℕ) (k : ℕ) (s : List ℕ) → pieces_after p k s ≡ pieces_after p 0 (drop k s)
@@ -99,7 +99,7 @@ YieldsList-from_pieces {s} separator text some e more same =
 
 -- the result of `replace` for a pattern that is not empty
 replaced_filled : (p to : List ℕ) (n : ℕ) (q : Bor (List ℕ)) (s out : List ℕ) → 0 < length p → q.now ≡ p
-    → ReplacesMatches (λ (n : Bor (List ℕ)). FindsText n.now) (λ n m. m.now ≡ n.now) to n q s out → out ≡ joined to (pieces p s)
+    → ReplacesMatches (λ (n : Bor (List ℕ)). FindsText n.now) (λ n m. m.now ≡ n.now) to n q s out → out ≡ joined_by to (pieces p s)
 replaced_filled p to zero q s out some same (none, e) =
     rw (pieces_whole p s some (subst (λ t. FindsText t s None) same none)) (e ∙ sym (append-nil s))
 replaced_filled p to (suc n) q s out some same (i, j, next, rest, found, kept, inl (shorter, others), e) =
@@ -148,14 +148,14 @@ shorter_after (c ∷ cs) b bs some =
     ap (λ k. drop k bs) n
 
 -- the pieces joined again
-given_back : (p : List ℕ) → 0 < length p → (n : ℕ) (s : List ℕ) → length s ≤ n → joined p (pieces_after p 0 s) ≡ s
+given_back : (p : List ℕ) → 0 < length p → (n : ℕ) (s : List ℕ) → length s ≤ n → joined_by p (pieces_after p 0 s) ≡ s
 given_back p some n [] fits = refl
 given_back p some zero (b ∷ bs) fits = absurd (omega arith)
 given_back p some (suc n) (b ∷ bs) fits =
     let rest = drop (length p - 1) bs in
     elim (cases_Bool (starts_with eqb (b ∷ bs) p)) [
       | inl e ↦ rw e (joined_more p [] (pieces_after p (length p - 1) bs) (pieces_after_some p (length p - 1) bs)
-          ∙ (ap (λ ps. p ++ joined p ps) (passed p (length p - 1) bs)
+          ∙ (ap (λ ps. p ++ joined_by p ps) (passed p (length p - 1) bs)
           ∙ (ap (λ t. p ++ t) (given_back p some n rest (omega (arith, length-drop (length p - 1) bs)))
           ∙ (ap (λ t. p ++ t) (sym (shorter_after p b bs some)) ∙ sym (after_separator p (b ∷ bs) e)))))
       | inr e ↦ rw e (joined_onto p b (pieces_after p 0 bs) (pieces_after_some p 0 bs) ∙ ap (λ t. b ∷ t) (given_back p some n bs (omega arith)))

@@ -16,7 +16,7 @@ use Rattle.memchr.specs.Find.{Nowhere, Passes, is_byte}
 use Rattle.just_text.specs.Prelude.{pieces, replaced, substituted, words}
 use Rattle.just_text.specs.Split.{is_filled}
 use Rattle.just_text.proofs.Words.{filled_is}
-use Rattle.just_text.proofs.Joined.{joined, joined_more, joined_onto}
+use Rattle.just_text.proofs.Joined.{joined_by, joined_more, joined_onto}
 
 -- a text is what is before a byte, the byte, and the rest
 around : (bs : List ℕ) (start at : ℕ) → start ≤ at → at < length bs
@@ -101,7 +101,7 @@ pieces_of_byte b (x ∷ xs) = elim (eqb_tells x b) [
 pieces_some : (p : ℕ → Bool) (bs : List ℕ) → 0 < length (slice_split p bs)
 pieces_some p bs = omega (arith, length-slice_split p bs)
 
-joined_byte : (b : ℕ) (to bs : List ℕ) → joined to (slice_split (λ x. eqb x b) bs) ≡ flat_map (substituted b to) bs
+joined_byte : (b : ℕ) (to bs : List ℕ) → joined_by to (slice_split (λ x. eqb x b) bs) ≡ flat_map (substituted b to) bs
 joined_byte b to [] = refl
 joined_byte b to (x ∷ xs) = elim (cases_Bool (eqb x b)) [
   | inl e ↦ rw e (joined_more to [] _ (pieces_some _ xs) ∙ ap (λ t. to ++ t) (joined_byte b to xs))

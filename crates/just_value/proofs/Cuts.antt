@@ -7,7 +7,7 @@ use Rattle.std.proofs.lemmas.List.{take-append-drop, map_push}
 use Rattle.std.proofs.lemmas.Bool.{ne_eqb, eq-eqb}
 use Rattle.std.proofs.lemmas.Str.Pattern.{NoCharPasses-char, drop_at_char}
 use Rattle.just_value.specs.Prelude.{Positional, after_last, cut_after_last, cut_at_first, directory_and_tail, is_dots, override_of, tail_before}
-use Rattle.just_value.specs.Prelude.{with_directory, with_override, with_word}
+use Rattle.just_value.specs.Prelude.{with_directory, with_override_or_word, with_word}
 use Rattle.just_value.specs.Positional.{after_overrides, with_next}
 
 -- the text lacks the byte
@@ -60,7 +60,7 @@ no_dots_here word o dots e =
 
 pub with_slash : (word front tail d : List ℕ) (arguments : List (List ℕ)) (overrides : List (List ℕ × List ℕ)) → is_dots word ≡ false
     → directory_and_tail word ≡ Some (front ++ 47 ∷ [], tail) → d ≡ front ++ 47 ∷ [] → arguments ≡ tail_before tail []
-    → with_override (record { arguments = []; overrides = overrides; search_directory = None }) word None
+    → with_override_or_word (record { arguments = []; overrides = overrides; search_directory = None }) word None
     ≡ record { arguments = arguments; overrides = overrides; search_directory = Some d }
 with_slash word front tail d arguments overrides dots cut e more =
     ap (λ (m : Positional). let p : Positional = record { arguments = m.arguments; overrides = overrides; search_directory = m.search_directory } in p)
@@ -71,7 +71,7 @@ with_slash word front tail d arguments overrides dots cut e more =
 
 pub without_slash : (word : List ℕ) (arguments : List (List ℕ)) (overrides : List (List ℕ × List ℕ)) (directory : Option (List ℕ)) → is_dots word ≡ false
     → directory_and_tail word ≡ None → directory ≡ None → arguments ≡ word ∷ []
-    → with_override (record { arguments = []; overrides = overrides; search_directory = None }) word None
+    → with_override_or_word (record { arguments = []; overrides = overrides; search_directory = None }) word None
     ≡ record { arguments = arguments; overrides = overrides; search_directory = directory }
 without_slash word arguments overrides directory dots cut e more =
     ap (λ (m : Positional). let p : Positional = record { arguments = m.arguments; overrides = overrides; search_directory = m.search_directory } in p)
@@ -89,8 +89,8 @@ no_tail (b ∷ bs) none = absurd (omega arith)
 
 -- a word that comes before any directory or argument
 pub first_next : (p : Positional) (word : List ℕ) (o : Option (List ℕ × List ℕ)) → p.search_directory ≡ None → p.arguments ≡ [] → override_of word ≡ o
-    → with_word p word ≡ with_override p word o
-first_next p word o none empty e = ap (λ d. with_next p word d p.arguments) none ∙ (ap (with_next p word None) empty ∙ ap (with_override p word) e)
+    → with_word p word ≡ with_override_or_word p word o
+first_next p word o none empty e = ap (λ d. with_next p word d p.arguments) none ∙ (ap (with_next p word None) empty ∙ ap (with_override_or_word p word) e)
 
 -- an override added at the end
 pub override_push : {X : Type 0} (f : X → List ℕ) (xs more : List (X × X)) (name value : X) (x y : List ℕ) → more ≡ xs ++ (name, value) ∷ []

@@ -12,33 +12,34 @@ turned a b o e = nat_cmp_total.antisymm b a ∙ ap ordering_reverse e
 
 module _ {X Y : Type 0} (number : X → ℕ) (f : X → Y) (y : X) where
   -- an element's number, and its view by f
-  abbrev pub entry : X → ℕ × Y
-  entry x = (number x, f x)
+  abbrev pub numbered_view : X → ℕ × Y
+  numbered_view x = (number x, f x)
 
-  step : (x : X) (xs : List X) (o : Ordering) → nat_cmp (number x) (number y) ≡ o → insert_entry nat_cmp (map entry (x ∷ xs)) (number y) (f y)
-      ≡ match_ordering (ordering_reverse o) (entry y ∷ map entry (x ∷ xs)) ((number x, f y) ∷ map entry xs)
-      (entry x ∷ insert_entry nat_cmp (map entry xs) (number y) (f y))
+  step : (x : X) (xs : List X) (o : Ordering) → nat_cmp (number x) (number y) ≡ o → insert_entry nat_cmp (map numbered_view (x ∷ xs)) (number y) (f y)
+      ≡ match_ordering (ordering_reverse o) (numbered_view y ∷ map numbered_view (x ∷ xs)) ((number x, f y) ∷ map numbered_view xs)
+      (numbered_view x ∷ insert_entry nat_cmp (map numbered_view xs) (number y) (f y))
   step x xs o e =
-      ap (λ o. match_ordering o (entry y ∷ map entry (x ∷ xs)) ((number x, f y) ∷ map entry xs)
-      (entry x ∷ insert_entry nat_cmp (map entry xs) (number y) (f y))) (turned (number x) (number y) o e)
+      ap (λ o. match_ordering o (numbered_view y ∷ map numbered_view (x ∷ xs)) ((number x, f y) ∷ map numbered_view xs)
+      (numbered_view x ∷ insert_entry nat_cmp (map numbered_view xs) (number y) (f y))) (turned (number x) (number y) o e)
 
   pub set_at : (xs : List X) (i : ℕ) → i < length xs → AllWithin (λ x. nat_cmp (number x) (number y) ≡ Less) xs 0 i
-      → HoldsAt (λ x. nat_cmp (number x) (number y) ≡ Equal) xs i → map entry (set xs i y) ≡ insert_entry nat_cmp (map entry xs) (number y) (f y)
+      → HoldsAt (λ x. nat_cmp (number x) (number y) ≡ Equal) xs i
+      → map numbered_view (set xs i y) ≡ insert_entry nat_cmp (map numbered_view xs) (number y) (f y)
   set_at [] i within below here = absurd (omega arith)
   set_at (x ∷ xs) zero within below here =
-      ap (λ n. (n, f y) ∷ map entry xs) (sym (ranked (number x) (number y) Equal (sym (here x)))) ∙ sym (step x xs Equal (here x))
+      ap (λ n. (n, f y) ∷ map numbered_view xs) (sym (ranked (number x) (number y) Equal (sym (here x)))) ∙ sym (step x xs Equal (here x))
   set_at (x ∷ xs) (suc i) within below here =
-      ap (λ es. entry x ∷ es) (set_at xs i (omega arith) (λ k d lo hi. below (suc k) d (omega arith) (omega arith)) here)
+      ap (λ es. numbered_view x ∷ es) (set_at xs i (omega arith) (λ k d lo hi. below (suc k) d (omega arith) (omega arith)) here)
       ∙ sym (step x xs Less (below 0 x (omega arith) (omega arith)))
 
   pub insert_at : (xs : List X) (i : ℕ) → i ≤ length xs → AllWithin (λ x. nat_cmp (number x) (number y) ≡ Less) xs 0 i
       → AllWithin (λ x. nat_cmp (number x) (number y) ≡ Greater) xs i (length xs)
-      → map entry (insert xs i y) ≡ insert_entry nat_cmp (map entry xs) (number y) (f y)
+      → map numbered_view (insert xs i y) ≡ insert_entry nat_cmp (map numbered_view xs) (number y) (f y)
   insert_at [] zero within below above = refl
   insert_at [] (suc i) within below above = absurd (omega arith)
   insert_at (x ∷ xs) zero within below above = sym (step x xs Greater (above 0 x (omega arith) (omega arith)))
   insert_at (x ∷ xs) (suc i) within below above =
-      ap (λ es. entry x ∷ es) (insert_at xs i (omega arith) (λ k d lo hi. below (suc k) d (omega arith) (omega arith))
+      ap (λ es. numbered_view x ∷ es) (insert_at xs i (omega arith) (λ k d lo hi. below (suc k) d (omega arith) (omega arith))
       (λ k d lo hi. above (suc k) d (omega arith) (omega arith)))
       ∙ sym (step x xs Less (below 0 x (omega arith) (omega arith)))
 

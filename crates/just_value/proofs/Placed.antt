@@ -14,8 +14,8 @@ use Rattle.std.proofs.lemmas.List.{at_drop_more, length-take, take-append-drop, 
 use Rattle.std.proofs.lemmas.Map.Keys.{sorted_head, sorted_tail}
 use Rattle.std.proofs.lemmas.Option.{slice_get-get_or, slice_get_past, slice_get_within}
 use Rattle.just_value.specs.declared.binding.Binding.{Binding}
-use Rattle.just_value.specs.Placed.{AreInOrder, IsPlaced, before_others, items_in_order}
-use Rattle.just_value.specs.Prelude.{AreRising, ArePlaced, Bound, IsPlace, ShowsFrame, bound_at, bound_view, elements, frame_view, with_bound}
+use Rattle.just_value.specs.Placed.{AreRisingOrPlaced, IsPlaced, before_others, items_in_order}
+use Rattle.just_value.specs.Prelude.{AreRising, ArePlaced, Bound, IsPlace, ShowsFrame, bound_at, bound_view, elements_at, frame_view, with_bound}
 use Rattle.just_value.proofs.Bound.{number_at}
 use Rattle.just_value.proofs.Framed.{bound_found, nothing_rises}
 use Rattle.just_value.proofs.Inserted.{all_above, turned}
@@ -30,7 +30,7 @@ abbrev AllPlaced : List Binding → Indices → Type 0
 AllPlaced bs es = AllByRecursion (IsPlaced bs) es
 
 abbrev seen : List Binding → Indices → List (ℕ × Bound)
-seen bs es = frame_view (elements bs (values_of es))
+seen bs es = frame_view (elements_at bs (values_of es))
 
 -- the binding at an index, if there is one
 abbrev pub shown_at : List Binding → Option ℕ → Option Bound
@@ -43,7 +43,7 @@ number_first : (o : Option Binding) (n : ℕ) (xs : List Binding) (ks : List ℕ
 number_first None n xs ks is rest = cc
 number_first (Some b) n xs ks is rest = cc
 
-pub numbers_seen : (bs : List Binding) (es : Indices) → AllPlaced bs es → map (λ b. b.number) (elements bs (values_of es)) ≡ keys_of es
+pub numbers_seen : (bs : List Binding) (es : Indices) → AllPlaced bs es → map (λ b. b.number) (elements_at bs (values_of es)) ≡ keys_of es
 numbers_seen bs [] h = refl
 numbers_seen bs (e ∷ es) h = number_first (slice_get bs e.1) e.0 _ _ h.0 (numbers_seen bs es h.1)
 
@@ -56,7 +56,7 @@ found_first bs false b i l r is rest = rest
 module _ (n : ℕ) (bs : List Binding) where
   look_up_first : (o : Option Binding) (e : ℕ × ℕ) (es : Indices) → slice_get bs e.1 ≡ o → number_of o ≡ Some e.0
       → bound_at n (seen bs es) ≡ shown_at bs (lookup (is_at (nat_cmp n)) es)
-      → bound_at n (frame_view (before_others o (elements bs (values_of es)))) ≡ shown_at bs (lookup (is_at (nat_cmp n)) (e ∷ es))
+      → bound_at n (frame_view (before_others o (elements_at bs (values_of es)))) ≡ shown_at bs (lookup (is_at (nat_cmp n)) (e ∷ es))
   look_up_first None e es is number rest = cc
   look_up_first (Some b) e es is number rest =
       let same : b.number ≡ e.0 = cc in
@@ -103,7 +103,7 @@ module _ (bs : List Binding) (b : Binding) (i : ℕ) (is : slice_get bs i ≡ So
 
   seen_first : (o : Option Binding) (e : ℕ × ℕ) (es : Indices) → slice_get bs e.1 ≡ o → number_of o ≡ Some e.0
       → seen bs (insert_entry nat_cmp es b.number i) ≡ with_bound (seen bs es) (bound_view b)
-      → seen bs (insert_entry nat_cmp (e ∷ es) b.number i) ≡ with_bound (frame_view (before_others o (elements bs (values_of es)))) (bound_view b)
+      → seen bs (insert_entry nat_cmp (e ∷ es) b.number i) ≡ with_bound (frame_view (before_others o (elements_at bs (values_of es)))) (bound_view b)
   seen_first None e es there number rest = cc
   seen_first (Some x) e es there number rest =
       let same : x.number ≡ e.0 = cc in
@@ -134,7 +134,7 @@ module _ (bs more : List Binding) where
   placed_more [] h = tt
   placed_more (e ∷ es) h = (ap number_of (got_same (slice_get bs e.1) e.1 e.0 refl h.0) ∙ h.0, placed_more es h.1)
 
-  pub elements_more : (es : Indices) → AllPlaced bs es → elements (bs ++ more) (values_of es) ≡ elements bs (values_of es)
+  pub elements_more : (es : Indices) → AllPlaced bs es → elements_at (bs ++ more) (values_of es) ≡ elements_at bs (values_of es)
   elements_more [] h = refl
   elements_more (e ∷ es) h = rw (got_same (slice_get bs e.1) e.1 e.0 refl h.0, elements_more es h.1) refl
 
@@ -164,7 +164,7 @@ module _ (bs : List Binding) (b : Binding) (i : ℕ) (is : number_of (slice_get 
   greater e less same = let below = ranked b.number e.0 Less (sym less) in absurd (omega (arith, below, same))
 
   rest_stays : (es : Indices) → AllPlaced bs es → AllByRecursion (λ n. nat_cmp b.number n ≡ Less) (keys_of es)
-      → elements (set bs i b) (values_of es) ≡ elements bs (values_of es)
+      → elements_at (set bs i b) (values_of es) ≡ elements_at bs (values_of es)
   rest_stays [] h above = refl
   rest_stays (e ∷ es) h above = rw (stays e h.0 (greater e above.0), rest_stays es h.1 above.1) refl
 
@@ -195,7 +195,7 @@ module _ (bs : List Binding) (b : Binding) (i : ℕ) (is : number_of (slice_get 
       → AllPlaced bs es → AllByRecursion (λ n. nat_cmp e.0 n ≡ Less) (keys_of es)
       → (lookup (is_at (nat_cmp b.number)) es ≡ Some i → seen (set bs i b) es ≡ with_bound (seen bs es) (bound_view b))
       → lookup (is_at (nat_cmp b.number)) (e ∷ es) ≡ Some i
-      → seen (set bs i b) (e ∷ es) ≡ with_bound (frame_view (before_others o (elements bs (values_of es)))) (bound_view b)
+      → seen (set bs i b) (e ∷ es) ≡ with_bound (frame_view (before_others o (elements_at bs (values_of es)))) (bound_view b)
   set_first None e es there number h above rest found = cc
   set_first (Some x) e es there number h above rest found =
       let same : x.number ≡ e.0 = cc in
@@ -239,7 +239,7 @@ shows_inserted f bs b i es more ((sorted, placed), shows) is inserted rising = (
 pub shows_more : (f : List (ℕ × Bound)) (bs more : List Binding) (es : Indices) → ShowsFrame f bs es → ShowsFrame f (bs ++ more) es
 shows_more f bs more es ((sorted, placed), shows) = ((sorted, placed_more bs more es placed), ap frame_view (elements_more bs more es placed) ∙ shows)
 
-pub shows_rising : (bs : List Binding) (es : Indices) → ArePlaced bs es → AreRising (elements bs (values_of es))
+pub shows_rising : (bs : List Binding) (es : Indices) → ArePlaced bs es → AreRising (elements_at bs (values_of es))
 shows_rising bs es (sorted, placed) = subst (IsStrictlySortedBy nat_cmp) (sym (numbers_seen bs es placed)) sorted
 
 -- bindings in ascending order, placed one by one
@@ -277,19 +277,19 @@ never_past f bs n i es ((sorted, placed), shows) found past =
     cc
 
 -- a frame's bindings are in ascending order
-pub rising_in_order : (bs : List Binding) (es : Indices) → AreInOrder bs es → AreRising (items_in_order bs es)
+pub rising_in_order : (bs : List Binding) (es : Indices) → AreRisingOrPlaced bs es → AreRising (items_in_order bs es)
 rising_in_order bs [] h = h
 rising_in_order bs (e ∷ es) h = shows_rising bs (e ∷ es) h
 
 -- a frame without places, and with some
-pub none_placed : (bs : List Binding) (es : Indices) → es ≡ [] → AreInOrder bs es → AreRising bs
-none_placed bs es none h = subst (AreInOrder bs) none h
+pub none_placed : (bs : List Binding) (es : Indices) → es ≡ [] → AreRisingOrPlaced bs es → AreRising bs
+none_placed bs es none h = subst (AreRisingOrPlaced bs) none h
 
-pub all_placed : (bs : List Binding) (es : Indices) → (es ≡ [] → ⊥) → AreInOrder bs es → ArePlaced bs es
+pub all_placed : (bs : List Binding) (es : Indices) → (es ≡ [] → ⊥) → AreRisingOrPlaced bs es → ArePlaced bs es
 all_placed bs [] some h = absurd (some refl)
 all_placed bs (e ∷ es) some h = h
 
-pub elements_in_order : (bs : List Binding) (es : Indices) → (es ≡ [] → ⊥) → items_in_order bs es ≡ elements bs (values_of es)
+pub elements_in_order : (bs : List Binding) (es : Indices) → (es ≡ [] → ⊥) → items_in_order bs es ≡ elements_at bs (values_of es)
 elements_in_order bs [] some = absurd (some refl)
 elements_in_order bs (e ∷ es) some = refl
 
@@ -351,26 +351,26 @@ never_nothing (e ∷ f) b same = something (nat_cmp b.number e.0) _ _ _ _ _ _ sa
 
 -- bindings and places that show a frame with a binding are that frame
 pub in_order_bound : (f : List (ℕ × Bound)) (bs : List Binding) (es : Indices) (b : Bound) → ShowsFrame (with_bound f b) bs es
-    → AreInOrder bs es × (frame_view (items_in_order bs es) ≡ with_bound f b)
+    → AreRisingOrPlaced bs es × (frame_view (items_in_order bs es) ≡ with_bound f b)
 in_order_bound f bs [] b (placed, shows) = absurd (never_nothing f b shows)
 in_order_bound f bs (e ∷ es) b (placed, shows) = (placed, shows)
 
 -- a frame with places shows itself
-pub shows_itself : (bs : List Binding) (es : Indices) → (es ≡ [] → ⊥) → AreInOrder bs es → ShowsFrame (frame_view (items_in_order bs es)) bs es
+pub shows_itself : (bs : List Binding) (es : Indices) → (es ≡ [] → ⊥) → AreRisingOrPlaced bs es → ShowsFrame (frame_view (items_in_order bs es)) bs es
 shows_itself bs [] some h = absurd (some refl)
 shows_itself bs (e ∷ es) some h = (h, refl)
 
 -- bindings in ascending order are a frame without places, and with those of all
 pub in_order_anyway : (bs : List Binding) (es : Indices) → AreRising bs → (es ≡ []) ⊎ ShowsFrame (frame_view bs) bs es
-    → AreInOrder bs es × (frame_view (items_in_order bs es) ≡ frame_view bs)
+    → AreRisingOrPlaced bs es × (frame_view (items_in_order bs es) ≡ frame_view bs)
 in_order_anyway bs [] rising h = (rising, refl)
 in_order_anyway bs (e ∷ es) rising (inl none) = cc
 in_order_anyway bs (e ∷ es) rising (inr (placed, shows)) = (placed, shows)
 
 -- a frame with places after a binding, or without memory for it
 pub in_order_after : {T E : Type 0} (r : Result T E) (bs : List Binding) (es : Indices) (after : List Binding) (more : Indices) (b : Binding)
-    → (es ≡ [] → ⊥) → AreInOrder bs es → OnOk r ((f : List (ℕ × Bound)) → ShowsFrame f bs es → ShowsFrame (with_bound f (bound_view b)) after more)
-    → OnErr r ((after ≡ bs) × (more ≡ es)) → AreInOrder after more
+    → (es ≡ [] → ⊥) → AreRisingOrPlaced bs es → OnOk r ((f : List (ℕ × Bound)) → ShowsFrame f bs es → ShowsFrame (with_bound f (bound_view b)) after more)
+    → OnErr r ((after ≡ bs) × (more ≡ es)) → AreRisingOrPlaced after more
 in_order_after (Ok x) bs es after more b some h ok err =
     let f = frame_view (items_in_order bs es) in
     (in_order_bound f after more (bound_view b) (ok f (shows_itself bs es some h))).0
@@ -379,7 +379,7 @@ in_order_after (Err x) bs es after more b some h ok err = rw (err.0, err.1) h
 -- a frame that gets its first places, or has no memory for them
 pub in_order_first : {T E : Type 0} (r : Result T E) (bs : List Binding) (es : Indices) (after : List Binding) (more : Indices) (b : Binding)
     → es ≡ [] → AreRising bs → OnOk r (es ≡ [] → AreRising bs → ShowsFrame (with_bound (frame_view bs) (bound_view b)) after more)
-    → OnErr r (es ≡ [] → AreRising bs → (after ≡ bs) × ((more ≡ []) ⊎ ShowsFrame (frame_view bs) bs more)) → AreInOrder after more
+    → OnErr r (es ≡ [] → AreRising bs → (after ≡ bs) × ((more ≡ []) ⊎ ShowsFrame (frame_view bs) bs more)) → AreRisingOrPlaced after more
 in_order_first (Ok x) bs es after more b none rising ok err = (in_order_bound (frame_view bs) after more (bound_view b) (ok none rising)).0
 in_order_first (Err x) bs es after more b none rising ok err =
     let same = err none rising in
@@ -396,8 +396,8 @@ some_first : {X : Type 0} (o : Option X) (xs : List X) (n : ℕ) → length xs �
 some_first None xs n most = omega arith
 some_first (Some x) xs n most = omega (arith, most)
 
-pub no_more_elements : {X : Type 0} (xs : List X) (indices : List ℕ) → length (elements xs indices) ≤ length indices
+pub no_more_elements : {X : Type 0} (xs : List X) (indices : List ℕ) → length (elements_at xs indices) ≤ length indices
 no_more_elements xs [] = omega arith
 no_more_elements xs (i ∷ indices) =
-    let most = some_first (slice_get xs i) (elements xs indices) (length indices) (no_more_elements xs indices) in
+    let most = some_first (slice_get xs i) (elements_at xs indices) (length indices) (no_more_elements xs indices) in
     omega (arith, most)

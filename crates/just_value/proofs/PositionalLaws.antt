@@ -2,7 +2,7 @@
 use Rattle.std.proofs.Common.{◌≡◌, ℕ, Bool, true, false, cond, eqb, List, [], ◌∷◌, ◌++◌, Option, Some, None, IfSome, option_map, refl, ap, sym, ◌∙◌}
 use Rattle.std.proofs.lemmas.Bool.{and_right, eqb-true, eq-eqb}
 use Rattle.just_value.specs.Prelude.{KeepsWords, MeansTheCut, Positional, SameExactlyIfCutAlike, after_last, cut_after_last, cut_at_first, cut_words}
-use Rattle.just_value.specs.Prelude.{directory_and_tail, is_dots, override_of, positional, tail_before, with_directory, with_override, with_word}
+use Rattle.just_value.specs.Prelude.{directory_and_tail, is_dots, override_of, positional, tail_before, with_directory, with_override_or_word, with_word}
 use Rattle.just_value.specs.Positional.{with_first, cut_directory, cut_first, put_back}
 
 -- the two sides of a cut at the first occurrence of a byte, joined by it, are the text
@@ -128,8 +128,8 @@ after_push_at x w xs false (Some (d, [])) = refl
 after_push_at x w xs false (Some (d, t ∷ ts)) = refl
 
 commute_override : (p : List ℕ × List ℕ) (w : List ℕ) (overrides : List (List ℕ × List ℕ)) (x : List ℕ) (xs : List (List ℕ)) (o : Option (List ℕ × List ℕ))
-    → with_first x (xs ++ w ∷ []) (with_override (record { arguments = []; overrides = overrides; search_directory = None }) w o) (Some p)
-    ≡ with_override (with_first x xs (record { arguments = []; overrides = overrides; search_directory = None }) (Some p)) w o
+    → with_first x (xs ++ w ∷ []) (with_override_or_word (record { arguments = []; overrides = overrides; search_directory = None }) w o) (Some p)
+    ≡ with_override_or_word (with_first x xs (record { arguments = []; overrides = overrides; search_directory = None }) (Some p)) w o
 commute_override p w overrides x xs None = refl
 commute_override p w overrides x xs (Some q) = refl
 
@@ -154,7 +154,7 @@ alone_at w true o = refl
 alone_at w false None = refl
 alone_at w false (Some p) = refl
 
-alone : (w : List ℕ) (o : Option (List ℕ × List ℕ)) → with_first w [] (positional []) o ≡ with_override (positional []) w o
+alone : (w : List ℕ) (o : Option (List ℕ × List ℕ)) → with_first w [] (positional []) o ≡ with_override_or_word (positional []) w o
 alone w None = alone_at w (is_dots w) (directory_and_tail w)
 alone w (Some p) = refl
 

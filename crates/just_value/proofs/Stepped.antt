@@ -5,7 +5,7 @@ use Rattle.std.specs.Map.Iter.{TakesFirst, deref}
 use Rattle.std.proofs.lemmas.List.{nil_from_length}
 use Rattle.std.proofs.lemmas.Option.{slice_get-get_or}
 use Rattle.just_value.specs.declared.binding.Binding.{Binding}
-use Rattle.just_value.specs.Placed.{before_others, elements}
+use Rattle.just_value.specs.Placed.{before_others, elements_at}
 
 -- the step takes the first of the remaining elements
 pub takes_first : {S X : Type 0} (left : S → List X) (s : S) (next : Option (Bor X)) (t : S)
@@ -15,9 +15,9 @@ takes_first left s (Some x) t h = h
 
 -- the step from an iterator whose elements are at indices
 pub takes_at : {X : Type 0} (xs : List X) (i : ℕ) (x : X) (here there : List ℕ) → here ≡ i ∷ there → i < length xs → x ≡ get_or xs i x
-    → elements xs here ≡ x ∷ elements xs there
+    → elements_at xs here ≡ x ∷ elements_at xs there
 takes_at xs i x here there first within is =
-    ap (elements xs) first ∙ ap (λ o. before_others o (elements xs there)) (slice_get-get_or xs i x within ∙ ap Some (sym is))
+    ap (elements_at xs) first ∙ ap (λ o. before_others o (elements_at xs there)) (slice_get-get_or xs i x within ∙ ap Some (sym is))
 
 -- a step that takes the first gets on
 pub gets_on : (s : List Binding) (r : Option (Bor Binding)) (t : List Binding) → TakesFirst deref s r t

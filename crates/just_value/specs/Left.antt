@@ -5,11 +5,11 @@ use Rattle.std.specs.Slice.Iter.{iter_rest}
 use Rattle.just_value.specs.declared.binding.Binding.{Binding}
 use Rattle.just_value.specs.declared.bindings.Left.{Left}
 use Rattle.just_value.specs.declared.bindings.Left.TheVariants.{ByPlace, InOrder}
-use Rattle.just_value.specs.Placed.{elements}
+use Rattle.just_value.specs.Placed.{elements_at}
 
 abbrev pub bindings_in : List Binding → Left → List Binding
 bindings_in bindings (InOrder left) = iter_rest left
-bindings_in bindings (ByPlace places) = elements bindings places
+bindings_in bindings (ByPlace places) = elements_at bindings places
 
 -- each index is that of a binding
 abbrev pub AreWithin : List Binding → Left → Type 0

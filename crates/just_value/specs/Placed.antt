@@ -14,14 +14,14 @@ before_others None others = []
 before_others (Some x) others = x ∷ others
 
 -- the elements at some indices, up to the first index that has none
-abbrev pub elements : {X : Type 0} → List X → List ℕ → List X
-elements xs [] = []
-elements xs (i ∷ indices) = before_others (slice_get xs i) (elements xs indices)
+abbrev pub elements_at : {X : Type 0} → List X → List ℕ → List X
+elements_at xs [] = []
+elements_at xs (i ∷ indices) = before_others (slice_get xs i) (elements_at xs indices)
 
 -- the bindings in ascending order of number: as they are while there are no places
 abbrev pub items_in_order : List Binding → List (ℕ × ℕ) → List Binding
 items_in_order bindings [] = bindings
-items_in_order bindings (place ∷ places) = elements bindings (values_of (place ∷ places))
+items_in_order bindings (place ∷ places) = elements_at bindings (values_of (place ∷ places))
 
 -- the index of a number is that of its binding
 abbrev pub IsPlaced : List Binding → ℕ × ℕ → Type 0
@@ -32,6 +32,6 @@ abbrev pub ArePlaced : List Binding → List (ℕ × ℕ) → Type 0
 ArePlaced bindings places = IsStrictlySortedBy nat_cmp (keys_of places) × AllByRecursion (IsPlaced bindings) places
 
 -- the bindings are in ascending order, or the index of each number is that of its binding
-abbrev pub AreInOrder : List Binding → List (ℕ × ℕ) → Type 0
-AreInOrder bindings [] = AreRising bindings
-AreInOrder bindings (place ∷ places) = ArePlaced bindings (place ∷ places)
+abbrev pub AreRisingOrPlaced : List Binding → List (ℕ × ℕ) → Type 0
+AreRisingOrPlaced bindings [] = AreRising bindings
+AreRisingOrPlaced bindings (place ∷ places) = ArePlaced bindings (place ∷ places)

@@ -104,13 +104,13 @@ SameExactlyIfCutAlike =
     (words others : List Text) → (positional words ≡ positional others) ↔ (cut_words words ≡ cut_words others)
 
 -- the meaning p with one more word, which is an override or the first word after the overrides
-abbrev pub with_override : Positional → Text → Option (Text × Text) → Positional
-with_override p word (Some override) = record p { overrides = p.overrides ++ override ∷ [] }
-with_override p word None = record (after_overrides word []) { overrides = p.overrides }
+abbrev pub with_override_or_word : Positional → Text → Option (Text × Text) → Positional
+with_override_or_word p word (Some override) = record p { overrides = p.overrides ++ override ∷ [] }
+with_override_or_word p word None = record (after_overrides word []) { overrides = p.overrides }
 
 -- the same for any word; after a directory or an argument it is an argument
 abbrev pub with_next : Positional → Text → Option Text → List Text → Positional
-with_next p word None [] = with_override p word (override_of word)
+with_next p word None [] = with_override_or_word p word (override_of word)
 with_next p word None (argument ∷ arguments) = record p { arguments = p.arguments ++ word ∷ [] }
 with_next p word (Some directory) arguments = record p { arguments = p.arguments ++ word ∷ [] }
 

@@ -12,11 +12,11 @@ pub use Rattle.just_value.specs.Items.{Ends, GivesItems}
 pub use Rattle.just_value.specs.Listed.{before, listed, listed_from, outputs}
 pub use Rattle.just_value.specs.Numbering.{last_of}
 pub use Rattle.just_value.specs.Outcome.{UnlessStopped}
-pub use Rattle.just_value.specs.Placed.{ArePlaced, elements}
+pub use Rattle.just_value.specs.Placed.{ArePlaced, elements_at}
 pub use Rattle.just_value.specs.Places.{IsPlace}
 pub use Rattle.just_value.specs.Positional.{KeepsWords, MeansTheCut, Positional, SameExactlyIfCutAlike, after_last}
 pub use Rattle.just_value.specs.Positional.{cut_after_last, cut_at_first, cut_words, directory_and_tail, is_dots}
-pub use Rattle.just_value.specs.Positional.{override_of, positional, tail_before, with_directory, with_override}
+pub use Rattle.just_value.specs.Positional.{override_of, positional, tail_before, with_directory, with_override_or_word}
 pub use Rattle.just_value.specs.Positional.{with_word}
 pub use Rattle.just_value.specs.Rising.{AreRising, AreRisingNames}
 pub use Rattle.just_value.specs.Said.{error_token}

@@ -30,7 +30,7 @@ use Rattle.just_value.specs.Frames as plain
 use Rattle.just_value.specs.Frames.{Bound, Frames}
 use Rattle.just_value.specs.ConstEval.{const_eval_token}
 use Rattle.just_value.specs.ConstRefusal as constant
-use Rattle.just_value.specs.Placed.{ArePlaced, elements}
+use Rattle.just_value.specs.Placed.{ArePlaced, elements_at}
 use Rattle.just_value.specs.Positional.{Positional}
 use Rattle.just_value.specs.Refusal.{Fault, Code, Message, NoMemory, Refusal, Assert, Backtick, Check, Const}
 use Rattle.just_value.specs.Refusal.{EmptyInterpreter, EmptyListArgument, FunctionCall, Internal, LeftOut, LeftOutRegex}
@@ -57,7 +57,7 @@ frame_view f = map (λ b. (b.number, bound_view b)) f
 -- bindings and places show a frame: at the places, in this order, are its bindings
 abbrev pub ShowsFrame : plain.Frame → List Binding → List (ℕ × ℕ) → Type 0
 ShowsFrame frame bindings places =
-    ArePlaced bindings places × (frame_view (elements bindings (values_of places)) ≡ frame)
+    ArePlaced bindings places × (frame_view (elements_at bindings (values_of places)) ≡ frame)
 
 -- the bindings that are still to come
 abbrev pub bindings_left : Bindings → List Binding

@@ -38,11 +38,11 @@ impl<'src> Model for Frame<'src> {
 
     ghost coded = { Prim.hlevel (codes, (expression.the_row static_lft).coded) };
 
-    ghost use Rattle.just_value.specs.Placed.{AreInOrder, items_in_order};
+    ghost use Rattle.just_value.specs.Placed.{AreRisingOrPlaced, items_in_order};
 
     ghost view = { λ f. items_in_order f.bindings.items f.places.entries };
 
-    ghost invariant = { λ f. AreInOrder f.bindings.items f.places.entries };
+    ghost invariant = { λ f. AreRisingOrPlaced f.bindings.items f.places.entries };
 }
 
 impl<'src> Frame<'src> {

@@ -1,7 +1,8 @@
 // Positional words of a command line.
 
 ghost use Rattle.std.specs.Prelude.{IfOk, List, None, OnOk, [], codes, map, string_bytes, ◌++◌, ◌≡◌};
-ghost use Rattle.just_value.specs.Prelude.{Ends, GivesItems, positional, positional_view, with_override, with_word};
+ghost use Rattle.just_value.specs.Prelude.{Ends, GivesItems, positional, positional_view, with_override_or_word};
+ghost use Rattle.just_value.specs.Prelude.{with_word};
 
 use just_syntax::out_of_memory::OutOfMemory;
 use std::alloc::Global;
@@ -67,7 +68,8 @@ impl Positional {
     fn add_after_overrides(&mut self, alloc: Global, word: &str) -> Result<(), OutOfMemory>
         requires no_directory { (positional_view self.old).search_directory ≡ None }
         requires no_argument { (positional_view self.old).arguments ≡ [] }
-        ensures { OnOk result (positional_view self.new ≡ with_override (positional_view self.old) word.now None) }
+        ensures { OnOk result
+            (positional_view self.new ≡ with_override_or_word (positional_view self.old) word.now None) }
     {
         if word == "." || word == ".." {
             self.search_directory = Some(String::from_str(alloc, word)?);

@@ -1,5 +1,6 @@
 use Rattle.std.proofs.Common.{◌≡◌, ◌↔◌, ◌⊎◌, ap, refl, sym, subst, inl, [], map, Some, None, Bor, IsTrue}
-use Rattle.just_faults.specs.Prelude.{Text, assignment_at, assignment_view, function_view, is_name_in, is_readable, is_taken, module_fault_view, name_view}
+use Rattle.just_faults.specs.Prelude.{Text, assignment_at, assignment_view, function_view, is_name_in, is_number_taken, is_readable, module_fault_view}
+use Rattle.just_faults.specs.Prelude.{name_view}
 use Rattle.just_faults.specs.Prelude.{ordered_view}
 use Rattle.just_meaning.proofs.Names.{name_added}
 use Rattle.just_resolution.proofs.Ordering.{comes_now, comes_now_takes_one, more_readable, passed_over, passed_over_takes_none, reads_if}
@@ -26,7 +27,7 @@ returns-in-None-clause-exact c = inl (refl, none (goal.at.returns-in-None-clause
 pub returns-in-None-clause-number : goal.returns-in-None-clause-number
 returns-in-None-clause-number c =
     unknown_takes_none (map function_view c.args.functions.now) (ordered_view c.args.assignments.now [] c.args.variable_references)
-    (is_taken c.args.readable.now) (name_view c.args.name.now) (none (goal.at.returns-in-None-clause-number c).In-None)
+    (is_number_taken c.args.readable.now) (name_view c.args.name.now) (none (goal.at.returns-in-None-clause-number c).In-None)
 
 pub returns-then-not-is_referenced-clause-exact : goal.returns-then-not-is_referenced-clause-exact
 returns-then-not-is_referenced-clause-exact c =
@@ -36,19 +37,20 @@ returns-then-not-is_referenced-clause-exact c =
 pub returns-then-not-is_referenced-clause-number : goal.returns-then-not-is_referenced-clause-number
 returns-then-not-is_referenced-clause-number c =
     passed_over_takes_none (map function_view c.args.functions.now) (ordered_view c.args.assignments.now [] c.args.variable_references)
-    (name_view c.args.name.now) _ (found (goal.at.returns-then-not-is_referenced-clause-number c).In-Some) (is_taken c.args.readable.now)
+    (name_view c.args.name.now) _ (found (goal.at.returns-then-not-is_referenced-clause-number c).In-Some) (is_number_taken c.args.readable.now)
     (sym c.if-not-is_referenced.ensures)
 
 pub returns-then-contains-clause-exact : goal.returns-then-contains-clause-exact
 returns-then-contains-clause-exact c =
-    comes_again (map function_view c.args.functions.now) (ordered_view c.args.assignments.now [] c.args.variable_references) (is_taken c.args.readable.now)
+    comes_again (map function_view c.args.functions.now) (ordered_view c.args.assignments.now [] c.args.variable_references)
+    (is_number_taken c.args.readable.now)
     (is_readable c.args.readable.now) (is_name_in c.args.passed.now) (is_name_in c.args.admitted.now) c.requires.passed (name_view c.args.name.now)
     (subst (λ (t : Text). IsTrue (is_name_in c.args.passed.now t)) (ap (λ (l : Bor Text). l.now) c.lexeme-in-Some.ensures) (sym c.if-contains.ensures))
 
 pub returns-then-contains-clause-number : goal.returns-then-contains-clause-number
 returns-then-contains-clause-number c =
     comes_again_takes_none (map function_view c.args.functions.now) (ordered_view c.args.assignments.now [] c.args.variable_references)
-    (is_taken c.args.readable.now) (is_readable c.args.readable.now) (is_name_in c.args.passed.now) (is_name_in c.args.admitted.now) c.requires.passed
+    (is_number_taken c.args.readable.now) (is_readable c.args.readable.now) (is_name_in c.args.passed.now) (is_name_in c.args.admitted.now) c.requires.passed
     (name_view c.args.name.now)
     (subst (λ (t : Text). IsTrue (is_name_in c.args.passed.now t)) (ap (λ (l : Bor Text). l.now) c.lexeme-in-Some.ensures) (sym c.if-contains.ensures))
 
@@ -61,15 +63,15 @@ returns-then-is_some-clause-exact c =
 pub returns-then-is_some-clause-number : goal.returns-then-is_some-clause-number
 returns-then-is_some-clause-number c =
     comes_now_takes_one (map function_view c.args.functions.now) (ordered_view c.args.assignments.now [] c.args.variable_references)
-    (name_view c.args.name.now) _ (found (goal.at.returns-then-is_some-clause-number c).In-Some) (is_taken c.args.readable.now)
-    (is_taken c.take.new.readable) (sym c.if-not-is_referenced.ensures) c.in_ok-fault-in-Some.ensures.taken
+    (name_view c.args.name.now) _ (found (goal.at.returns-then-is_some-clause-number c).In-Some) (is_number_taken c.args.readable.now)
+    (is_number_taken c.take.new.readable) (sym c.if-not-is_referenced.ensures) c.in_ok-fault-in-Some.ensures.taken
 
 pub returns-then-is_some-clause-passed : goal.returns-then-is_some-clause-passed
 returns-then-is_some-clause-passed c =
     let taken = c.in_ok-fault-in-Some.ensures.taken in
-    takes_one (map function_view c.args.functions.now) (ordered_view c.args.assignments.now [] c.args.variable_references) (is_taken c.args.readable.now)
+    takes_one (map function_view c.args.functions.now) (ordered_view c.args.assignments.now [] c.args.variable_references) (is_number_taken c.args.readable.now)
     (is_readable c.args.readable.now) (is_name_in c.args.passed.now) (is_name_in c.args.admitted.now) c.requires.passed
-    (assignment_view c.in-Some.assignment.now) (is_taken c.take.new.readable) (is_readable c.take.new.readable) (is_name_in c.take.new.admitted)
+    (assignment_view c.in-Some.assignment.now) (is_number_taken c.take.new.readable) (is_readable c.take.new.readable) (is_name_in c.take.new.admitted)
     c.in_ok-fault-in-Some.ensures.closed taken
     (more_readable c.args.readable.now c.take.new.readable c.take.ensures.outer (λ n k. (taken n).1 (inl k)))
 
@@ -82,15 +84,16 @@ returns-in_ok-insert-in-Some-clause-exact c =
 pub returns-in_ok-insert-in-Some-clause-number : goal.returns-in_ok-insert-in-Some-clause-number
 returns-in_ok-insert-in-Some-clause-number c =
     comes_now_takes_one (map function_view c.args.functions.now) (ordered_view c.args.assignments.now [] c.args.variable_references)
-    (name_view c.args.name.now) _ (found (goal.at.returns-in_ok-insert-in-Some-clause-number c).In-Some) (is_taken c.args.readable.now)
-    (is_taken c.take.new.readable) (sym c.if-not-is_referenced.ensures) c.in_ok-fault-in-Some.ensures.taken
+    (name_view c.args.name.now) _ (found (goal.at.returns-in_ok-insert-in-Some-clause-number c).In-Some) (is_number_taken c.args.readable.now)
+    (is_number_taken c.take.new.readable) (sym c.if-not-is_referenced.ensures) c.in_ok-fault-in-Some.ensures.taken
 
 pub returns-in_ok-insert-in-Some-clause-passed : goal.returns-in_ok-insert-in-Some-clause-passed
 returns-in_ok-insert-in-Some-clause-passed c =
     let taken = c.in_ok-fault-in-Some.ensures.taken in
-    passes_one (map function_view c.args.functions.now) (ordered_view c.args.assignments.now [] c.args.variable_references) (is_taken c.args.readable.now)
+    passes_one (map function_view c.args.functions.now) (ordered_view c.args.assignments.now [] c.args.variable_references)
+    (is_number_taken c.args.readable.now)
     (is_readable c.args.readable.now) (is_name_in c.args.passed.now) (is_name_in c.args.admitted.now) c.requires.passed
-    (assignment_view c.in-Some.assignment.now) (is_taken c.take.new.readable) (is_readable c.take.new.readable) (is_name_in c.take.new.admitted)
+    (assignment_view c.in-Some.assignment.now) (is_number_taken c.take.new.readable) (is_readable c.take.new.readable) (is_name_in c.take.new.admitted)
     c.in_ok-fault-in-Some.ensures.closed taken
     (more_readable c.args.readable.now c.take.new.readable c.take.ensures.outer (λ n k. (taken n).1 (inl k))) (name_view c.args.name.now)
     (is_name_in c.insert.new.self) (found (goal.at.returns-in_ok-insert-in-Some-clause-passed c).In-Some)

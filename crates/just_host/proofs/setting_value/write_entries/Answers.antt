@@ -2,7 +2,7 @@ use Rattle.std.proofs.Common.{◌≡◌, ◌+◌, ◌<◌, ◌++◌, ◌∷◌, 
 use Rattle.std.proofs.Output.{has_written_styled_append, has_written_styled_of_eq}
 use Rattle.std.proofs.lemmas.List.{flat_map_more, map-append, take_more}
 use Rattle.std.specs.List.{flat_map}
-use Rattle.just_host.specs.Prelude.{entry_view, line_of}
+use Rattle.just_host.specs.Prelude.{line_of, setting_entry_view}
 use Rattle.just_host.proofs.setting_value.write_entries.Goals as goal
 
 -- one more line is written after those so far
@@ -17,8 +17,9 @@ loop-name-preserved g c = λ flush.
     let within : i < length entries = omega arith in
     let more : take (i + 1) entries ≡ take i entries ++ entry ∷ [] =
     take_more entries i entry within ∙ ap (λ x. take i entries ++ x ∷ []) (sym c.loop-name-item.is) in
-    let views : map entry_view (take (i + 1) entries) ≡ map entry_view (take i entries) ++ entry_view entry ∷ [] =
-    ap (map entry_view) more ∙ map-append entry_view (take i entries) (entry ∷ []) in
-    let same : flat_map line_of (map entry_view (take i entries)) ++ line_of (entry_view entry) ≡ flat_map line_of (map entry_view (take (i + 1) entries)) =
-    flat_map_more line_of [] (map entry_view (take i entries)) (entry_view entry) ∙ ap (flat_map line_of) (sym views) in
+    let views : map setting_entry_view (take (i + 1) entries) ≡ map setting_entry_view (take i entries) ++ setting_entry_view entry ∷ [] =
+    ap (map setting_entry_view) more ∙ map-append setting_entry_view (take i entries) (entry ∷ []) in
+    let same : flat_map line_of (map setting_entry_view (take i entries)) ++ line_of (setting_entry_view entry)
+    ≡ flat_map line_of (map setting_entry_view (take (i + 1) entries)) =
+    flat_map_more line_of [] (map setting_entry_view (take i entries)) (setting_entry_view entry) ∙ ap (flat_map line_of) (sym views) in
     has_written_styled_of_eq took _ _ _ _ same (has_written_styled_append took _ _ _ _ _ before now)

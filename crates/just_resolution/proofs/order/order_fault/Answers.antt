@@ -1,5 +1,5 @@
 use Rattle.std.proofs.Common.{◌≡◌, ◌∙◌, ◌+◌, [], ap, map, drop, option_map, subst, sym, Bor}
-use Rattle.just_resolution.specs.Prelude.{frames_view, function_view, is_name_in, is_readable, is_taken, module_fault_view, name_view, ordered_view}
+use Rattle.just_resolution.specs.Prelude.{frames_view, function_view, is_name_in, is_number_taken, is_readable, module_fault_view, name_view, ordered_view}
 use Rattle.std.proofs.lemmas.List.{drop_all}
 use Rattle.just_value.specs.declared.scope.Scope.{Scope}
 use Rattle.just_meaning.proofs.Names.{no_name}
@@ -14,7 +14,7 @@ loop-name-init c =
     record {
       outer = same;
       walked = walks_from (map function_view c.args.functions.now) (ordered_view c.args.assignments.now [] c.args.variable_references)
-          (frames_view c.args.outer.now) (is_taken c.in_ok-readable.readable) (is_readable c.in_ok-readable.readable) (is_name_in c.new-admitted.result)
+          (frames_view c.args.outer.now) (is_number_taken c.in_ok-readable.readable) (is_readable c.in_ok-readable.readable) (is_name_in c.new-admitted.result)
           (map name_view c.args.evaluation_order.now) c.in_ok-readable.ensures.taken (no_name c.new-admitted.result c.new-admitted.ensures.empty)
           (readable_if c.in_ok-readable.readable (frames_view c.args.outer.now) same);
     }
@@ -32,13 +32,13 @@ loop-name-preserved c =
     let assignments = ordered_view c.args.assignments.now [] c.args.variable_references in
     record {
       outer = same;
-      walked = walks_on functions assignments (frames_view c.args.outer.now) (is_taken c.loop-name.readable) (is_readable c.loop-name.readable)
+      walked = walks_on functions assignments (frames_view c.args.outer.now) (is_number_taken c.loop-name.readable) (is_readable c.loop-name.readable)
           (is_name_in c.loop-name.admitted) (name_view (name_at names i))
           (map name_view (drop (i + 1) names)) (map name_view names)
-          (subst (λ l. IsWalkedTo functions assignments (frames_view c.args.outer.now) (is_taken c.loop-name.readable) (is_readable c.loop-name.readable)
+          (subst (λ l. IsWalkedTo functions assignments (frames_view c.args.outer.now) (is_number_taken c.loop-name.readable) (is_readable c.loop-name.readable)
           (is_name_in c.loop-name.admitted) l (map name_view names)) (begins_with_name names i c.loop-name-test.true)
           c.loop-name.invariant.walked)
-          (is_taken c.take_next.new.readable) (is_readable c.take_next.new.readable) (is_name_in c.take_next.new.admitted)
+          (is_number_taken c.take_next.new.readable) (is_readable c.take_next.new.readable) (is_name_in c.take_next.new.admitted)
           (c.in_ok-fault.ensures.taken (sym c.if-is_some.ensures))
           (readable_if c.take_next.new.readable (frames_view c.args.outer.now) same) (c.in_ok-fault.ensures.number (sym c.if-is_some.ensures))
           (reads_if _ (option_map module_fault_view c.in_ok-fault.fault) c.in_ok-fault.ensures.exact (some_seen module_fault_view c.in_ok-fault.fault
@@ -50,7 +50,7 @@ returns-then-is_some c =
     let names = c.args.evaluation_order.now in
     let i = c.loop-name.name-index in
     spoils (map function_view c.args.functions.now) (ordered_view c.args.assignments.now [] c.args.variable_references) (frames_view c.args.outer.now)
-    (is_taken c.loop-name.readable) (is_readable c.loop-name.readable) (is_name_in c.loop-name.admitted)
+    (is_number_taken c.loop-name.readable) (is_readable c.loop-name.readable) (is_name_in c.loop-name.admitted)
     (name_view (name_at names i)) (map name_view (drop (i + 1) names)) (map name_view (drop i names)) (map name_view names)
     (option_map module_fault_view c.in_ok-fault.fault)
     (begins_with_name names i c.loop-name-test.true) c.loop-name.invariant.walked (some_seen module_fault_view c.in_ok-fault.fault
@@ -60,6 +60,6 @@ pub returns : goal.returns
 returns c =
     let names = c.args.evaluation_order.now in
     walked_all (map function_view c.args.functions.now) (ordered_view c.args.assignments.now [] c.args.variable_references) (frames_view c.args.outer.now)
-    (is_taken c.loop-name.readable) (is_readable c.loop-name.readable) (is_name_in c.loop-name.admitted)
+    (is_number_taken c.loop-name.readable) (is_readable c.loop-name.readable) (is_name_in c.loop-name.admitted)
     (map name_view (drop c.loop-name.name-index names)) (map name_view names)
     (ap (map name_view) (drop_all c.loop-name.name-index names c.loop-name-test.false)) c.loop-name.invariant.walked

@@ -1,6 +1,6 @@
 use Rattle.std.proofs.Common.{◌≡◌, ap, refl, sym, inl, [], map, Some, None, Bor}
 use Rattle.std.proofs.lemmas.Result.{IfOk-weaker}
-use Rattle.just_resolution.specs.Prelude.{Text, assignment_at, assignment_view, function_view, is_readable, is_taken, module_fault_view, name_view}
+use Rattle.just_resolution.specs.Prelude.{Text, assignment_at, assignment_view, function_view, is_number_taken, is_readable, module_fault_view, name_view}
 use Rattle.just_resolution.specs.Prelude.{ordered_view}
 use Rattle.just_resolution.proofs.Ordering.{all_three, comes_again, comes_again_takes_none, comes_now, comes_now_takes_one, more_readable, passed_over}
 use Rattle.just_resolution.proofs.Ordering.{passed_over_takes_none, reads_if, takes_one}
@@ -31,7 +31,7 @@ returns-then-not-is_referenced-clause-exact c =
 pub returns-then-not-is_referenced-clause-number : goal.returns-then-not-is_referenced-clause-number
 returns-then-not-is_referenced-clause-number c = λ h.
     passed_over_takes_none (map function_view c.args.functions.now) (ordered_view c.args.assignments.now [] c.args.variable_references)
-    (name_view c.args.name.now) _ (found (goal.at.returns-then-not-is_referenced-clause-number c).In-Some) (is_taken c.args.readable.now)
+    (name_view c.args.name.now) _ (found (goal.at.returns-then-not-is_referenced-clause-number c).In-Some) (is_number_taken c.args.readable.now)
     (sym c.if-not-is_referenced.ensures)
 
 pub returns-then-not-is_referenced-clause-taken : goal.returns-then-not-is_referenced-clause-taken
@@ -45,7 +45,7 @@ returns-then-has_taken-clause-exact c =
 pub returns-then-has_taken-clause-number : goal.returns-then-has_taken-clause-number
 returns-then-has_taken-clause-number c = λ h.
     comes_again_takes_none (map function_view c.args.functions.now) (ordered_view c.args.assignments.now [] c.args.variable_references)
-    (name_view c.args.name.now) _ (found (goal.at.returns-then-has_taken-clause-number c).In-Some) (is_taken c.args.readable.now)
+    (name_view c.args.name.now) _ (found (goal.at.returns-then-has_taken-clause-number c).In-Some) (is_number_taken c.args.readable.now)
     (sym c.if-has_taken.ensures)
 
 pub returns-then-has_taken-clause-taken : goal.returns-then-has_taken-clause-taken
@@ -63,8 +63,8 @@ pub returns-else-has_taken-clause-number : goal.returns-else-has_taken-clause-nu
 returns-else-has_taken-clause-number c =
     IfOk-weaker c.take.result _ _
     (λ fault adds nothing. comes_now_takes_one (map function_view c.args.functions.now) (ordered_view c.args.assignments.now [] c.args.variable_references)
-    (name_view c.args.name.now) _ (found (goal.at.returns-else-has_taken-clause-number c).In-Some) (is_taken c.args.readable.now)
-    (is_taken c.take.new.readable) (sym c.if-not-is_referenced.ensures) adds)
+    (name_view c.args.name.now) _ (found (goal.at.returns-else-has_taken-clause-number c).In-Some) (is_number_taken c.args.readable.now)
+    (is_number_taken c.take.new.readable) (sym c.if-not-is_referenced.ensures) adds)
     c.take.ensures.taken
 
 pub returns-else-has_taken-clause-taken : goal.returns-else-has_taken-clause-taken

@@ -1,7 +1,7 @@
 use Rattle.std.proofs.Common.{◌≡◌, ◌∙◌, ◌+◌, ◌<◌, ◌++◌, ◌==◌, [], refl, length, take, get_or, ap, ap₂, sym, arith, if◌then◌else◌}
 use Rattle.std.proofs.lemmas.Bool.{ne_eqb}
 use Rattle.std.proofs.lemmas.List.{length-take-le, take_more}
-use Rattle.just_text.proofs.Joined.{joined, joined_after}
+use Rattle.just_text.proofs.Joined.{joined_after, joined_by}
 use Rattle.just_text.proofs.join_list.join_list.Goals as goal
 
 pub loop-text-preserved : goal.loop-text-preserved
@@ -16,6 +16,6 @@ loop-text-preserved c =
     let text = c.deref.ensures ∙ c.text-item.is in
     record {
       so_far = c.in_ok-push_str.ensures.bytes ∙ (ap₂ (λ a b. a ++ b) so_far text
-          ∙ sym (ap (joined separator) (take_more texts i _ within) ∙ joined_after separator (take i texts) (get_or texts i _)));
+          ∙ sym (ap (joined_by separator) (take_more texts i _ within) ∙ joined_after separator (take i texts) (get_or texts i _)));
       next = rw (ne_eqb (i + 1) 0 (λ e. absurd (omega arith))) refl;
     }

@@ -1,7 +1,7 @@
 use Rattle.std.proofs.Common.{[], ap, arith, length, map, subst, sym, ◌≡◌, ◌∙◌}
 use Rattle.std.proofs.lemmas.List.{nil_from_length}
 use Rattle.just_value.specs.Left.{bindings_in}
-use Rattle.just_value.specs.Placed.{elements}
+use Rattle.just_value.specs.Placed.{elements_at}
 use Rattle.just_value.specs.Prelude.{AreRising, bound_view}
 use Rattle.just_value.proofs.Framed.{rising_seen, values_seen}
 use Rattle.just_value.proofs.Placed.{all_placed, elements_in_order, no_more_elements, rising_in_order, within}
@@ -16,7 +16,7 @@ left_is c = elim c.if-is_empty.branch [
       rw (w.left-is, ← c.self.view_is, none) (w.iter.ensures.rest ∙ w.deref.ensures.value)
   | else-is_empty w ↦
       let some : c.self.inside.places.entries ≡ [] → ⊥ = λ none. let all = c.is_empty.ensures.1 (ap length none) in absurd (cc) in
-      rw (w.left-is, ← c.self.view_is, c.deref-2.ensures.value) (ap (elements c.self.inside.bindings.items) w.values.ensures.rest
+      rw (w.left-is, ← c.self.view_is, c.deref-2.ensures.value) (ap (elements_at c.self.inside.bindings.items) w.values.ensures.rest
       ∙ sym (elements_in_order c.self.inside.bindings.items c.self.inside.places.entries some))
 ]
 
