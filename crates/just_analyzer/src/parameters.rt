@@ -6,8 +6,7 @@ ghost use Rattle.just_syntax.specs.View.{name_view, recipe_parameter_view};
 ghost use Rattle.just_parser.specs.View.{arg_option_view, arg_view, recipe_definition_view};
 ghost use Rattle.just_analyzer.specs.Outcome.{Grown};
 ghost use Rattle.just_analyzer.specs.Parameters.{at_place, configured, distinct, duplicate, parameter_place};
-ghost use Rattle.just_analyzer.specs.Parameters.{repeated_name};
-ghost use Rattle.just_analyzer.specs.Parameters.{with_args, with_option, with_options};
+ghost use Rattle.just_analyzer.specs.Parameters.{repeated_name, with_args, with_option, with_options};
 ghost use Rattle.just_analyzer.specs.View.{IsAnalysisFault, place_in};
 
 use crate::added::fault;

@@ -11,8 +11,7 @@ use Rattle.std.specs.Borrow.{Bor}
 use Rattle.just_bench.specs.Prelude.{Added, Extends, Frames, Gave, Goes, Kept, Module, OrderPrints, Outcome, PrintedBlock, Refusal, RunResult, Step, Text}
 use Rattle.just_bench.specs.Prelude.{Token, Walks, block_lines, block_of, blocks_in, dynamically, end_line, found_by, in_order, name_view, names_of}
 use Rattle.just_bench.specs.Prelude.{next_number, order_line, recording, refusal_line, still_coming, taken_in, taken_view, text_numbered, turn_between}
-use Rattle.just_bench.specs.Prelude.{with_block}
-use Rattle.just_bench.specs.Prelude.{with_blocks, without_value}
+use Rattle.just_bench.specs.Prelude.{with_block, with_blocks, without_value}
 use Rattle.just_syntax.specs.declared.name.Name.{Name}
 use Rattle.just_bench.specs.Blocks.{Breaks, Finished}
 use Rattle.just_bench.proofs.Lexical.{turns_lexical}

@@ -9,8 +9,7 @@ use Rattle.std.specs.declared.string.String.{String}
 use Rattle.std.proofs.lemmas.Cmp.{nat_list_eq_equiv}
 use Rattle.std.proofs.lemmas.Map.Text.{is_eq-slice_cmp}
 use Rattle.just_builtins.specs.Prelude.{Answer, Answers, Asked, AskedOr, Behaves, Called, Context, Frames, FunctionReply, Gave, GivesOr, IsReply, Outcome}
-use Rattle.just_builtins.specs.Prelude.{Returned}
-use Rattle.just_builtins.specs.Prelude.{Step, unchecked}
+use Rattle.just_builtins.specs.Prelude.{Returned, Step, unchecked}
 use Rattle.just_builtins.specs.Prelude.{Text, TextOf, Value, asks_environment, asks_text, entry, first_set, frameless, freely, outcome, text_answered, tree}
 use Rattle.just_builtins.specs.Prelude.{variable_not_unicode, variable_reply, variable_unreadable}
 use Rattle.just_host.specs.Question.{Variable}

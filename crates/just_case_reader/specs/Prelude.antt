@@ -10,8 +10,7 @@ pub use Rattle.just_case_reader.specs.Line.{lines_of, name_line, number_line, op
 pub use Rattle.just_case_reader.specs.Numbering.{KnownNames, number_of, parameters_with_numbers, with_names}
 pub use Rattle.just_case_reader.specs.Reading.{BadLine, Describes, described, described_from, finished, names_in}
 pub use Rattle.just_case_reader.specs.Reading.{nothing, read, step, with_stack}
-pub use Rattle.just_case_reader.specs.Rest.{if_names, is_name, is_name_part, is_name_start, names, number}
-pub use Rattle.just_case_reader.specs.Rest.{spaced_pieces}
+pub use Rattle.just_case_reader.specs.Rest.{if_names, is_name, names, number, spaced_pieces}
 pub use Rattle.just_case_reader.specs.Rest.{rest_of, word_of}
 pub use Rattle.just_case_reader.specs.Stack.{of_operand, several, stack_after, together}
 pub use Rattle.just_case_reader.specs.Token.{token_of}

@@ -13,8 +13,7 @@ use Rattle.just_value.specs.Refusal.{Code}
 use Rattle.just_case_reader.specs.Case as cases
 use Rattle.just_case_reader.specs.Case.{Case}
 use Rattle.just_case_reader.specs.Line.{CaseLine, Bad, Command, Variable, Assign, Function, Override, Dotenv, Order}
-use Rattle.just_case_reader.specs.Line.{Only}
-use Rattle.just_case_reader.specs.Line.{Reply, Fail, Always, Lists, Dry, Limit, Run, Const, Blocks, says_nothing}
+use Rattle.just_case_reader.specs.Line.{Only, Reply, Fail, Always, Lists, Dry, Limit, Run, Const, Blocks, says_nothing}
 use Rattle.just_case_reader.specs.Numbering.{KnownNames, no_names, number_of, numbers_of_names, parameters_with_numbers}
 use Rattle.just_case_reader.specs.Numbering.{with_name, with_names}
 use Rattle.just_case_reader.specs.Rest.{names}

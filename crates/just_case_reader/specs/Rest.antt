@@ -1,20 +1,10 @@
 -- The text after the word of a line.
-use Rattle.std.specs.Prelude.{List, ℕ, ◌+◌, ◌-◌, ◌*◌, Bool, false, [], ◌∷◌, ◌&&◌, ◌||◌, ◌==◌, nat_le, length, Option}
+use Rattle.std.specs.Prelude.{List, ℕ, ◌+◌, ◌-◌, ◌*◌, Bool, false, [], ◌∷◌, ◌&&◌, ◌==◌, nat_le, length, Option}
 use Rattle.std.specs.Prelude.{Some, None, if◌then◌else◌}
 use Rattle.std.specs.List.{list_all, before_first, after_first, slice_split}
 use Rattle.std.specs.Option.{option_map}
 use Rattle.just_syntax.specs.Plain.{Text}
-
-abbrev pub is_between : ℕ → ℕ → ℕ → Bool
-is_between low high byte = nat_le low byte && nat_le byte high
-
--- a letter or `_`
-abbrev pub is_name_start : ℕ → Bool
-is_name_start byte = (byte == 95) || (is_between 65 90 byte || is_between 97 122 byte)
-
--- `-`, a digit, a letter or `_`
-abbrev pub is_name_part : ℕ → Bool
-is_name_part byte = ((byte == 45) || is_between 48 57 byte) || is_name_start byte
+use Rattle.just_syntax.specs.NameBytes.{is_between, is_name_part, is_name_start}
 
 abbrev pub is_name : Text → Bool
 is_name [] = false

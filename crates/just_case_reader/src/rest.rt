@@ -2,8 +2,8 @@
 
 ghost use Rattle.std.specs.Prelude.{IfOk, None, Some, [], map, option_map, position, ◌==◌, ◌≡◌};
 ghost use Rattle.std.specs.List.{list_all};
-ghost use Rattle.just_case_reader.specs.Prelude.{if_names, is_name, is_name_part, is_name_start, names, number};
-ghost use Rattle.just_case_reader.specs.Prelude.{spaced_pieces};
+ghost use Rattle.just_syntax.specs.NameBytes.{is_name_part, is_name_start};
+ghost use Rattle.just_case_reader.specs.Prelude.{if_names, is_name, names, number, spaced_pieces};
 ghost use Rattle.just_case_reader.specs.Prelude.{rest_of, word_of};
 
 use just_syntax::out_of_memory::OutOfMemory;

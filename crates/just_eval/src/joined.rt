@@ -3,8 +3,7 @@
 ghost use Rattle.std.specs.Prelude.{IfOk, OnOk, Some, ◌≡◌};
 ghost use Rattle.just_eval.specs.Prelude.{commands_of, ends_with_backslash, fragment_view, is_continued};
 ghost use Rattle.just_eval.specs.Prelude.{is_continued_by, joined_view, line_view, texts_view, unjoined};
-ghost use Rattle.just_eval.specs.Prelude.{with_further_line};
-ghost use Rattle.just_eval.specs.Prelude.{without_backslash};
+ghost use Rattle.just_eval.specs.Prelude.{with_further_line, without_backslash};
 
 use just_syntax::fragment::Fragment;
 use just_syntax::line::Line;

@@ -16,8 +16,8 @@ use Rattle.just_expression_parser.proofs.ReadOperators.{IsRead, ReadsValue, neve
 use Rattle.just_expression_parser.specs.Grammar.{interpolations, more, reads, reads_elements}
 use Rattle.just_expression_parser.specs.Literal.{Style, format_style}
 use Rattle.just_expression_parser.specs.Machine as machine
-use Rattle.just_expression_parser.specs.Machine.{Done, Elements, Form, Interpolation, MachineFrame, Operators, closing_kind, expression_row, format_pieces}
-use Rattle.just_expression_parser.specs.Machine.{parse, with_elements}
+use Rattle.just_expression_parser.specs.Machine.{Done, Elements, Form, Interpolation, MachineFrame, Operators, closing_kind, expression_list, expression_row}
+use Rattle.just_expression_parser.specs.Machine.{format_pieces, parse, with_elements}
 use Rattle.just_expression_parser.specs.Parsed.{IsNotAt, is_at_word}
 use Rattle.just_expression_parser.specs.Tokens.{Mark, Tokens, code}
 
@@ -96,16 +96,12 @@ as_read e value high closed same = (value, from, after_if) where
       → parse (drop 1 ts) (machine.Expression 0) (machine.Condition ∷ frames) ≡ parse rest (Done e) frames
   after_if ts rest frames derived there end = absurd (value_no_if e value ts rest (same 3 ts rest derived) there)
 
--- elements and pieces as lists
-abbrev pub listed : Exprs → List Expr
-listed plain.Nil = []
-listed (plain.Cons e es) = e ∷ listed es
-
+-- pieces as a list
 abbrev pub listed_pieces : Pieces → List (Expr × Literal)
 listed_pieces plain.NoPiece = []
 listed_pieces (plain.Piece e text ps) = (e, text) ∷ listed_pieces ps
 
-pub row_listed : (es : Exprs) → expression_row (listed es) ≡ es
+pub row_listed : (es : Exprs) → expression_row (expression_list es) ≡ es
 row_listed plain.Nil = refl
 row_listed (plain.Cons e es) = ap (plain.Cons e) (row_listed es)
 
@@ -122,11 +118,11 @@ comma_opens form ts rest (t, taken) =
 
 abbrev pub ReadsElements : Exprs → Type 0
 ReadsElements es = (form : Form) (before : List Expr) (ts rest : Tokens) (frames : List MachineFrame) → reads_elements es (closing_kind form) ts rest
-    → parse ts (Elements form before) frames ≡ parse rest (Done (with_elements form (before ++ listed es))) frames
+    → parse ts (Elements form before) frames ≡ parse rest (Done (with_elements form (before ++ expression_list es))) frames
 
 abbrev pub ReadsMore : Exprs → Type 0
 ReadsMore es = (form : Form) (before : List Expr) (e : Expr) (ts rest : Tokens) (frames : List MachineFrame) → more es (closing_kind form) ts rest
-    → parse ts (Done e) (machine.Element form before ∷ frames) ≡ parse rest (Done (with_elements form (before ++ e ∷ listed es))) frames
+    → parse ts (Done e) (machine.Element form before ∷ frames) ≡ parse rest (Done (with_elements form (before ++ e ∷ expression_list es))) frames
 
 more_ends : (es : Exprs) (form : Form) (ts rest : Tokens) → more es (closing_kind form) ts rest → IsEnd 0 ts
 more_ends plain.Nil form ts rest (inl mark) = ends_at (closing_kind form) 0 ts rest (form_closes form) mark
@@ -154,7 +150,7 @@ another_element e es read later form before first ts rest frames (m, comma, (m2,
     ∙ element_here form (before ++ first ∷ []) m frames (expression_opens e 0 m m2 d form)
     ∙ whole e read m m2 (machine.Element form (before ++ first ∷ []) ∷ frames) d (more_ends es form m2 rest rests)
     ∙ later form (before ++ first ∷ []) e m2 rest frames rests
-    ∙ ap (λ xs. parse rest (Done (with_elements form xs)) frames) (append_assoc before (first ∷ []) (e ∷ listed es))
+    ∙ ap (λ xs. parse rest (Done (with_elements form xs)) frames) (append_assoc before (first ∷ []) (e ∷ expression_list es))
 
 pub list_value : (es : Exprs) (t : Token) → ReadsElements es → ReadsValue (plain.ListOf es t)
 list_value es t reading ts rest frames (m, taken, d) end =

@@ -14,7 +14,7 @@ use Rattle.just_expression_parser.proofs.Actions.{assertion_end, element_comma, 
 use Rattle.just_expression_parser.proofs.Actions.{not_here, not_operator, operator_here, unexpected}
 use Rattle.just_expression_parser.proofs.Codes.{at_kind, is_not_of_kind, is_of_kind}
 use Rattle.just_expression_parser.proofs.Derived.{same_reading}
-use Rattle.just_expression_parser.proofs.ReadValues.{listed, listed_pieces, pieces_listed, row_listed}
+use Rattle.just_expression_parser.proofs.ReadValues.{listed_pieces, pieces_listed, row_listed}
 use Rattle.just_expression_parser.proofs.Interpolations.{last_here, middle_here, neither, no_last, no_middle}
 use Rattle.just_expression_parser.proofs.Runs.{frame_completes, frame_refuses, frame_refuses_end, refuses, refuses_end}
 use Rattle.just_expression_parser.proofs.Starts.{assertion_here, brace_after_else, braced_here, call_here, chained_here, element_here, elements_end, else_here}
@@ -27,13 +27,10 @@ use Rattle.just_expression_parser.specs.Grammar as grammar
 use Rattle.just_expression_parser.specs.Grammar.{interpolations, more, reads, reads_elements}
 use Rattle.just_expression_parser.specs.Laws.{DerivesWhatIsRead}
 use Rattle.just_expression_parser.specs.Literal.{Style, backtick_command, end_of_format, format_style, is_format, middle_of_format, start_of_format}
-use Rattle.just_expression_parser.specs.Literal.{string_literal}
-use Rattle.just_expression_parser.specs.Literal.{whole_format, written}
+use Rattle.just_expression_parser.specs.Literal.{string_literal, whole_format, written}
 use Rattle.just_expression_parser.specs.Machine as machine
 use Rattle.just_expression_parser.specs.Machine.{Done, Elements, Form, Interpolation, MachineFrame, Next, Operators, Read, Refused, Refuses, Side, closing_kind}
-use Rattle.just_expression_parser.specs.Machine.{ends_with}
-use Rattle.just_expression_parser.specs.Machine.{expects}
-use Rattle.just_expression_parser.specs.Machine.{expression_row, format_pieces, parse, takes_it, with_elements}
+use Rattle.just_expression_parser.specs.Machine.{ends_with, expects, expression_list, expression_row, format_pieces, parse, takes_it, with_elements}
 use Rattle.just_expression_parser.specs.Operator.{comparison_kind, level, operation, operator_of}
 use Rattle.just_expression_parser.specs.Parsed.{IsNotAt, is_at_word}
 use Rattle.just_expression_parser.specs.Tokens.{Mark, One, Tokens, Word, is_word, lexeme}
@@ -156,7 +153,7 @@ Ifs k = (m : ℕ) (start begin ts : Tokens) (frames : List MachineFrame) → Wor
 abbrev GoodElements : ℕ → ℕ → Tokens → Form → List MachineFrame → List Expr → Tokens → Type 0
 GoodElements k m start form frames before ts =
     (es : Exprs) (at : Tokens) (w : Expr) (rest : Tokens) → length at < k → reads_elements es (closing_kind form) ts at
-    → parse at (Done (with_elements form (before ++ listed es))) frames ≡ Read w rest → reads w m start rest
+    → parse at (Done (with_elements form (before ++ expression_list es))) frames ≡ Read w rest → reads w m start rest
 
 abbrev Lists : ℕ → Type 0
 Lists k =
@@ -336,7 +333,7 @@ lists_step k main lists m start form before (t ∷ ts) frames less good w rest r
                     lists m start form (before ++ e ∷ []) vs frames (omega (arith, less))
                     (λ es at2 w2 rest2 less2 d2 r2. good (plain.Cons e es) at2 w2 rest2 (omega (arith, less2))
                     (v ∷ vs, d, more_of es form (v ∷ vs) vs at2 comma d2)
-                    (ap (λ xs. parse at2 (Done (with_elements form xs)) frames) (sym (append_assoc before (e ∷ []) (listed es))) ∙ r2))
+                    (ap (λ xs. parse at2 (Done (with_elements form xs)) frames) (sym (append_assoc before (e ∷ []) (expression_list es))) ∙ r2))
                     w rest (sym (element_comma form before e (v ∷ vs) vs frames other comma) ∙ r)
                 | inr no_comma ↦ absurd (not_read (Expected (closing_kind form)) (v ∷ vs) w rest
                     (sym (frame_refuses v vs (machine.Element form before) frames e (Expected (closing_kind form))

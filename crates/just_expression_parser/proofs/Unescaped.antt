@@ -9,17 +9,14 @@ use Rattle.std.specs.Char.{IsScalar, InScalarRange, OutOfScalarRange, encode_utf
 use Rattle.std.specs.Option.{SomeIff}
 use Rattle.std.specs.Str.{IsCharBoundary, IsUtf8}
 use Rattle.just_syntax.specs.Plain.{Text}
+use Rattle.just_syntax.proofs.Lists.{LacksByte}
 use Rattle.just_expression_parser.specs.Literal.{after_front, character, hex_digit, escape_meaning, meant, hexadecimal_after, scalar, unescaped, NoEscape}
 use Rattle.just_expression_parser.specs.Literal.{Backslash, Unicode, Digits}
 
--- no byte is this one
-abbrev pub Lacks : ℕ → Text → Type 0
-Lacks c text = (i : ℕ) → i < length text → get_or text i 0 ≢ c
-
-lacks_first : (c b : ℕ) (text : Text) → Lacks c (b ∷ text) → eqb b c ≡ false
+lacks_first : (c b : ℕ) (text : Text) → LacksByte c (b ∷ text) → eqb b c ≡ false
 lacks_first c b text lacks = ne_eqb b c (lacks 0 (omega arith))
 
-lacks_rest : (c b : ℕ) (text : Text) → Lacks c (b ∷ text) → Lacks c text
+lacks_rest : (c b : ℕ) (text : Text) → LacksByte c (b ∷ text) → LacksByte c text
 lacks_rest c b text lacks = λ i small. lacks (suc i) (omega arith)
 
 -- ---- texts before a text
@@ -37,21 +34,21 @@ after_after f g (Some t) = ap Some (sym (append_assoc f g t))
 kept : (b : ℕ) (rest : Text) → eqb b 92 ≡ false → unescaped NoEscape (b ∷ rest) ≡ after_front (b ∷ []) (unescaped NoEscape rest)
 kept b rest e = ap (λ t. cond t (unescaped Backslash rest) (after_front (b ∷ []) (unescaped NoEscape rest))) e
 
-front_kept : (front rest : Text) → Lacks 92 front → unescaped NoEscape (front ++ rest) ≡ after_front front (unescaped NoEscape rest)
+front_kept : (front rest : Text) → LacksByte 92 front → unescaped NoEscape (front ++ rest) ≡ after_front front (unescaped NoEscape rest)
 front_kept [] rest lacks = sym (after_nothing (unescaped NoEscape rest))
 front_kept (b ∷ front) rest lacks =
     kept b (front ++ rest) (lacks_first 92 b front lacks)
     ∙ (ap (after_front (b ∷ [])) (front_kept front rest (lacks_rest 92 b front lacks)) ∙ after_after (b ∷ []) front (unescaped NoEscape rest))
 
-all_kept : (text : Text) → Lacks 92 text → unescaped NoEscape text ≡ Some text
+all_kept : (text : Text) → LacksByte 92 text → unescaped NoEscape text ≡ Some text
 all_kept [] lacks = refl
 all_kept (b ∷ text) lacks = kept b text (lacks_first 92 b text lacks) ∙ ap (after_front (b ∷ [])) (all_kept text (lacks_rest 92 b text lacks))
 
-at_escape : (front tail rest : Text) → rest ≡ front ++ (92 ∷ tail) → Lacks 92 front → unescaped NoEscape rest ≡ after_front front (unescaped Backslash tail)
+at_escape : (front tail rest : Text) → rest ≡ front ++ (92 ∷ tail) → LacksByte 92 front → unescaped NoEscape rest ≡ after_front front (unescaped Backslash tail)
 at_escape front tail rest cut lacks = ap (unescaped NoEscape) cut ∙ front_kept front (92 ∷ tail) lacks
 
 -- a step of the loop: a text up to a backslash, and what the escape means
-pub goes_on : (all front tail rest m next : Text) (whole : Option Text) → (rest ≡ front ++ (92 ∷ tail)) × Lacks 92 front
+pub goes_on : (all front tail rest m next : Text) (whole : Option Text) → (rest ≡ front ++ (92 ∷ tail)) × LacksByte 92 front
     → unescaped Backslash tail ≡ after_front m (unescaped NoEscape next) → after_front all (unescaped NoEscape rest) ≡ whole
     → after_front ((all ++ front) ++ m) (unescaped NoEscape next) ≡ whole
 goes_on all front tail rest m next whole (cut, lacks) is so_far =
@@ -60,13 +57,13 @@ goes_on all front tail rest m next whole (cut, lacks) is so_far =
     ∙ (sym (after_after all front (unescaped Backslash tail)) ∙ (ap (after_front all) (sym (at_escape front tail rest cut lacks)) ∙ so_far)))
 
 -- an escape that means nothing
-pub refuses : (all front tail rest : Text) (whole : Option Text) → (rest ≡ front ++ (92 ∷ tail)) × Lacks 92 front
+pub refuses : (all front tail rest : Text) (whole : Option Text) → (rest ≡ front ++ (92 ∷ tail)) × LacksByte 92 front
     → unescaped Backslash tail ≡ None → after_front all (unescaped NoEscape rest) ≡ whole → None ≡ whole
 refuses all front tail rest whole (cut, lacks) is so_far =
     ap (λ o. after_front all (after_front front o)) (sym is) ∙ (ap (after_front all) (sym (at_escape front tail rest cut lacks)) ∙ so_far)
 
 -- the end
-pub is_done : (all rest : Text) (whole : Option Text) → Lacks 92 rest → after_front all (unescaped NoEscape rest) ≡ whole → Some (all ++ rest) ≡ whole
+pub is_done : (all rest : Text) (whole : Option Text) → LacksByte 92 rest → after_front all (unescaped NoEscape rest) ≡ whole → Some (all ++ rest) ≡ whole
 is_done all rest whole lacks so_far = ap (after_front all) (sym (all_kept rest lacks)) ∙ so_far
 
 -- ---- the byte after a backslash
@@ -128,13 +125,14 @@ from_character rest o = option_and_then (λ c. after_front (encode_utf8 c) (unes
 one_more : (digits : Text) (b : ℕ) (rest : Text) → eqb b 125 ≡ false → unescaped (Digits digits) (b ∷ rest) ≡ unescaped (Digits (digits ++ b ∷ [])) rest
 one_more digits b rest e = ap (λ t. cond t (from_character rest (character digits)) (unescaped (Digits (digits ++ b ∷ [])) rest)) e
 
-closed : (digits rest front : Text) → Lacks 125 digits → unescaped (Digits front) (digits ++ (125 ∷ rest)) ≡ from_character rest (character (front ++ digits))
+closed : (digits rest front : Text) → LacksByte 125 digits
+    → unescaped (Digits front) (digits ++ (125 ∷ rest)) ≡ from_character rest (character (front ++ digits))
 closed [] rest front lacks = ap (λ d. from_character rest (character d)) (sym (append-nil front))
 closed (b ∷ digits) rest front lacks =
     one_more front b (digits ++ (125 ∷ rest)) (lacks_first 125 b digits lacks)
     ∙ (closed digits rest (front ++ b ∷ []) (lacks_rest 125 b digits lacks) ∙ ap (λ d. from_character rest (character d)) (append_assoc front (b ∷ []) digits))
 
-unclosed : (text front : Text) → Lacks 125 text → unescaped (Digits front) text ≡ None
+unclosed : (text front : Text) → LacksByte 125 text → unescaped (Digits front) text ≡ None
 unclosed [] front lacks = refl
 unclosed (b ∷ text) front lacks = one_more front b text (lacks_first 125 b text lacks) ∙ unclosed text (front ++ b ∷ []) (lacks_rest 125 b text lacks)
 
@@ -144,11 +142,12 @@ no_brace [] lacks = refl
 no_brace (b ∷ rest) lacks = ap (λ t. cond t (unescaped (Digits []) rest) None) (ne_eqb b 123 (λ e. lacks rest (ap (λ x. x ∷ rest) e)))
 
 -- only the first brace
-pub one_brace : (text inner : Text) → text ≡ 123 ∷ inner → Lacks 125 inner → unescaped Unicode text ≡ None
+pub one_brace : (text inner : Text) → text ≡ 123 ∷ inner → LacksByte 125 inner → unescaped Unicode text ≡ None
 one_brace text inner e lacks = ap (unescaped Unicode) e ∙ unclosed inner [] lacks
 
 -- both, with these digits in between, and with the character that they have
-pub braced : (text inner digits rest : Text) (o : Option ℕ) → text ≡ 123 ∷ inner → (inner ≡ digits ++ (125 ∷ rest)) × Lacks 125 digits → o ≡ character digits
+pub braced : (text inner digits rest : Text) (o : Option ℕ) → text ≡ 123 ∷ inner → (inner ≡ digits ++ (125 ∷ rest)) × LacksByte 125 digits
+    → o ≡ character digits
     → unescaped Unicode text ≡ from_character rest o
 braced text inner digits rest o e (cut, lacks) is =
     ap (unescaped Unicode) e ∙ (ap (unescaped (Digits [])) cut ∙ (closed digits rest [] lacks ∙ ap (from_character rest) (sym is)))

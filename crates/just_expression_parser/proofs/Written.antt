@@ -4,9 +4,7 @@ use Rattle.std.proofs.lemmas.Bool.{lt-ltb, le-ltb}
 use Rattle.just_syntax.specs.Plain.{Text}
 use Rattle.just_syntax.specs.Unindented.{unindented}
 use Rattle.just_expression_parser.specs.Literal.{Style, braces, end_of_format, format_style, format_text, literal_of, middle_of_format, piece_literal}
-use Rattle.just_expression_parser.specs.Literal.{start_of_format}
-use Rattle.just_expression_parser.specs.Literal.{string_literal}
-use Rattle.just_expression_parser.specs.Literal.{style, unindented_by_style, whole_format, without_end_mark, without_front}
+use Rattle.just_expression_parser.specs.Literal.{start_of_format, string_literal, style, unindented_by_style, whole_format, without_end_mark, without_front}
 
 -- a text between these marks
 abbrev Cut : Text → Text → Text → Text → Type 0

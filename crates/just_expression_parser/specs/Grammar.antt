@@ -7,8 +7,7 @@ use Rattle.just_syntax.specs.Plain.{NoPiece, Piece, Literal, Text, Token}
 use Rattle.just_lexer.specs.declared.kind.TokenKind.{TokenKind}
 use Rattle.just_lexer.specs.declared.kind.TokenKind.TheVariants as kinds
 use Rattle.just_expression_parser.specs.Literal.{Style, backtick_command, end_of_format, format_style, is_format}
-use Rattle.just_expression_parser.specs.Literal.{middle_of_format}
-use Rattle.just_expression_parser.specs.Literal.{start_of_format, string_literal, whole_format}
+use Rattle.just_expression_parser.specs.Literal.{middle_of_format, start_of_format, string_literal, whole_format}
 use Rattle.just_expression_parser.specs.Operator.{comparison_kind}
 use Rattle.just_expression_parser.specs.Tokens.{Tokens, One, Mark, Then, Word}
 

@@ -11,8 +11,7 @@ use Rattle.just_lexer.specs.State.{Lexeme}
 use Rattle.just_lexer.specs.declared.kind.TokenKind.{TokenKind}
 use Rattle.just_lexer.specs.declared.kind.TokenKind.TheVariants as kinds
 use Rattle.just_expression_parser.specs.Literal.{Style, backtick_command, end_of_format, format_style, is_format}
-use Rattle.just_expression_parser.specs.Literal.{middle_of_format}
-use Rattle.just_expression_parser.specs.Literal.{start_of_format, string_literal, whole_format}
+use Rattle.just_expression_parser.specs.Literal.{middle_of_format, start_of_format, string_literal, whole_format}
 use Rattle.just_expression_parser.specs.Operator.{level, operation, operator_of}
 use Rattle.just_expression_parser.specs.Tokens.{Tokens, is_kind, is_word}
 use Rattle.just_expression_parser.specs.declared.operator.Operator.{Operator}
@@ -78,6 +77,11 @@ pub data Next : Type 0 where
 abbrev pub expression_row : List Expr → Exprs
 expression_row [] = plain.Nil
 expression_row (e ∷ es) = plain.Cons e (expression_row es)
+
+-- the expressions of a row
+abbrev pub expression_list : Exprs → List Expr
+expression_list plain.Nil = []
+expression_list (plain.Cons e es) = e ∷ expression_list es
 
 -- interpolations, each with the text after it
 abbrev pub format_pieces : List (Expr × Literal) → Pieces

@@ -4,6 +4,7 @@ pub use Rattle.just_meaning.specs.Callee.{accepts, callee}
 pub use Rattle.just_meaning.specs.Resolved.{HasValue, IsKnown, IsResolved, with_taken}
 pub use Rattle.just_meaning.specs.View.{assignments_view, functions_view, ordered_view}
 pub use Rattle.just_syntax.specs.Lists.{IsIn}
+pub use Rattle.just_syntax.specs.NameSet.{is_name_in}
 pub use Rattle.just_syntax.specs.NumberSet.{is_member}
 pub use Rattle.just_syntax.specs.Plain.{Assignment, Function, Text, Token}
 pub use Rattle.just_syntax.specs.View.{assignment_view, function_view, name_view, parameter_view, view}
@@ -16,8 +17,7 @@ pub use Rattle.just_resolution.specs.Fault.{NumberOf, ParameterOf, ReadsUntaken,
 pub use Rattle.just_resolution.specs.Fault.{number_places, numbered_assignments, numbered_parameters, parameter_places}
 pub use Rattle.just_resolution.specs.Fault.{places, site_places}
 pub use Rattle.just_resolution.specs.First.{IsFirstFaulty}
-pub use Rattle.just_resolution.specs.Seen.{is_name_in, is_number_taken, is_readable, module_fault_view, site_view}
-pub use Rattle.just_resolution.specs.Seen.{sites_view}
+pub use Rattle.just_resolution.specs.Seen.{is_number_taken, is_readable, module_fault_view, site_view, sites_view}
 pub use Rattle.just_resolution.specs.Sites.{Site, all_sites, sites_in}
 pub use Rattle.just_faults.specs.All.{Adds, AddsFaults, AddsUnknown, AreFaults, FindsAll, with_some}
 pub use Rattle.just_faults.specs.Passed.{IsPassed}

@@ -4,8 +4,7 @@ ghost use Rattle.std.specs.Prelude.{map, option_map, string_bytes, ◌++◌, ◌
 ghost use Rattle.std.specs.Fmt.{WritesStyledOnOk};
 ghost use Rattle.std.specs.List.{flat_map};
 ghost use Rattle.just_host.specs.Prelude.{entries, interpreter_shown, is_set, line_of, setting_entry_view};
-ghost use Rattle.just_host.specs.Prelude.{setting_value_view};
-ghost use Rattle.just_host.specs.Prelude.{settings_view, value_named};
+ghost use Rattle.just_host.specs.Prelude.{setting_value_view, settings_view, value_named};
 ghost use Rattle.just_syntax.specs.View.{interpreter_view};
 ghost use Rattle.just_value.specs.Prelude.{quoted};
 

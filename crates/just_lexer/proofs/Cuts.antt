@@ -7,7 +7,9 @@ use Rattle.std.proofs.lemmas.Slice.Eq.{starts_is}
 use Rattle.std.proofs.lemmas.Str.{IsCharBoundary-after_ascii}
 use Rattle.std.specs.Str.{IsCharBoundary, IsUtf8}
 use Rattle.just_syntax.specs.Plain.{Text}
-use Rattle.just_lexer.specs.Front.{begins_with, is_blank, is_name_part}
+use Rattle.just_syntax.specs.NameBytes.{is_name_part}
+use Rattle.just_syntax.specs.Unindented.{is_gap}
+use Rattle.just_lexer.specs.Front.{begins_with}
 use Rattle.just_lexer.specs.Span.{one_if, passed, span}
 use Rattle.just_lexer.proofs.Spans.{suc_is_no_zero}
 use Rattle.just_lexer.specs.declared.span.Rule.{Rule}
@@ -103,7 +105,7 @@ ascii_span rule ascii (b ∷ t) i low = ascii_at rule b t (passed rule (b ∷ t)
 
 -- ---- single bytes
 
-blank_is_ascii : (b : ℕ) → is_blank b ≡ true → b < 128
+blank_is_ascii : (b : ℕ) → is_gap b ≡ true → b < 128
 blank_is_ascii b e = grind (arith, nat_tests)
 
 part_is_ascii : (b : ℕ) → is_name_part b ≡ true → b < 128
@@ -116,7 +118,7 @@ one_if_or false P holds = inl refl
 pub blanks_ascii : (t : Text) → (passed Blanks t ≡ 0) ⊎ ((passed Blanks t ≡ 1) × (get_or t 0 0 < 128))
 unfolding passed
 blanks_ascii [] = inl refl
-blanks_ascii (b ∷ t) = one_if_or (is_blank b) (b < 128) (blank_is_ascii b)
+blanks_ascii (b ∷ t) = one_if_or (is_gap b) (b < 128) (blank_is_ascii b)
 
 pub names_ascii : (t : Text) → (passed Name t ≡ 0) ⊎ ((passed Name t ≡ 1) × (get_or t 0 0 < 128))
 unfolding passed

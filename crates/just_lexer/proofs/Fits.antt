@@ -5,9 +5,11 @@ use Rattle.std.proofs.lemmas.Bool.Decides.{nat_tests}
 use Rattle.std.proofs.lemmas.List.{drop-drop, get_or-drop, length-drop}
 use Rattle.std.specs.Str.{IsCharBoundary, IsUtf8}
 use Rattle.just_syntax.specs.Plain.{Text}
+use Rattle.just_syntax.specs.NameBytes.{is_name_part, is_name_start}
+use Rattle.just_syntax.specs.Unindented.{is_gap}
 use Rattle.just_lexer.specs.Expression.{backslash, closing_braces, closing_token, end_of_line, format_string, lexed_expression}
 use Rattle.just_lexer.specs.Expression.{lexed_name, lexed_piece, lexed_string, mark_after_letter, operator, string_or_symbol, symbol}
-use Rattle.just_lexer.specs.Front.{begins_with, is_blank, is_continuation, is_name_part, is_name_start, leading_byte, line_end_length}
+use Rattle.just_lexer.specs.Front.{begins_with, is_continuation, leading_byte, line_end_length}
 use Rattle.just_lexer.specs.Quote.{delimiter, quote_at}
 use Rattle.just_lexer.specs.Span.{one_if, passed, passed_in_piece, passed_in_string, span}
 use Rattle.just_lexer.proofs.Cuts.{cut_after, cut_begin, cut_front, front_byte, front_within, span_stops, span_within}
@@ -339,7 +341,7 @@ marked_fits (Some q) inside t e utf8 some = string_fits q t utf8 (front_mark t q
 marked_fits None inside t e utf8 some = symbol_fits inside t utf8 some
 
 -- white space has a byte
-blank_some : (t : Text) → is_blank (leading_byte t) ≡ true → 0 < span Blanks 0 t
+blank_some : (t : Text) → is_gap (leading_byte t) ≡ true → 0 < span Blanks 0 t
 unfolding passed
 blank_some [] e = absurd (cc)
 blank_some (b ∷ t) e = rw e (omega arith)

@@ -9,8 +9,7 @@ use Rattle.just_syntax.specs.Plain.{Text}
 use Rattle.just_lexer.specs.Expression.{lexed_expression}
 use Rattle.just_lexer.specs.Front.{begins_with, line_end_length}
 use Rattle.just_lexer.specs.Line.{blank_line, body_line, body_start, byte_order_mark, filled_line, indentation_fault, lexed_indentation, lexed_inside}
-use Rattle.just_lexer.specs.Line.{lexed_line}
-use Rattle.just_lexer.specs.Line.{is_blank_line, is_mixed, line_start, next, next_inside, outside, text_end, unclosed}
+use Rattle.just_lexer.specs.Line.{is_blank_line, is_mixed, lexed_line, line_start, next, next_inside, outside, text_end, unclosed}
 use Rattle.just_lexer.specs.Advances.{FitsIn}
 use Rattle.just_lexer.specs.Span.{passed, span}
 use Rattle.just_lexer.specs.State.{State, innermost_open}

@@ -2,7 +2,9 @@
 use Rattle.std.specs.Prelude.{ℕ, ◌+◌, ◌||◌, nat_le, nat_lt, length, drop, Option, Some, None, codes, unwrap_or}
 use Rattle.std.specs.Prelude.{if◌then◌else◌}
 use Rattle.just_syntax.specs.Plain.{Text}
-use Rattle.just_lexer.specs.Front.{begins_with, is_blank, is_name_start, leading_byte, line_end_length}
+use Rattle.just_syntax.specs.NameBytes.{is_name_start}
+use Rattle.just_syntax.specs.Unindented.{is_gap}
+use Rattle.just_lexer.specs.Front.{begins_with, leading_byte, line_end_length}
 use Rattle.just_lexer.specs.Inside.{same_delimiter}
 use Rattle.just_lexer.specs.Quote.{delimiter, quote_at, string_kind, unterminated}
 use Rattle.just_lexer.specs.Span.{span}
@@ -133,7 +135,7 @@ string_or_symbol None inside text = symbol inside text
 -- what comes next in an expression that is inside of this
 unfoldable pub lexed_expression : Option Inside → Text → Step
 lexed_expression inside text =
-    if is_blank (leading_byte text) then Token kinds.Whitespace (span Blanks 0 text) else
+    if is_gap (leading_byte text) then Token kinds.Whitespace (span Blanks 0 text) else
     if is_name_start (leading_byte text) then lexed_name text else
     if nat_lt 0 (line_end_length text) then end_of_line inside (line_end_length text) else
     if begins_with text (codes "\r") then Fault faults.UnpairedCarriageReturn 1 else

@@ -1,5 +1,5 @@
 -- What a text begins with.
-use Rattle.std.specs.Prelude.{ℕ, Bool, [], ◌∷◌, ◌||◌, ◌&&◌, ◌==◌, nat_le, nat_lt, nat_eq, codes, if◌then◌else◌}
+use Rattle.std.specs.Prelude.{ℕ, Bool, [], ◌∷◌, ◌&&◌, nat_le, nat_lt, nat_eq, codes, if◌then◌else◌}
 use Rattle.std.specs.List.{starts_with}
 use Rattle.just_syntax.specs.Plain.{Text}
 
@@ -15,21 +15,6 @@ line_end_length text = if begins_with text (codes "\n") then 1 else if begins_wi
 abbrev pub leading_byte : Text → ℕ
 leading_byte [] = 0
 leading_byte (byte ∷ rest) = byte
-
--- a space or a tab
-abbrev pub is_blank : ℕ → Bool
-is_blank byte = (byte == 32) || (byte == 9)
-
-abbrev pub is_between : ℕ → ℕ → ℕ → Bool
-is_between low high byte = nat_le low byte && nat_le byte high
-
--- a letter or `_`
-abbrev pub is_name_start : ℕ → Bool
-is_name_start byte = (byte == 95) || (is_between 65 90 byte || is_between 97 122 byte)
-
--- `-`, a digit, a letter or `_`
-abbrev pub is_name_part : ℕ → Bool
-is_name_part byte = ((byte == 45) || is_between 48 57 byte) || is_name_start byte
 
 -- a byte that is not the first of its character
 abbrev pub is_continuation : ℕ → Bool

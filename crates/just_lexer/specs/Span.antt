@@ -1,7 +1,9 @@
 -- How far pieces of text reach.
 use Rattle.std.specs.Prelude.{ℕ, zero, suc, ◌-◌, Bool, [], ◌∷◌, ◌||◌, ◌&&◌, ◌==◌, nat_lt, codes, if◌then◌else◌}
 use Rattle.just_syntax.specs.Plain.{Text}
-use Rattle.just_lexer.specs.Front.{begins_with, is_blank, is_continuation, is_name_part, leading_byte, line_end_length}
+use Rattle.just_syntax.specs.NameBytes.{is_name_part}
+use Rattle.just_syntax.specs.Unindented.{is_gap}
+use Rattle.just_lexer.specs.Front.{begins_with, is_continuation, leading_byte, line_end_length}
 use Rattle.just_lexer.specs.Quote.{delimiter, is_cooked}
 use Rattle.just_lexer.specs.declared.quote.Quote.{Quote}
 use Rattle.just_lexer.specs.declared.span.Rule.{Rule}
@@ -26,7 +28,7 @@ passed_in_piece quote text =
 
 -- the number of bytes that a rule passes here; 0 if it stops
 unfoldable pub passed : Rule → Text → ℕ
-passed Blanks text = one_if (is_blank (leading_byte text))
+passed Blanks text = one_if (is_gap (leading_byte text))
 passed Character text = one_if (is_continuation (leading_byte text))
 passed Command text =
     if begins_with text (codes "{{{{") then 4 else

@@ -3,8 +3,7 @@
 ghost use Rattle.std.specs.Prelude.{◌≡◌, ◌≤◌, ◌<◌, length, ◌^◌};
 ghost use Rattle.just_lexer.specs.Expression.{backslash, closing_braces, closing_token, end_of_line, lexed_expression};
 ghost use Rattle.just_lexer.specs.Expression.{format_string, lexed_name, lexed_piece, lexed_string, mark_after_letter};
-ghost use Rattle.just_lexer.specs.Expression.{operator, string_or_symbol};
-ghost use Rattle.just_lexer.specs.Expression.{symbol};
+ghost use Rattle.just_lexer.specs.Expression.{operator, string_or_symbol, symbol};
 
 use crate::fault::FaultKind;
 use crate::front::{after, begins, first, is_blank, is_name_start, line_end};

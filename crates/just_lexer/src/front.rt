@@ -1,9 +1,9 @@
 // What a text begins with.
 
 ghost use Rattle.std.specs.Prelude.{drop, ◌≡◌, ◌≤◌};
-ghost use Rattle.just_lexer.specs.Front.{begins_with, is_blank, is_continuation, is_name_part, is_name_start};
-ghost use Rattle.just_lexer.specs.Front.{leading_byte};
-ghost use Rattle.just_lexer.specs.Front.{line_end_length};
+ghost use Rattle.just_syntax.specs.NameBytes.{is_name_part, is_name_start};
+ghost use Rattle.just_syntax.specs.Unindented.{is_gap};
+ghost use Rattle.just_lexer.specs.Front.{begins_with, is_continuation, leading_byte, line_end_length};
 
 /// Whether a text begins with these bytes.
 #[tactic(auto, unfolding(crate::specs::Front::begins_with))]
@@ -40,7 +40,7 @@ pub(crate) fn first(text: &[u8]) -> u8
 
 /// Whether a byte is a space or a tab.
 pub(crate) fn is_blank(byte: u8) -> bool
-    ensures { result ≡ is_blank byte }
+    ensures { result ≡ is_gap byte }
 {
     byte == b' ' || byte == b'\t'
 }

@@ -1,7 +1,7 @@
 -- Sets of names.
 use Rattle.std.proofs.Common.{◌≡◌, ◌↔◌, ◌⊎◌, Bool, true, false, cond, [], Bor, IsTrue, ap, sym, ◌∙◌}
 use Rattle.std.specs.Bool.{Decides}
-use Rattle.std.specs.BTreeSet.{BTreeSet, contains, contains_by}
+use Rattle.std.specs.BTreeSet.{BTreeSet, contains}
 use Rattle.std.specs.BTreeMap.{is_at}
 use Rattle.std.specs.Cmp.Lexicographic.{slice_cmp}
 use Rattle.std.specs.List.{list_any}
@@ -11,10 +11,11 @@ use Rattle.std.proofs.lemmas.Map.Text.{is_eq-slice_cmp}
 use Rattle.std.proofs.lemmas.Slice.Eq.{bytes_eq-Decides}
 use Rattle.just_syntax.specs.Plain.{Text}
 use Rattle.just_syntax.proofs.Members.{added}
+use Rattle.just_syntax.specs.NameSet.{is_name_in}
 
--- whether a name is in a set
-abbrev pub is_name_in : BTreeSet (Bor Text) → Text → Bool
-is_name_in set name = contains_by (λ key. slice_cmp nat_cmp name key.now) set
+-- a set with one more name
+abbrev pub AddsName : (Text → Bool) → (Text → Bool) → Text → Type 0
+AddsName old new name = (t : Text) → IsTrue (new t) ↔ ((name ≡ t) ⊎ IsTrue (old t))
 
 name_decides : (x y : Text) → Decides (is_eq (slice_cmp nat_cmp x y)) (x ≡ y)
 name_decides x y =

@@ -5,11 +5,11 @@ use Rattle.std.specs.HashSet.{HashSet}
 use Rattle.std.specs.List.{list_any}
 use Rattle.std.specs.Map.{lookup}
 use Rattle.std.specs.declared.string.String.{String}
+use Rattle.just_syntax.specs.NameSet.{is_name_in}
 use Rattle.just_syntax.specs.NumberSet.{is_member}
 use Rattle.just_syntax.specs.Plain.{Expr}
 use Rattle.just_syntax.specs.View.{function_view, text_numbered, view}
 use Rattle.just_needs.specs.declared.numbered.Valued.{Valued}
-use Rattle.just_resolution.specs.Seen.{is_name_in}
 use Rattle.just_needs.specs.declared.graph.Graph.{Graph}
 use Rattle.just_needs.specs.declared.node.Node.{Node}
 use Rattle.just_needs.specs.declared.node.Node.TheVariants as nodes

@@ -6,9 +6,10 @@ use Rattle.just_syntax.specs.Plain.{Expr, Token}
 use Rattle.just_syntax.specs.View.{expression_interpreter_view, view, views}
 use Rattle.just_syntax.specs.declared.expression.Expression.{Expression}
 use Rattle.just_syntax.specs.declared.interpreter.Interpreter.{Interpreter}
-use Rattle.just_parser.specs.Settings.{interpreter_of, listed}
+use Rattle.just_expression_parser.specs.Machine.{expression_list}
+use Rattle.just_parser.specs.Settings.{interpreter_of}
 
-listed_views : (es : List Expression) → listed (views es) ≡ map view es
+listed_views : (es : List Expression) → expression_list (views es) ≡ map view es
 listed_views [] = refl
 listed_views (e ∷ es) = ap (λ es. view e ∷ es) (listed_views es)
 

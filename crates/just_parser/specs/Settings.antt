@@ -1,13 +1,14 @@
 -- The settings of `set` statements: which form of value each takes, and what a value of that form is.
-use Rattle.std.specs.Prelude.{Bool, true, ◌==◌, ◌&&◌, ◌||◌, nat_lt, length, List, [], ◌∷◌, Option, Some, None}
+use Rattle.std.specs.Prelude.{Bool, true, ◌==◌, ◌&&◌, ◌||◌, nat_lt, length, Option, Some, None}
 use Rattle.std.specs.Prelude.{if◌then◌else◌, bytes_eq, codes}
 use Rattle.std.specs.List.{list_all}
 use Rattle.std.specs.Option.{is_some}
 use Rattle.just_syntax.specs.Plain as plain
-use Rattle.just_syntax.specs.Plain.{Expr, Exprs, Interpreter, Literal, Text}
+use Rattle.just_syntax.specs.Plain.{Expr, Interpreter, Literal, Text}
 use Rattle.just_syntax.specs.SettingName.{flag_named}
 use Rattle.just_syntax.specs.declared.indentation.Indentation.{Indentation}
 use Rattle.just_syntax.specs.declared.indentation.Indentation.TheVariants.{Spaces, Tabs}
+use Rattle.just_expression_parser.specs.Machine.{expression_list}
 use Rattle.just_parser.specs.declared.setting_form.SettingForm.{SettingForm}
 use Rattle.just_parser.specs.declared.setting_form.SettingForm.TheVariants as forms
 
@@ -36,15 +37,10 @@ form_of name =
 
 -- ---- values
 
--- expressions in a row, as a list
-abbrev pub listed : Exprs → List Expr
-listed plain.Nil = []
-listed (plain.Cons e es) = e ∷ listed es
-
 -- a list is a command and its first arguments, if it has an element
 abbrev pub interpreter_of : Expr → Option (Interpreter Expr)
 interpreter_of (plain.ListOf (plain.Cons command arguments) token) =
-    Some (record { arguments = listed arguments; command = command })
+    Some (record { arguments = expression_list arguments; command = command })
 interpreter_of _ = None
 
 -- a string

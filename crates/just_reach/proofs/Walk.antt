@@ -6,11 +6,12 @@ use Rattle.just_syntax.specs.Plain.{Text, Token, Function}
 use Rattle.just_syntax.specs.Lists.{IsIn}
 use Rattle.just_syntax.proofs.Lists.{in_append, in_first, in_second}
 use Rattle.just_meaning.specs.Reaches.{function_at}
+use Rattle.just_meaning.proofs.Names.{AddsName}
 use Rattle.just_reach.specs.Member.{BuiltIn, Call, Command, PlainMember, Unknown, Variable}
 use Rattle.just_reach.specs.Members.{BeginsWith, HasBodiesOnce, all_body_members, body_members, members_of_body, name_of_call}
 use Rattle.just_reach.specs.Reached.{InBody, IsReachedFrom, OccursAt, Starts}
 use Rattle.just_reach.proofs.Listed.{added}
-use Rattle.just_reach.proofs.Work.{Adds, function_names, member_work, work_begins, work_kept, work_left}
+use Rattle.just_reach.proofs.Work.{function_names, member_work, work_begins, work_kept, work_left}
 
 -- The invariant of the walk. The list begins with the starting members, and with the bodies that are not called yet it is
 -- no longer than allowed. The members in the bodies of called names, and the pending ones, are listed; what is listed is
@@ -55,7 +56,7 @@ module _ (fs : List Function) (starts : List PlainMember) where
           (λ same. absurd (let e : None ≡ Some t.lexeme = sym none ∙ ap name_of_call same in cc)) (λ later. inr later) k) (w.settled t h);
     }
 
-    module _ (new : Text → Bool) (name : Text) (calls : name_of_call m ≡ Some name) (adds : Adds old new name) where
+    module _ (new : Text → Bool) (name : Text) (calls : name_of_call m ≡ Some name) (adds : AddsName old new name) where
       -- a call of the name is settled now
       settled_on : (t : Token) → IsTrue (old t.lexeme) ⊎ IsIn (m ∷ rest) (Call t) → IsTrue (new t.lexeme) ⊎ IsIn rest (Call t)
       settled_on t (inl there) = inl ((adds t.lexeme).1 (inr there))

@@ -1,5 +1,5 @@
 -- The work of the walk: what the bodies of the names that are not called yet may still add.
-use Rattle.std.proofs.Common.{◌≡◌, ◌↔◌, ◌⊎◌, inl, inr, ⊎_elim, ◌+◌, ◌≤◌, ◌<◌, ℕ, Bool, true, false, cond, List, [], ◌∷◌, ◌++◌, length, map, Option, Some, None}
+use Rattle.std.proofs.Common.{◌≡◌, ◌⊎◌, inl, inr, ⊎_elim, ◌+◌, ◌≤◌, ◌<◌, ℕ, Bool, true, false, cond, List, [], ◌∷◌, ◌++◌, length, map, Option, Some, None}
 use Rattle.std.proofs.Common.{IsTrue, refl, ap, sym, ◌∙◌, arith, drop, length-append}
 use Rattle.std.proofs.lemmas.List.{drop-append-le, drop-map, length-map}
 use Rattle.std.specs.List.{flat_map}
@@ -8,12 +8,9 @@ use Rattle.std.proofs.lemmas.Slice.Eq.{bytes_eq-Decides}
 use Rattle.just_syntax.specs.Plain.{Text, Function}
 use Rattle.just_syntax.specs.Lists.{IsIn}
 use Rattle.just_meaning.specs.Reaches.{function_at}
+use Rattle.just_meaning.proofs.Names.{AddsName}
 use Rattle.just_reach.specs.Member.{PlainMember}
 use Rattle.just_reach.specs.Members.{body_members, members_of_body}
-
--- a set with one more name
-abbrev pub Adds : (Text → Bool) → (Text → Bool) → Text → Type 0
-Adds old new name = (t : Text) → IsTrue (new t) ↔ ((name ≡ t) ⊎ IsTrue (old t))
 
 -- the names of functions
 abbrev pub function_names : List Function → List Text
@@ -45,7 +42,7 @@ module _ (fs : List Function) where
       by true is rest = inl (inl (sym ((bytes_eq-Decides name g.name.lexeme).0 is)))
       by false is rest = ⊎_elim (λ h. inl (inr h)) (λ none. inr none) rest
 
-  module _ (old new : Text → Bool) (name : Text) (adds : Adds old new name) where
+  module _ (old new : Text → Bool) (name : Text) (adds : AddsName old new name) where
     part_kept : (a b : Bool) (k : ℕ) → (IsTrue a → IsTrue b) → cond b 0 k ≤ cond a 0 k
     part_kept true true k h = omega arith
     part_kept true false k h = absurd (let e : false ≡ true = h refl in cc)

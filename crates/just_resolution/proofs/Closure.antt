@@ -10,11 +10,8 @@ use Rattle.std.proofs.lemmas.Slice.Eq.{bytes_eq-Decides}
 use Rattle.just_syntax.proofs.Lists.{in_append}
 use Rattle.just_meaning.proofs.Reached.{reaches_on}
 use Rattle.just_meaning.specs.Reaches.{Reaches, Here, Later}
+use Rattle.just_meaning.proofs.Names.{AddsName}
 use Rattle.just_resolution.proofs.Occurrences.{all_called, all_may_be_read, reads_all, unreadable_alike}
-
--- a set with one more name
-abbrev pub Adds : (Text → Bool) → (Text → Bool) → Text → Type 0
-Adds old new name = (t : Text) → IsTrue (new t) ↔ ((name ≡ t) ⊎ IsTrue (old t))
 
 -- a name is admitted or pending
 abbrev pub IsSettled : (Text → Bool) → List Text → Text → Type 0
@@ -111,7 +108,7 @@ module _ (functions : List Function) where
             inr ((all_may_be_read (λ n. IsTrue (here n)) e).1 w.own, record { name = name; function = f; reached = reached; found = found; first = k })
 
     module _ (admitted next_admitted : Text → Bool) (front next : List Text) (name : Text)
-        (w : IsWalked functions e here readable admitted (front ++ name ∷ [])) (adds : Adds admitted next_admitted name) (kept : (t : Text) → IsIn front t
+        (w : IsWalked functions e here readable admitted (front ++ name ∷ [])) (adds : AddsName admitted next_admitted name) (kept : (t : Text) → IsIn front t
         → IsIn next t) where
       settled_on : (t : Text) → IsSettled admitted (front ++ name ∷ []) t → IsSettled next_admitted next t
       settled_on t h = ⊎_elim (λ a. inl ((adds t).1 (inr a)))
@@ -134,7 +131,7 @@ module _ (functions : List Function) where
 
     -- the last pending name was already admitted
     pub passes : (admitted next_admitted : Text → Bool) (front : List Text) (name : Text) → IsWalked functions e here readable admitted (front ++ name ∷ [])
-        → Adds admitted next_admitted name → IsTrue (admitted name) →
+        → AddsName admitted next_admitted name → IsTrue (admitted name) →
         IsWalked functions e here readable next_admitted front
     passes admitted next_admitted front name w adds there =
         step admitted next_admitted front front name w adds (λ t h. h)
@@ -144,7 +141,7 @@ module _ (functions : List Function) where
 
     -- the last pending name is admitted now, and what its body calls is pending
     pub admits : (admitted next_admitted : Text → Bool) (front next : List Text) (name : Text)
-        → IsWalked functions e here readable admitted (front ++ name ∷ []) → Adds admitted next_admitted name →
+        → IsWalked functions e here readable admitted (front ++ name ∷ []) → AddsName admitted next_admitted name →
         ((f : Function) → function_at functions name ≡ Some f → (n : ℕ) → Occurs f.body (VariableOf (Some n)) → IsAmong f.parameters n ⊎ IsTrue (readable n)) →
         next ≡ front ++ calls_of (function_at functions name) → IsWalked functions e here readable next_admitted next
     admits admitted next_admitted front next name w adds reads is =
@@ -236,7 +233,7 @@ module _ (admitted next : Text → Bool) (kept : (t : Text) → IsTrue (admitted
       by (Some f) found = let rest = work_falls fs name f found off on in omega (arith, rest)
 
 -- the last pending name is removed
-pub falls_passed : (fs : List Function) (admitted next : Text → Bool) (front pending : List Text) (name : Text) → Adds admitted next name
+pub falls_passed : (fs : List Function) (admitted next : Text → Bool) (front pending : List Text) (name : Text) → AddsName admitted next name
     → pending ≡ front ++ name ∷ [] → work fs next + length front < work fs admitted + length pending
 falls_passed fs admitted next front pending name adds is =
     let rest = work_kept admitted next (λ t h. (adds t).1 (inr h)) fs in
@@ -245,7 +242,7 @@ falls_passed fs admitted next front pending name adds is =
 
 -- it is removed, and what its body calls is pending
 pub falls_admitted : (fs : List Function) (admitted next_admitted : Text → Bool) (front next pending : List Text) (name : Text)
-    → Adds admitted next_admitted name → admitted name ≡ false → pending ≡ front ++ name ∷ [] →
+    → AddsName admitted next_admitted name → admitted name ≡ false → pending ≡ front ++ name ∷ [] →
     next ≡ front ++ calls_of (function_at fs name) → work fs next_admitted + length next < work fs admitted + length pending
 falls_admitted fs admitted next_admitted front next pending name adds off is calls =
     let rest = work_left admitted next_admitted (λ t h. (adds t).1 (inr h)) fs name off ((adds name).1 (inl refl)) in

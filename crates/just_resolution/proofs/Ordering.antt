@@ -5,8 +5,7 @@ use Rattle.std.proofs.lemmas.Bool.{or_cases, or_left, or_right}
 use Rattle.just_resolution.specs.Prelude.{AreDistinct, Assignment, Assignments, Expr, Finds, FindsMisplaced, Frames, Function, HasValue, IsAdmitted, IsAmong}
 use Rattle.just_resolution.specs.Prelude.{IsFaulty, IsIn, IsMisplaced, IsNumberOf, IsSound, IsTakenBy, IsUnreadable, MayComeNext, ModuleFault, NameOf}
 use Rattle.just_resolution.specs.Prelude.{ReadsReadable, ReadsUntaken, Text, Token, Value, assignment_at, frames_view, is_number_taken, is_readable}
-use Rattle.just_resolution.specs.Prelude.{name_places}
-use Rattle.just_resolution.specs.Prelude.{name_view, sites_in, value_at, value_in, with_taken}
+use Rattle.just_resolution.specs.Prelude.{name_places, name_view, sites_in, value_at, value_in, with_taken}
 use Rattle.just_value.specs.declared.scope.Scope.{Scope}
 use Rattle.just_resolution.specs.Fault.{IsTakenOrBound}
 use Rattle.just_resolution.specs.Unreadable.{IsUnreadableBeyond}

@@ -11,6 +11,7 @@ pub use Rattle.just_meaning.specs.View.{IsResolvedWith, assignments_view, functi
 pub use Rattle.just_meaning.specs.View.{ordered_view}
 pub use Rattle.just_syntax.specs.Keyed.{value_at}
 pub use Rattle.just_syntax.specs.Lists.{IsIn}
+pub use Rattle.just_syntax.specs.NameSet.{is_name_in}
 pub use Rattle.just_syntax.specs.NumberSet.{is_member}
 pub use Rattle.just_syntax.specs.Plain.{Assignment, Expr, Function, Parameter, Text, Token, count}
 pub use Rattle.just_syntax.specs.View.{assignment_view, attributes_view, function_view, name_view, parameter_view}
@@ -28,7 +29,7 @@ pub use Rattle.just_resolution.specs.Fault.{ModuleFault, NameOf, NumberOf, Param
 pub use Rattle.just_resolution.specs.Fault.{fault_token, is_unknown, mention_fault, name_places, number_places}
 pub use Rattle.just_resolution.specs.Fault.{numbered_assignments, numbered_parameters, parameter_places}
 pub use Rattle.just_resolution.specs.First.{Finds}
-pub use Rattle.just_resolution.specs.Seen.{IsSameReader, attributes_of, expressions_view, is_name_in, is_number_in}
+pub use Rattle.just_resolution.specs.Seen.{IsSameReader, attributes_of, expressions_view, is_number_in}
 pub use Rattle.just_resolution.specs.Seen.{is_number_taken, is_readable, mention_view, module_fault_view, site_view}
 pub use Rattle.just_resolution.specs.Seen.{sites_view, texts}
 pub use Rattle.just_resolution.specs.Sites.{Site, all_sites, called_names, calls_of, name_called, sites, sites_in}

@@ -2,7 +2,6 @@
 use Rattle.std.specs.Prelude.{◌≡◌, ℕ, Bool, ◌||◌, List, [], Option, Some, None, map, is_some}
 use Rattle.std.specs.Borrow.{Bor}
 use Rattle.std.specs.BTreeSet.{BTreeSet, contains_by}
-use Rattle.std.specs.Cmp.Lexicographic.{slice_cmp}
 use Rattle.std.specs.Ordering.{nat_cmp}
 use Rattle.just_syntax.specs.NumberSet.{is_member}
 use Rattle.just_syntax.specs.Plain.{Text, Token, Attribute, Expr}
@@ -50,10 +49,6 @@ texts names = map (λ name. name.now) names
 -- whether a number is in a set
 abbrev pub is_number_in : BTreeSet ℕ → ℕ → Bool
 is_number_in set n = contains_by (nat_cmp n) set
-
--- whether a name is in a set
-abbrev pub is_name_in : BTreeSet (Bor Text) → Text → Bool
-is_name_in set name = contains_by (λ key. slice_cmp nat_cmp name key.now) set
 
 -- whether a number was taken
 abbrev pub is_number_taken : Readable → ℕ → Bool

@@ -18,8 +18,7 @@ use Rattle.just_meaning.specs.Reaches.{CallOf, IsAmong, Occurs, OccursIn, Occurs
 use Rattle.just_resolution.proofs.Faults.{numbers_alone}
 use Rattle.just_resolve.specs.Prelude.{Assignment, Expr, Frames, Function, HasValue, IsIn, IsRenumbered, IsRenumberedAssignment, IsRenumberedFunction, Pairwise}
 use Rattle.just_resolve.specs.Prelude.{Text, Token, bound_names, bound_view, first_named, frame_names, frame_view, frames_view, numbered_assignments}
-use Rattle.just_resolve.specs.Prelude.{numbered_expression}
-use Rattle.just_resolve.specs.Prelude.{value_in, visible}
+use Rattle.just_resolve.specs.Prelude.{numbered_expression, value_in, visible}
 use Rattle.just_syntax.specs.Renumbered.{Numbering, renumbered_pieces, renumbered_row}
 use Rattle.just_resolve.proofs.Lookups.{found_there}
 

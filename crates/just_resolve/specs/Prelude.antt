@@ -15,8 +15,7 @@ pub use Rattle.just_resolve.specs.Dependence.{AreSorted, DependsOn, DependsOnIts
 pub use Rattle.just_resolve.specs.Dependence.{is_followed_in}
 pub use Rattle.just_resolve.specs.Free.{AreBelow, AreFree, AreNew, AreTaken, IsNextFree, numbers_of}
 pub use Rattle.just_resolve.specs.Hopeless.{AreFoundByName, NoOrderResolvesACycle}
-pub use Rattle.just_resolve.specs.Numbered.{bound_names, first_named, frame_names, numbered_expression}
-pub use Rattle.just_resolve.specs.Numbered.{visible}
+pub use Rattle.just_resolve.specs.Numbered.{bound_names, first_named, frame_names, numbered_expression, visible}
 pub use Rattle.just_resolve.specs.Order.{HasNames, IsNameOf, IsOrder, ordered}
 pub use Rattle.just_resolve.specs.Renumbered.{IsRenumbered, IsRenumberedAssignment, IsRenumberedFunction, Pairwise}
 pub use Rattle.just_resolve.specs.Renumbered.{with_number}

@@ -5,8 +5,7 @@ ghost use Rattle.std.specs.Prelude.{◌≡◌};
 ghost use Rattle.std.specs.Option.{option_or};
 ghost use Rattle.just_resolve.specs.Prelude.{assignment_view, bound_names, first_named, frame_names, frame_view};
 ghost use Rattle.just_resolve.specs.Prelude.{frames_view, name_number, name_view, number_in, parameter_named};
-ghost use Rattle.just_resolve.specs.Prelude.{parameter_view};
-ghost use Rattle.just_resolve.specs.Prelude.{variable_named, visible};
+ghost use Rattle.just_resolve.specs.Prelude.{parameter_view, variable_named, visible};
 
 use just_host::justfile::Justfile;
 use just_resolution::numbers::assignment_numbers;

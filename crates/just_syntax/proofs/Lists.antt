@@ -1,5 +1,5 @@
 -- Lists: membership, properties of all elements, and the rest from an index on.
-use Rattle.std.proofs.Common.{◌≡◌, ◌↔◌, ◌⊎◌, inl, inr, ⊎_elim, ℕ, zero, suc, ◌+◌, ◌<◌, List, [], ◌∷◌, ◌++◌, map, length, get_or, drop, sym, ap, ◌∙◌, arith}
+use Rattle.std.proofs.Common.{◌≡◌, ◌≢◌, ◌↔◌, ◌⊎◌, inl, inr, ⊎_elim, ℕ, zero, suc, ◌+◌, ◌<◌, List, [], ◌∷◌, ◌++◌, map, length, get_or, drop, sym, ap, ◌∙◌, arith}
 use Rattle.std.proofs.Common.{add-one, drop-cons, Contains}
 use Rattle.std.specs.List.{AllByRecursion}
 use Rattle.just_syntax.specs.Lists.{IsIn}
@@ -57,3 +57,9 @@ rest_from f xs i x h is =
     ap (map f) (drop-cons xs i x h)
     ∙ ap (λ y. f y ∷ map f (drop (suc i) xs)) (sym is)
     ∙ ap (λ j. f x ∷ map f (drop j xs)) (sym (add-one i))
+
+-- ---- bytes
+
+-- no byte of the text is this one
+abbrev pub LacksByte : ℕ → List ℕ → Type 0
+LacksByte c text = (i : ℕ) → i < length text → get_or text i 0 ≢ c

@@ -12,7 +12,9 @@ pub mod OutOfMemory
 pub mod Variables
 pub mod View
 pub mod Unindented
+pub mod NameBytes
 pub mod Levels
 pub mod Lists
 pub mod NumberSet
+pub mod NameSet
 pub mod Prelude

@@ -14,9 +14,10 @@ use Rattle.std.proofs.lemmas.List.{nil_from_length, get_or_at, get_or-append-add
 use Rattle.std.proofs.lemmas.List.Elements.{All-from_get_or}
 use Rattle.std.proofs.lemmas.List.Splits.{slice_split_none, length-slice_split}
 use Rattle.std.proofs.lemmas.Slice.Eq.{bytes_eq-Decides}
+use Rattle.just_syntax.proofs.Lists.{LacksByte}
 use Rattle.just_text.specs.Prelude.{file_name, parent}
 use Rattle.just_text.specs.Path.{segments, place_of, places_from, components, from_last, up_to, before_the_last, last_name}
-use Rattle.just_text.proofs.LastByte.{Lacks, rsplit_once_parts}
+use Rattle.just_text.proofs.LastByte.{rsplit_once_parts}
 
 -- the length in bytes of segments, each followed by a slash
 total : List (List ℕ) → ℕ
@@ -31,10 +32,10 @@ onto_push : (b : ℕ) (ss : List (List ℕ)) (last : List ℕ) → 0 < length ss
 onto_push b [] last some = absurd (omega arith)
 onto_push b (s ∷ ss) last some = refl
 
-whole : (last : List ℕ) → Lacks slash last → segments last ≡ last ∷ []
+whole : (last : List ℕ) → LacksByte slash last → segments last ≡ last ∷ []
 whole last lacks = slice_split_none (λ b. eqb b 47) last (All-from_get_or (λ b. eqb b 47 ≡ false) last 0 (λ i h. ne_eqb (get_or last i 0) 47 (lacks i h)))
 
-segments_last : (dir last : List ℕ) → Lacks slash last → segments (dir ++ 47 ∷ last) ≡ segments dir ++ last ∷ []
+segments_last : (dir last : List ℕ) → LacksByte slash last → segments (dir ++ 47 ∷ last) ≡ segments dir ++ last ∷ []
 segments_last [] last lacks = ap (λ ss. [] ∷ ss) (whole last lacks)
 segments_last (b ∷ bs) last lacks =
     elim (cases_Bool (eqb b 47)) [
@@ -66,7 +67,7 @@ places_push at n (s ∷ ss) last e =
     ∙ ap (λ k. places_from (at + (length s + 1)) ss ++ place_of k last) same)
     ∙ sym (append_assoc (place_of at s) (places_from (at + (length s + 1)) ss) (place_of (at + n) last))
 
-components_last : (dir last : List ℕ) → Lacks slash last → components (dir ++ 47 ∷ last) ≡ components dir ++ place_of (length dir + 1) last
+components_last : (dir last : List ℕ) → LacksByte slash last → components (dir ++ 47 ∷ last) ≡ components dir ++ place_of (length dir + 1) last
 components_last dir last lacks =
     ap (places_from 0) (segments_last dir last lacks) ∙ (places_push 0 (length dir + 1) (segments dir) last (total_segments dir)
     ∙ ap (λ k. components dir ++ place_of k last) (zero-add (length dir + 1)))
@@ -75,7 +76,7 @@ reverse_place : (at : ℕ) (segment : List ℕ) → reverse (place_of at segment
 reverse_place at segment = cond_both (not (eqb (length segment) 0) && (eqb at 0 || not (bytes_eq segment (46 ∷ [])))) ((at, at + length segment) ∷ []) []
     (λ qs. reverse qs ≡ qs) (λ e. refl) (λ e. refl)
 
-from_last_slash : (dir last : List ℕ) → Lacks slash last → from_last (dir ++ 47 ∷ last) ≡ place_of (length dir + 1) last ++ from_last dir
+from_last_slash : (dir last : List ℕ) → LacksByte slash last → from_last (dir ++ 47 ∷ last) ≡ place_of (length dir + 1) last ++ from_last dir
 from_last_slash dir last lacks =
     ap reverse (components_last dir last lacks)
     ∙ (reverse-append (components dir) (place_of (length dir + 1) last) ∙ ap (λ qs. qs ++ from_last dir) (reverse_place (length dir + 1) last))
@@ -90,7 +91,7 @@ named_place n last named =
 dot_place : (n : ℕ) → place_of (n + 1) (46 ∷ []) ≡ []
 dot_place n = rw (ne_eqb (n + 1) 0 (λ e. absurd (omega arith))) refl
 
-one_place : (b : ℕ) (bs : List ℕ) → Lacks slash (b ∷ bs) → from_last (b ∷ bs) ≡ (0, 0 + length (b ∷ bs)) ∷ []
+one_place : (b : ℕ) (bs : List ℕ) → LacksByte slash (b ∷ bs) → from_last (b ∷ bs) ≡ (0, 0 + length (b ∷ bs)) ∷ []
 one_place b bs lacks =
     let place : place_of 0 (b ∷ bs) ≡ (0, 0 + length (b ∷ bs)) ∷ [] = rw (ne_eqb (length (b ∷ bs)) 0 (λ e. absurd (omega arith))) refl in
     ap (λ ss. reverse (places_from 0 ss)) (whole (b ∷ bs) lacks) ∙ ap (λ qs. reverse (qs ++ [])) place
@@ -118,14 +119,14 @@ trim_whole (b ∷ bs) ends =
     ap (λ k. take k (b ∷ bs)) (trimmed_len_kept (b ∷ bs) (length (b ∷ bs)) (omega arith) (ends (omega arith)))
     ∙ take_all (length (b ∷ bs)) (b ∷ bs) (omega arith)
 
-trim_one : (path : List ℕ) → Lacks slash path → trim_trailing path ≡ path
+trim_one : (path : List ℕ) → LacksByte slash path → trim_trailing path ≡ path
 trim_one path lacks =
     trim_whole path (λ some. trailing_no path (length path - 1) (lacks (length path - 1) (omega arith)) (inr (lacks (length path - 1 - 1) (omega arith))))
 
-after_slash : (dir last : List ℕ) (k : ℕ) → Lacks slash last → k < length last → get_or (dir ++ 47 ∷ last) (length dir + suc k) 0 ≢ 47
+after_slash : (dir last : List ℕ) (k : ℕ) → LacksByte slash last → k < length last → get_or (dir ++ 47 ∷ last) (length dir + suc k) 0 ≢ 47
 after_slash dir last k lacks less e = lacks k less (sym (get_or-append-add dir (47 ∷ last) (suc k) 0) ∙ e)
 
-named_ends : (dir last : List ℕ) → Lacks slash last → is_name last ≡ true → is_trailing (dir ++ 47 ∷ last) (length (dir ++ 47 ∷ last) - 1) ≡ false
+named_ends : (dir last : List ℕ) → LacksByte slash last → is_name last ≡ true → is_trailing (dir ++ 47 ∷ last) (length (dir ++ 47 ∷ last) - 1) ≡ false
 named_ends dir [] lacks named = cc
 named_ends dir (a ∷ []) lacks named =
     let path = dir ++ 47 ∷ a ∷ [] in
@@ -247,7 +248,7 @@ known_trailing d ds rest same trims k =
       parts = split_same path (d ∷ ds) trims ∙ (k.parts ∙ (sym (described_front d ds rest (from_last (d ∷ ds)) k.within) ∙ ap (described path) (sym same)));
     }
 
-none : Lacks slash []
+none : LacksByte slash []
 none i fits = absurd (omega arith)
 
 known_slash : (dir : List ℕ) → Known dir → Known (dir ++ 47 ∷ [])
@@ -255,7 +256,7 @@ unfolding Within described trim_trailing split_last_component
 known_slash [] k = record { within = tt; trimmed = refl; parts = refl }
 known_slash (d ∷ ds) k = known_trailing d ds (47 ∷ []) (from_last_slash (d ∷ ds) [] none) (trim_slash (d ∷ ds) (omega arith)) k
 
-no_slash : Lacks slash (46 ∷ [])
+no_slash : LacksByte slash (46 ∷ [])
 no_slash zero fits e = omega arith
 no_slash (suc i) fits e = absurd (omega arith)
 
@@ -267,7 +268,7 @@ known_dot (d ∷ ds) k =
     (trim_dot (d ∷ ds) (omega arith)) k
 
 -- a path of one component
-known_one : (path : List ℕ) → Lacks slash path → rsplit_once slash path ≡ None → Known path
+known_one : (path : List ℕ) → LacksByte slash path → rsplit_once slash path ≡ None → Known path
 unfolding Within described trim_trailing split_last_component
 known_one [] lacks e = record { within = tt; trimmed = refl; parts = refl }
 known_one (b ∷ bs) lacks e =
@@ -303,7 +304,7 @@ not_root [] (a ∷ last) named = refl
 not_root (d ∷ []) last named = and_right (eqb d 47) false refl
 not_root (d ∷ e ∷ ds) last named = and_right (eqb d 47) false refl
 
-known_named : (dir last : List ℕ) → Lacks slash last → is_name last ≡ true → rsplit_once slash (dir ++ 47 ∷ last) ≡ Some (dir, last) → Known dir
+known_named : (dir last : List ℕ) → LacksByte slash last → is_name last ≡ true → rsplit_once slash (dir ++ 47 ∷ last) ≡ Some (dir, last) → Known dir
     → Known (dir ++ 47 ∷ last)
 unfolding Within described
 known_named dir last lacks named e k =
@@ -325,7 +326,7 @@ known_named dir last lacks named e k =
           ∙ (ap₂ (λ a t. Some (a, t)) (before_slash dir last k) (sym (after_range dir last)) ∙ ap (described path) (sym place)));
     }
 
-known_split : (dir last : List ℕ) → Lacks slash last → rsplit_once slash (dir ++ 47 ∷ last) ≡ Some (dir, last) → Known dir → Known (dir ++ 47 ∷ last)
+known_split : (dir last : List ℕ) → LacksByte slash last → rsplit_once slash (dir ++ 47 ∷ last) ≡ Some (dir, last) → Known dir → Known (dir ++ 47 ∷ last)
 known_split dir last lacks e k =
     elim (cases_Bool (is_name last)) [
       | inl named ↦ known_named dir last lacks named e k
@@ -336,7 +337,7 @@ known_split dir last lacks e k =
     ]
 
 known_by : (path : List ℕ) (r : Option (List ℕ × List ℕ)) → rsplit_once slash path ≡ r
-    → MatchOption r (Lacks slash path) (λ parts. (path ≡ parts.0 ++ slash ∷ parts.1) × Lacks slash parts.1)
+    → MatchOption r (LacksByte slash path) (λ parts. (path ≡ parts.0 ++ slash ∷ parts.1) × LacksByte slash parts.1)
     → ((dir : List ℕ) → length dir < length path → Known dir) → Known path
 known_by path None e lacks below = known_one path lacks e
 known_by path (Some parts) e (split, lacks) below =

@@ -6,10 +6,7 @@ use Rattle.std.specs.Path.{rfind_below, rsplit_once}
 use Rattle.std.proofs.lemmas.Bool.{eqb-false, ne_eqb, eq-eqb, cases_eq, cond_both, not_from_false, not_from_true}
 use Rattle.std.proofs.lemmas.List.{drop_more, get_or-drop, length-drop, length-append, append_assoc, take_at, drop_at, get_or_at, get_or-append-add}
 use Rattle.std.proofs.lemmas.List.Sums.{suffix_len_is}
-
--- no byte is c
-abbrev pub Lacks : ℕ → List ℕ → Type 0
-Lacks c text = (i : ℕ) → i < length text → get_or text i 0 ≢ c
+use Rattle.just_syntax.proofs.Lists.{LacksByte}
 
 -- r is the index of the last c below n, if there is one
 abbrev IsLast : ℕ → List ℕ → ℕ → Option ℕ → Type 0
@@ -36,8 +33,8 @@ last_below c text (suc n) =
     (λ e. wider c text n (rfind_below c text n) (eqb-false (get_or text n 0) c e) (last_below c text n))
 
 parts_at : (c : ℕ) (text : List ℕ) (r : Option ℕ) → IsLast c text (length text) r
-    → MatchOption {T = List ℕ × List ℕ} (option_map (λ i. (take i text, drop (i + 1) text)) r) (Lacks c text)
-    (λ parts. (text ≡ parts.0 ++ c ∷ parts.1) × Lacks c parts.1)
+    → MatchOption {T = List ℕ × List ℕ} (option_map (λ i. (take i text, drop (i + 1) text)) r) (LacksByte c text)
+    (λ parts. (text ≡ parts.0 ++ c ∷ parts.1) × LacksByte c parts.1)
 parts_at c text None none = none
 parts_at c text (Some k) (fits, at, after) = (
   sym (take-append-drop k text) ∙ ap (λ t. take k text ++ t) (drop_more text k 0 fits ∙ ap (λ b. b ∷ drop (k + 1) text) at),
@@ -45,7 +42,8 @@ parts_at c text (Some k) (fits, at, after) = (
 )
 
 -- the specification of std's `rsplit_once`
-pub rsplit_once_parts : (c : ℕ) (text : List ℕ) → MatchOption (rsplit_once c text) (Lacks c text) (λ parts. (text ≡ parts.0 ++ c ∷ parts.1) × Lacks c parts.1)
+pub rsplit_once_parts : (c : ℕ) (text : List ℕ)
+    → MatchOption (rsplit_once c text) (LacksByte c text) (λ parts. (text ≡ parts.0 ++ c ∷ parts.1) × LacksByte c parts.1)
 unfolding rsplit_once
 rsplit_once_parts c text = parts_at c text (rfind_below c text (length text)) (last_below c text (length text))
 
@@ -53,7 +51,7 @@ rsplit_once_parts c text = parts_at c text (rfind_below c text (length text)) (l
 abbrev not_at : ℕ → ℕ → Bool
 not_at c b = not (eqb b c)
 
-pub before_last_none : (c : ℕ) (text : List ℕ) → Lacks c text → before_last (λ b. eqb b c) text ≡ []
+pub before_last_none : (c : ℕ) (text : List ℕ) → LacksByte c text → before_last (λ b. eqb b c) text ≡ []
 before_last_none c text lacks =
     let n : suffix_len (not_at c) text ≡ length text - 0 =
     suffix_len_is (not_at c) text 0 0 (omega arith) (λ k above fits. not_from_false (eqb (get_or text k 0) c) (ne_eqb (get_or text k 0) c (lacks k fits)))
@@ -61,7 +59,7 @@ before_last_none c text lacks =
     let none : length text - suffix_len (not_at c) text - 1 ≡ 0 = omega (arith, n) in
     ap (λ k. take k text) none
 
-suffix_at : (c : ℕ) (front back : List ℕ) → Lacks c back → suffix_len (not_at c) (front ++ c ∷ back) ≡ length (front ++ c ∷ back) - (length front + 1)
+suffix_at : (c : ℕ) (front back : List ℕ) → LacksByte c back → suffix_len (not_at c) (front ++ c ∷ back) ≡ length (front ++ c ∷ back) - (length front + 1)
 suffix_at c front back lacks =
     let text = front ++ c ∷ back in
     let n : length text ≡ length front + suc (length back) = length-append front (c ∷ back) in
@@ -76,13 +74,13 @@ suffix_at c front back lacks =
     not_from_true (eqb (get_or text ((length front + 1) - 1) 0) c)
     (eq-eqb (get_or text ((length front + 1) - 1) 0) c (ap (λ j. get_or text j 0) place ∙ get_or_at front c back 0 (length front) refl)))
 
-pub before_last_at : (c : ℕ) (front back : List ℕ) → Lacks c back → before_last (λ b. eqb b c) (front ++ c ∷ back) ≡ front
+pub before_last_at : (c : ℕ) (front back : List ℕ) → LacksByte c back → before_last (λ b. eqb b c) (front ++ c ∷ back) ≡ front
 before_last_at c front back lacks =
     let text = front ++ c ∷ back in
     let n : length text - suffix_len (not_at c) text - 1 ≡ length front = omega (arith, suffix_at c front back lacks, length-append front (c ∷ back)) in
     ap (λ k. take k text) n ∙ take_at front (c ∷ back) (length front) refl
 
-pub after_last_at : (c : ℕ) (front back : List ℕ) → Lacks c back → after_last (λ b. eqb b c) (front ++ c ∷ back) ≡ back
+pub after_last_at : (c : ℕ) (front back : List ℕ) → LacksByte c back → after_last (λ b. eqb b c) (front ++ c ∷ back) ≡ back
 after_last_at c front back lacks =
     let text = front ++ c ∷ back in
     let n : length text - suffix_len (not_at c) text ≡ length front + 1 = omega (arith, suffix_at c front back lacks, length-append front (c ∷ back)) in

@@ -1,32 +1,29 @@
 -- A text around a byte that it contains, or lacks.
-use Rattle.std.proofs.Common.{◌≡◌, ◌≢◌, ℕ, suc, ◌<◌, List, [], ◌∷◌, ◌++◌, length, get_or, take, drop, map, Option, Some, None, false, cond, eqb, refl, ap, sym}
+use Rattle.std.proofs.Common.{◌≡◌, ◌≢◌, ℕ, suc, ◌<◌, List, [], ◌∷◌, ◌++◌, length, take, drop, map, Option, Some, None, false, cond, eqb, refl, ap, sym}
 use Rattle.std.proofs.Common.{◌∙◌, arith}
 use Rattle.std.specs.Str.{NoCharPasses}
 use Rattle.std.specs.Str.Pattern.{HasCharAt}
 use Rattle.std.proofs.lemmas.List.{take-append-drop, map_push}
 use Rattle.std.proofs.lemmas.Bool.{ne_eqb, eq-eqb}
 use Rattle.std.proofs.lemmas.Str.Pattern.{NoCharPasses-char, drop_at_char}
+use Rattle.just_syntax.proofs.Lists.{LacksByte}
 use Rattle.just_value.specs.Prelude.{Positional, after_last, cut_after_last, cut_at_first, directory_and_tail, is_dots, override_of, tail_before}
 use Rattle.just_value.specs.Prelude.{with_directory, with_override_or_word, with_word}
 use Rattle.just_value.specs.Positional.{after_overrides, with_next}
 
--- the text lacks the byte
-abbrev pub Lacks : ℕ → List ℕ → Type 0
-Lacks c bs = (i : ℕ) → i < length bs → get_or bs i 0 ≢ c
-
-pub first_none : (c : ℕ) (bs : List ℕ) → Lacks c bs → cut_at_first c bs ≡ None
+pub first_none : (c : ℕ) (bs : List ℕ) → LacksByte c bs → cut_at_first c bs ≡ None
 first_none c [] lacks = refl
 first_none c (b ∷ bs) lacks = rw (ne_eqb b c (lacks 0 (omega arith)), first_none c bs (λ i h. lacks (suc i) (omega arith))) refl
 
-pub first_found : (c : ℕ) (xs ys : List ℕ) → Lacks c xs → cut_at_first c (xs ++ c ∷ ys) ≡ Some (xs, ys)
+pub first_found : (c : ℕ) (xs ys : List ℕ) → LacksByte c xs → cut_at_first c (xs ++ c ∷ ys) ≡ Some (xs, ys)
 first_found c [] ys lacks = rw (eq-eqb c c refl) refl
 first_found c (b ∷ bs) ys lacks = rw (ne_eqb b c (lacks 0 (omega arith)), first_found c bs ys (λ i h. lacks (suc i) (omega arith))) refl
 
-pub last_none : (c : ℕ) (bs : List ℕ) → Lacks c bs → cut_after_last c bs ≡ None
+pub last_none : (c : ℕ) (bs : List ℕ) → LacksByte c bs → cut_after_last c bs ≡ None
 last_none c [] lacks = refl
 last_none c (b ∷ bs) lacks = rw (last_none c bs (λ i h. lacks (suc i) (omega arith)), ne_eqb b c (lacks 0 (omega arith))) refl
 
-pub last_found : (c : ℕ) (xs ys : List ℕ) → Lacks c ys → cut_after_last c (xs ++ c ∷ ys) ≡ Some (xs ++ c ∷ [], ys)
+pub last_found : (c : ℕ) (xs ys : List ℕ) → LacksByte c ys → cut_after_last c (xs ++ c ∷ ys) ≡ Some (xs ++ c ∷ [], ys)
 last_found c [] ys lacks = rw (last_none c ys lacks, eq-eqb c c refl) refl
 last_found c (b ∷ bs) ys lacks = ap (after_last c b (bs ++ c ∷ ys)) (last_found c bs ys lacks)
 
@@ -34,7 +31,7 @@ last_found c (b ∷ bs) ys lacks = ap (after_last c b (bs ++ c ∷ ys)) (last_fo
 round : (c : ℕ) (s : List ℕ) (i j : ℕ) → c < 128 → HasCharAt c s i j → s ≡ take i s ++ c ∷ drop j s
 round c s i j ascii found = sym (take-append-drop i s) ∙ ap (λ t. take i s ++ t) (drop_at_char c s i j found ascii)
 
-lacks : (c : ℕ) (s : List ℕ) → c < 128 → NoCharPasses (λ d. eqb d c) s → Lacks c s
+lacks : (c : ℕ) (s : List ℕ) → c < 128 → NoCharPasses (λ d. eqb d c) s → LacksByte c s
 lacks c s ascii none = λ k h. NoCharPasses-char c s k none ascii h
 
 pub first_missed : (c : ℕ) (s : List ℕ) → c < 128 → NoCharPasses (λ d. eqb d c) s → cut_at_first c s ≡ None

@@ -1,7 +1,6 @@
 use Rattle.std.proofs.Common.{◌≡◌, ◌↔◌, ◌⊎◌, ap, refl, sym, subst, inl, [], map, Some, None, Bor, IsTrue}
 use Rattle.just_faults.specs.Prelude.{Text, assignment_at, assignment_view, function_view, is_name_in, is_number_taken, is_readable, module_fault_view}
-use Rattle.just_faults.specs.Prelude.{name_view}
-use Rattle.just_faults.specs.Prelude.{ordered_view}
+use Rattle.just_faults.specs.Prelude.{name_view, ordered_view}
 use Rattle.just_meaning.proofs.Names.{name_added}
 use Rattle.just_resolution.proofs.Ordering.{comes_now, comes_now_takes_one, more_readable, passed_over, passed_over_takes_none, reads_if}
 use Rattle.just_resolution.proofs.Tables.{assignment_seen}

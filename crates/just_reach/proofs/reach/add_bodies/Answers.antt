@@ -2,9 +2,10 @@ use Rattle.std.proofs.Common.{arith, ◌≡◌, ◌∙◌, ◌+◌, ◌++◌, �
 use Rattle.std.proofs.lemmas.Bool.{not-false, not-true}
 use Rattle.std.proofs.lemmas.List.{drop_all}
 use Rattle.just_syntax.proofs.Lists.{rest_from}
+use Rattle.just_syntax.specs.NameSet.{is_name_in}
 use Rattle.just_reach.specs.Prelude.{Text, body_members, function_at, function_view, member_view, members_view, name_of_call}
 use Rattle.just_reach.proofs.Listed.{body_appended}
-use Rattle.just_meaning.proofs.Names.{is_name_in, name_added, no_name}
+use Rattle.just_meaning.proofs.Names.{name_added, no_name}
 use Rattle.just_reach.proofs.Walk.{AreMembersWalked, begins, ends, goes_on, once, passes, repeats}
 use Rattle.just_reach.proofs.Work.{falls, rest_added}
 use Rattle.just_reach.proofs.reach.add_bodies.Goals.{In-Some, In_ok-add_body}

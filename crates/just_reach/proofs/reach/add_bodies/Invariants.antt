@@ -1,6 +1,6 @@
 use Rattle.std.proofs.Common.{◌+◌, drop, length, map}
+use Rattle.just_syntax.specs.NameSet.{is_name_in}
 use Rattle.just_reach.specs.Prelude.{function_view, members_view}
-use Rattle.just_meaning.proofs.Names.{is_name_in}
 use Rattle.just_reach.proofs.Walk.{AreMembersWalked}
 use Rattle.just_reach.proofs.Work.{function_names, member_work}
 use Rattle.just_reach.proofs.reach.add_bodies.Given as goal

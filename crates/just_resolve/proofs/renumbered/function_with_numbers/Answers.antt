@@ -3,8 +3,7 @@ use mathlib.Core.Path.{fun_ext}
 use Rattle.std.specs.Option.{option_or}
 use Rattle.just_syntax.specs.declared.name.Name.{Name}
 use Rattle.just_resolve.specs.Prelude.{Expr, Function, IsRenumberedFunction, Text, Token, first_named, function_view, name_number, name_view}
-use Rattle.just_resolve.specs.Prelude.{numbered_expression}
-use Rattle.just_resolve.specs.Prelude.{parameter_view}
+use Rattle.just_resolve.specs.Prelude.{numbered_expression, parameter_view}
 use Rattle.just_resolve.specs.Prelude.{variable_named, view}
 use Rattle.just_resolve.proofs.Lookups.{first_named-append}
 use Rattle.just_resolve.proofs.renumbered.function_with_numbers.Goals as goal
