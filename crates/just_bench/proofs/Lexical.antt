@@ -8,10 +8,10 @@ use Rattle.just_soundness.proofs.Lexical.{resolved_turn}
 use Rattle.just_bench.specs.Blocks.{Finished, Breaks}
 
 -- the turn of a name is the same under both
-abbrev AreSame : Module → Token → Type 0
-AreSame m t = (frames : Frames) → runs.turn dynamically m frames t ≡ runs.turn lexically m frames t
+abbrev IsTurnSame : Module → Token → Type 0
+IsTurnSame m t = (frames : Frames) → runs.turn dynamically m frames t ≡ runs.turn lexically m frames t
 
-extends_lexical : {S : Type 0} {step : Step S} {old new : S} {frames : Frames} {outcome : Outcome Frames} (m : Module) (t : Token) → AreSame m t
+extends_lexical : {S : Type 0} {step : Step S} {old new : S} {frames : Frames} {outcome : Outcome Frames} (m : Module) (t : Token) → IsTurnSame m t
     → Extends dynamically step old (in_order m (t ∷ [])) frames outcome new → Extends lexically step old (in_order m (t ∷ [])) frames outcome new
 extends_lexical {step = step} {old = old} {new = new} {frames = frames} m t same e = record {
   given = e.given;
@@ -20,7 +20,7 @@ extends_lexical {step = step} {old = old} {new = new} {frames = frames} m t same
 }
 
 each_lexical : {S : Type 0} {step : Step S} {m : Module} {old new : S × List Kept} {frames : Frames} {left : List Token} {turns : List Turn}
-    {outcome : Outcome Frames} → ((t : Token) → IsIn left t → AreSame m t) → Turns dynamically step m old frames left turns outcome new
+    {outcome : Outcome Frames} → ((t : Token) → IsIn left t → IsTurnSame m t) → Turns dynamically step m old frames left turns outcome new
     → Turns lexically step m old frames left turns outcome new
 each_lexical same Finished = Finished
 each_lexical {m = m} {left = t ∷ left} same (Goes e rest) =

@@ -12,8 +12,8 @@ use Rattle.just_bench.proofs.Heeded.{run_answered}
 use Rattle.just_bench.proofs.Lines.{are_blocks, are_end, is_order, lines_after}
 
 -- the state of a name-by-name run: its host with the questions so far, and the frames
-abbrev Place : Type 0
-Place = (Script × List Kept) × Frames
+abbrev WalkState : Type 0
+WalkState = (Script × List Kept) × Frames
 
 -- one name, from the same state
 extends_here : (h : Script × List Kept) (m : Module) (frames : Frames) (o p : Outcome Frames) (s t : Script × List Kept)
@@ -41,22 +41,22 @@ gave_one : {A : Type 0} {v w : A} → Gave v ≡ Gave w → v ≡ w
 gave_one e = cc
 
 -- two name-by-name runs with the same end
-abbrev Same : List Turn → List Turn → Outcome Frames → Outcome Frames → Script × List Kept → Script × List Kept → Type 0
-Same us vs o p s t = (us ≡ vs) × (o ≡ p) × (s ≡ t)
+abbrev HaveSameEnd : List Turn → List Turn → Outcome Frames → Outcome Frames → Script × List Kept → Script × List Kept → Type 0
+HaveSameEnd us vs o p s t = (us ≡ vs) × (o ≡ p) × (s ≡ t)
 
 module _ (m : Module) where
-  abbrev From : Place → List Token → List Turn → Outcome Frames → Script × List Kept → Type 0
+  abbrev From : WalkState → List Token → List Turn → Outcome Frames → Script × List Kept → Type 0
   From x names us o s = Turns dynamically by_script m x.0 x.1 names us o s
 
   turns_one : {h : Script × List Kept} {frames : Frames} {names : List Token} {us vs : List Turn} {o p : Outcome Frames} {s t : Script × List Kept}
       → Turns dynamically by_script m h frames names us o s → Turns dynamically by_script m h frames names vs p t
-      → o ≢ Stopped → p ≢ Stopped → Same us vs o p s t
+      → o ≢ Stopped → p ≢ Stopped → HaveSameEnd us vs o p s t
   turns_one Finished Finished here there = (refl, refl, refl)
   turns_one {h = h} {frames = frames} (Goes {mid = a} {new = s} {more = f} {t = name} {left = left} {turns = us} {o = o} e rest)
       (Goes {mid = b} {new = t} {more = g} {turns = vs} {o = p} d more) here there =
       let (same, ends) = extends_here h _ frames (Gave f) (Gave g) a b e d never_stopped never_stopped in
       let place : (a, f) ≡ (b, g) = rw (ends, gave_one same) refl in
-      let (turns, out, last) = subst (λ x. From x left vs p t → Same us vs o p s t) place (λ w. turns_one rest w here there) more in
+      let (turns, out, last) = subst (λ x. From x left vs p t → HaveSameEnd us vs o p s t) place (λ w. turns_one rest w here there) more in
       (rw (ends, turns) refl, out, last)
   turns_one {h = h} {frames = frames} (Goes {mid = a} {more = f} e rest) (Breaks {new = b} r d) here there =
       absurd (no_value f r (extends_here h _ frames (Gave f) (without_value r) a b e d never_stopped there).0)

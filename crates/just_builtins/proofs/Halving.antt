@@ -45,26 +45,28 @@ module _ {X : Type 0} (key : X → Text) where
 
   -- the result of a search for a name
   module _ {Y : Type 0} (value : X → Y) (xs : List X) (up : rises (map key xs) ≡ true) (name : Text) where
-    abbrev entry : X → Text × Y
-    entry x = (key x, value x)
+    abbrev keyed_entry : X → Text × Y
+    keyed_entry x = (key x, value x)
 
     tests : (x : X) → bytes_eq (key x) name ≡ is_eq (order (key x) name)
     tests x = sym (is_eq-slice_cmp (key x) name)
 
     -- an element with the name is what a look-up finds
     pub found : (i : ℕ) (d : X) → IsSearchInRange (Ok i) (length xs) → IsBinarySearchResult (λ x. order (key x) name) xs (Ok i)
-        → lookup (λ k. bytes_eq k name) (map entry xs) ≡ Some (value (get_or xs i d))
-    found i d within at = lookup_at key nat_list_cmp_total xs (sorted xs up) name entry (λ k. bytes_eq k name) tests i d
+        → lookup (λ k. bytes_eq k name) (map keyed_entry xs) ≡ Some (value (get_or xs i d))
+    found i d within at = lookup_at key nat_list_cmp_total xs (sorted xs up) name keyed_entry (λ k. bytes_eq k name) tests i d
         (searched key nat_list_cmp_total xs (sorted xs up) name (Ok i) within at)
 
     -- without one a look-up finds nothing
     pub absent : (i : ℕ) → IsSearchInRange (Err i) (length xs) → IsBinarySearchResult (λ x. order (key x) name) xs (Err i)
-        → lookup (λ k. bytes_eq k name) (map entry xs) ≡ None
-    absent i within parted = lookup_between key nat_list_cmp_total xs (sorted xs up) name entry (λ k. bytes_eq k name) tests i
+        → lookup (λ k. bytes_eq k name) (map keyed_entry xs) ≡ None
+    absent i within parted = lookup_between key nat_list_cmp_total xs (sorted xs up) name keyed_entry (λ k. bytes_eq k name) tests i
         (searched key nat_list_cmp_total xs (sorted xs up) name (Err i) within parted)
 
-    is_any : is_some (lookup (λ k. bytes_eq k name) (map entry xs)) ≡ list_any (λ other. bytes_eq other name) (map key xs)
-    is_any = is_some-lookup (λ k. bytes_eq k name) (map entry xs) ∙ ap (list_any (λ other. bytes_eq other name)) (map-map (λ (e : Text × Y). e.0) entry xs)
+    is_any : is_some (lookup (λ k. bytes_eq k name) (map keyed_entry xs)) ≡ list_any (λ other. bytes_eq other name) (map key xs)
+    is_any =
+        is_some-lookup (λ k. bytes_eq k name) (map keyed_entry xs)
+        ∙ ap (list_any (λ other. bytes_eq other name)) (map-map (λ (e : Text × Y). e.0) keyed_entry xs)
 
     -- whether the search succeeds is whether the name is among the keys
     pub tells : (r : Result ℕ ℕ) (d : X) → IsSearchInRange r (length xs) → IsBinarySearchResult (λ x. order (key x) name) xs r

@@ -56,34 +56,35 @@ module _ {S : Type 0} (step : Step S) (shown : Frames) where
       (so_far : (rest : FunctionReply) (o : Outcome Called) (last : S) → Behaves freely step unchecked mid (tree shown (first_set dotenv rest (drop i keys))) o
       last → Behaves freely step unchecked old (tree shown (first_set dotenv rest keys)) o last)
       (r : Result (Option Value) CallFault) (turn : AskedOr step mid shown (variable_reply dotenv key) r new) where
-    abbrev left : List Text
-    left = drop (i + 1) keys
+    abbrev keys_left : List Text
+    keys_left = drop (i + 1) keys
 
-    from : (rest : FunctionReply) (o : Outcome Called) (last : S) → Behaves freely step unchecked mid (tree shown (first_set dotenv rest (key ∷ left))) o last
+    from : (rest : FunctionReply) (o : Outcome Called) (last : S)
+        → Behaves freely step unchecked mid (tree shown (first_set dotenv rest (key ∷ keys_left))) o last
         → Behaves freely step unchecked old (tree shown (first_set dotenv rest keys)) o last
     from rest o last run =
-        let with_key : (t : Text) → t ≡ key → t ∷ left ≡ key ∷ left = λ t is. ap (λ x. x ∷ left) is in
+        let with_key : (t : Text) → t ≡ key → t ∷ keys_left ≡ key ∷ keys_left = λ t is. ap (λ x. x ∷ keys_left) is in
         let next = drop-cons keys i s within ∙ ap (λ t. t ∷ drop (suc i) keys) (sym here) in
         let all = next ∙ ap (λ j. s ∷ drop j keys) (sym (add-one i)) ∙ with_key s (sym same) in
         so_far rest o last (subst (λ ks. Behaves freely step unchecked mid (tree shown (first_set dotenv rest ks)) o last) (sym all) run)
 
     pub not_set : r ≡ Ok None → (rest : FunctionReply) (o : Outcome Called) (last : S)
-        → Behaves freely step unchecked new (tree shown (first_set dotenv rest left)) o last
+        → Behaves freely step unchecked new (tree shown (first_set dotenv rest keys_left)) o last
         → Behaves freely step unchecked old (tree shown (first_set dotenv rest keys)) o last
     not_set is rest o last run =
-        from rest o last (subst (λ x. AskedOr step mid shown (variable_reply dotenv key) x new) is turn (first_set dotenv rest left) o last run)
+        from rest o last (subst (λ x. AskedOr step mid shown (variable_reply dotenv key) x new) is turn (first_set dotenv rest keys_left) o last run)
 
     pub set : (v : Value) → r ≡ Ok (Some v) → (rest : FunctionReply)
         → Behaves freely step unchecked old (tree shown (first_set dotenv rest keys)) (Gave (Returned v)) new
     set v is rest =
-        from rest (Gave (Returned v)) new (subst (λ x. AskedOr step mid shown (variable_reply dotenv key) x new) is turn (first_set dotenv rest left))
+        from rest (Gave (Returned v)) new (subst (λ x. AskedOr step mid shown (variable_reply dotenv key) x new) is turn (first_set dotenv rest keys_left))
 
     pub ended : (result : Result (Option Value) CallFault) (e d : CallFault) → r ≡ Err d → result ≡ Err e → e ≡ d
         → AskedOr step old shown (λ rest. first_set dotenv rest keys) result new
     ended result e d is out alike =
         let all = subst (λ x. AskedOr step mid shown (variable_reply dotenv key) x new) (is ∙ ap Err (sym alike)) turn in
         subst (λ x. AskedOr step old shown (λ rest. first_set dotenv rest keys) x new) (sym out)
-        (λ rest. (from rest (outcome (Err e)) new (all (first_set dotenv rest left)).0, (all (first_set dotenv rest left)).1))
+        (λ rest. (from rest (outcome (Err e)) new (all (first_set dotenv rest keys_left)).0, (all (first_set dotenv rest keys_left)).1))
 
   -- all of them, and then the result if none is set
   module _ (c : Context) (default : Option Value) (old new : S) (keys given : List Text) (same : given ≡ keys) (r : Result (Option Value) CallFault)

@@ -56,22 +56,22 @@ module _ (xs ys zs : List PlainNode) (x : PlainNode) where
   third : IsIn zs x → IsIn (xs ++ ys ++ zs) x
   third h = in_second (xs ++ ys) zs x h
 
-abbrev variables : Declared → List PlainNode
-variables v = map (λ a. OfVariable a.number) (map assignment_view v.assignments.now)
+abbrev variable_nodes : Declared → List PlainNode
+variable_nodes v = map (λ a. OfVariable a.number) (map assignment_view v.assignments.now)
 
-abbrev functions : Declared → List PlainNode
-functions v = map (λ f. OfFunction f.name.lexeme) (map function_view v.functions.now)
+abbrev function_nodes : Declared → List PlainNode
+function_nodes v = map (λ f. OfFunction f.name.lexeme) (map function_view v.functions.now)
 
-abbrev overridden : Declared → List PlainNode
-overridden v = map OfVariable (keys v.overrides.now)
+abbrev overridden_nodes : Declared → List PlainNode
+overridden_nodes v = map OfVariable (keys v.overrides.now)
 
 pub covered : (v : Declared) → IsWhole v → (x : PlainNode) → IsIn (all_nodes v) x ⊎ IsAbsent (version_view v) x
 covered v whole (OfFunction t) =
-    ⊎_elim (λ k. inl (second (variables v) (functions v) (overridden v) (OfFunction t) k)) (λ k. inr k)
+    ⊎_elim (λ k. inl (second (variable_nodes v) (function_nodes v) (overridden_nodes v) (OfFunction t) k)) (λ k. inr k)
     (functions_covered (map function_view v.functions.now) t)
 covered v whole (OfVariable n) =
-    ⊎_elim (λ k. inl (first (variables v) (functions v) (overridden v) (OfVariable n) k))
-    (λ none. ⊎_elim (λ k. inl (third (variables v) (functions v) (overridden v) (OfVariable n) k))
+    ⊎_elim (λ k. inl (first (variable_nodes v) (function_nodes v) (overridden_nodes v) (OfVariable n) k))
+    (λ none. ⊎_elim (λ k. inl (third (variable_nodes v) (function_nodes v) (overridden_nodes v) (OfVariable n) k))
     (λ k. inr (whole n ∙ none, ap (λ o. option_map string_bytes o) k))
     (overrides_covered v.overrides.now.entries n))
     (assignments_covered (map assignment_view v.assignments.now) n)

@@ -52,30 +52,31 @@ reader_by false old mid new all reader y d removed inserted items =
 abbrev name_cmp : Bor Text → Bor Text → Ordering
 name_cmp x y = slice_cmp nat_cmp x.now y.now
 
-abbrev named : BTreeMap (Bor Text) Lists → Text → Option Lists
-named m t = lookup (is_at (λ (k : Bor Text). slice_cmp nat_cmp t k.now)) m.entries
+abbrev lists_named : BTreeMap (Bor Text) Lists → Text → Option Lists
+lists_named m t = lookup (is_at (λ (k : Bor Text). slice_cmp nat_cmp t k.now)) m.entries
 
-abbrev numbered : BTreeMap ℕ Lists → ℕ → Option Lists
-numbered m n = lookup (is_at (nat_cmp n)) m.entries
+abbrev lists_numbered : BTreeMap ℕ Lists → ℕ → Option Lists
+lists_numbered m n = lookup (is_at (nat_cmp n)) m.entries
 
 pub function_reader : (old mid new : BTreeMap (Bor Text) Lists) (name : Bor Text) (all : Lists) (reader : PlainNode)
     → ((q : Bor Text) → get name_cmp mid q ≡ cond (is_at (name_cmp name) q) None (get name_cmp old q))
     → ((q : Bor Text) → get name_cmp new q ≡ cond (is_at (name_cmp name) q) (Some all) (get name_cmp mid q))
-    → nodes_view all.items ≡ found_nodes (named old name.now) ++ reader ∷ [] → (t : Text) (y : PlainNode) → IsIn (found_nodes (named new t)) y
-    ↔ (((name.now ≡ t) × (reader ≡ y)) ⊎ IsIn (found_nodes (named old t)) y)
+    → nodes_view all.items ≡ found_nodes (lists_named old name.now) ++ reader ∷ [] → (t : Text) (y : PlainNode) → IsIn (found_nodes (lists_named new t)) y
+    ↔ (((name.now ≡ t) × (reader ≡ y)) ⊎ IsIn (found_nodes (lists_named old t)) y)
 function_reader old mid new name all reader removed inserted items t y =
-    reader_by (is_eq (slice_cmp nat_cmp name.now t)) (named old t) (named mid t) (named new t) all reader y (name_decides name.now t)
+    reader_by (is_eq (slice_cmp nat_cmp name.now t)) (lists_named old t) (lists_named mid t) (lists_named new t) all reader y (name_decides name.now t)
     (removed (record { ref_ptr = (0, 0); now = t })) (inserted (record { ref_ptr = (0, 0); now = t }))
-    (λ e. items ∙ ap (λ (s : Text). found_nodes (named old s) ++ reader ∷ []) e)
+    (λ e. items ∙ ap (λ (s : Text). found_nodes (lists_named old s) ++ reader ∷ []) e)
 
 pub variable_reader : (old mid new : BTreeMap ℕ Lists) (k : ℕ) (all : Lists) (reader : PlainNode)
     → ((q : ℕ) → get nat_cmp mid q ≡ cond (is_at (nat_cmp k) q) None (get nat_cmp old q))
     → ((q : ℕ) → get nat_cmp new q ≡ cond (is_at (nat_cmp k) q) (Some all) (get nat_cmp mid q))
-    → nodes_view all.items ≡ found_nodes (numbered old k) ++ reader ∷ [] → (n : ℕ) (y : PlainNode) → IsIn (found_nodes (numbered new n)) y
-    ↔ (((k ≡ n) × (reader ≡ y)) ⊎ IsIn (found_nodes (numbered old n)) y)
+    → nodes_view all.items ≡ found_nodes (lists_numbered old k) ++ reader ∷ [] → (n : ℕ) (y : PlainNode) → IsIn (found_nodes (lists_numbered new n)) y
+    ↔ (((k ≡ n) × (reader ≡ y)) ⊎ IsIn (found_nodes (lists_numbered old n)) y)
 variable_reader old mid new k all reader removed inserted items n y =
-    reader_by (is_at (nat_cmp k) n) (numbered old n) (numbered mid n) (numbered new n) all reader y (number_decides k n) (removed n) (inserted n)
-    (λ e. items ∙ ap (λ (j : ℕ). found_nodes (numbered old j) ++ reader ∷ []) e)
+    reader_by (is_at (nat_cmp k) n) (lists_numbered old n) (lists_numbered mid n) (lists_numbered new n) all reader y (number_decides k n) (removed n)
+    (inserted n)
+    (λ e. items ∙ ap (λ (j : ℕ). found_nodes (lists_numbered old j) ++ reader ∷ []) e)
 
 -- a key that has no list has no readers
 key_found : {K : Type 0} (f : K → PlainNode) (x : PlainNode) (test : K → Bool) → ((k : K) → IsTrue (test k) → f k ≡ x) → (es : List (K × Lists))

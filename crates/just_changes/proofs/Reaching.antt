@@ -29,11 +29,11 @@ module _ (m w : Module) (outer : Frames) where
   abbrev functions : List Function
   functions = m.program.functions
 
-  abbrev before : Version
-  before = version_of m
+  abbrev version_before : Version
+  version_before = version_of m
 
-  abbrev after : Version
-  after = version_of w
+  abbrev version_after : Version
+  version_after = version_of w
 
   -- ---- cones within cones
 
@@ -93,11 +93,11 @@ module _ (m w : Module) (outer : Frames) where
   value_fine : (a : Assignment) → IsEvaluated m outer a → HaveSameCone m w outer a.number → IsFineFrom a.value
   value_fine a e h = ((λ name reached. h.functions a Itself e name reached), (λ k b. within h (ReadBy a Itself e (inr b))))
 
-  evaluated : (a : Assignment) → {x : PlainNode} → AssignmentReads before outer a x → IsEvaluated m outer a
+  evaluated : (a : Assignment) → {x : PlainNode} → AssignmentReads version_before outer a x → IsEvaluated m outer a
   evaluated a reads = record { found = reads.first; free = reads.free.0; unbound = reads.free.1 }
 
   -- what a fine node reads is fine
-  passes : (y x : PlainNode) → ReadsItself before outer y x → IsFine y → IsFine x
+  passes : (y x : PlainNode) → ReadsItself version_before outer y x → IsFine y → IsFine x
   passes (OfFunction name) (OfFunction other) r h = narrow r.reads.0 r.reads.1 (body_fine r.function r.found h)
   passes (OfFunction name) (OfVariable k) r h =
       h.1 k (record { name = name; function = r.function; reached = Here 0 (inl refl); found = r.found; occurs = r.reads.0; beyond = r.reads.1 })
@@ -106,23 +106,24 @@ module _ (m w : Module) (outer : Frames) where
   passes (OfVariable n) (OfVariable k) r h =
       within (subst (HaveSameCone m w outer) (sym r.number) h) (ReadBy r.assignment Itself (evaluated r.assignment r.reads) (inl r.reads.mentions.0))
 
-  fine_same : (x : PlainNode) → IsFine x → IsUnchanged before after x
+  fine_same : (x : PlainNode) → IsFine x → IsUnchanged version_before version_after x
   fine_same (OfFunction name) h = h.0 name (Here 0 (inl refl))
   fine_same (OfVariable n) h = (h.assignments n Itself, h.overrides n Itself)
 
   module _ (readers : PlainNode → List PlainNode) (starts : List PlainNode) (touched : PlainNode → Bool) (reading : (x y : PlainNode) → IsIn (readers x) y
-      ↔ ReadsItself before outer y x)
-      (differ : (x : PlainNode) → IsIn starts x → IsUnchanged before after x → ⊥) (all : (x : PlainNode) → IsIn starts x ⊎ IsUnchanged before after x)
+      ↔ ReadsItself version_before outer y x)
+      (differ : (x : PlainNode) → IsIn starts x → IsUnchanged version_before version_after x → ⊥)
+      (all : (x : PlainNode) → IsIn starts x ⊎ IsUnchanged version_before version_after x)
       (reached : (x : PlainNode) → IsTrue (touched x) ↔ IsReadFrom readers starts x) where
     never : {x : PlainNode} → IsReadFrom readers starts x → IsFine x → ⊥
     never {x} (Starts listed) h = differ x listed (fine_same x h)
     never {x} (nodes.ReadBy z there listed) h = never there (passes x z ((reading z x).0 listed) h)
 
     -- an untouched node reads no touched one
-    down : (y x : PlainNode) → ReadsItself before outer y x → touched y ≡ false → touched x ≡ false
+    down : (y x : PlainNode) → ReadsItself version_before outer y x → touched y ≡ false → touched x ≡ false
     down y x reads off = not_true (touched x) (λ on. both_ways (touched y) off ((reached y).1 (nodes.ReadBy x ((reached x).0 on) ((reading x y).1 reads))))
 
-    untouched_same : (x : PlainNode) → touched x ≡ false → IsUnchanged before after x
+    untouched_same : (x : PlainNode) → touched x ≡ false → IsUnchanged version_before version_after x
     untouched_same x off = ⊎_elim (λ listed. absurd (both_ways (touched x) off ((reached x).1 (Starts listed)))) (λ same. same) (all x)
 
     functions_off : {e : Expr} {name : Text} → Reaches functions e name → ((t : Text) (k : ℕ) → Occurs e (CallOf t k) → touched (OfFunction t) ≡ false)

@@ -17,12 +17,12 @@ use Rattle.just_eval.specs.declared.evaluator.Evaluator.{Evaluator}
 -- ---- situations
 
 -- the situation of an evaluator, with another environment, other frames to read and others below a called body's
-abbrev placed : Evaluator → List (Text × Text) → Frames → Frames → Situation
-placed e environment shown below = record (situation_of e) { names = value_in shown; environment = environment; shown = shown; below = below }
+abbrev placed_situation : Evaluator → List (Text × Text) → Frames → Frames → Situation
+placed_situation e environment shown below = record (situation_of e) { names = value_in shown; environment = environment; shown = shown; below = below }
 
 -- the situation of an evaluator that differs only in its scope and environment
 situation_but : (e f : Evaluator) → IsSameButScopeAndEnvironment e f
-    → situation_of f ≡ placed e (pairs_view f.env) (frames_view f.scope) (below_of e.base (frames_view f.scope))
+    → situation_of f ≡ placed_situation e (pairs_view f.env) (frames_view f.scope) (below_of e.base (frames_view f.scope))
 situation_but e f same = λ i. record {
   names = value_in (frames_view f.scope);
   environment = pairs_view f.env;
@@ -36,7 +36,8 @@ situation_but e f same = λ i. record {
 -- with one more variable
 pub situation_set : (e f : Evaluator) → IsSameButScopeAndEnvironment e f → f.scope ≡ e.scope
     → situation_of f ≡ record (situation_of e) { environment = pairs_view f.env }
-situation_set e f same scope = situation_but e f same ∙ ap (λ (s : Scope). placed e (pairs_view f.env) (frames_view s) (below_of e.base (frames_view s))) scope
+situation_set e f same scope =
+    situation_but e f same ∙ ap (λ (s : Scope). placed_situation e (pairs_view f.env) (frames_view s) (below_of e.base (frames_view s))) scope
 
 -- with one more parameter
 pub situation_bound : (e f : Evaluator) (frames : Frames) → IsSameButScopeAndEnvironment e f → f.env ≡ e.env → is_some e.base ≡ true
@@ -44,9 +45,9 @@ pub situation_bound : (e f : Evaluator) (frames : Frames) → IsSameButScopeAndE
 situation_bound e f frames same env based is = situation_but e f same ∙ by e.base refl based
   where
     by : (base : Option (Bor Scope)) → e.base ≡ base → is_some base ≡ true
-        → placed e (pairs_view f.env) (frames_view f.scope) (below_of base (frames_view f.scope))
-        ≡ placed e (pairs_view e.env) frames (below_of base (frames_view e.scope))
-    by (Some base) e' some = λ i. placed e (pairs_view (env i)) (is i) (frames_view base.now)
+        → placed_situation e (pairs_view f.env) (frames_view f.scope) (below_of base (frames_view f.scope))
+        ≡ placed_situation e (pairs_view e.env) frames (below_of base (frames_view e.scope))
+    by (Some base) e' some = λ i. placed_situation e (pairs_view (env i)) (is i) (frames_view base.now)
     by None e' some = absurd (cc)
 
 -- ---- one parameter

@@ -19,8 +19,8 @@ mapped_none f [] none = refl
 mapped_none f (x ∷ xs) none = absurd (cc)
 
 -- what the parameters that are left evaluate to, after these words
-abbrev rest_of : Evaluator → Recipe → Evaluator → List Text → List Parameter → List Value → Tree Arguments
-rest_of e recipe f words left arguments = bindings (dynamic_meanings e.context) (recipe_view recipe).name.lexeme (situation_of f) words left arguments
+abbrev further_bindings : Evaluator → Recipe → Evaluator → List Text → List Parameter → List Value → Tree Arguments
+further_bindings e recipe f words left arguments = bindings (dynamic_meanings e.context) (recipe_view recipe).name.lexeme (situation_of f) words left arguments
 
 -- The result of the rest from here, after these words, is the result of all from the start.
 pub record ParametersLeft {S F : Type 0} (step : Step S) (calls : Shared F (Bor Recipe × (Bor Declared × (Bor Value × Unit {0}))) (Result Unit CheckFault))
@@ -28,8 +28,8 @@ pub record ParametersLeft {S F : Type 0} (step : Step S) (calls : Shared F (Bor 
     (f : Evaluator) (words : List Text) (left : List Parameter) (arguments : List Value) (here : S) : Type 0 where
   pub same : IsSameButScopeAndEnvironment e f
   pub rest : (o : Outcome Arguments) (new : S)
-      → Behaves (rules_of e) step (GivesVerdict calls check recipe) here (rest_of e recipe f words left arguments) o new
-      → Behaves (rules_of e) step (GivesVerdict calls check recipe) start (rest_of e recipe e [] all given) o new
+      → Behaves (rules_of e) step (GivesVerdict calls check recipe) here (further_bindings e recipe f words left arguments) o new
+      → Behaves (rules_of e) step (GivesVerdict calls check recipe) start (further_bindings e recipe e [] all given) o new
 
 module _ {S F : Type 0} {step : Step S} {calls : Shared F (Bor Recipe × (Bor Declared × (Bor Value × Unit {0}))) (Result Unit CheckFault)} {check : F}
     {recipe : Recipe} {start : S} {e : Evaluator} {all : List Parameter} {given : List Value} where
@@ -48,19 +48,19 @@ module _ {S F : Type 0} {step : Step S} {calls : Shared F (Bor Recipe × (Bor De
     abbrev name : Text
     name = (recipe_view recipe).name.lexeme
 
-    abbrev says : Verdicts
-    says = GivesVerdict calls check recipe
+    abbrev verdicts : Verdicts
+    verdicts = GivesVerdict calls check recipe
 
     -- how all of them end
     abbrev Whole : Outcome Arguments → S → Type 0
-    Whole o new = Behaves (rules_of e) step says start (bindings means name (situation_of e) [] all given) o new
+    Whole o new = Behaves (rules_of e) step verdicts start (bindings means name (situation_of e) [] all given) o new
 
     abbrev made : Arguments
     made = record { frames = frames_view f.scope; words = words; environment = pairs_view f.env }
 
     pub parameters_all : (length left ≡ 0) ⊎ (length arguments ≡ 0) → Whole (Gave made) here
     parameters_all none =
-        from.rest (Gave made) here (subst (λ t. Behaves (rules_of e) step says here t (Gave made) here) (sym (by left arguments none)) (runs_gives made))
+        from.rest (Gave made) here (subst (λ t. Behaves (rules_of e) step verdicts here t (Gave made) here) (sym (by left arguments none)) (runs_gives made))
       where
         by : (ps : List Parameter) (vs : List Value) → (length ps ≡ 0) ⊎ (length vs ≡ 0) → bindings means name (situation_of f) words ps vs ≡ gives made
         by [] vs h = refl
@@ -70,38 +70,38 @@ module _ {S F : Type 0} {step : Step S} {calls : Shared F (Bor Recipe × (Bor De
 
     module _ {p : Parameter} {more : List Parameter} (is : left ≡ p ∷ more) {argument : Value} {further : List Value}
         (has : arguments ≡ argument ∷ further) where
-      abbrev first : Tree Value
-      first = checked (means (situation_of f)) f.is_dependency name p argument
+      abbrev checked_argument : Tree Value
+      checked_argument = checked (means (situation_of f)) f.is_dependency name p argument
 
       -- the parameter is bound, and then the rest
-      abbrev after : Value → Tree Arguments
-      after v = bindings means name (seeing (bound_innermost (frames_view f.scope) (parameter_bound f.lists p v)) (situation_of f))
+      abbrev after_parameter : Value → Tree Arguments
+      after_parameter v = bindings means name (seeing (bound_innermost (frames_view f.scope) (parameter_bound f.lists p v)) (situation_of f))
           (words ++ words_of p v) more further
 
-      fronted : {o : Outcome Arguments} {new : S} → Behaves (rules_of e) step says here (bind first after) o new → Whole o new
+      fronted : {o : Outcome Arguments} {new : S} → Behaves (rules_of e) step verdicts here (bind checked_argument after_parameter) o new → Whole o new
       fronted {o = o} {new = new} r =
-          from.rest o new (subst (λ vs. Behaves (rules_of e) step says here (bindings means name (situation_of f) words left vs) o new) (sym has)
-          (subst (λ ps. Behaves (rules_of e) step says here (bindings means name (situation_of f) words ps (argument ∷ further)) o new) (sym is) r))
+          from.rest o new (subst (λ vs. Behaves (rules_of e) step verdicts here (bindings means name (situation_of f) words left vs) o new) (sym has)
+          (subst (λ ps. Behaves (rules_of e) step verdicts here (bindings means name (situation_of f) words ps (argument ∷ further)) o new) (sym is) r))
 
       pub parameter_ends : {new : S} (r : Option Refusal)
           → Behaves (rules_of f) step unchecked here (valued (dynamic_meaning f) f.is_dependency name p argument) (without_value r) new
           → Whole (without_value r) new
       parameter_ends r q =
-          fronted (runs_ends first after r (runs_ends (valued (means (situation_of f)) f.is_dependency name p argument) _ r
+          fronted (runs_ends checked_argument after_parameter r (runs_ends (valued (means (situation_of f)) f.is_dependency name p argument) _ r
           (runs_checked (runs_same e f from.same (λ m. valued m f.is_dependency name p argument) q))))
 
       module _ {mid : S} {v : Value} (q : Behaves (rules_of f) step unchecked here (valued (dynamic_meaning f) f.is_dependency name p argument)
           (Gave v) mid) where
-        judged_here : (o : Outcome Value) → IsJudged calls check recipe p v o → Behaves (rules_of e) step says here first o mid
+        judged_here : (o : Outcome Value) → IsJudged calls check recipe p v o → Behaves (rules_of e) step verdicts here checked_argument o mid
         judged_here o j = checked_value (means (situation_of f)) f.is_dependency name p argument v o
             (runs_same e f from.same (λ m. valued m f.is_dependency name p argument) q) j
 
         pub check_ends : (r : Option Refusal) → IsJudged calls check recipe p v (without_value r) → Whole (without_value r) mid
-        check_ends r j = fronted (runs_ends first after r (judged_here (without_value r) j))
+        check_ends r j = fronted (runs_ends checked_argument after_parameter r (judged_here (without_value r) j))
 
         module _ {w : Value} (j : IsJudged calls check recipe p v (Gave w)) where
           pub parameter_stops : Whole Stopped mid
-          parameter_stops = fronted (runs_on first after (judged_here (Gave w) j) (runs_stopped (after w)))
+          parameter_stops = fronted (runs_on checked_argument after_parameter (judged_here (Gave w) j) (runs_stopped (after_parameter w)))
 
           -- the parameter is bound
           pub parameter_next : {g : Evaluator} → IsSameButScopeAndEnvironment f g → g.env ≡ f.env → is_some e.base ≡ true
@@ -111,7 +111,7 @@ module _ {S F : Type 0} {step : Step S} {calls : Shared F (Bor Recipe × (Bor De
               let on_base : is_some f.base ≡ true = subst (λ base. is_some base ≡ true) (sym from.same.base) based in
               record {
                 same = same_on e f g from.same but;
-                rest = λ o last r. fronted (runs_on first after (judged_here (Gave w) j)
-                    (subst (λ s. Behaves (rules_of e) step says mid (bindings means name s (words ++ words_of p w) more further) o last)
+                rest = λ o last r. fronted (runs_on checked_argument after_parameter (judged_here (Gave w) j)
+                    (subst (λ s. Behaves (rules_of e) step verdicts mid (bindings means name s (words ++ words_of p w) more further) o last)
                     (situation_bound f g (bound_innermost (frames_view f.scope) (parameter_bound f.lists p w)) but env on_base bound) r));
               }

@@ -69,26 +69,26 @@ module _ {S : Type 0} {step : Step S} {e : Evaluator} {start : S} {ls : List Lin
     lines_cut_off over = lines_end over Stopped (runs_stopped (gives (commands_of j)))
 
     module _ {l : Line} (fits : i < length ls) (is : l ≡ get_or ls i l) where
-      abbrev first : Tree Text
-      first = line (dynamic_meaning e) j.continues (line_view l)
+      abbrev first_line_text : Tree Text
+      first_line_text = line (dynamic_meaning e) j.continues (line_view l)
 
-      abbrev more : Text → Tree (List Text)
-      more text = commands_in e (with_further_line j (line_view l) text) (drop (i + 1) ls)
+      abbrev further_commands : Text → Tree (List Text)
+      further_commands text = commands_in e (with_further_line j (line_view l) text) (drop (i + 1) ls)
 
-      fronted : {o : Outcome (List Text)} {last : S} → Behaves (rules_of e) step unchecked here (bind first more) o last
+      fronted : {o : Outcome (List Text)} {last : S} → Behaves (rules_of e) step unchecked here (bind first_line_text further_commands) o last
           → Behaves (rules_of e) step unchecked start (commands_in e unjoined ls) o last
       fronted {o = o} {last = last} r =
           let split = front line_view ls i l fits ∙ ap (λ g. line_view g ∷ map line_view (drop (i + 1) ls)) (sym is) in
           left.rest o last (subst (λ gs. Behaves (rules_of e) step unchecked here (commands_after (dynamic_meaning e) j gs) o last) (sym split) r)
 
-      pub lines_next : {mid : S} (text : Text) → Behaves (rules_of e) step unchecked here first (Gave text) mid
+      pub lines_next : {mid : S} (text : Text) → Behaves (rules_of e) step unchecked here first_line_text (Gave text) mid
           → LinesLeft step e start ls (i + 1) mid (with_further_line j (line_view l) text)
-      lines_next text r = record { rest = λ o last q. fronted (runs_on first more r q) }
+      lines_next text r = record { rest = λ o last q. fronted (runs_on first_line_text further_commands r q) }
 
-      pub lines_ends : {new : S} (r : Option Refusal) → Behaves (rules_of e) step unchecked here first (without_value r) new
+      pub lines_ends : {new : S} (r : Option Refusal) → Behaves (rules_of e) step unchecked here first_line_text (without_value r) new
           → Behaves (rules_of e) step unchecked start (commands_in e unjoined ls) (without_value r) new
-      lines_ends r q = fronted (runs_ends first more r q)
+      lines_ends r q = fronted (runs_ends first_line_text further_commands r q)
 
-      pub lines_cut : {new : S} (text : Text) → Behaves (rules_of e) step unchecked here first (Gave text) new
+      pub lines_cut : {new : S} (text : Text) → Behaves (rules_of e) step unchecked here first_line_text (Gave text) new
           → Behaves (rules_of e) step unchecked start (commands_in e unjoined ls) Stopped new
-      lines_cut text r = fronted (runs_on first more r (runs_stopped (more text)))
+      lines_cut text r = fronted (runs_on first_line_text further_commands r (runs_stopped (further_commands text)))

@@ -30,12 +30,12 @@ module _ (c : ExecutionContext) (s : Situation) (recipe : Recipe) (ps : List Par
   means = dynamic_meanings (Some c)
 
   -- the bindings, if there are as many arguments as parameters
-  abbrev counted : List (Text × Text) → Bool → Tree Arguments
-  counted variables b =
+  abbrev if_counted : List (Text × Text) → Bool → Tree Arguments
+  if_counted variables b =
       if b then bindings means recipe.name.lexeme (record s { environment = variables }) [] ps arguments else refuses (Internal mismatched_text recipe.name)
 
   abbrev after : List (Text × Text) → Tree Arguments
-  after variables = counted variables (nat_eq (length arguments) (length ps))
+  after variables = if_counted variables (nat_eq (length arguments) (length ps))
 
   module _ {S : Type 0} {step : Step S} {old : S} (e : Evaluator) (context : e.context ≡ Some c) (situation : situation_of e ≡ s) where
     attributes_run : {o : Outcome (List (Text × Text))} {new : S}
@@ -59,10 +59,10 @@ module _ (c : ExecutionContext) (s : Situation) (recipe : Recipe) (ps : List Par
       set = situation_set e f same scope ∙ ap (λ (at : Situation). record at { environment = pairs_view f.env }) situation
 
       on : {says : Verdicts} {o : Outcome Arguments} {new : S} (b : Bool) → nat_eq (length arguments) (length ps) ≡ b
-          → Behaves freely step says mid (counted (pairs_view f.env) b) o new
+          → Behaves freely step says mid (if_counted (pairs_view f.env) b) o new
           → Behaves freely step says old (parameters means s recipe ps arguments) o new
       on {says = says} {o = o} {new = new} b is r = runs_on (environment means s recipe.attributes) after (runs_checked (attributes_run q))
-          (subst (λ x. Behaves freely step says mid (counted (pairs_view f.env) x) o new) (sym is) r)
+          (subst (λ x. Behaves freely step says mid (if_counted (pairs_view f.env) x) o new) (sym is) r)
 
       pub miscounted : {says : Verdicts} → nat_eq (length arguments) (length ps) ≡ false → (r : Option Refusal)
           → RefusesWith r (Internal mismatched_text recipe.name)

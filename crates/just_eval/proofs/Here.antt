@@ -71,14 +71,14 @@ lexical_in context e x = let s = situation_of e in let p = program_of context in
 
 module _ (c : ExecutionContext) (e : Evaluator) (all : List Expr) (resolved : IsResolvedIn (Some c) (situation_of e) all) where
   -- what these expressions mean under dynamic and under lexical scope
-  abbrev dynamically : Expr → Tree Value
-  dynamically = dynamic_meanings (Some c) (situation_of e)
+  abbrev means_dynamically : Expr → Tree Value
+  means_dynamically = dynamic_meanings (Some c) (situation_of e)
 
-  abbrev lexically : Expr → Tree Value
-  lexically = lexical_in (Some c) e
+  abbrev means_lexically : Expr → Tree Value
+  means_lexically = lexical_in (Some c) e
 
   each_same : (es : List Expr) → AllReadable (functions_view c.module.now) (value_in (situation_of e).below) (HasValue (value_in (situation_of e).shown)) es
-      → AllByRecursion (Same dynamically lexically) es
+      → AllByRecursion (Same means_dynamically means_lexically) es
   each_same [] h = tt
   each_same (x ∷ xs) h = (
     dynamic_is_lexical (program_view c) (calls_left_in (Some c)) (situation_of e) x
@@ -88,7 +88,7 @@ module _ (c : ExecutionContext) (e : Evaluator) (all : List Expr) (resolved : Is
   )
 
   each_never : (es : List Expr) → AllKnown (functions_view c.module.now) es → AllReadable (functions_view c.module.now) (value_in (situation_of e).below)
-      (HasValue (value_in (situation_of e).shown)) es → AllByRecursion (λ x. IsNeverInternal (lexically x)) es
+      (HasValue (value_in (situation_of e).shown)) es → AllByRecursion (λ x. IsNeverInternal (means_lexically x)) es
   each_never [] known h = tt
   each_never (x ∷ xs) known h = (
     expression_never (program_view c) (value_in (situation_of e).below) (calls_left_in (Some c)) (situation_of e) x resolved.bodies known.0 h.0.own h.0.beyond,

@@ -29,22 +29,22 @@ module _ {S : Type 0} {step : Step S} {e : Evaluator} {start : S} {continued : B
         (subst (λ gs. Left (rules_of e) step (fragments_of e continued fs) start (fragments_of e continues gs) here made) (drop_all i fs over) left.rest)
 
     module _ {f : Fragment} (fits : i < length fs) (is : f ≡ get_or fs i f) where
-      abbrev first : Tree Text
-      first = fragment (dynamic_meaning e) continues (fragment_view f)
+      abbrev first_fragment : Tree Text
+      first_fragment = fragment (dynamic_meaning e) continues (fragment_view f)
 
       fronted : Left (rules_of e) step (fragments_of e continued fs) start
-          (bind first (λ text. bind (fragments_of e false (drop (i + 1) fs)) (λ rest. gives (text ++ rest)))) here made
+          (bind first_fragment (λ text. bind (fragments_of e false (drop (i + 1) fs)) (λ rest. gives (text ++ rest)))) here made
       fronted = subst (λ gs. Left (rules_of e) step (fragments_of e continued fs) start (line (dynamic_meaning e) continues gs) here made)
           (front fragment_view fs i f fits ∙ ap (λ g. fragment_view g ∷ map fragment_view (drop (i + 1) fs)) (sym is)) left.rest
 
-      pub line_next : {mid : S} (text : Text) → Behaves (rules_of e) step unchecked here first (Gave text) mid
+      pub line_next : {mid : S} (text : Text) → Behaves (rules_of e) step unchecked here first_fragment (Gave text) mid
           → LineLeft step e start continued fs false (i + 1) mid (made ++ text)
-      line_next text r = record { rest = left_next (fragments_of e continued fs) first _ (λ text. text) made fronted text r }
+      line_next text r = record { rest = left_next (fragments_of e continued fs) first_fragment _ (λ text. text) made fronted text r }
 
-      pub line_ends : {new : S} (r : Option Refusal) → Behaves (rules_of e) step unchecked here first (without_value r) new
+      pub line_ends : {new : S} (r : Option Refusal) → Behaves (rules_of e) step unchecked here first_fragment (without_value r) new
           → Behaves (rules_of e) step unchecked start (fragments_of e continued fs) (without_value r) new
-      line_ends r q = left_ends (fragments_of e continued fs) first _ (λ text. text) made fronted r q
+      line_ends r q = left_ends (fragments_of e continued fs) first_fragment _ (λ text. text) made fronted r q
 
-      pub line_cut : {new : S} (text : Text) → Behaves (rules_of e) step unchecked here first (Gave text) new
+      pub line_cut : {new : S} (text : Text) → Behaves (rules_of e) step unchecked here first_fragment (Gave text) new
           → Behaves (rules_of e) step unchecked start (fragments_of e continued fs) Stopped new
-      line_cut text r = left_cut (fragments_of e continued fs) first _ (λ text. text) made fronted text r
+      line_cut text r = left_cut (fragments_of e continued fs) first_fragment _ (λ text. text) made fronted text r

@@ -38,30 +38,30 @@ module _ (c : ExecutionContext) (is_dependency : Bool) (outer : Frames) (recipe 
   abbrev functions : List Function
   functions = functions_view c.module.now
 
-  abbrev dynamically : Meanings
-  dynamically = dynamic_meanings (Some c)
+  abbrev means_dynamically : Meanings
+  means_dynamically = dynamic_meanings (Some c)
 
-  abbrev lexically : Meanings
-  lexically = meanings start
+  abbrev means_lexically : Meanings
+  means_lexically = meanings start
 
   module _ (resolved : IsResolvedWith c ([] ∷ outer) recipe.attributes ps []) where
-    same_on : (readable : ℕ → Type 0) (e : Expr) → IsReadable functions (value_in below) readable e → SameOn dynamically lexically below e
+    same_on : (readable : ℕ → Type 0) (e : Expr) → IsReadable functions (value_in below) readable e → SameOn means_dynamically means_lexically below e
     same_on readable e h s on =
-        subst (λ frames. dynamically s e ≡ eval (program_view c) (lexical (program_view c) (value_in frames) (calls_left_in (Some c))) s e) on
+        subst (λ frames. means_dynamically s e ≡ eval (program_view c) (lexical (program_view c) (value_in frames) (calls_left_in (Some c))) s e) on
         (dynamic_is_lexical (program_view c) (calls_left_in (Some c)) s e
         (readable_apart (program_view c) _ (calls_left_in (Some c)) start.situation recipe.attributes ps [] below resolved readable e h))
 
     all_same : (readable : ℕ → Type 0) (es : List Expr) → AllReadable functions (value_in below) readable es
-        → AllByRecursion (SameOn dynamically lexically below) es
+        → AllByRecursion (SameOn means_dynamically means_lexically below) es
     all_same readable = all_alike _ _ (same_on readable)
 
     turn_same : (names : Names) (earlier : List ℕ) (left : List Parameter) → AreReadableInTurn functions (value_in below) names earlier left
-        → AllByRecursion (SameOn dynamically lexically below) (parameter_expressions left)
+        → AllByRecursion (SameOn means_dynamically means_lexically below) (parameter_expressions left)
     turn_same names earlier [] h = tt
     turn_same names earlier (p ∷ left) h =
         (all_append _ (expressions_of p) (parameter_expressions left)).1 (all_same _ (expressions_of p) h.0, turn_same names (p.number ∷ earlier) left h.1)
 
-    all_safe : (es : List Expr) → AllKnown functions es → AllByRecursion (IsSafe lexically functions (value_in below)) es
+    all_safe : (es : List Expr) → AllKnown functions es → AllByRecursion (IsSafe means_lexically functions (value_in below)) es
     all_safe [] known = tt
     all_safe (e ∷ es) known = (
       λ s read. expression_never (program_view c) (value_in below) (calls_left_in (Some c)) s e resolved.bodies known.0 read.own read.beyond,
@@ -77,38 +77,38 @@ module _ (c : ExecutionContext) (is_dependency : Bool) (outer : Frames) (recipe 
     both_known = all_front (MentionsKnown functions) (attribute_expressions recipe.attributes ++ parameter_expressions ps) [] resolved.known
 
     module _ (arguments : List Value) where
-      is_lexical : parameters dynamically start.situation recipe ps arguments ≡ parameters lexically start.situation recipe ps arguments
-      is_lexical = same_parameters dynamically lexically below start.situation refl recipe ps arguments
+      is_lexical : parameters means_dynamically start.situation recipe ps arguments ≡ parameters means_lexically start.situation recipe ps arguments
+      is_lexical = same_parameters means_dynamically means_lexically below start.situation refl recipe ps arguments
           (all_same _ (attribute_expressions recipe.attributes) read) (turn_same _ [] ps resolved.in_turn)
 
-      never : length arguments ≡ length ps → IsNeverInternal (parameters lexically start.situation recipe ps arguments)
+      never : length arguments ≡ length ps → IsNeverInternal (parameters means_lexically start.situation recipe ps arguments)
       never count =
-          parameters_never lexically functions (value_in below) outer start.situation refl refl recipe ps arguments count
+          parameters_never means_lexically functions (value_in below) outer start.situation refl refl recipe ps arguments count
           (all_safe (attribute_expressions recipe.attributes) (all_front (MentionsKnown functions) (attribute_expressions recipe.attributes)
           (parameter_expressions ps) both_known)) read
           (all_safe (parameter_expressions ps) (all_after (MentionsKnown functions) (attribute_expressions recipe.attributes) (parameter_expressions ps)
           both_known)) resolved.in_turn
 
   module _ (arguments : List Value) {S : Type 0} {step : Step S} {says : Verdicts} {old new : S} {o : Outcome Arguments}
-      (r : Behaves freely step says old (parameters dynamically start.situation recipe ps arguments) o new) where
+      (r : Behaves freely step says old (parameters means_dynamically start.situation recipe ps arguments) o new) where
     pub headline : IsResolvedWith c ([] ∷ outer) recipe.attributes ps []
-        → Behaves freely step says old (parameters lexically start.situation recipe ps arguments) o new
+        → Behaves freely step says old (parameters means_lexically start.situation recipe ps arguments) o new
     headline resolved = subst (λ t. Behaves freely step says old t o new) (is_lexical resolved arguments) r
 
     pub never_internal : IsResolvedWith c ([] ∷ outer) recipe.attributes ps [] → length arguments ≡ length ps → IsNotInternal o
     never_internal resolved count =
-        ends_path IsNotInternal tt (parameters lexically start.situation recipe ps arguments) (never resolved arguments count) (headline resolved).path
+        ends_path IsNotInternal tt (parameters means_lexically start.situation recipe ps arguments) (never resolved arguments count) (headline resolved).path
 
     pub never_const : IfRefused IsFinal o
-    never_const = ends_path (IfRefused IsFinal) tt (parameters dynamically start.situation recipe ps arguments)
-        (parameters_final dynamically (λ s x. final_eval _ s _ (final_dynamic _ _) x) start.situation recipe ps arguments) r.path
+    never_const = ends_path (IfRefused IsFinal) tt (parameters means_dynamically start.situation recipe ps arguments)
+        (parameters_final means_dynamically (λ s x. final_eval _ s _ (final_dynamic _ _) x) start.situation recipe ps arguments) r.path
 
     pub answered : GoesByAnswers step old new
     answered = answers_of r
 
     pub one_element : c.module.now.settings.lists ≡ false → IfGave (λ a. HaveOneElement (own_frame a.frames)) o
-    one_element off = ends_path (IfGave (λ a. HaveOneElement (own_frame a.frames))) tt (parameters dynamically start.situation recipe ps arguments)
-        (one_parameters dynamically start.situation outer refl off recipe ps arguments) r.path
+    one_element off = ends_path (IfGave (λ a. HaveOneElement (own_frame a.frames))) tt (parameters means_dynamically start.situation recipe ps arguments)
+        (one_parameters means_dynamically start.situation outer refl off recipe ps arguments) r.path
 
 -- in the same situation, the two notions of being resolved agree
 pub resolves_with : (c : ExecutionContext) (environment : List (Text × Text)) (is_dependency : Bool) (name : Option Text) (outer : Frames)

@@ -41,36 +41,36 @@ module _ {S : Type 0} (step : Step S) (e : ExpressionEvaluator) (c : Bor Executi
   given : context_of e ≡ Some c.now
   given = ap option_copied is
 
-  abbrev call : Tree Value
-  call = called (program e) t (callee (program e).functions t.lexeme) (deeper e) (situation e) (length xs) (row e xs)
+  abbrev called_tree : Tree Value
+  called_tree = called (program e) t (callee (program e).functions t.lexeme) (deeper e) (situation e) (length xs) (row e xs)
 
-  entering : {old new : S} (o : Outcome Value) → Behaves (rules e) step unchecked old call o new
-      → Behaves (rules e) step unchecked old (note (Entered t) call) o new
+  entering : {old new : S} (o : Outcome Value) → Behaves (rules e) step unchecked old called_tree o new
+      → Behaves (rules e) step unchecked old (note (Entered t) called_tree) o new
   entering o r = runs_note (passes (context_of e) (is_non_const e) c.now (Entered t) given) r
 
   -- it ends before its arguments are evaluated
   pub call_refused : {h : S} (r : Option Refusal) → EndsBefore (program_view c.now) t (callee (program_view c.now).functions t.lexeme) e.calls_left (length xs)
-      r → Behaves (rules e) step unchecked h (note (Entered t) call) (without_value r) h
-  call_refused None ends = entering _ (runs_stopped call)
+      r → Behaves (rules e) step unchecked h (note (Entered t) called_tree) (without_value r) h
+  call_refused None ends = entering _ (runs_stopped called_tree)
   call_refused {h = h} (Some r) ends =
       let here = subst (λ o. EndsBefore (program_of o) t (callee (program_of o).functions t.lexeme) e.calls_left (length xs) (Some r)) (sym given) ends in
       entering _ (subst (λ x. Behaves (rules e) step unchecked h x (without_value (Some r)) h) (sym (here (situation e) (row e xs))) (runs_done _ _ refl))
 
   module _ (r : Reached) (enters : Enters (program_view c.now) t (callee (program_view c.now).functions t.lexeme) e.calls_left (length xs) r) where
-    call_enters : call ≡ bind (row e xs (look r t)) (entered (program e) (situation e) t r)
+    call_enters : called_tree ≡ bind (row e xs (look r t)) (entered (program e) (situation e) t r)
     call_enters =
         subst (λ o. Enters (program_of o) t (callee (program_of o).functions t.lexeme) e.calls_left (length xs) r) (sym given) enters (situation e) (row e xs)
 
     -- an argument ends it
     pub call_ends : {old new : S} (o : Option Refusal) → Behaves (rules e) step unchecked old (row e xs (look r t)) (without_value o) new
-        → Behaves (rules e) step unchecked old (note (Entered t) call) (without_value o) new
+        → Behaves (rules e) step unchecked old (note (Entered t) called_tree) (without_value o) new
     call_ends {old = old} {new = new} o q = entering _
         (subst (λ x. Behaves (rules e) step unchecked old x (without_value o) new) (sym call_enters) (runs_ends _ _ o q))
 
     -- the callee runs after the arguments
     pub call_runs : {old mid new : S} (vs : List Value) (o : Outcome Value) → Behaves (rules e) step unchecked old (row e xs (look r t)) (Gave vs) mid
         → Behaves (rules e) step unchecked mid (entered (program e) (situation e) t r vs) o new
-        → Behaves (rules e) step unchecked old (note (Entered t) call) o new
+        → Behaves (rules e) step unchecked old (note (Entered t) called_tree) o new
     call_runs {old = old} {new = new} vs o q b = entering _ (subst (λ x. Behaves (rules e) step unchecked old x o new) (sym call_enters) (runs_on _ _ q b))
 
 -- an argument's value, and what is derived from it without a question

@@ -55,66 +55,68 @@ module _ {S : Type 0} {step : Step S} {e : ExpressionEvaluator} {start : S} {loo
         left_none (row e xs look) made (subst (λ ys. Left (rules e) step (row e xs look) start (row_from e look i ys) here made) (drop_all i xs over) left.rest)
 
     module _ {x : Expression} (fits : i < length xs) (is : x ≡ get_or xs i x) where
-      abbrev first : Tree Value
-      first = bind (meaning e (view x)) (look i)
+      abbrev first_element : Tree Value
+      first_element = bind (meaning e (view x)) (look i)
 
-      front : row_from e look i (drop i xs) ≡ bind first (λ v. bind (row_from e look (i + 1) (drop (i + 1) xs)) (λ vs. gives ((v ∷ []) ++ vs)))
+      front : row_from e look i (drop i xs) ≡ bind first_element (λ v. bind (row_from e look (i + 1) (drop (i + 1) xs)) (λ vs. gives ((v ∷ []) ++ vs)))
       front =
           ap (λ es. eval_row (program e) (deeper e) (situation e) i es look) (views_front xs i x fits is)
-          ∙ ap (λ j. bind first (λ v. bind (eval_row (program e) (deeper e) (situation e) j (views (drop (i + 1) xs)) look) (λ vs. gives (v ∷ vs))))
+          ∙ ap (λ j. bind first_element (λ v. bind (eval_row (program e) (deeper e) (situation e) j (views (drop (i + 1) xs)) look) (λ vs. gives (v ∷ vs))))
           (sym (add-one i))
 
-      fronted : Left (rules e) step (row e xs look) start (bind first (λ v. bind (row_from e look (i + 1) (drop (i + 1) xs)) (λ vs. gives ((v ∷ []) ++ vs))))
+      fronted : Left (rules e) step (row e xs look) start
+          (bind first_element (λ v. bind (row_from e look (i + 1) (drop (i + 1) xs)) (λ vs. gives ((v ∷ []) ++ vs))))
           here made
       fronted = subst (λ t. Left (rules e) step (row e xs look) start t here made) front left.rest
 
-      pub row_next : {mid : S} (v : Value) → Behaves (rules e) step unchecked here first (Gave v) mid
+      pub row_next : {mid : S} (v : Value) → Behaves (rules e) step unchecked here first_element (Gave v) mid
           → RowLeft step e start look xs (i + 1) mid (made ++ v ∷ [])
-      row_next v r = record { rest = left_next (row e xs look) first _ (λ v. v ∷ []) made fronted v r }
+      row_next v r = record { rest = left_next (row e xs look) first_element _ (λ v. v ∷ []) made fronted v r }
 
-      pub row_ends : {new : S} (r : Option Refusal) → Behaves (rules e) step unchecked here first (without_value r) new
+      pub row_ends : {new : S} (r : Option Refusal) → Behaves (rules e) step unchecked here first_element (without_value r) new
           → Behaves (rules e) step unchecked start (row e xs look) (without_value r) new
-      row_ends r q = left_ends (row e xs look) first _ (λ v. v ∷ []) made fronted r q
+      row_ends r q = left_ends (row e xs look) first_element _ (λ v. v ∷ []) made fronted r q
 
-      pub row_cut : {new : S} (v : Value) → Behaves (rules e) step unchecked here first (Gave v) new
+      pub row_cut : {new : S} (v : Value) → Behaves (rules e) step unchecked here first_element (Gave v) new
           → Behaves (rules e) step unchecked start (row e xs look) Stopped new
-      row_cut v r = left_cut (row e xs look) first _ (λ v. v ∷ []) made fronted v r
+      row_cut v r = left_cut (row e xs look) first_element _ (λ v. v ∷ []) made fronted v r
 
 -- what the interpolations of a format string mean
-abbrev pieces : ExpressionEvaluator → List (Expression × Written) → Tree Text
-pieces e ps = eval_pieces (program e) (deeper e) (situation e) (piece_views ps)
+abbrev pieces_meaning : ExpressionEvaluator → List (Expression × Written) → Tree Text
+pieces_meaning e ps = eval_pieces (program e) (deeper e) (situation e) (piece_views ps)
 
 -- Of these interpolations those from an index on are left, after this text.
 pub record PiecesLeft {S : Type 0} (step : Step S) (e : ExpressionEvaluator) (start : S) (ps : List (Expression × Written)) (i : ℕ) (here : S)
     (made : Text) : Type 0 where
-  pub rest : Left (rules e) step (pieces e ps) start (pieces e (drop i ps)) here made
+  pub rest : Left (rules e) step (pieces_meaning e ps) start (pieces_meaning e (drop i ps)) here made
 
 module _ {S : Type 0} {step : Step S} {e : ExpressionEvaluator} {start : S} {ps : List (Expression × Written)} where
   pub pieces_start : PiecesLeft step e start ps 0 start []
-  pieces_start = record { rest = left_all (pieces e ps) }
+  pieces_start = record { rest = left_all (pieces_meaning e ps) }
 
   module _ {i : ℕ} {here : S} {made : Text} (left : PiecesLeft step e start ps i here made) where
-    pub pieces_all : length ps ≤ i → Behaves (rules e) step unchecked start (pieces e ps) (Gave made) here
+    pub pieces_all : length ps ≤ i → Behaves (rules e) step unchecked start (pieces_meaning e ps) (Gave made) here
     pieces_all over =
-        left_none (pieces e ps) made (subst (λ qs. Left (rules e) step (pieces e ps) start (pieces e qs) here made) (drop_all i ps over) left.rest)
+        left_none (pieces_meaning e ps) made
+        (subst (λ qs. Left (rules e) step (pieces_meaning e ps) start (pieces_meaning e qs) here made) (drop_all i ps over) left.rest)
 
     module _ {p : Expression × Written} (fits : i < length ps) (is : p ≡ get_or ps i p) where
       abbrev text : Value → Text
       text v = joined v ++ (literal_view p.1).cooked
 
-      fronted_pieces : Left (rules e) step (pieces e ps) start
-          (bind (meaning e (view p.0)) (λ v. bind (pieces e (drop (i + 1) ps)) (λ rest. gives (text v ++ rest)))) here made
-      fronted_pieces = subst (λ t. Left (rules e) step (pieces e ps) start t here made)
+      fronted_pieces : Left (rules e) step (pieces_meaning e ps) start
+          (bind (meaning e (view p.0)) (λ v. bind (pieces_meaning e (drop (i + 1) ps)) (λ rest. gives (text v ++ rest)))) here made
+      fronted_pieces = subst (λ t. Left (rules e) step (pieces_meaning e ps) start t here made)
           (ap (eval_pieces (program e) (deeper e) (situation e)) (pieces_front ps i p fits is)) left.rest
 
       pub pieces_next : {mid : S} (v : Value) → Behaves (rules e) step unchecked here (meaning e (view p.0)) (Gave v) mid
           → PiecesLeft step e start ps (i + 1) mid (made ++ text v)
-      pieces_next v r = record { rest = left_next (pieces e ps) (meaning e (view p.0)) _ text made fronted_pieces v r }
+      pieces_next v r = record { rest = left_next (pieces_meaning e ps) (meaning e (view p.0)) _ text made fronted_pieces v r }
 
       pub pieces_end : {new : S} (r : Option Refusal) → Behaves (rules e) step unchecked here (meaning e (view p.0)) (without_value r) new
-          → Behaves (rules e) step unchecked start (pieces e ps) (without_value r) new
-      pieces_end r q = left_ends (pieces e ps) (meaning e (view p.0)) _ text made fronted_pieces r q
+          → Behaves (rules e) step unchecked start (pieces_meaning e ps) (without_value r) new
+      pieces_end r q = left_ends (pieces_meaning e ps) (meaning e (view p.0)) _ text made fronted_pieces r q
 
       pub pieces_cut : {new : S} (v : Value) → Behaves (rules e) step unchecked here (meaning e (view p.0)) (Gave v) new
-          → Behaves (rules e) step unchecked start (pieces e ps) Stopped new
-      pieces_cut v r = left_cut (pieces e ps) (meaning e (view p.0)) _ text made fronted_pieces v r
+          → Behaves (rules e) step unchecked start (pieces_meaning e ps) Stopped new
+      pieces_cut v r = left_cut (pieces_meaning e ps) (meaning e (view p.0)) _ text made fronted_pieces v r

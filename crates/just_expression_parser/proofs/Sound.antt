@@ -58,27 +58,27 @@ one kind t ts is = ap (λ k. lexeme k t.token ∷ ts) is
 
 -- ---- operators
 
-abbrev kind_of : Operator → TokenKind
-kind_of operators.Or = kinds.BarBar
-kind_of operators.And = kinds.AmpersandAmpersand
-kind_of (operators.Comparison o) = comparison_kind o
-kind_of operators.Concatenation = kinds.Plus
-kind_of operators.ListConcatenation = kinds.PlusPlus
-kind_of operators.Join = kinds.Slash
+abbrev kind_of_operator : Operator → TokenKind
+kind_of_operator operators.Or = kinds.BarBar
+kind_of_operator operators.And = kinds.AmpersandAmpersand
+kind_of_operator (operators.Comparison o) = comparison_kind o
+kind_of_operator operators.Concatenation = kinds.Plus
+kind_of_operator operators.ListConcatenation = kinds.PlusPlus
+kind_of_operator operators.Join = kinds.Slash
 
 same_some : (o p : Operator) → Some o ≡ Some p → o ≡ p
 same_some o p same = cc
 
-kind_is : (kind : TokenKind) (o : Operator) → operator_of kind ≡ Some o → kind ≡ kind_of o
-kind_is kinds.AmpersandAmpersand o is = ap kind_of (same_some operators.And o is)
-kind_is kinds.BangEquals o is = ap kind_of (same_some (operators.Comparison conditional.Inequality) o is)
-kind_is kinds.BangTilde o is = ap kind_of (same_some (operators.Comparison conditional.RegexMismatch) o is)
-kind_is kinds.BarBar o is = ap kind_of (same_some operators.Or o is)
-kind_is kinds.EqualsEquals o is = ap kind_of (same_some (operators.Comparison conditional.Equality) o is)
-kind_is kinds.EqualsTilde o is = ap kind_of (same_some (operators.Comparison conditional.RegexMatch) o is)
-kind_is kinds.Plus o is = ap kind_of (same_some operators.Concatenation o is)
-kind_is kinds.PlusPlus o is = ap kind_of (same_some operators.ListConcatenation o is)
-kind_is kinds.Slash o is = ap kind_of (same_some operators.Join o is)
+kind_is : (kind : TokenKind) (o : Operator) → operator_of kind ≡ Some o → kind ≡ kind_of_operator o
+kind_is kinds.AmpersandAmpersand o is = ap kind_of_operator (same_some operators.And o is)
+kind_is kinds.BangEquals o is = ap kind_of_operator (same_some (operators.Comparison conditional.Inequality) o is)
+kind_is kinds.BangTilde o is = ap kind_of_operator (same_some (operators.Comparison conditional.RegexMismatch) o is)
+kind_is kinds.BarBar o is = ap kind_of_operator (same_some operators.Or o is)
+kind_is kinds.EqualsEquals o is = ap kind_of_operator (same_some (operators.Comparison conditional.Equality) o is)
+kind_is kinds.EqualsTilde o is = ap kind_of_operator (same_some (operators.Comparison conditional.RegexMatch) o is)
+kind_is kinds.Plus o is = ap kind_of_operator (same_some operators.Concatenation o is)
+kind_is kinds.PlusPlus o is = ap kind_of_operator (same_some operators.ListConcatenation o is)
+kind_is kinds.Slash o is = ap kind_of_operator (same_some operators.Join o is)
 kind_is kind o is = absurd (cc)
 
 level_small : (o : Operator) → level o ≤ 3
@@ -112,7 +112,7 @@ lower (plain.FormatString start ps) m n ts rest most d = d
 lower (plain.Variable t number) m n ts rest most d = d
 
 -- two expressions with an operator between them
-applied_reads : (o : Operator) (e r : Expr) (t : Token) (ts at at' rest : Tokens) → reads e (suc (level o)) ts at → One (kind_of o) t at at'
+applied_reads : (o : Operator) (e r : Expr) (t : Token) (ts at at' rest : Tokens) → reads e (suc (level o)) ts at → One (kind_of_operator o) t at at'
     → reads r (level o) at' rest → reads (operation e o t r) (level o) ts rest
 applied_reads operators.Or e r t ts at at' rest d taken later = (omega arith, (at, d, (at', (t, taken), later)))
 applied_reads operators.And e r t ts at at' rest d taken later = (omega arith, (at, d, (at', (t, taken), later)))
@@ -214,7 +214,7 @@ ops_step k main ops m start ts frames n b most high good e (t ∷ at) w rest les
                       (operation e o t.token right) at2 w2 rest2
                       less2
                       (applied_reads o e right t.token ts (t ∷ at) at at2 (lower e (suc (level o)) b ts (t ∷ at) below d)
-                      (one (kind_of o) t at (kind_is t.kind o is)) d2)
+                      (one (kind_of_operator o) t at (kind_is t.kind o is)) d2)
                       (sym (frame_completes at2 (Side e o t.token) (Operators n (level o) ∷ frames) right (operation e o t.token right) (λ t. refl) refl) ∙ r2))
                       w rest (sym (operator_here n b (t ∷ at) at t.kind t.token o e frames is above below refl) ∙ r)
                 ]

@@ -33,18 +33,18 @@ use Rattle.just_laws.proofs.Stages.{IsFound, MetConst, found_outside, stage_stat
 
 -- ---- traces
 
-abbrev block_of : ℕ → List Event → Outcome Value → Block
-block_of n es o = record { number = n; events = es; outcome = o }
+abbrev numbered_block : ℕ → List Event → Outcome Value → Block
+numbered_block n es o = record { number = n; events = es; outcome = o }
 
 -- any other refusal is the same in both
 predicts_refused : (is_open : ℕ → Bool) (n : ℕ) (es : List Event) (r : Refusal) → IsFinal r → AreConstant is_open es
-    → Predicts is_open (Refused r) (block_of n es (Refused r))
+    → Predicts is_open (Refused r) (numbered_block n es (Refused r))
 predicts_refused is_open n es (Const c) h k = absurd h
 predicts_refused is_open n es _ h k = (refl, k)
 
 -- one more note that the const rules allow, before what is foretold
 predicts_note : (is_open : ℕ → Bool) (x : Note) (o : Outcome Value) (n : ℕ) (es : List Event) (p : Outcome Value) → is_shut is_open x ≡ false
-    → Predicts is_open o (block_of n es p) → Predicts is_open o (block_of n (Noted x ∷ es) p)
+    → Predicts is_open o (numbered_block n es p) → Predicts is_open o (numbered_block n (Noted x ∷ es) p)
 predicts_note is_open x (Gave v) n es p e h = (h.0, (e, h.1))
 predicts_note is_open x (Refused (Const c)) n es p e h = inr h
 predicts_note is_open x (Refused _) n es p e h = (h.0, (e, h.1))
@@ -69,17 +69,17 @@ UpToShut one other = UpTo (is_shut one) (is_shut other)
 
 module _ (one other : ℕ → Bool) (n : ℕ) where
   predicted_note : (x : Note) (o : Outcome Value) (es : List Event) (p : Outcome Value) (b : Bool) → is_shut one x ≡ b → is_shut one x ≡ is_shut other x
-      → (is_shut one x ≡ false → Predicts other o (block_of n es p))
-      → Predicts other (unless_refused (constantly one x) o) (block_of n (Noted x ∷ es) p)
+      → (is_shut one x ≡ false → Predicts other o (numbered_block n es p))
+      → Predicts other (unless_refused (constantly one x) o) (numbered_block n (Noted x ∷ es) p)
   predicted_note x o es p true e same h =
       let c = refused_shut one x e in
-      subst (λ r. Predicts other (unless_refused r o) (block_of n (Noted x ∷ es) p)) (sym c.1) (inl (sym same ∙ e))
-  predicted_note x o es p false e same h = subst (λ r. Predicts other (unless_refused r o) (block_of n (Noted x ∷ es) p)) (sym (passed_open one x e))
+      subst (λ r. Predicts other (unless_refused r o) (numbered_block n (Noted x ∷ es) p)) (sym c.1) (inl (sym same ∙ e))
+  predicted_note x o es p false e same h = subst (λ r. Predicts other (unless_refused r o) (numbered_block n (Noted x ∷ es) p)) (sym (passed_open one x e))
       (predicts_note other x o n es p (sym same ∙ e) (h e))
 
   -- the outcome of a tree under the const rules foretells the traces of one that is alike up to what they refuse
   predicted : {t u : Tree Value} {es : List Event} {p : Outcome Value} → Alike (UpToShut one other) t u → AllEnd (IfRefused IsFinal) u → Path freely u es p
-      → p ≢ Stopped → Predicts other (constant one t) (block_of n es p)
+      → p ≢ Stopped → Predicts other (constant one t) (numbered_block n es p)
   predicted (Done {o = Gave v}) final Ends on = (refl, tt)
   predicted (Done {o = Refused r}) final Ends on = predicts_refused other n [] r final tt
   predicted (Done {o = Stopped}) final Ends on = tt

@@ -68,14 +68,14 @@ take_front [] b = refl
 take_front (x ∷ a) b = ap (λ xs. x ∷ xs) (take_front a b)
 
 -- a state after the front of a text
-record IsReached (path source : Text) (s : State) (t front : Text) : Type 0 where
+record IsStateAfter (path source : Text) (s : State) (t front : Text) : Type 0 where
   text : source ≡ front ++ t
   place : s.place ≡ place_after (start_of path) front
   openings : AllByRecursion (λ (o : Opening). IsTokenPlaced path source o.token) s.openings
 
 module _ (path source : Text) where
   -- a token at the place of such a state
-  placed_here : (s : State) (t front text : Text) → IsReached path source s t front → IsTokenPlaced path source (token_at s.place text)
+  placed_here : (s : State) (t front text : Text) → IsStateAfter path source s t front → IsTokenPlaced path source (token_at s.place text)
   placed_here s t front text reached =
       let offset : s.place.offset ≡ length front = ap (λ (p : Place). p.offset) reached.place ∙ place_after-offset front (start_of path) ∙ omega arith in
       reached.place ∙ ap (place_after (start_of path))
@@ -104,7 +104,7 @@ module _ (path source : Text) where
   placed_after true kind token openings here placed = placed_fewer openings placed
   placed_after false kind token openings here placed = placed_more (opened kind token) token openings here placed
 
-  reached_after : (s : State) (t front : Text) (kind : TokenKind) (n : ℕ) → IsReached path source s t front → IsReached path source
+  reached_after : (s : State) (t front : Text) (kind : TokenKind) (n : ℕ) → IsStateAfter path source s t front → IsStateAfter path source
       (state_after kind (take n t) s) (drop n t) (front ++ take n t)
   reached_after s t front kind n reached = record {
     text = reached.text ∙ ap (λ xs. front ++ xs) (sym (take-append-drop n t)) ∙ sym (append_assoc front (take n t) (drop n t));
@@ -121,7 +121,7 @@ module _ (path source : Text) where
   with_first l ls Whole here placed = (here, placed)
   with_first l ls (Faulty fault token) here placed = ((here, placed.0), placed.1)
 
-  fault_placed : (step : Step) (s : State) (t front : Text) (ending : Ending) → IsReached path source s t front → IsFault step s t ending → AreAllPlaced []
+  fault_placed : (step : Step) (s : State) (t front : Text) (ending : Ending) → IsStateAfter path source s t front → IsFault step s t ending → AreAllPlaced []
       ending
   fault_placed (steps.Token kind n) s t front ending reached is = absurd is
   fault_placed (steps.Fault fault n) s t front ending reached is =
@@ -130,9 +130,9 @@ module _ (path source : Text) where
       subst (AreAllPlaced []) (sym is) (tt, placed_first s s.openings (placed_here s t front [] reached) reached.openings)
   fault_placed steps.End s t front ending reached is = absurd is
 
-  token_placed : (step : Step) (s : State) (t front : Text) (l : Lexeme) (ls : List Lexeme) (ending : Ending) (Follows : State → Text → Type 0) → IsReached
+  token_placed : (step : Step) (s : State) (t front : Text) (l : Lexeme) (ls : List Lexeme) (ending : Ending) (Follows : State → Text → Type 0) → IsStateAfter
       path source s t front
-      → ((later : State) (rest more : Text) → IsReached path source later rest more → Follows later rest → AreAllPlaced ls ending)
+      → ((later : State) (rest more : Text) → IsStateAfter path source later rest more → Follows later rest → AreAllPlaced ls ending)
       → IsToken step s t l Follows ((ls ≡ []) × (ending ≡ Whole)) → AreAllPlaced (l ∷ ls) ending
   token_placed (steps.Token kind n) s t front l ls ending Follows reached later is =
       let here : IsTokenPlaced path source l.token =
@@ -146,14 +146,14 @@ module _ (path source : Text) where
       let none : AreAllPlaced [] Whole = tt in
       with_first l ls ending here (subst (λ xs. AreAllPlaced xs ending) (sym is.1.0) (subst (AreAllPlaced []) (sym is.1.1) none))
 
-  all_placed : (ls : List Lexeme) (s : State) (t front : Text) (ending : Ending) → IsReached path source s t front → Lexes s t ls ending → AreAllPlaced ls
+  all_placed : (ls : List Lexeme) (s : State) (t front : Text) (ending : Ending) → IsStateAfter path source s t front → Lexes s t ls ending → AreAllPlaced ls
       ending
   all_placed [] s t front ending reached lexes = fault_placed (next s t) s t front ending reached lexes
   all_placed (l ∷ ls) s t front ending reached lexes =
       token_placed (next s t) s t front l ls ending (λ later rest. Lexes later rest ls ending) reached
       (λ later rest more. all_placed ls later rest more ending) lexes
 
-  reached_start : IsReached path source (start_state path) source []
+  reached_start : IsStateAfter path source (start_state path) source []
   reached_start = record { text = refl; place = refl; openings = tt }
 
   pub tokens_placed : (ls : List Lexeme) → IsLexed path source ls Whole → AreTokensPlaced path source ls

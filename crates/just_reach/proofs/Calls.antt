@@ -49,19 +49,20 @@ module _ (functions : List Function) (name : Text) where
   IsMentioned mentioned = (n : ℕ) × mentioned (CallOf name n)
 
   module _ (f : Function) (found : function_at functions name ≡ Some f) where
-    abbrev Agree : (PlainMember → Type 0) → (Mention → Type 0) → Type 0
-    Agree occurs mentioned = HasMember occurs ↔ IsMentioned mentioned
+    abbrev AgreesWithMentions : (PlainMember → Type 0) → (Mention → Type 0) → Type 0
+    AgreesWithMentions occurs mentioned = HasMember occurs ↔ IsMentioned mentioned
 
-    two : (O P : PlainMember → Type 0) (M N : Mention → Type 0) → Agree O M → Agree P N → Agree (λ x. O x ⊎ P x) (λ x. M x ⊎ N x)
+    two : (O P : PlainMember → Type 0) (M N : Mention → Type 0) → AgreesWithMentions O M → AgreesWithMentions P N
+        → AgreesWithMentions (λ x. O x ⊎ P x) (λ x. M x ⊎ N x)
     two O P M N h k = (
       (λ c. ⊎_elim (λ o. let m = h.0 (c.0, c.1, o) in (m.0, inl m.1)) (λ o. let m = k.0 (c.0, c.1, o) in (m.0, inr m.1)) c.2),
       (λ m. ⊎_elim (λ o. let c = h.1 (m.0, o) in (c.0, c.1, inl c.2)) (λ o. let c = k.1 (m.0, o) in (c.0, c.1, inr c.2)) m.1),
     )
 
-    none : Agree (λ x. ⊥) (λ x. ⊥)
+    none : AgreesWithMentions (λ x. ⊥) (λ x. ⊥)
     none = ((λ c. absurd c.2), (λ m. absurd m.1))
 
-    one : (t : Token) (k : ℕ) → Agree (λ x. called_member (callee functions t.lexeme) t ≡ x) (λ x. CallOf t.lexeme k ≡ x)
+    one : (t : Token) (k : ℕ) → AgreesWithMentions (λ x. called_member (callee functions t.lexeme) t ≡ x) (λ x. CallOf t.lexeme k ≡ x)
     one t k = (
       (λ c. (k, ap (λ (u : Text). CallOf u k) (ap (λ (u : Token). u.lexeme) (call_token (callee functions t.lexeme) t c.0 c.2) ∙ c.1))),
       (λ m. let is : CallOf t.lexeme k ≡ CallOf name m.0 = m.1 in let same : t.lexeme ≡ name = cc in
@@ -69,7 +70,7 @@ module _ (functions : List Function) (name : Text) where
     )
 
     mutual
-      calls : (e : Expr) → Agree (OccursAt functions e) (Occurs e)
+      calls : (e : Expr) → AgreesWithMentions (OccursAt functions e) (Occurs e)
       calls (And l r) = two (OccursAt functions l) (OccursAt functions r) (Occurs l) (Occurs r) (calls l) (calls r)
       calls (Assert e m t) = two (OccursAt functions e) (OccursAt functions m) (Occurs e) (Occurs m) (calls e) (calls m)
       calls (AssertOnly e t) = calls e
@@ -97,15 +98,15 @@ module _ (functions : List Function) (name : Text) where
         (λ m. let is : VariableOf number ≡ CallOf name m.0 = m.1 in absurd (cc)),
       )
 
-      calls_row : (es : Exprs) → Agree (OccursAtRow functions es) (OccursIn es)
+      calls_row : (es : Exprs) → AgreesWithMentions (OccursAtRow functions es) (OccursIn es)
       calls_row Nil = none
       calls_row (Cons e es) = two (OccursAt functions e) (OccursAtRow functions es) (Occurs e) (OccursIn es) (calls e) (calls_row es)
 
-      calls_pieces : (pieces : Pieces) → Agree (OccursAtPieces functions pieces) (OccursInPieces pieces)
+      calls_pieces : (pieces : Pieces) → AgreesWithMentions (OccursAtPieces functions pieces) (OccursInPieces pieces)
       calls_pieces NoPiece = none
       calls_pieces (Piece e literal pieces) =
           two (OccursAt functions e) (OccursAtPieces functions pieces) (Occurs e) (OccursInPieces pieces) (calls e) (calls_pieces pieces)
 
     -- a member that calls the name is a call that is mentioned, and the other way round
-    pub called_in : (e : Expr) → Agree (OccursAt functions e) (Occurs e)
+    pub called_in : (e : Expr) → AgreesWithMentions (OccursAt functions e) (Occurs e)
     called_in e = calls e

@@ -52,11 +52,11 @@ is_scoping closing (inl is) = subst IsScoping (sym is) (λ m frames. Lexically (
 is_scoping closing (inr is) = subst IsScoping (sym is) (λ m frames. Dynamically (m.limit - 1))
 
 module _ (closing : Closing) (scoping : IsScoping closing) (m : Module) where
-  abbrev Reached : PlainMember → Type 0
-  Reached = IsReachedInRun m.program.functions m.assignments.all m.assignments.referenced
+  abbrev ReachedInRun : PlainMember → Type 0
+  ReachedInRun = IsReachedInRun m.program.functions m.assignments.all m.assignments.referenced
 
   abbrev Comes : Event → Type 0
-  Comes = ComesFrom m.program [] Reached
+  Comes = ComesFrom m.program [] ReachedInRun
 
   value_covered : (frames : Frames) (a : Assignment) → IsIn m.assignments.all a → m.assignments.referenced a.number ≡ true
       → AllEvents Comes (assigned closing m frames a)
@@ -64,13 +64,13 @@ module _ (closing : Closing) (scoping : IsScoping closing) (m : Module) where
     where
       by : (o : Option Text) → AllEvents Comes (or_override o (eval m.program (closing m frames) (situation_at m.program.fixed.settings.lists frames) a.value))
       by (Some text) = tt
-      by None = scoped_covered m.program [] Reached (closed_in_run m.program.functions m.assignments.all m.assignments.referenced) (closing m frames)
+      by None = scoped_covered m.program [] ReachedInRun (closed_in_run m.program.functions m.assignments.all m.assignments.referenced) (closing m frames)
           (scoping m frames) (situation_at m.program.fixed.settings.lists frames) refl a.value
           (λ y occurs. record { assignment = a; among = among; referenced = referenced; reached = inl occurs })
 
   -- the same with the marks
   abbrev ComesOrMarks : Event → Type 0
-  ComesOrMarks = ComesFromRun m.program Reached
+  ComesOrMarks = ComesFromRun m.program ReachedInRun
 
   or_marks : (x : Event) → Comes x → ComesOrMarks x
   or_marks (Noted (note.Begins n)) h = tt

@@ -288,12 +288,12 @@ module _ (functions : List Function) (assignments : Assignments) where
 
 -- ---- the names of an order
 
-abbrev blank : Bor Text
-blank = record { ref_ptr = (0, 0); now = [] }
+abbrev empty_name : Bor Text
+empty_name = record { ref_ptr = (0, 0); now = [] }
 
 -- the name that comes next
 abbrev pub name_at : List Name → ℕ → Name
-name_at names i = get_or names i (record { token = record { column = 0; line = 0; offset = 0; lexeme = blank; path = blank } })
+name_at names i = get_or names i (record { token = record { column = 0; line = 0; offset = 0; lexeme = empty_name; path = empty_name } })
 
 -- the rest of the order begins with it
 pub begins_with_name : (names : List Name) (i : ℕ) → i < length names

@@ -52,34 +52,34 @@ graph_is g fs all outer functions values followed =
 -- ---- what an assignment reads
 
 module _ (functions : List Function) (all : List Assignment) (outer : Frames) where
-  abbrev reads : PlainNode → List PlainNode
-  reads = read_by (graph_of functions all outer)
+  abbrev graph_reads : PlainNode → List PlainNode
+  graph_reads = read_by (graph_of functions all outer)
 
   abbrev follows : ℕ → Bool
   follows = is_followed_in all outer
 
-  value_reads : (a : Assignment) (x : PlainNode) → IsIn all a → IsIn (nodes_in follows a.value) x → IsIn (reads (OfVariable a.number)) x
+  value_reads : (a : Assignment) (x : PlainNode) → IsIn all a → IsIn (nodes_in follows a.value) x → IsIn (graph_reads (OfVariable a.number)) x
   value_reads a x there h =
       (in_all (nodes_in follows) (values_numbered all a.number) x).1 (a.value, (in_values all a.number a.value).1 (a, there, refl, refl), h)
 
   body_reads : (t : Text) (f : Function) (x : PlainNode) → function_at functions t ≡ Some f → IsIn (nodes_in (λ n. follows n && not (owns f n)) f.body) x
-      → IsIn (reads (OfFunction t)) x
+      → IsIn (graph_reads (OfFunction t)) x
   body_reads t f x found h = subst (λ o. IsIn (read_by_body follows o) x) (sym found) h
 
   function_reached : (starts : List PlainNode) {e : Expr} {name : Text} → Reaches functions e name
-      → ((t : Text) (k : ℕ) → Occurs e (CallOf t k) → IsReadFrom reads starts (OfFunction t)) → IsReadFrom reads starts (OfFunction name)
+      → ((t : Text) (k : ℕ) → Occurs e (CallOf t k) → IsReadFrom graph_reads starts (OfFunction t)) → IsReadFrom graph_reads starts (OfFunction name)
   function_reached starts {name = name} (Here k occurs) called = called name k occurs
   function_reached starts (Later mid k occurs f found rest) called =
       function_reached starts rest (λ t j there. graphs.ReadBy (OfFunction mid) (called mid k occurs)
       (body_reads mid f (OfFunction t) found ((function_in (λ n. follows n && not (owns f n)) f.body t).1 (j, there))))
 
   -- an assignment depends on each followed number that it reads
-  pub depends : (a : Assignment) (n : ℕ) → IsIn all a → Reads functions a.value n → IsFollowed all outer n → DependsOn reads a.number n
+  pub depends : (a : Assignment) (n : ℕ) → IsIn all a → Reads functions a.value n → IsFollowed all outer n → DependsOn graph_reads a.number n
   depends a n there (inl occurs) followed =
       Starts (value_reads a (OfVariable n) there ((variable_in follows a.value n).1 (occurs, (followed_if all outer n).1 followed)))
   depends a n there (inr b) followed =
       graphs.ReadBy (OfFunction b.name)
-      (function_reached (reads (OfVariable a.number)) b.reached
+      (function_reached (graph_reads (OfVariable a.number)) b.reached
       (λ t k occurs. Starts (value_reads a (OfFunction t) there ((function_in follows a.value t).1 (k, occurs)))))
       (body_reads b.name b.function (OfVariable n) b.found ((variable_in (λ k. follows k && not (owns b.function k)) b.function.body n).1 (
         b.occurs,

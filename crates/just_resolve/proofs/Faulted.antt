@@ -103,12 +103,12 @@ module _ (functions : List Function) (all : List Assignment) (outer : Frames) (o
   abbrev assignments : Assignments
   assignments = ordered all order
 
-  abbrev reads : PlainNode → List PlainNode
-  reads = read_by (graph_of functions all outer)
+  abbrev graph_reads : PlainNode → List PlainNode
+  graph_reads = read_by (graph_of functions all outer)
 
   -- an assignment reads a variable that is not taken before it
   taken_is : (taken : List ℕ) (m : Assignment) → IsIn all m
-      → ((n : ℕ) → DependsOn reads m.number n → IsIn taken n ⊎ DependsOn reads m.number m.number)
+      → ((n : ℕ) → DependsOn graph_reads m.number n → IsIn taken n ⊎ DependsOn graph_reads m.number m.number)
       → IsFaulty functions assignments outer (NameOf m.name taken) f → IsOfCycle functions all outer f
   taken_is taken m there sorted (inl u) =
       absurd (let bad : None ≡ Some m = sym u.1 ∙ found m there in cc)
@@ -118,7 +118,7 @@ module _ (functions : List Function) (all : List Assignment) (outer : Frames) (o
       let read = subst (λ (a : Assignment). Reads functions a.value u.0) same u.1 in
       let number = ⊎_elim {C = IsIn (map (λ (a : Assignment). a.number) all) u.0} (λ k. k) (λ k. absurd (u.2 (inr k))) (given m u.0 there read) in
       let none = not_valued (value_in outer u.0) (λ k. u.2 (inr k)) in
-      let itself = ⊎_elim {C = DependsOn reads m.number m.number} (λ k. absurd (u.2 (inl k))) (λ k. k)
+      let itself = ⊎_elim {C = DependsOn graph_reads m.number m.number} (λ k. absurd (u.2 (inl k))) (λ k. k)
       (sorted u.0 (depends functions all outer m u.0 there read (number, none))) in (
         r.0.name,
         r.3.0,
@@ -128,7 +128,8 @@ module _ (functions : List Function) (all : List Assignment) (outer : Frames) (o
       )
 
   -- the names of sorted assignments
-  name_is : (taken : List ℕ) (ms : List Assignment) → AllByRecursion (IsIn all) ms → AreSorted reads taken (map (λ a. a.number) ms) → (place : CheckedPlace)
+  name_is : (taken : List ℕ) (ms : List Assignment) → AllByRecursion (IsIn all) ms → AreSorted graph_reads taken (map (λ a. a.number) ms)
+      → (place : CheckedPlace)
       → IsIn (name_places assignments taken (map (λ a. a.name) ms)) place → IsFaulty functions assignments outer place f → IsOfCycle functions all outer f
   name_is taken [] known sorted place there h = absurd there
   name_is taken (m ∷ ms) known sorted place (inl same) h =

@@ -16,12 +16,12 @@ module _ (reads : PlainNode → List PlainNode) where
   IsPath before (Enter x ∷ ss) = ReadBy before x × IsPath before ss
   IsPath before (Leave x ∷ ss) = ReadBy before x × IsPath (Some x) ss
 
-  abbrev last_of : Option PlainNode → List PlainStep → Option PlainNode
-  last_of before [] = before
-  last_of before (Enter x ∷ ss) = last_of before ss
-  last_of before (Leave x ∷ ss) = last_of (Some x) ss
+  abbrev last_left_node : Option PlainNode → List PlainStep → Option PlainNode
+  last_left_node before [] = before
+  last_left_node before (Enter x ∷ ss) = last_left_node before ss
+  last_left_node before (Leave x ∷ ss) = last_left_node (Some x) ss
 
-  path_append : (before : Option PlainNode) (ss ts : List PlainStep) → IsPath before ss → IsPath (last_of before ss) ts → IsPath before (ss ++ ts)
+  path_append : (before : Option PlainNode) (ss ts : List PlainStep) → IsPath before ss → IsPath (last_left_node before ss) ts → IsPath before (ss ++ ts)
   path_append before [] ts h k = k
   path_append before (Enter x ∷ ss) ts h k = (h.0, path_append before ss ts h.1 k)
   path_append before (Leave x ∷ ss) ts h k = (h.0, path_append (Some x) ss ts h.1 k)
@@ -31,7 +31,7 @@ module _ (reads : PlainNode → List PlainNode) where
   path_front before (Enter x ∷ ss) ts h = (h.0, path_front before ss ts h.1)
   path_front before (Leave x ∷ ss) ts h = (h.0, path_front (Some x) ss ts h.1)
 
-  path_after : (before : Option PlainNode) (ss ts : List PlainStep) → IsPath before (ss ++ ts) → IsPath (last_of before ss) ts
+  path_after : (before : Option PlainNode) (ss ts : List PlainStep) → IsPath before (ss ++ ts) → IsPath (last_left_node before ss) ts
   path_after before [] ts h = h
   path_after before (Enter x ∷ ss) ts h = path_after before ss ts h.1
   path_after before (Leave x ∷ ss) ts h = path_after (Some x) ss ts h.1

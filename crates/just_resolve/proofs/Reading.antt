@@ -124,35 +124,35 @@ module _ (outer : Frames) (functions functions' : List Function) (assignments as
   names = visible assignments' outer
 
   -- it is the number of an assignment, or it is bound outside
-  abbrev IsGiven : ℕ → Type 0
-  IsGiven n = IsIn (map (λ a. a.number) assignments') n ⊎ HasValue (value_in outer) n
+  abbrev IsAssignedOrBound : ℕ → Type 0
+  IsAssignedOrBound n = IsIn (map (λ a. a.number) assignments') n ⊎ HasValue (value_in outer) n
 
-  name_given : (n : ℕ) → IsIn (map (λ p. p.1) names) n → IsGiven n
+  name_given : (n : ℕ) → IsIn (map (λ p. p.1) names) n → IsAssignedOrBound n
   name_given n h =
       let second = λ (p : Token × ℕ). p.1 in
       ⊎_elim (λ k. inl (subst (λ ns. IsIn ns n) (numbers_alone assignments') k)) (λ k. inr (bound n k))
       ((in_append (map second (numbered_assignments assignments')) (map second (bound_names outer)) n).0
       (subst (λ ns. IsIn ns n) (map-append second (numbered_assignments assignments') (bound_names outer)) h))
 
-  value_given : (b : Assignment) (n : ℕ) → IsIn assignments' b → Occurs b.value (VariableOf (Some n)) → IsGiven n
+  value_given : (b : Assignment) (n : ℕ) → IsIn assignments' b → Occurs b.value (VariableOf (Some n)) → IsAssignedOrBound n
   value_given b n there h =
       let a = pairwise_there (IsRenumberedAssignment names) assignments assignments' b renumbered.values there in
-      number_read (first_named names) IsGiven (λ t k e. name_given k (first_named_in names t k e)) a.0.value n
+      number_read (first_named names) IsAssignedOrBound (λ t k e. name_given k (first_named_in names t k e)) a.0.value n
       (subst (λ e. Occurs e (VariableOf (Some n))) (ap (λ (d : Assignment). d.value) a.1) h)
 
-  body_given : (g : Function) (n : ℕ) → IsIn functions' g → Occurs g.body (VariableOf (Some n)) → IsAmong g.parameters n ⊎ IsGiven n
+  body_given : (g : Function) (n : ℕ) → IsIn functions' g → Occurs g.body (VariableOf (Some n)) → IsAmong g.parameters n ⊎ IsAssignedOrBound n
   body_given g n there h =
       let f = pairwise_there (IsRenumberedFunction names) functions functions' g renumbered.bodies there in
       let all = g.parameters ++ names in
       let second = λ (p : Token × ℕ). p.1 in
-      number_read (first_named all) (λ k. IsAmong g.parameters k ⊎ IsGiven k)
+      number_read (first_named all) (λ k. IsAmong g.parameters k ⊎ IsAssignedOrBound k)
       (λ t k e. ⊎_elim (λ j. inl j) (λ j. inr (name_given k j))
       ((in_append (map second g.parameters) (map second names) k).0
       (subst (λ ns. IsIn ns k) (map-append second g.parameters names) (first_named_in all t k e))))
       f.0.body n (subst (λ e. Occurs e (VariableOf (Some n))) (ap (λ (d : Function). d.body) f.1.same) h)
 
   -- each number that an assignment reads, by itself or through functions
-  pub reads_given : (b : Assignment) (n : ℕ) → IsIn assignments' b → Reads functions' b.value n → IsGiven n
+  pub reads_given : (b : Assignment) (n : ℕ) → IsIn assignments' b → Reads functions' b.value n → IsAssignedOrBound n
   reads_given b n there (inl occurs) = value_given b n there occurs
   reads_given b n there (inr r) =
       ⊎_elim (λ own. absurd (r.beyond own)) (λ k. k)

@@ -26,18 +26,18 @@ module _ (reads : PlainNode → List PlainNode) where
   -- ---- what is still to be entered
 
   -- what an entered node of the path reads was entered, or it is entered before the node is left
-  abbrev IsPending : (PlainNode → Bool) → List PlainStep → Type 0
-  IsPending entered [] = Unit {0}
-  IsPending entered (Enter x ∷ ss) = IsPending entered ss
-  IsPending entered (Leave y ∷ ss) =
-      ((x : PlainNode) → IsIn (reads y) x → IsTrue (entered x) ⊎ IsIn ss (Enter x)) × IsPending entered ss
+  abbrev AreReadsPending : (PlainNode → Bool) → List PlainStep → Type 0
+  AreReadsPending entered [] = Unit {0}
+  AreReadsPending entered (Enter x ∷ ss) = AreReadsPending entered ss
+  AreReadsPending entered (Leave y ∷ ss) =
+      ((x : PlainNode) → IsIn (reads y) x → IsTrue (entered x) ⊎ IsIn ss (Enter x)) × AreReadsPending entered ss
 
-  pending_entered : (entered : PlainNode → Bool) (xs : List PlainNode) → IsPending entered (map Enter xs)
+  pending_entered : (entered : PlainNode → Bool) (xs : List PlainNode) → AreReadsPending entered (map Enter xs)
   pending_entered entered [] = tt
   pending_entered entered (x ∷ xs) = pending_entered entered xs
 
   -- all that the last node reads was entered
-  pending_last : (entered : PlainNode → Bool) (front : List PlainStep) (x : PlainNode) → IsPending entered (front ++ Leave x ∷ []) → (z : PlainNode)
+  pending_last : (entered : PlainNode → Bool) (front : List PlainStep) (x : PlainNode) → AreReadsPending entered (front ++ Leave x ∷ []) → (z : PlainNode)
       → IsIn (reads x) z → IsTrue (entered z)
   pending_last entered [] x h z r = ⊎_elim (λ k. k) (λ k. absurd k) (h.0 z r)
   pending_last entered (Enter y ∷ ss) x h z r = pending_last entered ss x h z r
@@ -45,7 +45,7 @@ module _ (reads : PlainNode → List PlainNode) where
 
   -- the last step is done
   pending_front : (old new : PlainNode → Bool) (front : List PlainStep) (s : PlainStep) → ((z : PlainNode) → IsTrue (old z) → IsTrue (new z))
-      → ((z : PlainNode) → s ≡ Enter z → IsTrue (new z)) → IsPending old (front ++ s ∷ []) → IsPending new front
+      → ((z : PlainNode) → s ≡ Enter z → IsTrue (new z)) → AreReadsPending old (front ++ s ∷ []) → AreReadsPending new front
   pending_front old new [] s grows at h = tt
   pending_front old new (Enter y ∷ ss) s grows at h = pending_front old new ss s grows at h
   pending_front old new (Leave y ∷ ss) s grows at h = (
@@ -55,8 +55,8 @@ module _ (reads : PlainNode → List PlainNode) where
   )
 
   -- a node is entered
-  pending_begun : (entered : PlainNode → Bool) (front : List PlainStep) (x : PlainNode) → IsPending entered front
-      → IsPending entered (front ++ Leave x ∷ all_entered (reads x))
+  pending_begun : (entered : PlainNode → Bool) (front : List PlainStep) (x : PlainNode) → AreReadsPending entered front
+      → AreReadsPending entered (front ++ Leave x ∷ all_entered (reads x))
   pending_begun entered [] x h = ((λ z r. inr ((in_entered (reads x) z).1 r)), pending_entered entered (reverse (reads x)))
   pending_begun entered (Enter y ∷ ss) x h = pending_begun entered ss x h
   pending_begun entered (Leave y ∷ ss) x h = (
@@ -88,7 +88,7 @@ module _ (reads : PlainNode → List PlainNode) where
 
   pub record IsSortedTo (entered : PlainNode → Bool) (steps : List PlainStep) (left : List ℕ) : Type 0 where
     pub path : IsPath reads None steps
-    pub pending : IsPending entered steps
+    pub pending : AreReadsPending entered steps
     pub closed : AreClosed entered steps
     pub sorted : AreSorted reads [] left
 
@@ -97,7 +97,7 @@ module _ (reads : PlainNode → List PlainNode) where
       → steps ≡ all_entered xs → IsSortedTo entered steps []
   sort_begins entered steps xs none is = record {
     path = subst (IsPath reads None) (sym is) (path_starts reads (reverse xs));
-    pending = subst (IsPending entered) (sym is) (pending_entered entered (reverse xs));
+    pending = subst (AreReadsPending entered) (sym is) (pending_entered entered (reverse xs));
     closed = λ y h. absurd (none_on (entered y) (none y) h);
     sorted = tt;
   }
@@ -106,7 +106,7 @@ module _ (reads : PlainNode → List PlainNode) where
 
   -- what the last node depends on was entered, or the node depends on itself
   entered_or : (entered : PlainNode → Bool) (front : List PlainStep) (a : PlainNode) → IsPath reads None (front ++ Leave a ∷ [])
-      → IsPending entered (front ++ Leave a ∷ []) → AreClosed entered (front ++ Leave a ∷ []) → {x : PlainNode} → IsReadFrom reads (reads a) x
+      → AreReadsPending entered (front ++ Leave a ∷ []) → AreClosed entered (front ++ Leave a ∷ []) → {x : PlainNode} → IsReadFrom reads (reads a) x
       → IsTrue (entered x) ⊎ IsReadFrom reads (reads a) a
   entered_or entered front a path pending closed {x} (Starts h) = inl (pending_last entered front a pending x h)
   entered_or entered front a path pending closed {x} (graphs.ReadBy y r h) =
@@ -133,8 +133,8 @@ module _ (reads : PlainNode → List PlainNode) where
         path : IsPath reads None (front ++ Leave (OfVariable n) ∷ [])
         path = subst (IsPath reads None) is w.path
 
-        pending : IsPending old (front ++ Leave (OfVariable n) ∷ [])
-        pending = subst (IsPending old) is w.pending
+        pending : AreReadsPending old (front ++ Leave (OfVariable n) ∷ [])
+        pending = subst (AreReadsPending old) is w.pending
 
         closed : AreClosed old (front ++ Leave (OfVariable n) ∷ [])
         closed = subst (AreClosed old) is w.closed
@@ -156,7 +156,7 @@ module _ (reads : PlainNode → List PlainNode) where
     pub sort_leaves : (more : List ℕ) → IsOrderedTo starts old steps left → ((y : PlainNode) → new y ≡ old y) → steps ≡ front ++ Leave x ∷ []
         → more ≡ left ++ variable_in x → IsSortedTo new front more
     sort_leaves more o same is added =
-        let pending = subst (IsPending old) is w.pending in
+        let pending = subst (AreReadsPending old) is w.pending in
         let grows = λ (z : PlainNode) (k : IsTrue (old z)). same z ∙ k in
         let last = λ (y : PlainNode) (e : x ≡ y) (z : PlainNode) (r : IsIn (reads y) z).
         grows z (pending_last old front x pending z (subst (λ v. IsIn (reads v) z) (sym e) r)) in record {
@@ -176,8 +176,8 @@ module _ (reads : PlainNode → List PlainNode) where
       at_last : (z : PlainNode) → Enter x ≡ Enter z → IsTrue (new z)
       at_last z e = (adds z).1 (inl (let both : Enter x ≡ Enter z = e in let same : x ≡ z = cc in same))
 
-      pending_now : IsPending new front
-      pending_now = pending_front old new front (Enter x) grown at_last (subst (IsPending old) is w.pending)
+      pending_now : AreReadsPending new front
+      pending_now = pending_front old new front (Enter x) grown at_last (subst (AreReadsPending old) is w.pending)
 
       path_kept : (y : PlainNode) → IsIn (path_in steps) y → IsIn (path_in front) y
       path_kept y k =
@@ -205,7 +205,7 @@ module _ (reads : PlainNode → List PlainNode) where
           let back = λ (y : PlainNode) (k : IsIn (path_in front) y ⊎ IsIn (path_in (Leave x ∷ all_entered (reads x))) y).
           subst (λ xs. IsIn xs y) (sym on) ((in_append (path_in front) (path_in (Leave x ∷ all_entered (reads x))) y).1 k) in record {
             path = subst (IsPath reads None) (sym more) (path_goes reads front x (subst (IsPath reads None) is w.path));
-            pending = subst (IsPending new) (sym more) (pending_begun new front x pending_now);
+            pending = subst (AreReadsPending new) (sym more) (pending_begun new front x pending_now);
             closed = λ y h. ⊎_elim (λ e. inl (back y (inr (inl e)))) (λ k. closed_now next (λ z j. back z (inl j)) y k) ((adds y).0 h);
             sorted = w.sorted;
           }

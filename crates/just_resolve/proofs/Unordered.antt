@@ -19,19 +19,19 @@ module _ (functions : List Function) (all : List Assignment) (outer : Frames) (o
   assignments = ordered all order
 
   -- no member of the cycle was taken
-  abbrev AreApart : List ℕ → Type 0
-  AreApart taken = (m : Assignment) → IsIn members m → IsIn taken m.number → ⊥
+  abbrev IsCycleUntaken : List ℕ → Type 0
+  IsCycleUntaken taken = (m : Assignment) → IsIn members m → IsIn taken m.number → ⊥
 
   -- the assignment of a name of the order, if no member was taken before, is no member
-  no_member : (taken : List ℕ) (t : Token) (left : List Token) → AreApart taken → AreInOrder functions assignments outer taken (t ∷ left)
+  no_member : (taken : List ℕ) (t : Token) (left : List Token) → IsCycleUntaken taken → AreInOrder functions assignments outer taken (t ∷ left)
       → (a : Assignment) → assignment_at assignments t.lexeme ≡ Some a → IsIn members a → ⊥
   no_member taken t left apart h a is m =
       let b = next a m in
       ⊎_elim (λ k. apart b.0 b.1 k) (λ k. unbound b.0 (all_in (IsIn all) members b.0 known b.1) k) (h.0 a is refl b.0.number b.2)
 
   -- after it no member was taken either
-  apart_after : (taken : List ℕ) (t : Token) (left : List Token) → AreApart taken → AreInOrder functions assignments outer taken (t ∷ left)
-      → (o : Option Assignment) → assignment_at assignments t.lexeme ≡ o → AreApart (with_taken assignments o taken)
+  apart_after : (taken : List ℕ) (t : Token) (left : List Token) → IsCycleUntaken taken → AreInOrder functions assignments outer taken (t ∷ left)
+      → (o : Option Assignment) → assignment_at assignments t.lexeme ≡ o → IsCycleUntaken (with_taken assignments o taken)
   apart_after taken t left apart h None is m there k = apart m there k
   apart_after taken t left apart h (Some a) is m there (inl same) =
       let in_all = found_there (λ (b : Assignment). b.name.lexeme) t.lexeme all a is in
@@ -40,7 +40,7 @@ module _ (functions : List Function) (all : List Assignment) (outer : Frames) (o
   apart_after taken t left apart h (Some a) is m there (inr later) = apart m there later
 
   -- no name of the order is a member's
-  none_named : (taken : List ℕ) (left : List Token) → AreApart taken → AreInOrder functions assignments outer taken left
+  none_named : (taken : List ℕ) (left : List Token) → IsCycleUntaken taken → AreInOrder functions assignments outer taken left
       → (t : Token) → IsIn left t → (m : Assignment) → IsIn members m → assignment_at assignments t.lexeme ≡ Some m → ⊥
   none_named taken [] apart h t there m member is = there
   none_named taken (s ∷ left) apart h t (inl same) m member is =

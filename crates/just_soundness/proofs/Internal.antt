@@ -48,9 +48,9 @@ permits_others = record {
 -- ---- expressions
 
 -- a call of one of these functions, with this many values, is never refused so
-abbrev IsSound : (Text → Type 0) → List Function → Situation → Deeper → Type 0
-IsSound C functions s AtLimit = Unit {0}
-IsSound C functions s (WithinLimit run) = (name : Text) (f : Function) (vs : List Value) → C name → function_at functions name ≡ Some f
+abbrev AreCallsSound : (Text → Type 0) → List Function → Situation → Deeper → Type 0
+AreCallsSound C functions s AtLimit = Unit {0}
+AreCallsSound C functions s (WithinLimit run) = (name : Text) (f : Function) (vs : List Value) → C name → function_at functions name ≡ Some f
     → length f.parameters ≡ length vs → IsNeverInternal (run f s vs)
 
 -- what is read has a value, and what is called is one of these functions and takes the arguments
@@ -59,13 +59,13 @@ Holds C functions names (VariableOf None) = ⊥
 Holds C functions names (VariableOf (Some n)) = HasValue names n
 Holds C functions names (CallOf f n) = C f × Accepts (callee functions f) n
 
-module _ (c : Program) (d : Deeper) (s : Situation) (C : Text → Type 0) (sound : IsSound C c.functions s d) where
+module _ (c : Program) (d : Deeper) (s : Situation) (C : Text → Type 0) (sound : AreCallsSound C c.functions s d) where
   -- the name is one of these functions and takes this many arguments
   abbrev IsCallable : Text → ℕ → Type 0
   IsCallable f n = C f × Accepts (callee c.functions f) n
 
   defined_never : (t : Token) (n : ℕ) (row : Row) → C t.lexeme → AllEnd (HasCount n) (row as_it_is) → IsRowRefused IsOther row →
-      (f : Function) → function_at c.functions t.lexeme ≡ Some f → n ≡ length f.parameters → (d' : Deeper) → IsSound C c.functions s d'
+      (f : Function) → function_at c.functions t.lexeme ≡ Some f → n ≡ length f.parameters → (d' : Deeper) → AreCallsSound C c.functions s d'
       → IsNeverInternal (called c t (Defined f) d' s n row)
   defined_never t n row reached counted h f e count AtLimit sound' = λ none. none
   defined_never t n row reached counted h f e count (WithinLimit run) sound' =
@@ -107,7 +107,7 @@ module _ (c : Program) (base : Names) (C : Text → Type 0) (known : AllKnown c.
     (held : (name : Text) (f : Function) (n : ℕ) → C name → function_at c.functions name ≡ Some f → Occurs f.body (VariableOf (Some n))
     → (IsAmong f.parameters n → ⊥) → HasValue base n) where
   -- under lexical scope every called function may be called
-  lexical_sound : (k : ℕ) (s : Situation) → IsSound C c.functions s (lexical c base k)
+  lexical_sound : (k : ℕ) (s : Situation) → AreCallsSound C c.functions s (lexical c base k)
   lexical_sound zero s = tt
   lexical_sound (suc k) s = λ name f vs reached found fits.
       let inner = inside base s f vs in
@@ -128,7 +128,7 @@ pub expression_never : (c : Program) (base : Names) (k : ℕ) (s : Situation) (e
     → IsNeverInternal (eval c (lexical c base k) s e)
 expression_never c base k s e bodies known own beyond = eval_never c (lexical c base k) s (Reaches c.functions e) sound e (λ x h. of_mention x h (known x h))
   where
-    sound : IsSound (Reaches c.functions e) c.functions s (lexical c base k)
+    sound : AreCallsSound (Reaches c.functions e) c.functions s (lexical c base k)
     sound = lexical_sound c base (Reaches c.functions e) bodies
         (λ name further f n reached found occurs. reaches_on c.functions f n reached found occurs)
         (λ name f n reached found occurs out. beyond n (record { name = name; function = f; reached = reached; found = found; occurs = occurs; beyond = out }))

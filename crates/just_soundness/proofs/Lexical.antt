@@ -30,8 +30,8 @@ use Rattle.just_soundness.proofs.Reached.{among_all, apart_numbers, taken_assign
 
 -- ---- what an expression means depends only on what it reads and calls
 
-abbrev with_names : Names → Situation → Situation
-with_names names s =
+abbrev situation_with_names : Names → Situation → Situation
+situation_with_names names s =
     record { names = names; environment = s.environment; recipe = s.recipe; is_dependency = s.is_dependency; lists = s.lists; shown = s.shown; below = s.below }
 
 -- the condition on everything that occurs in an expression
@@ -46,25 +46,27 @@ IsRowOf n row = AllEnd (HasCount n) (row as_it_is)
 
 module _ (c : Program) (d d' : Deeper) (C : Text → Type 0) (s : Situation) (names : Names)
     (same_call : (t : Token) (n : ℕ) (row : Row) → C t.lexeme → IsRowOf n row → called c t (callee c.functions t.lexeme) d s n row
-    ≡ called c t (callee c.functions t.lexeme) d' (with_names names s) n row) where
+    ≡ called c t (callee c.functions t.lexeme) d' (situation_with_names names s) n row) where
   same_variable : (number : Option ℕ) → ReadsSame C s.names names (VariableOf number) → (t : Token) → variable t number s.names ≡ variable t number names
   same_variable None h t = refl
   same_variable (Some n) h t = ap (λ o. note (Read t n) (done (named t o))) h
 
-  same_call_of : (t : Token) (es : Exprs) → C t.lexeme → AreRowsRelated (λ A t u. t ≡ u) (eval_row c d s 0 es) (eval_row c d' (with_names names s) 0 es)
-      → eval c d s (Call t es) ≡ eval c d' (with_names names s) (Call t es)
+  same_call_of : (t : Token) (es : Exprs) → C t.lexeme
+      → AreRowsRelated (λ A t u. t ≡ u) (eval_row c d s 0 es) (eval_row c d' (situation_with_names names s) 0 es)
+      → eval c d s (Call t es) ≡ eval c d' (situation_with_names names s) (Call t es)
   same_call_of t es reached h =
       (λ i. note (Entered t) (called c t (callee c.functions t.lexeme) d s (count es) (λ look. h look (λ k v. refl) i)))
-      ∙ ap (note (Entered t)) (same_call t (count es) (eval_row c d' (with_names names s) 0 es) reached (row_counts c d' (with_names names s) 0 es as_it_is))
+      ∙ ap (note (Entered t))
+      (same_call t (count es) (eval_row c d' (situation_with_names names s) 0 es) reached (row_counts c d' (situation_with_names names s) 0 es as_it_is))
 
-  same_eval : (e : Expr) → ((x : Mention) → Occurs e x → ReadsSame C s.names names x) → eval c d s e ≡ eval c d' (with_names names s) e
+  same_eval : (e : Expr) → ((x : Mention) → Occurs e x → ReadsSame C s.names names x) → eval c d s e ≡ eval c d' (situation_with_names names s) e
   same_eval =
       related_eval (λ A t u. t ≡ u) equality (record { assertion = λ message t. refl; operation = λ l o r t. refl; regex = λ t. refl })
-      c c d d' s (with_names names s) refl (ReadsSame C s.names names) (λ text t. refl) same_call_of same_variable
+      c c d d' s (situation_with_names names s) refl (ReadsSame C s.names names) (λ text t. refl) same_call_of same_variable
 
 -- a name that the file does not define has a meaning that reads no names
 same_undefined : (c : Program) (d d' : Deeper) (s : Situation) (names : Names) (t : Token) (n : ℕ) (row : Row) (out : Bool) (found : Option built_in.Function) →
-    let other = if out then LeftOut else built_in_or_unknown found in called c t other d s n row ≡ called c t other d' (with_names names s) n row
+    let other = if out then LeftOut else built_in_or_unknown found in called c t other d s n row ≡ called c t other d' (situation_with_names names s) n row
 same_undefined c d d' s names t n row true found = refl
 same_undefined c d d' s names t n row false None = refl
 same_undefined c d d' s names t n row false (Some f) = refl
@@ -85,16 +87,17 @@ module _ (c : Program) (C : Text → Type 0)
 
   abbrev IsLexical : ℕ → Type 0
   IsLexical k = (s : Situation) (base names : Names) (e : Expr) → ((x : Mention) → Occurs e x → ReadsSame C s.names names x) → IsOnBase (value_in s.below) base
-      → eval c (dynamic c k) s e ≡ eval c (lexical c base k) (with_names names s) e
+      → eval c (dynamic c k) s e ≡ eval c (lexical c base k) (situation_with_names names s) e
 
   same_body : (k : ℕ) → IsLexical k → (s : Situation) (base names : Names) → IsOnBase (value_in s.below) base → (name : Text) (f : Function) (vs : List Value)
       → C name → function_at c.functions name ≡ Some f → length f.parameters ≡ length vs →
-      eval c (dynamic c k) (inside (value_in s.below) s f vs) f.body ≡ eval c (lexical c base k) (inside base (with_names names s) f vs) f.body
+      eval c (dynamic c k) (inside (value_in s.below) s f vs) f.body ≡ eval c (lexical c base k) (inside base (situation_with_names names s) f vs) f.body
   same_body k again s base names on name f vs reached found fits =
-      again (inside (value_in s.below) s f vs) base (inside base (with_names names s) f vs).names f.body same_reads
+      again (inside (value_in s.below) s f vs) base (inside base (situation_with_names names s) f vs).names f.body same_reads
       (λ n free. parameters_other f.parameters vs (value_in s.below) n fits (λ among. free (among_all c.functions name f n found among)) ∙ on n free)
     where
-      same_reads : (x : Mention) → Occurs f.body x → ReadsSame C (inside (value_in s.below) s f vs).names (inside base (with_names names s) f vs).names x
+      same_reads : (x : Mention) → Occurs f.body x
+          → ReadsSame C (inside (value_in s.below) s f vs).names (inside base (situation_with_names names s) f vs).names x
       same_reads (VariableOf None) h = tt
       same_reads (VariableOf (Some n)) h =
           parameters_same f.parameters vs (value_in s.below) n fits base (λ beyond. on n (apart name f n reached found h beyond))
@@ -103,7 +106,7 @@ module _ (c : Program) (C : Text → Type 0)
   same_called : (k : ℕ) → IsLexical k → (s : Situation) (base names : Names) → IsOnBase (value_in s.below) base → (t : Token) (n : ℕ) (row : Row) → C t.lexeme
       → IsRowOf n row → (found : Option Function) → function_at c.functions t.lexeme ≡ found →
       called c t (defined_or found (undefined t.lexeme)) (dynamic c (suc k)) s n row
-      ≡ called c t (defined_or found (undefined t.lexeme)) (lexical c base (suc k)) (with_names names s) n row
+      ≡ called c t (defined_or found (undefined t.lexeme)) (lexical c base (suc k)) (situation_with_names names s) n row
   same_called k again s base names on t n row reached counted None e =
       same_undefined c (dynamic c (suc k)) (lexical c base (suc k)) s names t n row (is_left_out t.lexeme) (function_named t.lexeme)
   same_called k again s base names on t n row reached counted (Some f) e = test (nat_eq n (length f.parameters)) refl
@@ -111,7 +114,7 @@ module _ (c : Program) (C : Text → Type 0)
       test : (b : Bool) → nat_eq n (length f.parameters) ≡ b →
           (if b then bind (row as_it_is) (λ vs. eval c (dynamic c k) (inside (value_in s.below) s f vs) f.body)
           else refuses (Internal (miscounted_text t.lexeme) t))
-          ≡ (if b then bind (row as_it_is) (λ vs. eval c (lexical c base k) (inside base (with_names names s) f vs) f.body)
+          ≡ (if b then bind (row as_it_is) (λ vs. eval c (lexical c base k) (inside base (situation_with_names names s) f vs) f.body)
           else refuses (Internal (miscounted_text t.lexeme) t))
       test false is = refl
       test true is =
@@ -124,7 +127,7 @@ module _ (c : Program) (C : Text → Type 0)
       same_eval c (dynamic c 0) (lexical c base 0) C s names (λ t n row reached counted. at_limit (callee c.functions t.lexeme) t n row) e same_reads
     where
       at_limit : (found : Callee) (t : Token) (n : ℕ) (row : Row) → called c t found (dynamic c 0) s n row
-          ≡ called c t found (lexical c base 0) (with_names names s) n row
+          ≡ called c t found (lexical c base 0) (situation_with_names names s) n row
       at_limit (Defined f) t n row = refl
       at_limit (BuiltIn f) t n row = refl
       at_limit LeftOut t n row = refl

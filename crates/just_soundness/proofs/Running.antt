@@ -68,8 +68,8 @@ marked (b ∷ bs) = Noted (Begins b.number) ∷ (b.events ++ (end_mark b.number 
 -- ---- one assignment
 
 -- a value is bound, and then the run goes on
-abbrev valued : ℕ → (Value → Frames) → (Frames → Tree Frames) → Tree Value → Tree Frames
-valued n after go t = bind (bind t (λ v. note (interaction.Binds n v) (gives (after v)))) go
+abbrev value_bound : ℕ → (Value → Frames) → (Frames → Tree Frames) → Tree Value → Tree Frames
+value_bound n after go t = bind (bind t (λ v. note (interaction.Binds n v) (gives (after v)))) go
 
 -- A trace of this is a trace to no value, or one to a value, with its mark and a trace of what follows.
 data Valued (n : ℕ) (after : Value → Frames) (go : Frames → Tree Frames) (t : Tree Value) : List Event → Outcome Frames → Type 0 where
@@ -97,7 +97,7 @@ module _ (n : ℕ) (after : Value → Frames) (go : Frames → Tree Frames) wher
   valued_check p v next a (Halted q) = Halted (Checks q)
   valued_check p v next a (Made w q k) = Made w (Checks q) k
 
-  value_parts : (t : Tree Value) {es : List Event} {o : Outcome Frames} → Path freely (valued n after go t) es o → Valued n after go t es o
+  value_parts : (t : Tree Value) {es : List Event} {o : Outcome Frames} → Path freely (value_bound n after go t) es o → Valued n after go t es o
   value_parts (done (Gave v)) (Notes e p) = Made v Ends p
   value_parts (done (Gave v)) interaction.Stops = Halted interaction.Stops
   value_parts (done (Gave v)) (Shuts e) = absurd (cc)
@@ -127,8 +127,8 @@ module _ (closing : Closing) (m : Module) where
   going left next = run closing m next left
 
   -- an assignment or not, after its name
-  abbrev choice : Frames → List Token → Assignment → Bool → Option Bound → Tree Frames
-  choice frames left a referenced bound =
+  abbrev assigned_or_not : Frames → List Token → Assignment → Bool → Option Bound → Tree Frames
+  assigned_or_not frames left a referenced bound =
       bind (if referenced && not (is_some bound) then evaluated closing m frames a else gives frames) (going left)
 
   abbrev AllByRules : List Token → Type 0
@@ -136,11 +136,11 @@ module _ (closing : Closing) (m : Module) where
 
   module _ (frames : Frames) (t : Token) (left : List Token) (a : Assignment) where
     -- the frames with the value of the assignment
-    abbrev with_value : Value → Frames
-    with_value v = bound_innermost frames (bound_in m a v)
+    abbrev with_assigned_value : Value → Frames
+    with_assigned_value v = bound_innermost frames (bound_in m a v)
 
     taken_rules : IsTaken m frames t a → AllByRules left → {es : List Event} {o : Outcome Frames}
-        → Valued a.number with_value (going left) (assigned closing m frames a) es o
+        → Valued a.number with_assigned_value (going left) (assigned closing m frames a) es o
         → ByRules closing m frames (t ∷ left) (Noted (Begins a.number) ∷ es) o
     taken_rules taken rest {es = es} (Broken r p) = record {
       blocks = record { number = a.number; events = es; outcome = Refused r } ∷ [];
@@ -153,7 +153,7 @@ module _ (closing : Closing) (m : Module) where
       same = ap (λ fs. Noted (Begins a.number) ∷ fs) (append-nil es);
     }
     taken_rules taken rest {o = o} (Made {es = es} {fs = fs} v p q) =
-        let on = rest (with_value v) fs o q in
+        let on = rest (with_assigned_value v) fs o q in
         record {
           blocks = record { number = a.number; events = es; outcome = Gave v } ∷ on.blocks;
           rules = Binds a es v taken p on.rules;
@@ -161,7 +161,7 @@ module _ (closing : Closing) (m : Module) where
         }
 
     choice_rules : assignment_at m.assignments t.lexeme ≡ Some a → AllByRules left → (r : Bool) → m.assignments.referenced a.number ≡ r
-        → (b : Option Bound) → innermost a.number frames ≡ b → {es : List Event} {o : Outcome Frames} → Path freely (choice frames left a r b) es o
+        → (b : Option Bound) → innermost a.number frames ≡ b → {es : List Event} {o : Outcome Frames} → Path freely (assigned_or_not frames left a r b) es o
         → ByRules closing m frames (t ∷ left) es o
     choice_rules found rest false e b g path =
         let on = rest frames _ _ path in record { blocks = on.blocks; rules = Passes a found e on.rules; same = on.same }
@@ -171,7 +171,7 @@ module _ (closing : Closing) (m : Module) where
     choice_rules found rest true e None g (Shuts s) = absurd (cc)
     choice_rules found rest true e None g (Notes s path) =
         taken_rules (record { found = found; referenced = e; unbound = g }) rest
-        (value_parts a.number with_value (going left) (assigned closing m frames a) path)
+        (value_parts a.number with_assigned_value (going left) (assigned closing m frames a) path)
 
   named_rules : (frames : Frames) (t : Token) (left : List Token) → AllByRules left → (x : Option Assignment) → assignment_at m.assignments t.lexeme ≡ x
       → {es : List Event} {o : Outcome Frames} → Path freely (bind (turn_of closing m frames t x) (going left)) es o

@@ -9,11 +9,11 @@ use Rattle.std.proofs.lemmas.List.Sums.{suffix_len_is}
 use Rattle.just_syntax.proofs.Lists.{LacksByte}
 
 -- r is the index of the last c below n, if there is one
-abbrev IsLast : ℕ → List ℕ → ℕ → Option ℕ → Type 0
-IsLast c text n r =
+abbrev IsLastIndex : ℕ → List ℕ → ℕ → Option ℕ → Type 0
+IsLastIndex c text n r =
     MatchOption r ((i : ℕ) → i < n → get_or text i 0 ≢ c) (λ k. (k < n) × (get_or text k 0 ≡ c) × ((i : ℕ) → k < i → i < n → get_or text i 0 ≢ c))
 
-wider : (c : ℕ) (text : List ℕ) (n : ℕ) (r : Option ℕ) → get_or text n 0 ≢ c → IsLast c text n r → IsLast c text (suc n) r
+wider : (c : ℕ) (text : List ℕ) (n : ℕ) (r : Option ℕ) → get_or text n 0 ≢ c → IsLastIndex c text n r → IsLastIndex c text (suc n) r
 wider c text n None other none =
     λ i fits e. elim (cases_eq i n) [ inl here ↦ other (ap (λ j. get_or text j 0) (sym here) ∙ e) | inr below ↦ none i (omega arith) e ]
 wider c text n (Some k) other (fits, at, after) = (
@@ -25,14 +25,14 @@ wider c text n (Some k) other (fits, at, after) = (
   ],
 )
 
-last_below : (c : ℕ) (text : List ℕ) (n : ℕ) → IsLast c text n (rfind_below c text n)
+last_below : (c : ℕ) (text : List ℕ) (n : ℕ) → IsLastIndex c text n (rfind_below c text n)
 last_below c text zero = λ i fits. absurd (omega arith)
 last_below c text (suc n) =
-    cond_both (eqb (get_or text n 0) c) (Some n) (rfind_below c text n) (IsLast c text (suc n))
+    cond_both (eqb (get_or text n 0) c) (Some n) (rfind_below c text n) (IsLastIndex c text (suc n))
     (λ e. (omega arith, eqb-true (get_or text n 0) c e, λ i above fits. absurd (omega arith)))
     (λ e. wider c text n (rfind_below c text n) (eqb-false (get_or text n 0) c e) (last_below c text n))
 
-parts_at : (c : ℕ) (text : List ℕ) (r : Option ℕ) → IsLast c text (length text) r
+parts_at : (c : ℕ) (text : List ℕ) (r : Option ℕ) → IsLastIndex c text (length text) r
     → MatchOption {T = List ℕ × List ℕ} (option_map (λ i. (take i text, drop (i + 1) text)) r) (LacksByte c text)
     (λ parts. (text ≡ parts.0 ++ c ∷ parts.1) × LacksByte c parts.1)
 parts_at c text None none = none

@@ -73,8 +73,8 @@ unfolding pieces
 pieces_some p s = pieces_after_some p 0 s
 
 -- the remaining pieces of an iterator
-abbrev left : Split (Bor (List ℕ)) → List ℕ → List (List ℕ)
-left s separator = cond (split_has_more s) (pieces separator (split_text s)) []
+abbrev pieces_left : Split (Bor (List ℕ)) → List ℕ → List (List ℕ)
+pieces_left s separator = cond (split_has_more s) (pieces separator (split_text s)) []
 
 cut_off : (separator w x rest : List ℕ) (live : Bool) → 0 < length separator → IsSplitAtFirstMatch (FindsText separator) w x live rest
     → pieces separator w ≡ x ∷ cond live (pieces separator rest) []
@@ -87,14 +87,15 @@ pub YieldsList-from_pieces : {s : Split (Bor (List ℕ))} (separator text : List
     → (split_pattern s).now ≡ separator
     → YieldsList (split_steps (λ (n : Bor (List ℕ)). FindsText n.now) (λ n m. m.now ≡ n.now)) (λ x. x.now) s (pieces separator text)
 YieldsList-from_pieces {s} separator text some e more same =
-    let all = YieldsList-from_shown_while (split_steps (λ (n : Bor (List ℕ)). FindsText n.now) (λ n m. m.now ≡ n.now)) (λ x. x.now) (λ t. left t separator)
+    let all = YieldsList-from_shown_while (split_steps (λ (n : Bor (List ℕ)). FindsText n.now) (λ n m. m.now ≡ n.now)) (λ x. x.now)
+    (λ t. pieces_left t separator)
     (λ t. (split_pattern t).now ≡ separator)
     (λ t u good h. rw (← h.0) refl)
     (λ t x u good h.
     let first = subst (λ p. IsSplitAtFirstMatch (FindsText p) (split_text t) x.now (split_has_more u) (split_text u)) good h.1.1 in
     (h.1.0 ∙ good, rw (← h.0) (cut_off separator (split_text t) x.now (split_text u) (split_has_more u) some first)))
     s same in
-    let shown : left s separator ≡ pieces separator text = rw (more, e) refl in
+    let shown : pieces_left s separator ≡ pieces separator text = rw (more, e) refl in
     rw (← shown) all
 
 -- the result of `replace` for a pattern that is not empty

@@ -23,14 +23,14 @@ use Rattle.just_value.proofs.Inserted.{all_above, turned}
 abbrev Indices : Type 0
 Indices = List (ℕ × ℕ)
 
-abbrev number_of : Option Binding → Option ℕ
-number_of bound = option_map (λ b. b.number) bound
+abbrev number_of_binding : Option Binding → Option ℕ
+number_of_binding bound = option_map (λ b. b.number) bound
 
 abbrev AllPlaced : List Binding → Indices → Type 0
 AllPlaced bs es = AllByRecursion (IsPlaced bs) es
 
-abbrev seen : List Binding → Indices → List (ℕ × Bound)
-seen bs es = frame_view (elements_at bs (values_of es))
+abbrev seen_frame : List Binding → Indices → List (ℕ × Bound)
+seen_frame bs es = frame_view (elements_at bs (values_of es))
 
 -- the binding at an index, if there is one
 abbrev pub shown_at : List Binding → Option ℕ → Option Bound
@@ -38,7 +38,7 @@ shown_at bs None = None
 shown_at bs (Some i) = option_map bound_view (slice_get bs i)
 
 -- the numbers of the bindings are those of the indices
-number_first : (o : Option Binding) (n : ℕ) (xs : List Binding) (ks : List ℕ) → number_of o ≡ Some n → map (λ b. b.number) xs ≡ ks
+number_first : (o : Option Binding) (n : ℕ) (xs : List Binding) (ks : List ℕ) → number_of_binding o ≡ Some n → map (λ b. b.number) xs ≡ ks
     → map (λ b. b.number) (before_others o xs) ≡ n ∷ ks
 number_first None n xs ks is rest = cc
 number_first (Some b) n xs ks is rest = cc
@@ -54,27 +54,27 @@ found_first bs true b i l r is rest = sym (ap (option_map bound_view) is)
 found_first bs false b i l r is rest = rest
 
 module _ (n : ℕ) (bs : List Binding) where
-  look_up_first : (o : Option Binding) (e : ℕ × ℕ) (es : Indices) → slice_get bs e.1 ≡ o → number_of o ≡ Some e.0
-      → bound_at n (seen bs es) ≡ shown_at bs (lookup (is_at (nat_cmp n)) es)
+  look_up_first : (o : Option Binding) (e : ℕ × ℕ) (es : Indices) → slice_get bs e.1 ≡ o → number_of_binding o ≡ Some e.0
+      → bound_at n (seen_frame bs es) ≡ shown_at bs (lookup (is_at (nat_cmp n)) es)
       → bound_at n (frame_view (before_others o (elements_at bs (values_of es)))) ≡ shown_at bs (lookup (is_at (nat_cmp n)) (e ∷ es))
   look_up_first None e es is number rest = cc
   look_up_first (Some b) e es is number rest =
       let same : b.number ≡ e.0 = cc in
-      ap (λ k. cond (is_at (nat_cmp n) k) (Some (bound_view b)) (bound_at n (seen bs es))) same
+      ap (λ k. cond (is_at (nat_cmp n) k) (Some (bound_view b)) (bound_at n (seen_frame bs es))) same
       ∙ found_first bs (is_at (nat_cmp n) e.0) b e.1 _ _ is rest
 
-  pub look_up : (es : Indices) → AllPlaced bs es → bound_at n (seen bs es) ≡ shown_at bs (lookup (is_at (nat_cmp n)) es)
+  pub look_up : (es : Indices) → AllPlaced bs es → bound_at n (seen_frame bs es) ≡ shown_at bs (lookup (is_at (nat_cmp n)) es)
   look_up [] h = refl
   look_up (e ∷ es) h = look_up_first (slice_get bs e.1) e es refl h.0 (look_up es h.1)
 
   -- the binding at a number's index has that number
   placed_first : (t : Bool) (e : ℕ × ℕ) (es : Indices) (i : ℕ) → t ≡ is_at (nat_cmp n) e.0 → IsPlaced bs e
-      → (lookup (is_at (nat_cmp n)) es ≡ Some i → number_of (slice_get bs i) ≡ Some n)
-      → cond t (Some e.1) (lookup (is_at (nat_cmp n)) es) ≡ Some i → number_of (slice_get bs i) ≡ Some n
+      → (lookup (is_at (nat_cmp n)) es ≡ Some i → number_of_binding (slice_get bs i) ≡ Some n)
+      → cond t (Some e.1) (lookup (is_at (nat_cmp n)) es) ≡ Some i → number_of_binding (slice_get bs i) ≡ Some n
   placed_first true e es i at placed rest is = let same = number_at n e.0 (sym at) in cc
   placed_first false e es i at placed rest is = rest is
 
-  pub placed_at : (es : Indices) (i : ℕ) → AllPlaced bs es → lookup (is_at (nat_cmp n)) es ≡ Some i → number_of (slice_get bs i) ≡ Some n
+  pub placed_at : (es : Indices) (i : ℕ) → AllPlaced bs es → lookup (is_at (nat_cmp n)) es ≡ Some i → number_of_binding (slice_get bs i) ≡ Some n
   placed_at [] i h is = cc
   placed_at (e ∷ es) i h is = placed_first (is_at (nat_cmp n) e.0) e es i refl h.0 (placed_at es i h.1) is
 
@@ -82,36 +82,37 @@ module _ (n : ℕ) (bs : List Binding) where
 module _ (bs : List Binding) (b : Binding) (i : ℕ) (is : slice_get bs i ≡ Some b) where
   placed_step : (o : Ordering) (e : ℕ × ℕ) (es more : Indices) → o ≡ nat_cmp b.number e.0 → IsPlaced bs e → AllPlaced bs es → AllPlaced bs more
       → AllPlaced bs (match_ordering o ((b.number, i) ∷ e ∷ es) ((e.0, i) ∷ es) (e ∷ more))
-  placed_step Less e es more at here h rest = (ap number_of is, (here, h))
-  placed_step Equal e es more at here h rest = (ap number_of is ∙ ap Some (ranked b.number e.0 Equal at), h)
+  placed_step Less e es more at here h rest = (ap number_of_binding is, (here, h))
+  placed_step Equal e es more at here h rest = (ap number_of_binding is ∙ ap Some (ranked b.number e.0 Equal at), h)
   placed_step Greater e es more at here h rest = (here, rest)
 
   pub placed_inserted : (es : Indices) → AllPlaced bs es → AllPlaced bs (insert_entry nat_cmp es b.number i)
-  placed_inserted [] h = (ap number_of is, tt)
+  placed_inserted [] h = (ap number_of_binding is, tt)
   placed_inserted (e ∷ es) h = placed_step (nat_cmp b.number e.0) e es _ refl h.0 h.1 (placed_inserted es h.1)
 
   seen_step : (o : Ordering) (x : Binding) (e : ℕ × ℕ) (es more : Indices) → o ≡ nat_cmp b.number e.0 → slice_get bs e.1 ≡ Some x → x.number ≡ e.0
-      → seen bs more ≡ with_bound (seen bs es) (bound_view b)
-      → seen bs (match_ordering o ((b.number, i) ∷ e ∷ es) ((e.0, i) ∷ es) (e ∷ more))
-      ≡ match_ordering o ((b.number, bound_view b) ∷ (x.number, bound_view x) ∷ seen bs es) ((x.number, bound_view b) ∷ seen bs es)
-      ((x.number, bound_view x) ∷ with_bound (seen bs es) (bound_view b))
+      → seen_frame bs more ≡ with_bound (seen_frame bs es) (bound_view b)
+      → seen_frame bs (match_ordering o ((b.number, i) ∷ e ∷ es) ((e.0, i) ∷ es) (e ∷ more))
+      ≡ match_ordering o ((b.number, bound_view b) ∷ (x.number, bound_view x) ∷ seen_frame bs es) ((x.number, bound_view b) ∷ seen_frame bs es)
+      ((x.number, bound_view x) ∷ with_bound (seen_frame bs es) (bound_view b))
   seen_step Less x e es more at there same rest = rw (is, there) refl
   seen_step Equal x e es more at there same rest =
       let number : b.number ≡ x.number = ranked b.number e.0 Equal at ∙ sym same in
-      rw is (ap (λ (n : ℕ). (n, bound_view b) ∷ seen bs es) number)
+      rw is (ap (λ (n : ℕ). (n, bound_view b) ∷ seen_frame bs es) number)
   seen_step Greater x e es more at there same rest = rw there (ap (λ f. (x.number, bound_view x) ∷ f) rest)
 
-  seen_first : (o : Option Binding) (e : ℕ × ℕ) (es : Indices) → slice_get bs e.1 ≡ o → number_of o ≡ Some e.0
-      → seen bs (insert_entry nat_cmp es b.number i) ≡ with_bound (seen bs es) (bound_view b)
-      → seen bs (insert_entry nat_cmp (e ∷ es) b.number i) ≡ with_bound (frame_view (before_others o (elements_at bs (values_of es)))) (bound_view b)
+  seen_first : (o : Option Binding) (e : ℕ × ℕ) (es : Indices) → slice_get bs e.1 ≡ o → number_of_binding o ≡ Some e.0
+      → seen_frame bs (insert_entry nat_cmp es b.number i) ≡ with_bound (seen_frame bs es) (bound_view b)
+      → seen_frame bs (insert_entry nat_cmp (e ∷ es) b.number i) ≡ with_bound (frame_view (before_others o (elements_at bs (values_of es)))) (bound_view b)
   seen_first None e es there number rest = cc
   seen_first (Some x) e es there number rest =
       let same : x.number ≡ e.0 = cc in
       seen_step (nat_cmp b.number e.0) x e es _ refl there same rest
-      ∙ ap (λ n. match_ordering (nat_cmp b.number n) ((b.number, bound_view b) ∷ (x.number, bound_view x) ∷ seen bs es) ((x.number, bound_view b) ∷ seen bs es)
-      ((x.number, bound_view x) ∷ with_bound (seen bs es) (bound_view b))) (sym same)
+      ∙ ap (λ n. match_ordering (nat_cmp b.number n) ((b.number, bound_view b) ∷ (x.number, bound_view x) ∷ seen_frame bs es)
+      ((x.number, bound_view b) ∷ seen_frame bs es)
+      ((x.number, bound_view x) ∷ with_bound (seen_frame bs es) (bound_view b))) (sym same)
 
-  pub seen_inserted : (es : Indices) → AllPlaced bs es → seen bs (insert_entry nat_cmp es b.number i) ≡ with_bound (seen bs es) (bound_view b)
+  pub seen_inserted : (es : Indices) → AllPlaced bs es → seen_frame bs (insert_entry nat_cmp es b.number i) ≡ with_bound (seen_frame bs es) (bound_view b)
   seen_inserted [] h = rw is refl
   seen_inserted (e ∷ es) h = seen_first (slice_get bs e.1) e es refl h.0 (seen_inserted es h.1)
 
@@ -126,13 +127,13 @@ got_last [] x = refl
 got_last (y ∷ xs) x = got_last xs x
 
 module _ (bs more : List Binding) where
-  got_same : (o : Option Binding) (i n : ℕ) → slice_get bs i ≡ o → number_of o ≡ Some n → slice_get (bs ++ more) i ≡ slice_get bs i
+  got_same : (o : Option Binding) (i n : ℕ) → slice_get bs i ≡ o → number_of_binding o ≡ Some n → slice_get (bs ++ more) i ≡ slice_get bs i
   got_same None i n is number = cc
   got_same (Some b) i n is number = got_more bs more i b is ∙ sym is
 
   pub placed_more : (es : Indices) → AllPlaced bs es → AllPlaced (bs ++ more) es
   placed_more [] h = tt
-  placed_more (e ∷ es) h = (ap number_of (got_same (slice_get bs e.1) e.1 e.0 refl h.0) ∙ h.0, placed_more es h.1)
+  placed_more (e ∷ es) h = (ap number_of_binding (got_same (slice_get bs e.1) e.1 e.0 refl h.0) ∙ h.0, placed_more es h.1)
 
   pub elements_more : (es : Indices) → AllPlaced bs es → elements_at (bs ++ more) (values_of es) ≡ elements_at bs (values_of es)
   elements_more [] h = refl
@@ -151,14 +152,14 @@ got_other (z ∷ xs) zero (suc j) y apart = refl
 got_other (z ∷ xs) (suc i) zero y apart = refl
 got_other (z ∷ xs) (suc i) (suc j) y apart = got_other xs i j y (λ e. apart (ap suc e))
 
-module _ (bs : List Binding) (b : Binding) (i : ℕ) (is : number_of (slice_get bs i) ≡ Some b.number) where
-  got_new : (o : Option Binding) → slice_get bs i ≡ o → number_of o ≡ Some b.number → slice_get (set bs i b) i ≡ Some b
+module _ (bs : List Binding) (b : Binding) (i : ℕ) (is : number_of_binding (slice_get bs i) ≡ Some b.number) where
+  got_new : (o : Option Binding) → slice_get bs i ≡ o → number_of_binding o ≡ Some b.number → slice_get (set bs i b) i ≡ Some b
   got_new None at number = cc
   got_new (Some x) at number = got_set bs i x b at
 
   -- the binding of another number stays
   stays : (e : ℕ × ℕ) → IsPlaced bs e → e.0 ≢ b.number → slice_get (set bs i b) e.1 ≡ slice_get bs e.1
-  stays e here apart = got_other bs i e.1 b (λ same. let number = ap (λ j. number_of (slice_get bs j)) same in apart cc)
+  stays e here apart = got_other bs i e.1 b (λ same. let number = ap (λ j. number_of_binding (slice_get bs j)) same in apart cc)
 
   greater : (e : ℕ × ℕ) → nat_cmp b.number e.0 ≡ Less → e.0 ≢ b.number
   greater e less same = let below = ranked b.number e.0 Less (sym less) in absurd (omega (arith, below, same))
@@ -174,51 +175,53 @@ module _ (bs : List Binding) (b : Binding) (i : ℕ) (is : number_of (slice_get 
 
   set_step : (o : Ordering) (x : Binding) (e : ℕ × ℕ) (es : Indices) → o ≡ nat_cmp b.number e.0 → slice_get bs e.1 ≡ Some x → x.number ≡ e.0
       → AllPlaced bs es → AllByRecursion (λ n. nat_cmp e.0 n ≡ Less) (keys_of es)
-      → (lookup (is_at (nat_cmp b.number)) es ≡ Some i → seen (set bs i b) es ≡ with_bound (seen bs es) (bound_view b))
+      → (lookup (is_at (nat_cmp b.number)) es ≡ Some i → seen_frame (set bs i b) es ≡ with_bound (seen_frame bs es) (bound_view b))
       → cond (is_eq o) (Some e.1) (lookup (is_at (nat_cmp b.number)) es) ≡ Some i
-      → seen (set bs i b) (e ∷ es)
-      ≡ match_ordering o ((b.number, bound_view b) ∷ (x.number, bound_view x) ∷ seen bs es) ((x.number, bound_view b) ∷ seen bs es)
-      ((x.number, bound_view x) ∷ with_bound (seen bs es) (bound_view b))
+      → seen_frame (set bs i b) (e ∷ es)
+      ≡ match_ordering o ((b.number, bound_view b) ∷ (x.number, bound_view x) ∷ seen_frame bs es) ((x.number, bound_view b) ∷ seen_frame bs es)
+      ((x.number, bound_view x) ∷ with_bound (seen_frame bs es) (bound_view b))
   set_step Less x e es at there same h above rest found = let none = missed es (all_above b.number e.0 (keys_of es) (sym at) above) in cc
   set_step Equal x e es at there same h above rest found =
       let number : b.number ≡ e.0 = ranked b.number e.0 Equal at in
       let here : e.1 ≡ i = cc in
       let new : slice_get (set bs i b) e.1 ≡ Some b = ap (λ j. slice_get (set bs i b) j) here ∙ got_new (slice_get bs i) refl is in
       let others = rest_stays es h (subst (λ k. AllByRecursion (λ n. nat_cmp k n ≡ Less) (keys_of es)) (sym number) above) in
-      rw (new, others) (ap (λ (n : ℕ). (n, bound_view b) ∷ seen bs es) (number ∙ sym same))
+      rw (new, others) (ap (λ (n : ℕ). (n, bound_view b) ∷ seen_frame bs es) (number ∙ sym same))
   set_step Greater x e es at there same h above rest found =
       let below = ranked b.number e.0 Greater at in
       let apart : e.0 ≢ b.number = λ equal. absurd (omega (arith, below, equal)) in
-      rw (stays e (ap number_of there ∙ ap Some same) apart, there) (ap (λ f. (x.number, bound_view x) ∷ f) (rest found))
+      rw (stays e (ap number_of_binding there ∙ ap Some same) apart, there) (ap (λ f. (x.number, bound_view x) ∷ f) (rest found))
 
-  set_first : (o : Option Binding) (e : ℕ × ℕ) (es : Indices) → slice_get bs e.1 ≡ o → number_of o ≡ Some e.0
+  set_first : (o : Option Binding) (e : ℕ × ℕ) (es : Indices) → slice_get bs e.1 ≡ o → number_of_binding o ≡ Some e.0
       → AllPlaced bs es → AllByRecursion (λ n. nat_cmp e.0 n ≡ Less) (keys_of es)
-      → (lookup (is_at (nat_cmp b.number)) es ≡ Some i → seen (set bs i b) es ≡ with_bound (seen bs es) (bound_view b))
+      → (lookup (is_at (nat_cmp b.number)) es ≡ Some i → seen_frame (set bs i b) es ≡ with_bound (seen_frame bs es) (bound_view b))
       → lookup (is_at (nat_cmp b.number)) (e ∷ es) ≡ Some i
-      → seen (set bs i b) (e ∷ es) ≡ with_bound (frame_view (before_others o (elements_at bs (values_of es)))) (bound_view b)
+      → seen_frame (set bs i b) (e ∷ es) ≡ with_bound (frame_view (before_others o (elements_at bs (values_of es)))) (bound_view b)
   set_first None e es there number h above rest found = cc
   set_first (Some x) e es there number h above rest found =
       let same : x.number ≡ e.0 = cc in
       set_step (nat_cmp b.number e.0) x e es refl there same h above rest found
-      ∙ ap (λ n. match_ordering (nat_cmp b.number n) ((b.number, bound_view b) ∷ (x.number, bound_view x) ∷ seen bs es) ((x.number, bound_view b) ∷ seen bs es)
-      ((x.number, bound_view x) ∷ with_bound (seen bs es) (bound_view b))) (sym same)
+      ∙ ap (λ n. match_ordering (nat_cmp b.number n) ((b.number, bound_view b) ∷ (x.number, bound_view x) ∷ seen_frame bs es)
+      ((x.number, bound_view b) ∷ seen_frame bs es)
+      ((x.number, bound_view x) ∷ with_bound (seen_frame bs es) (bound_view b))) (sym same)
 
   seen_set : (es : Indices) → IsStrictlySortedBy nat_cmp (keys_of es) → AllPlaced bs es → lookup (is_at (nat_cmp b.number)) es ≡ Some i
-      → seen (set bs i b) es ≡ with_bound (seen bs es) (bound_view b)
+      → seen_frame (set bs i b) es ≡ with_bound (seen_frame bs es) (bound_view b)
   seen_set [] sorted h found = cc
   seen_set (e ∷ es) sorted h found =
       set_first (slice_get bs e.1) e es refl h.0 h.1 (sorted_head nat_cmp e.0 (keys_of es) sorted)
       (seen_set es (sorted_tail nat_cmp e.0 (keys_of es) sorted) h.1) found
 
-number_set : (xs : List Binding) (b : Binding) (i j : ℕ) → number_of (slice_get xs i) ≡ Some b.number
-    → number_of (slice_get (set xs i b) j) ≡ number_of (slice_get xs j)
+number_set : (xs : List Binding) (b : Binding) (i j : ℕ) → number_of_binding (slice_get xs i) ≡ Some b.number
+    → number_of_binding (slice_get (set xs i b) j) ≡ number_of_binding (slice_get xs j)
 number_set [] b i j is = refl
 number_set (z ∷ xs) b zero zero is = sym is
 number_set (z ∷ xs) b zero (suc j) is = refl
 number_set (z ∷ xs) b (suc i) zero is = refl
 number_set (z ∷ xs) b (suc i) (suc j) is = number_set xs b i j is
 
-placed_set : (bs : List Binding) (b : Binding) (i : ℕ) (es : Indices) → number_of (slice_get bs i) ≡ Some b.number → AllPlaced bs es → AllPlaced (set bs i b) es
+placed_set : (bs : List Binding) (b : Binding) (i : ℕ) (es : Indices) → number_of_binding (slice_get bs i) ≡ Some b.number → AllPlaced bs es
+    → AllPlaced (set bs i b) es
 placed_set bs b i [] is h = tt
 placed_set bs b i (e ∷ es) is h = (number_set bs b i e.1 is ∙ h.0, placed_set bs b i es is h.1)
 
@@ -233,7 +236,7 @@ pub shows_inserted : (f : List (ℕ × Bound)) (bs : List Binding) (b : Binding)
     → more ≡ insert_entry nat_cmp es b.number i → IsStrictlySortedBy nat_cmp (keys_of more) → ShowsFrame (with_bound f (bound_view b)) bs more
 shows_inserted f bs b i es more ((sorted, placed), shows) is inserted rising = (
   (rising, subst (AllPlaced bs) (sym inserted) (placed_inserted bs b i is es placed)),
-  ap (seen bs) inserted ∙ seen_inserted bs b i is es placed ∙ ap (λ f. with_bound f (bound_view b)) shows,
+  ap (seen_frame bs) inserted ∙ seen_inserted bs b i is es placed ∙ ap (λ f. with_bound f (bound_view b)) shows,
 )
 
 pub shows_more : (f : List (ℕ × Bound)) (bs more : List Binding) (es : Indices) → ShowsFrame f bs es → ShowsFrame f (bs ++ more) es
@@ -294,7 +297,7 @@ elements_in_order bs [] some = absurd (some refl)
 elements_in_order bs (e ∷ es) some = refl
 
 -- each index is that of a binding
-within_first : (bs : List Binding) (i n : ℕ) (o : Option Binding) → slice_get bs i ≡ o → number_of o ≡ Some n → i < length bs
+within_first : (bs : List Binding) (i n : ℕ) (o : Option Binding) → slice_get bs i ≡ o → number_of_binding o ≡ Some n → i < length bs
 within_first bs i n None is number = absurd (cc)
 within_first bs i n (Some b) is number = slice_get_within bs i b is
 
