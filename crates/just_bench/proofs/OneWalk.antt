@@ -37,7 +37,7 @@ no_value v None e = absurd (cc)
 never_stopped : {A : Type 0} {v : A} → Gave v ≢ Stopped
 never_stopped e = absurd (cc)
 
-gave_one : {A : Type 0} {v w : A} → Gave v ≡ Gave w → v ≡ w
+gave_one : {A : Type 0} {v w : A} → ◌≡◌ {A = Outcome A} (Gave v) (Gave w) → v ≡ w
 gave_one e = cc
 
 -- two name-by-name runs with the same end

@@ -11,7 +11,7 @@ use Rattle.just_syntax.specs.declared.recipe.Recipe.{Recipe}
 use Rattle.just_value.specs.declared.check_fault.CheckFault.{CheckFault}
 use Rattle.just_value.specs.declared.scope.Scope.{Scope}
 use Rattle.just_host.specs.Interaction.{check, done}
-use Rattle.just_host.proofs.Paths.{runs_check, runs_on, runs_checked}
+use Rattle.just_interaction.proofs.Paths.{runs_check, runs_on, runs_checked}
 use Rattle.just_eval.specs.declared.evaluator.Evaluator.{Evaluator}
 
 -- ---- situations

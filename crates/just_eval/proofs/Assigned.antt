@@ -10,7 +10,7 @@ use Rattle.just_eval.specs.Prelude.{ended, frames_view, freely, innermost, or_ov
 use Rattle.just_syntax.proofs.Maps.{number_with}
 use Rattle.just_value.specs.declared.compile_error.CompileError.{CompileError}
 use Rattle.just_value.specs.declared.error.Error.{Error}
-use Rattle.just_host.proofs.Paths.{path_cut}
+use Rattle.just_interaction.proofs.Paths.{path_cut}
 use Rattle.just_expression.proofs.Exits.{exit_is}
 use Rattle.just_soundness.proofs.Constants.{HasConstOutcome, OfSome, const_override, const_outcome, eval_alike}
 use Rattle.just_eval.specs.View.{IsRefused, IsStopped, Opens, Ends}

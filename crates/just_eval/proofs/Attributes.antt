@@ -11,7 +11,7 @@ use Rattle.just_syntax.specs.declared.attribute.Attribute.{Attribute as Declared
 use Rattle.just_syntax.specs.declared.attribute.Attribute.TheVariants as kinds
 use Rattle.just_syntax.specs.declared.expression.Expression.{Expression}
 use Rattle.just_syntax.specs.declared.name.Name.{Name}
-use Rattle.just_host.proofs.Paths.{runs_ends, runs_gives, runs_on, runs_stopped}
+use Rattle.just_interaction.proofs.Paths.{runs_ends, runs_gives, runs_on, runs_stopped}
 use Rattle.just_eval.specs.declared.evaluator.Evaluator.{Evaluator}
 use Rattle.just_eval.proofs.Arguments.{situation_set}
 use Rattle.just_eval.proofs.Same.{runs_same, same_on}

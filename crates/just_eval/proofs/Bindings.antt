@@ -9,7 +9,7 @@ use Rattle.just_eval.specs.Prelude.{without_value, words_of}
 use Rattle.just_syntax.specs.declared.parameter.Parameter.{Parameter as Declared}
 use Rattle.just_syntax.specs.declared.recipe.Recipe.{Recipe}
 use Rattle.just_value.specs.declared.check_fault.CheckFault.{CheckFault}
-use Rattle.just_host.proofs.Paths.{runs_ends, runs_gives, runs_on, runs_stopped, runs_checked}
+use Rattle.just_interaction.proofs.Paths.{runs_ends, runs_gives, runs_on, runs_stopped, runs_checked}
 use Rattle.just_eval.specs.declared.evaluator.Evaluator.{Evaluator}
 use Rattle.just_eval.proofs.Arguments.{checked_value, situation_bound}
 use Rattle.just_eval.proofs.Same.{runs_same, same_on}

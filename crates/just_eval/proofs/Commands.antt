@@ -8,7 +8,7 @@ use Rattle.just_eval.specs.Prelude.{line, line_expressions, line_view, lines_exp
 use Rattle.just_syntax.specs.Plain.{Fragment}
 use Rattle.just_syntax.specs.declared.line.Line.{Line}
 use Rattle.just_syntax.proofs.Lists.{all_append}
-use Rattle.just_host.proofs.Paths.{runs_ends, runs_gives, runs_on, runs_stopped}
+use Rattle.just_interaction.proofs.Paths.{runs_ends, runs_gives, runs_on, runs_stopped}
 use Rattle.just_soundness.proofs.Constants.{AllConst, const_congruence}
 use Rattle.just_soundness.proofs.ConstInternal.{IsOther}
 use Rattle.just_soundness.proofs.Final.{AllFinal}

@@ -7,8 +7,8 @@ use Rattle.just_eval.specs.Prelude.{Behaves, RefusesWith, Situation, Step, Text,
 use Rattle.just_eval.specs.Prelude.{environment, freely, pairs_view, parameters, rules_in, rules_of, situation_of, stage_state_of, without_value}
 use Rattle.just_host.specs.Interaction.{refuses}
 use Rattle.just_host.specs.declared.execution_context.ExecutionContext.{ExecutionContext}
-use Rattle.just_host.proofs.Paths.{runs_ends, runs_on, runs_checked}
-use Rattle.just_host.proofs.Paths.{runs_done}
+use Rattle.just_interaction.proofs.Paths.{runs_ends, runs_on, runs_checked}
+use Rattle.just_interaction.proofs.Paths.{runs_done}
 use Rattle.just_meaning.specs.Messages.{mismatched_text}
 use Rattle.just_eval.specs.declared.evaluator.Evaluator.{Evaluator}
 use Rattle.just_eval.proofs.Arguments.{situation_set}

@@ -17,7 +17,7 @@ use Rattle.just_host.specs.declared.execution_context.ExecutionContext.{Executio
 use Rattle.just_meaning.specs.Module.{situation_at}
 use Rattle.just_soundness.proofs.ConstInternal.{IsOther, resolved_const, shut_other}
 use Rattle.just_soundness.proofs.Constants.{AllConst, HasConstOutcome, const_refused, const_outcome, eval_alike, unless_such}
-use Rattle.just_soundness.proofs.Ends.{ends_path}
+use Rattle.just_interaction.proofs.Ends.{ends_path}
 use Rattle.just_soundness.proofs.Final.{AllFinal, final_dynamic, final_eval}
 use Rattle.just_soundness.proofs.Here.{Same, all_such, line_const, line_final, line_never, readable_apart, same_line, same_string, string_const, string_final}
 use Rattle.just_soundness.proofs.Here.{string_never}

@@ -7,7 +7,7 @@ use Rattle.just_eval.specs.Prelude.{Assignment, Bound, Closing, Frames, Gave, In
 use Rattle.just_eval.specs.Prelude.{Behaves, Refusal, Refused, RefusesWith, Step, Stopped, Token, Value, assigned, assignment_at, bind, bound_innermost}
 use Rattle.just_eval.specs.Prelude.{dynamically, freely, gives, innermost, lexically, run, turn, unchecked, unknown_assignment_text, without_value}
 use Rattle.just_host.specs.Interaction.{Ends, Event, Path}
-use Rattle.just_host.proofs.Paths.{bind_bind, bind_gives, path_ends, path_on, runs_ends, runs_gives, runs_note, runs_on, runs_stopped}
+use Rattle.just_interaction.proofs.Paths.{bind_bind, bind_gives, path_ends, path_on, runs_ends, runs_gives, runs_note, runs_on, runs_stopped}
 use Rattle.just_meaning.specs.Module.{bound_in, evaluated, turn_of}
 use Rattle.just_soundness.proofs.Overridden.{pending_calls_do_not_matter, resolved_is_never_internal}
 use Rattle.just_soundness.proofs.Running.{IsTaken}

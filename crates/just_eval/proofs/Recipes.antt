@@ -11,10 +11,10 @@ use Rattle.just_syntax.proofs.Lists.{all_append, all_front, all_after, all_alike
 use Rattle.just_value.specs.Value.{Names}
 use Rattle.just_value.specs.declared.error.Error.{Error}
 use Rattle.just_host.specs.declared.execution_context.ExecutionContext.{ExecutionContext}
-use Rattle.just_host.proofs.Paths.{answers_of}
+use Rattle.just_interaction.proofs.Paths.{answers_of}
 use Rattle.just_meaning.specs.Here.{AreReadableInTurn, Here, IsReadable, attribute_expressions, expressions_of, parameter_expressions}
 use Rattle.just_meaning.specs.Resolved.{MentionsKnown}
-use Rattle.just_soundness.proofs.Ends.{ends_path}
+use Rattle.just_interaction.proofs.Ends.{ends_path}
 use Rattle.just_soundness.proofs.Final.{final_dynamic, final_eval}
 use Rattle.just_soundness.proofs.Here.{readable_apart}
 use Rattle.just_soundness.proofs.Internal.{IsNeverInternal, expression_never}

@@ -8,7 +8,7 @@ use Rattle.just_expression.specs.Prelude.{rules, situation, value_in, with_param
 use Rattle.just_syntax.specs.Plain.{Expr}
 use Rattle.just_host.specs.Interaction.{done}
 use Rattle.just_host.specs.declared.execution_context.ExecutionContext.{ExecutionContext}
-use Rattle.just_host.proofs.Paths.{runs_done, runs_ends, runs_note, runs_on, runs_stopped}
+use Rattle.just_interaction.proofs.Paths.{runs_done, runs_ends, runs_note, runs_on, runs_stopped}
 use Rattle.just_meaning.specs.Meaning.{Situation}
 use Rattle.just_expression.specs.Call.{Reached, entered}
 use Rattle.just_expression.proofs.Commands.{itself}

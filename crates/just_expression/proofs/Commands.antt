@@ -7,7 +7,7 @@ use Rattle.just_value.specs.Refusal.{Fault, Code, Message, NoMemory}
 use Rattle.just_host.specs.Fixed.{Fixed}
 use Rattle.just_host.specs.Question.{Answer, Failed, command_question}
 use Rattle.just_host.specs.Interaction.{AsksOnce}
-use Rattle.just_host.proofs.Paths.{runs_ask, runs_done, runs_else, runs_stopped, runs_then}
+use Rattle.just_interaction.proofs.Paths.{runs_ask, runs_done, runs_else, runs_stopped, runs_then}
 use Rattle.just_meaning.specs.Meaning.{answered}
 
 module _ {S : Type 0} {step : Step S} (f : Fixed) (environment : List (Text × Text)) (shown : Frames) (text : Text) (t : Token) where

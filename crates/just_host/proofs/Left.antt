@@ -2,7 +2,7 @@
 use Rattle.std.proofs.Common.{List, [], ◌++◌, refl, ap, sym, subst, Option, Some, None, ◌≡◌}
 use Rattle.std.proofs.lemmas.List.{append-nil, append_assoc}
 use Rattle.just_host.specs.Prelude.{Behaves, Gave, Outcome, Refusal, Refused, Rules, Step, Stopped, Tree, bind, gives, unchecked, without_value}
-use Rattle.just_host.proofs.Paths.{runs_on, runs_ends, runs_gives, runs_stopped}
+use Rattle.just_interaction.proofs.Paths.{runs_on, runs_ends, runs_gives, runs_stopped}
 
 -- the outcome, f applied to its value: f prepends what is already done
 abbrev pub mapped_outcome : {A B : Type 0} → (A → B) → Outcome A → Outcome B

@@ -1,4 +1,3 @@
-pub mod Paths
 pub mod Left
 pub mod Changes
 mod Entries

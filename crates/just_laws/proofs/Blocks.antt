@@ -49,7 +49,7 @@ among_blocks (x ∷ bs) b (inr later) e k = in_second x.events (events_of bs) e 
 pub some_same : {A : Type 0} (v u : A) → Some v ≡ Some u → v ≡ u
 some_same v u e = cc
 
-pub gave_same : {A : Type 0} (v u : A) → Gave v ≡ Gave u → v ≡ u
+pub gave_same : {A : Type 0} (v u : A) → ◌≡◌ {A = Outcome A} (Gave v) (Gave u) → v ≡ u
 gave_same v u e = cc
 
 pub never_both : {A : Type 0} (v : A) (x : Option A) → x ≡ Some v → x ≡ None → ⊥

@@ -20,7 +20,7 @@ use Rattle.just_meaning.specs.Module.{Module, assigned, lexically, or_override, 
 use Rattle.just_meaning.specs.Reaches.{Mention, VariableOf, CallOf, Occurs}
 use Rattle.just_meaning.specs.Stage.{Constants, Found, at_start, const_meaning, stage_found}
 use Rattle.just_meaning.proofs.Distinct.{distinct_front}
-use Rattle.just_soundness.proofs.Ends.{AllEnd}
+use Rattle.just_interaction.proofs.Ends.{AllEnd}
 use Rattle.just_soundness.proofs.Final.{IsFinalDeeper, final_eval}
 use Rattle.just_soundness.proofs.Refused.{refused_override}
 use Rattle.just_laws.specs.Predicted.{AreConstant, AreOfOneModule, ConstAgrees, Predicts, is_found_open, is_shut, whole_found}

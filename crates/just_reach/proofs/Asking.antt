@@ -35,7 +35,7 @@ use Rattle.just_builtins.specs.declared.builtin.Builtin.TheVariants as builtin
 use Rattle.just_builtins.specs.declared.function.Function as built_in
 use Rattle.just_meaning.specs.Meaning.{Program, Situation, built_in_call, built_in_context, returned}
 use Rattle.just_reach.specs.Asking.{IsCommand, asks, is_shell}
-use Rattle.just_reach.proofs.Within.{AllEvents, within_bind}
+use Rattle.just_interaction.proofs.Events.{AllEvents, events_bind}
 
 -- ---- replies
 
@@ -256,5 +256,5 @@ pub built_in_asks : (c : Program) (s : Situation) (t : Token) (f : built_in.Func
 built_in_asks c s t f vs =
     let P = IsAskedBy (builtin_of f) in
     let answer = reply (builtin_of f) (built_in_context c s t) vs in
-    within_bind (IsQuestion P) (tree s.shown answer) (returned t) (tree_asks P s.shown answer (replies (builtin_of f) (built_in_context c s t) vs))
+    events_bind (IsQuestion P) (tree s.shown answer) (returned t) (tree_asks P s.shown answer (replies (builtin_of f) (built_in_context c s t) vs))
     (asks_nothing P t)

@@ -2,6 +2,7 @@
 -- over the number of calls that may be pending.
 use Rattle.std.proofs.Common.{◌≡◌, inl, inr, ℕ, zero, suc, Bool, true, false, List, [], ◌∷◌, ◌++◌, if◌then◌else◌, Option, Some, None, refl, ap}
 use Rattle.std.proofs.Common.{subst, nat_eq, length}
+use Rattle.just_syntax.proofs.Lists.{all_in, each_in}
 use Rattle.just_syntax.specs.Plain.{Text, Token, Expr, And, Assert, AssertOnly, Backtick, Comparison, Concatenation, Conditional, ConditionalOnly, FormatString}
 use Rattle.just_syntax.specs.Plain.{Function, Group, Join, JoinOnly, ListOf, ListConcatenation, Not, Or, StringLiteral, Exprs, Nil, Cons, Pieces, NoPiece}
 use Rattle.just_syntax.specs.Plain.{Piece, count}
@@ -26,7 +27,7 @@ use Rattle.just_reach.specs.Member.{PlainMember, BuiltIn, Call, Command, Unknown
 use Rattle.just_reach.specs.Reached.{OccursAt, OccursAtRow, OccursAtPieces}
 use Rattle.just_reach.proofs.Asking.{IsAskedBy, IsQuestion, built_in_asks}
 use Rattle.just_reach.proofs.Calls.{defined_is}
-use Rattle.just_reach.proofs.Within.{AllEvents, within_bind, within_if, within_path, within_traces}
+use Rattle.just_interaction.proofs.Events.{AllEvents, events_bind, events_if, events_path, events_traces}
 
 -- ---- expressions
 
@@ -44,10 +45,10 @@ module _ (c : Program) (environment : List (Text × Text)) (reached : PlainMembe
   AllReached occurs = (x : PlainMember) → occurs x → reached x
 
   covers_bind : {A B : Type 0} (t : Tree A) (go : A → Tree B) → Covers t → ((a : A) → Covers (go a)) → Covers (bind t go)
-  covers_bind t go h k = within_bind (ComesFrom c environment reached) t go h k
+  covers_bind t go h k = events_bind (ComesFrom c environment reached) t go h k
 
   covers_if : {A : Type 0} (b : Bool) (t u : Tree A) → Covers t → Covers u → Covers (if b then t else u)
-  covers_if b t u h k = within_if (ComesFrom c environment reached) b t u h k
+  covers_if b t u h k = events_if (ComesFrom c environment reached) b t u h k
 
   -- the bodies of called functions are covered
   abbrev RunsCovered : Deeper → Type 0
@@ -81,9 +82,9 @@ module _ (c : Program) (environment : List (Text × Text)) (reached : PlainMembe
     variable_covered t (Some n) fit = ((Variable t (Some n), fit, refl), tt)
 
     built_in_covered : (t : Token) (f : built_in.Function) (vs : List Value) → reached (BuiltIn t f) → Covers (built_in_call c s t f vs)
-    built_in_covered t f vs fit = within_traces (ComesFrom c environment reached) (built_in_call c s t f vs) (λ es o p x i.
-        by x (within_path (IsQuestion (IsAskedBy (builtin_of f))) p (built_in_asks c s t f vs) x i)
-        (λ q a is. record { events = es; outcome = o; path = p; answer = a; asked = subst (IsIn es) is i }))
+    built_in_covered t f vs fit = events_traces (ComesFrom c environment reached) (built_in_call c s t f vs) (λ es o p. all_in (ComesFrom c environment reached)
+        es (λ x i. by x (each_in (IsQuestion (IsAskedBy (builtin_of f))) es (events_path (IsQuestion (IsAskedBy (builtin_of f))) p (built_in_asks c s t f vs)) x i)
+        (λ q a is. record { events = es; outcome = o; path = p; answer = a; asked = subst (IsIn es) is i })))
       where
         by : (x : Event) → IsQuestion (IsAskedBy (builtin_of f)) x → ((q : _) (a : Answer) → x ≡ Asked q a → IsAskedIn (built_in_call c s t f vs) q)
             → ComesFrom c environment reached x

@@ -2,6 +2,7 @@
 use Rattle.std.proofs.Common.{◌≡◌, ◌⊎◌, inl, inr, ◌-◌, Bool, true, false, ◌&&◌, not, cond, if◌then◌else◌, List, [], ◌∷◌, Option, Some, None, refl, subst, sym}
 use Rattle.std.specs.Option.{is_some}
 use Rattle.std.specs.Str.{bytes_eq}
+use Rattle.just_syntax.proofs.Lists.{each_in}
 use Rattle.just_syntax.specs.Plain.{Assignment, Expr, Text, Token}
 use Rattle.just_syntax.specs.Keyed.{value_at}
 use Rattle.just_syntax.specs.Lists.{IsIn}
@@ -23,13 +24,13 @@ use Rattle.just_reach.proofs.Asking.{IsAskedBy, IsQuestion, built_in_asks}
 use Rattle.just_reach.proofs.Recipe.{line_reaches, parameters_reach}
 use Rattle.just_reach.proofs.Covered.{scoped_covered}
 use Rattle.just_reach.proofs.Reaching.{closed, closed_in_run}
-use Rattle.just_reach.proofs.Within.{AllEvents, within_alike, within_bind, within_path}
+use Rattle.just_interaction.proofs.Events.{AllEvents, events_alike, events_bind, events_path}
 
 expression_reaches : (c : Program) (d : Deeper) → IsScoped c d → (s : Situation) (e : Expr) (es : List Event) (o : Outcome Value)
     → Path freely (eval c d s e) es o → (x : Event) → IsIn es x → ComesFrom c s.environment (IsReached c.functions e) x
 expression_reaches c d scoped s e es o path x i =
-    within_path (ComesFrom c s.environment (IsReached c.functions e)) path
-    (scoped_covered c s.environment (IsReached c.functions e) (closed c.functions e) d scoped s refl e (λ y occurs. inl occurs)) x i
+    each_in (ComesFrom c s.environment (IsReached c.functions e)) es (events_path (ComesFrom c s.environment (IsReached c.functions e)) path
+    (scoped_covered c s.environment (IsReached c.functions e) (closed c.functions e) d scoped s refl e (λ y occurs. inl occurs))) x i
 
 -- ---- runs
 
@@ -81,8 +82,8 @@ module _ (closing : Closing) (scoping : IsScoping closing) (m : Module) where
       → AllEvents ComesOrMarks (evaluated closing m frames a)
   evaluated_covered frames a among referenced = (
     tt,
-    within_bind ComesOrMarks (assigned closing m frames a) _
-        (within_alike ComesOrMarks Comes or_marks (assigned closing m frames a) (value_covered frames a among referenced)) (λ v. (tt, tt)),
+    events_bind ComesOrMarks (assigned closing m frames a) _
+        (events_alike ComesOrMarks Comes or_marks (assigned closing m frames a) (value_covered frames a among referenced)) (λ v. (tt, tt)),
   )
 
   turn_covered : (frames : Frames) (t : Token) (x : Option Assignment) → assignment_at m.assignments t.lexeme ≡ x
@@ -99,7 +100,7 @@ module _ (closing : Closing) (scoping : IsScoping closing) (m : Module) where
   run_covered : (frames : Frames) (names : List Token) → AllEvents ComesOrMarks (run closing m frames names)
   run_covered frames [] = tt
   run_covered frames (t ∷ left) =
-      within_bind ComesOrMarks (turn closing m frames t) _ (turn_covered frames t (assignment_at m.assignments t.lexeme) refl)
+      events_bind ComesOrMarks (turn closing m frames t) _ (turn_covered frames t (assignment_at m.assignments t.lexeme) refl)
       (λ next. run_covered next left)
 
 -- ---- questions
@@ -108,7 +109,8 @@ member_asks : (c : Program) (environment : List (Text × Text)) (q : Question) {
     → (may_ask m ≡ true) × (IsCommand q.blind → may_run_command m ≡ true)
 member_asks c environment q (ByCommand t text shown on is) = (refl, λ command. refl)
 member_asks c environment q (ByBuiltIn t f s vs same asked) =
-    within_path (IsQuestion (IsAskedBy (builtin_of f))) asked.path (built_in_asks c s t f vs) (Asked q asked.answer) asked.asked
+    each_in (IsQuestion (IsAskedBy (builtin_of f))) asked.events
+    (events_path (IsQuestion (IsAskedBy (builtin_of f))) asked.path (built_in_asks c s t f vs)) (Asked q asked.answer) asked.asked
 
 pub reaches_no_more : ReachesNoMore
 reaches_no_more = record {
@@ -117,6 +119,6 @@ reaches_no_more = record {
   parameters = parameters_reach;
   questions = λ c environment q m h. member_asks c environment q h;
   runs = λ closing either m frames names es o path x i.
-      within_path (ComesFromRun m.program (IsReachedInRun m.program.functions m.assignments.all m.assignments.referenced)) path
-      (run_covered closing (is_scoping closing either) m frames names) x i;
+      let comes = ComesFromRun m.program (IsReachedInRun m.program.functions m.assignments.all m.assignments.referenced) in
+      each_in comes es (events_path comes path (run_covered closing (is_scoping closing either) m frames names)) x i;
 }

@@ -7,5 +7,4 @@ pub mod Reaching
 pub mod Recipe
 pub mod Rows
 pub mod Walk
-pub mod Within
 pub mod Work

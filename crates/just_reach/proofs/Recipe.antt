@@ -2,7 +2,7 @@
 use Rattle.std.proofs.Common.{inl, inr, Bool, false, List, [], ◌∷◌, ◌++◌, length, nat_eq, option_to_list, Option, Some, None, refl}
 use Rattle.just_syntax.specs.Plain.{Attribute, Env, Expr, Fragment, Interpolation, Other, Parameter, Recipe, Text, TextFragment, Token}
 use Rattle.just_syntax.specs.Lists.{IsIn}
-use Rattle.just_syntax.proofs.Lists.{in_first, in_second}
+use Rattle.just_syntax.proofs.Lists.{each_in, in_first, in_second}
 use Rattle.just_value.specs.Value.{Value}
 use Rattle.just_value.specs.Outcome.{Outcome}
 use Rattle.just_host.specs.Interaction.{Asked, Checked, Event, Noted, Path, Tree, Verdict, freely}
@@ -16,7 +16,7 @@ use Rattle.just_reach.specs.Member.{PlainMember}
 use Rattle.just_reach.specs.Reached.{IsReachedByOne}
 use Rattle.just_reach.proofs.Covered.{scoped_covered}
 use Rattle.just_reach.proofs.Reaching.{closed_by_one}
-use Rattle.just_reach.proofs.Within.{AllEvents, within_alike, within_bind, within_if, within_path}
+use Rattle.just_interaction.proofs.Events.{AllEvents, events_alike, events_bind, events_if, events_path}
 
 -- an expression is covered if it is one of those that reach
 one_covered : (c : Program) (d : Deeper) → IsScoped c d → (all : List Expr) (s : Situation) (e : Expr) → IsIn all e
@@ -30,17 +30,17 @@ module _ (P : Event → Type 0) (means : Expr → Tree Value) where
   line_within : (continued : Bool) (fs : List Fragment) → ((e : Expr) → IsIn (line_expressions fs) e → AllEvents P (means e))
       → AllEvents P (line means continued fs)
   line_within continued [] h = tt
-  line_within continued (TextFragment t ∷ fs) h = within_bind P (line means false fs) _ (line_within false fs h) (λ rest. tt)
+  line_within continued (TextFragment t ∷ fs) h = events_bind P (line means false fs) _ (line_within false fs h) (λ rest. tt)
   line_within continued (Interpolation e ∷ fs) h =
-      within_bind P (fragment means continued (Interpolation e)) _ (within_bind P (means e) _ (h e (inl refl)) (λ v. tt))
-      (λ text. within_bind P (line means false fs) _ (line_within false fs (λ f among. h f (inr among))) (λ rest. tt))
+      events_bind P (fragment means continued (Interpolation e)) _ (events_bind P (means e) _ (h e (inl refl)) (λ v. tt))
+      (λ text. events_bind P (line means false fs) _ (line_within false fs (λ f among. h f (inr among))) (λ rest. tt))
 
 pub line_reaches : (c : Program) (d : Deeper) → IsScoped c d → (s : Situation) (continued : Bool) (fs : List Fragment) (es : List Event) (o : Outcome Text)
     → Path freely (line (eval c d s) continued fs) es o → (x : Event) → IsIn es x
     → ComesFrom c s.environment (IsReachedByOne c.functions (line_expressions fs)) x
 line_reaches c d scoped s continued fs es o path x i =
     let P : Event → Type 0 = ComesFrom c s.environment (IsReachedByOne c.functions (line_expressions fs)) in
-    within_path P path (line_within P (eval c d s) continued fs (λ e among. one_covered c d scoped (line_expressions fs) s e among)) x i
+    each_in P es (events_path P path (line_within P (eval c d s) continued fs (λ e among. one_covered c d scoped (line_expressions fs) s e among))) x i
 
 -- ---- attributes and parameters
 
@@ -53,8 +53,8 @@ module _ (P : Event → Type 0) (means : Situation → Expr → Tree Value) wher
       → AllEvents P (environment means s attributes)
   attributes_within [] s h = tt
   attributes_within ((Env key value, name) ∷ left) s h =
-      within_bind P (string (means s) (EnvKey name) key) _ (within_bind P (means s key) _ (h key (inl refl) s) (λ v. tt))
-      (λ k. within_bind P (means s value) _ (h value (inr (inl refl)) s) (λ v. attributes_within left _ (λ e among. h e (inr (inr among)))))
+      events_bind P (string (means s) (EnvKey name) key) _ (events_bind P (means s key) _ (h key (inl refl) s) (λ v. tt))
+      (λ k. events_bind P (means s value) _ (h value (inr (inl refl)) s) (λ v. attributes_within left _ (λ e among. h e (inr (inr among)))))
   attributes_within ((Other, name) ∷ left) s h = attributes_within left s h
 
   default_within : (s : Situation) (recipe : Text) (p : Parameter) (o : Option Expr) → AreCovered (option_to_list o)
@@ -65,7 +65,7 @@ module _ (P : Event → Type 0) (means : Situation → Expr → Tree Value) wher
   value_within : (s : Situation) (is_dependency : Bool) (v : Value) (o : Option Expr) → AreCovered (option_to_list o)
       → AllEvents P (argument_or_value (means s) is_dependency v o)
   value_within s is_dependency v None h = tt
-  value_within s is_dependency v (Some e) h = within_if P is_dependency _ _ tt (within_bind P (means s e) _ (h e (inl refl) s) (λ w. tt))
+  value_within s is_dependency v (Some e) h = events_if P is_dependency _ _ tt (events_bind P (means s e) _ (h e (inl refl) s) (λ w. tt))
 
   valued_within : (s : Situation) (recipe : Text) (p : Parameter) (v : Value) → AreCovered (expressions_of p)
       → AllEvents P (valued (means s) s.is_dependency recipe p v)
@@ -83,8 +83,8 @@ module _ (P : Event → Type 0) (means : Situation → Expr → Tree Value) wher
   bindings_within recipe [] arguments s words checks h = tt
   bindings_within recipe (p ∷ ps) [] s words checks h = tt
   bindings_within recipe (p ∷ ps) (argument ∷ arguments) s words checks h =
-      within_bind P (checked (means s) s.is_dependency recipe p argument) _
-      (within_bind P (valued (means s) s.is_dependency recipe p argument) _
+      events_bind P (checked (means s) s.is_dependency recipe p argument) _
+      (events_bind P (valued (means s) s.is_dependency recipe p argument) _
       (valued_within s recipe p argument (λ e among. h e (in_first (expressions_of p) (parameter_expressions ps) e among)))
       (λ v a. (checks p v a (inl refl), tt)))
       (λ v. bindings_within recipe ps arguments _ _ (λ q w a among. checks q w a (inr among))
@@ -93,9 +93,9 @@ module _ (P : Event → Type 0) (means : Situation → Expr → Tree Value) wher
   parameters_within : (s : Situation) (recipe : Recipe) (ps : List Parameter) (arguments : List Value) → AllChecked ps
       → AreCovered (attribute_expressions recipe.attributes ++ parameter_expressions ps) → AllEvents P (parameters means s recipe ps arguments)
   parameters_within s recipe ps arguments checks h =
-      within_bind P (environment means s recipe.attributes) _
+      events_bind P (environment means s recipe.attributes) _
       (attributes_within recipe.attributes s (λ e among. h e (in_first (attribute_expressions recipe.attributes) (parameter_expressions ps) e among)))
-      (λ e. within_if P (nat_eq (length arguments) (length ps)) _ _
+      (λ e. events_if P (nat_eq (length arguments) (length ps)) _ _
       (bindings_within recipe.name.lexeme ps arguments (record s { environment = e }) [] checks
       (λ f among. h f (in_second (attribute_expressions recipe.attributes) (parameter_expressions ps) f among))) tt)
 
@@ -113,6 +113,6 @@ pub parameters_reach : (c : Program) (d : Deeper) → IsScoped c d → (s : Situ
 parameters_reach c d scoped s recipe ps arguments es o path x i =
     let all : List Expr = attribute_expressions recipe.attributes ++ parameter_expressions ps in
     let P : Event → Type 0 = ComesFromRecipe c ps (IsReachedByOne c.functions all) in
-    within_path P path (parameters_within P (eval c d) s recipe ps arguments (λ p v a among. among)
-    (λ e among t. within_alike P (ComesFrom c t.environment (IsReachedByOne c.functions all)) (from_some c ps (IsReachedByOne c.functions all) t.environment)
-    (eval c d t e) (one_covered c d scoped all t e among))) x i
+    each_in P es (events_path P path (parameters_within P (eval c d) s recipe ps arguments (λ p v a among. among)
+    (λ e among t. events_alike P (ComesFrom c t.environment (IsReachedByOne c.functions all)) (from_some c ps (IsReachedByOne c.functions all) t.environment)
+    (eval c d t e) (one_covered c d scoped all t e among)))) x i

@@ -28,7 +28,8 @@ use Rattle.just_meaning.specs.Closings.{lexical, inside, with_parameters}
 use Rattle.just_meaning.specs.Module.{or_override}
 use Rattle.just_meaning.proofs.Reached.{reaches_on}
 use Rattle.just_soundness.specs.Laws.{AreAnsweredAlike, AreSame, FramesDoNotMatter}
-use Rattle.just_soundness.proofs.Ends.{AllEnd, HasCount, ends_any, row_counts}
+use Rattle.just_interaction.proofs.Ends.{AllEnd, ends_any}
+use Rattle.just_soundness.proofs.Counts.{HasCount, row_counts}
 use Rattle.just_soundness.proofs.Forms.{AreRowsRelated, related_eval}
 use Rattle.just_soundness.proofs.Overlays.{parameters_same}
 

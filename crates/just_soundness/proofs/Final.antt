@@ -12,7 +12,7 @@ use Rattle.just_meaning.specs.Meaning.{Program, Situation, Deeper, AtLimit, With
 use Rattle.just_meaning.specs.Assignments.{assignment_at}
 use Rattle.just_meaning.specs.Module.{Module, assigned, dynamically, evaluated, is_taken, run, turn, turn_of}
 use Rattle.just_meaning.specs.Reaches.{Mention, VariableOf, CallOf}
-use Rattle.just_soundness.proofs.Ends.{ends_path}
+use Rattle.just_interaction.proofs.Ends.{ends_path}
 use Rattle.just_soundness.proofs.Refused.{AllRefused, IsRowRefused, MentionFits, Permits, refused_bind, refused_built_in, refused_eval, refused_if}
 use Rattle.just_soundness.proofs.Refused.{refused_override}
 

@@ -21,7 +21,8 @@ use Rattle.just_meaning.specs.Blocks.{Block}
 use Rattle.just_meaning.specs.Module.{IsResolvedModule, Module, assigned, bound_in, lexically, situation_at}
 use Rattle.just_meaning.specs.Internal.{IsNotInternal}
 use Rattle.just_meaning.proofs.Callees.{callable}
-use Rattle.just_soundness.proofs.Ends.{AllEnd, HasCount, ends_path}
+use Rattle.just_interaction.proofs.Ends.{AllEnd, ends_path}
+use Rattle.just_soundness.proofs.Counts.{HasCount}
 use Rattle.just_soundness.proofs.Bound.{bound_value}
 use Rattle.just_soundness.proofs.Running.{Running, Finished, Stops, Unknown, Passes, Skips, Binds, Breaks, Halts}
 use Rattle.just_soundness.proofs.ConstInternal.{IsOther}

@@ -21,7 +21,8 @@ use Rattle.just_meaning.specs.Messages.{miscounted_text}
 use Rattle.just_meaning.specs.Meaning.{Program, Situation, Deeper, Row, as_it_is, called, eval, eval_row, named, variable}
 use Rattle.just_meaning.specs.Closings.{lexical, dynamic, inside}
 use Rattle.just_meaning.specs.Module.{IsResolvedModule, Module, assigned, dynamically, lexically, or_override, situation_at, turn, turn_of}
-use Rattle.just_soundness.proofs.Ends.{AllEnd, HasCount, row_counts, ends_same}
+use Rattle.just_interaction.proofs.Ends.{AllEnd, ends_same}
+use Rattle.just_soundness.proofs.Counts.{HasCount, row_counts}
 use Rattle.just_soundness.proofs.Forms.{AreRowsRelated, equality, related_eval}
 use Rattle.just_soundness.proofs.Overlays.{parameters_other, parameters_same}
 use Rattle.just_soundness.proofs.Turns.{turn_by}

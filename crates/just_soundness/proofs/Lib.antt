@@ -1,4 +1,4 @@
-pub mod Ends
+pub mod Counts
 pub mod Forms
 pub mod Refused
 pub mod Bound

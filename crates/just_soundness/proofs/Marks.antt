@@ -2,6 +2,8 @@
 use Rattle.std.proofs.Common.{◌≡◌, ⊎_elim, inl, inr, ℕ, zero, suc, ◌-◌, Bool, true, false, List, [], ◌∷◌, ◌++◌, length, nat_eq, Option, Some, None}
 use Rattle.std.proofs.Common.{if◌then◌else◌, refl, sym, ap, ◌∙◌, subst}
 use Rattle.std.proofs.lemmas.List.{append-nil}
+use Rattle.std.specs.List.{AllByRecursion}
+use Rattle.just_interaction.proofs.Events.{AllEvents, events_bind, events_if, events_path}
 use Rattle.just_syntax.specs.Plain.{Text, Token, Assignment, Expr, Function, count}
 use Rattle.just_syntax.specs.Lists.{IsIn}
 use Rattle.just_syntax.proofs.Lists.{in_append}
@@ -32,51 +34,25 @@ IsNoMark (Noted (Begins n)) = ⊥
 IsNoMark (Noted (interaction.Binds n v)) = ⊥
 IsNoMark _ = Unit {0}
 
-abbrev AllPlain : List Event → Type 0
-AllPlain [] = Unit {0}
-AllPlain (e ∷ es) = IsNoMark e × AllPlain es
-
 -- ---- trees without marks
 
-abbrev pub IsUnmarked : (A : Type 0) → Tree A → Type 0
-IsUnmarked A (done o) = Unit {0}
-IsUnmarked A (ask q next) = (a : Answer) → IsUnmarked A (next a)
-IsUnmarked A (note x rest) = IsNoMark (Noted x) × IsUnmarked A rest
-IsUnmarked A (check p v next) = (a : Verdict) → IsUnmarked A (next a)
-
-unmarked_bind : (A B : Type 0) (t : Tree A) (go : A → Tree B) → IsUnmarked A t → ((a : A) → IsUnmarked B (go a)) → IsUnmarked B (bind t go)
-unmarked_bind A B (done (Gave a)) go h k = k a
-unmarked_bind A B (done (Refused r)) go h k = tt
-unmarked_bind A B (done Stopped) go h k = tt
-unmarked_bind A B (ask q next) go h k = λ a. unmarked_bind A B (next a) go (h a) k
-unmarked_bind A B (note x rest) go h k = (h.0, unmarked_bind A B rest go h.1 k)
-unmarked_bind A B (check p v next) go h k = λ a. unmarked_bind A B (next a) go (h a) k
-
-unmarked_if : (b : Bool) (x y : Tree Value) → IsUnmarked Value x → IsUnmarked Value y → IsUnmarked Value (if b then x else y)
-unmarked_if true x y h k = h
-unmarked_if false x y h k = k
-
-plain_trace : {A : Type 0} (t : Tree A) {es : List Event} {o : Outcome A} → IsUnmarked A t → Path freely t es o → AllPlain es
-plain_trace t h Ends = tt
-plain_trace t h interaction.Stops = tt
-plain_trace (ask q next) h (Asks {a = a} p) = (tt, plain_trace (next a) (h a) p)
-plain_trace (note x rest) h (Notes e p) = (h.0, plain_trace rest h.1 p)
-plain_trace (check p v next) h (Checks {a = a} q) = (tt, plain_trace (next a) (h a) q)
-plain_trace t h (Shuts e) = tt
+-- each event of each trace is plain
+abbrev pub IsUnmarked : {A : Type 0} → Tree A → Type 0
+IsUnmarked t = AllEvents IsNoMark t
 
 -- ---- expressions
 
-unmarked_reply : (shown : Frames) (r : FunctionReply) → IsUnmarked Called (tree shown r)
+unmarked_reply : (shown : Frames) (r : FunctionReply) → IsUnmarked (tree shown r)
 unmarked_reply shown (replies.Answers v) = tt
 unmarked_reply shown (replies.Fails message) = tt
-unmarked_reply shown (replies.Asks q next) = λ a. unmarked_reply shown (next a)
+unmarked_reply shown (replies.Asks q next) = λ a. (tt, unmarked_reply shown (next a))
 unmarked_reply shown replies.Stops = tt
 
-unmarked_returned : (t : Token) (r : Called) → IsUnmarked Value (returned t r)
+unmarked_returned : (t : Token) (r : Called) → IsUnmarked (returned t r)
 unmarked_returned t (Returned v) = tt
 unmarked_returned t (Said message) = tt
 
-unmarked_argument : (is_text : Bool) (t : Token) (v : Value) → IsUnmarked Value (argument is_text t v)
+unmarked_argument : (is_text : Bool) (t : Token) (v : Value) → IsUnmarked (argument is_text t v)
 unmarked_argument false t v = tt
 unmarked_argument true t [] = tt
 unmarked_argument true t (text ∷ []) = tt
@@ -84,34 +60,35 @@ unmarked_argument true t (text ∷ next ∷ texts) = tt
 
 abbrev IsUnmarkedDeeper : Deeper → Type 0
 IsUnmarkedDeeper AtLimit = Unit {0}
-IsUnmarkedDeeper (WithinLimit go) = (f : Function) (s : Situation) (vs : List Value) → IsUnmarked Value (go f s vs)
+IsUnmarkedDeeper (WithinLimit go) = (f : Function) (s : Situation) (vs : List Value) → IsUnmarked (go f s vs)
 
 -- each look at a value is unmarked, and so is the row
 abbrev IsUnmarkedRow : Row → Type 0
-IsUnmarkedRow row = (look : ℕ → Value → Tree Value) → ((i : ℕ) (v : Value) → IsUnmarked Value (look i v)) → IsUnmarked (List Value) (row look)
+IsUnmarkedRow row = (look : ℕ → Value → Tree Value) → ((i : ℕ) (v : Value) → IsUnmarked (look i v)) → IsUnmarked (row look)
 
 unmarked_called : (c : Program) (t : Token) (what : Callee) (d : Deeper) (s : Situation) (n : ℕ) (row : Row) → IsUnmarkedDeeper d → IsUnmarkedRow row
-    → IsUnmarked Value (called c t what d s n row)
+    → IsUnmarked (called c t what d s n row)
 unmarked_called c t (Defined f) AtLimit s n row h k = tt
 unmarked_called c t (Defined f) (WithinLimit go) s n row h k =
-    unmarked_if (nat_eq n (length f.parameters)) _ _ (unmarked_bind _ _ (row as_it_is) (go f s) (k as_it_is (λ i v. tt)) (h f s)) tt
+    events_if IsNoMark (nat_eq n (length f.parameters)) _ _ (events_bind IsNoMark (row as_it_is) (go f s) (k as_it_is (λ i v. tt)) (h f s)) tt
 unmarked_called c t (BuiltIn f) d s n row h k =
-    unmarked_if (accepts (BuiltIn f) n) _ _
-    (unmarked_bind _ _ (row (texts_of f t)) (built_in_call c s t f) (k (texts_of f t) (λ i v. unmarked_argument (is_text f i) t v))
+    events_if IsNoMark (accepts (BuiltIn f) n) _ _
+    (events_bind IsNoMark (row (texts_of f t)) (built_in_call c s t f) (k (texts_of f t) (λ i v. unmarked_argument (is_text f i) t v))
     (λ vs. let r = reply (builtin_of f) (built_in_context c s t) vs in
-    unmarked_bind _ _ (tree s.shown r) (returned t) (unmarked_reply s.shown r) (unmarked_returned t)))
+    events_bind IsNoMark (tree s.shown r) (returned t) (unmarked_reply s.shown r) (unmarked_returned t)))
     tt
 unmarked_called c t LeftOut d s n row h k = tt
 unmarked_called c t Unknown d s n row h k = tt
 
-unmarked_variable : (s : Situation) (number : Option ℕ) → Unit {0} → (t : Token) → IsUnmarked Value (variable t number s.names)
+unmarked_variable : (s : Situation) (number : Option ℕ) → Unit {0} → (t : Token) → IsUnmarked (variable t number s.names)
 unmarked_variable s None fit t = tt
 unmarked_variable s (Some n) fit t = (tt, tt)
 
-unmarked_eval : (c : Program) (d : Deeper) → IsUnmarkedDeeper d → (s : Situation) (e : Expr) → IsUnmarked Value (eval c d s e)
+unmarked_eval : (c : Program) (d : Deeper) → IsUnmarkedDeeper d → (s : Situation) (e : Expr) → IsUnmarked (eval c d s e)
 unmarked_eval c d h s e =
-    holds_eval IsUnmarked (λ A a. tt) unmarked_bind (record { assertion = λ message t. tt; operation = λ l o r t. tt; regex = λ t. tt })
-    c d s (λ x. Unit {0}) (λ text t. (tt, unmarked_if c.fixed.config.dry_run _ _ tt (λ a. tt)))
+    holds_eval (λ A t. IsUnmarked t) (λ A a. tt) (λ A B t go h k. events_bind IsNoMark t go h k)
+    (record { assertion = λ message t. tt; operation = λ l o r t. tt; regex = λ t. tt }) c d s (λ x. Unit {0})
+    (λ text t. (tt, events_if IsNoMark c.fixed.config.dry_run _ _ tt (λ a. (tt, tt))))
     (λ t es fit row. (tt, unmarked_called c t (callee c.functions t.lexeme) d s (count es) (eval_row c d s 0 es) h row)) (unmarked_variable s) e (λ x y. tt)
 
 unmarked_lexical : (c : Program) (base : Names) (k : ℕ) → IsUnmarkedDeeper (lexical c base k)
@@ -124,13 +101,13 @@ unmarked_dynamic c (suc k) = λ f s vs. unmarked_eval c (dynamic c k) (unmarked_
 
 -- ---- assignments
 
-unmarked_override : (o : Option Text) (t : Tree Value) → IsUnmarked Value t → IsUnmarked Value (or_override o t)
+unmarked_override : (o : Option Text) (t : Tree Value) → IsUnmarked t → IsUnmarked (or_override o t)
 unmarked_override (Some text) t h = tt
 unmarked_override None t h = h
 
 -- the values of assignments are unmarked
 abbrev pub IsUnmarkedClosing : Closing → Type 0
-IsUnmarkedClosing closing = (m : Module) (frames : Frames) (a : Assignment) → IsUnmarked Value (assigned closing m frames a)
+IsUnmarkedClosing closing = (m : Module) (frames : Frames) (a : Assignment) → IsUnmarked (assigned closing m frames a)
 
 pub unmarked_lexically : IsUnmarkedClosing lexically
 unmarked_lexically m frames a =
@@ -144,26 +121,26 @@ unmarked_dynamically m frames a =
 
 -- ---- the blocks of marked events
 
-up_after : (es fs : List Event) → AllPlain es → up_to_mark (es ++ fs) ≡ es ++ up_to_mark fs
+up_after : (es fs : List Event) → AllByRecursion IsNoMark es → up_to_mark (es ++ fs) ≡ es ++ up_to_mark fs
 up_after [] fs h = refl
 up_after (Noted (Begins n) ∷ es) fs h = absurd h.0
 up_after (Noted (interaction.Binds n v) ∷ es) fs h = absurd h.0
 up_after (e ∷ es) fs h = ap (λ gs. e ∷ gs) (up_after es fs h.1)
 
-ending_after : (es fs : List Event) (o : Outcome Frames) → AllPlain es → ending (es ++ fs) o ≡ ending fs o
+ending_after : (es fs : List Event) (o : Outcome Frames) → AllByRecursion IsNoMark es → ending (es ++ fs) o ≡ ending fs o
 ending_after [] fs o h = refl
 ending_after (Noted (Begins n) ∷ es) fs o h = absurd h.0
 ending_after (Noted (interaction.Binds n v) ∷ es) fs o h = absurd h.0
 ending_after (e ∷ es) fs o h = ending_after es fs o h.1
 
-blocks_after : (es fs : List Event) (o : Outcome Frames) → AllPlain es → blocks_of (es ++ fs) o ≡ blocks_of fs o
+blocks_after : (es fs : List Event) (o : Outcome Frames) → AllByRecursion IsNoMark es → blocks_of (es ++ fs) o ≡ blocks_of fs o
 blocks_after [] fs o h = refl
 blocks_after (Noted (Begins n) ∷ es) fs o h = absurd h.0
 blocks_after (Noted (interaction.Binds n v) ∷ es) fs o h = absurd h.0
 blocks_after (e ∷ es) fs o h = blocks_after es fs o h.1
 
 -- the first block, if nothing but plain events is before its end
-first_block : (n : ℕ) (es fs : List Event) (o : Outcome Frames) → AllPlain es → up_to_mark fs ≡ []
+first_block : (n : ℕ) (es fs : List Event) (o : Outcome Frames) → AllByRecursion IsNoMark es → up_to_mark fs ≡ []
     → blocks_of (Noted (Begins n) ∷ (es ++ fs)) o ≡ record { number = n; events = es; outcome = ending fs o } ∷ blocks_of fs o
 first_block n es fs o h none = λ i.
     record {
@@ -182,12 +159,12 @@ module _ (closing : Closing) (unmarked : IsUnmarkedClosing closing) (m : Module)
   blocks_marked (Passes a f e r) = blocks_marked r
   blocks_marked (Skips a b f e g r) = blocks_marked r
   blocks_marked {frames = frames} {o = o} (Binds {bs = bs} a es v k p r) =
-      first_block a.number es (Noted (interaction.Binds a.number v) ∷ marked bs) o (plain_trace (assigned closing m frames a) (unmarked m frames a) p) refl
+      first_block a.number es (Noted (interaction.Binds a.number v) ∷ marked bs) o (events_path IsNoMark p (unmarked m frames a)) refl
       ∙ ap (λ cs. record { number = a.number; events = es; outcome = Gave v } ∷ cs) (blocks_marked r)
   blocks_marked {frames = frames} (Breaks a es s k p) =
-      first_block a.number es [] (Refused s) (plain_trace (assigned closing m frames a) (unmarked m frames a) p) refl
+      first_block a.number es [] (Refused s) (events_path IsNoMark p (unmarked m frames a)) refl
   blocks_marked {frames = frames} (Halts a es k p) =
-      first_block a.number es [] Stopped (plain_trace (assigned closing m frames a) (unmarked m frames a) p) refl
+      first_block a.number es [] Stopped (events_path IsNoMark p (unmarked m frames a)) refl
 
   -- the blocks of a trace follow the rules
   pub blocks_run : (frames : Frames) (names : List Token) {es : List Event} {o : Outcome Frames} → Path freely (run closing m frames names) es o

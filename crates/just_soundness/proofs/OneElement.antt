@@ -10,7 +10,7 @@ use Rattle.just_host.specs.Interaction.{Tree, bind, done, refuses}
 use Rattle.just_meaning.specs.Meaning.{Situation}
 use Rattle.just_meaning.specs.Messages.{mismatched_text}
 use Rattle.just_meaning.specs.Parameters.{Arguments, HaveOneElement, Meanings, bindings, checked, environment, parameter_bound, parameters, seeing, words_of}
-use Rattle.just_soundness.proofs.Ends.{AllEnd, ends_any, ends_bind}
+use Rattle.just_interaction.proofs.Ends.{AllEnd, ends_any, ends_bind}
 
 -- the arguments, if there are any, have this property
 abbrev pub IfGave : {A : Type 0} → (A → Type 0) → Outcome A → Type 0

@@ -23,7 +23,8 @@ use Rattle.just_meaning.specs.Meaning.{returned, texts_of, variable}
 use Rattle.just_meaning.specs.Module.{or_override}
 use Rattle.just_meaning.specs.Reaches.{Mention, VariableOf, CallOf, Occurs}
 use Rattle.just_meaning.specs.Settings.{text_in}
-use Rattle.just_soundness.proofs.Ends.{AllEnd, HasCount, ends_bind, ends_both, row_counts}
+use Rattle.just_interaction.proofs.Ends.{AllEnd, ends_bind, ends_both}
+use Rattle.just_soundness.proofs.Counts.{HasCount, row_counts}
 use Rattle.just_soundness.proofs.Forms.{AreRowsRelated, IsCongruence, OfForms, related_eval}
 
 -- each refusal at which the tree may end has this property

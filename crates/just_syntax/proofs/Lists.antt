@@ -1,6 +1,6 @@
 -- Lists: membership, properties of all elements, and the rest from an index on.
-use Rattle.std.proofs.Common.{◌≡◌, ◌≢◌, ◌↔◌, ◌⊎◌, inl, inr, ⊎_elim, ℕ, zero, suc, ◌+◌, ◌<◌, List, [], ◌∷◌, ◌++◌, map, length, get_or, drop, sym, ap, ◌∙◌, arith}
-use Rattle.std.proofs.Common.{add-one, drop-cons, Contains}
+use Rattle.std.proofs.Common.{◌≡◌, ◌≢◌, ◌↔◌, ◌⊎◌, inl, inr, ⊎_elim, ℕ, zero, suc, ◌+◌, ◌<◌, List, [], ◌∷◌, ◌++◌, map, length, get_or, drop, refl, sym, ap, ◌∙◌, subst}
+use Rattle.std.proofs.Common.{add-one, arith, drop-cons, Contains}
 use Rattle.std.specs.List.{AllByRecursion}
 use Rattle.just_syntax.specs.Lists.{IsIn}
 
@@ -50,6 +50,16 @@ module _ {A : Type 0} (P : A → Type 0) where
   pub all_alike : (Q : A → Type 0) → ((x : A) → P x → Q x) → (xs : List A) → AllByRecursion P xs → AllByRecursion Q xs
   all_alike Q on [] h = tt
   all_alike Q on (x ∷ xs) h = (on x h.0, all_alike Q on xs h.1)
+
+  -- each element has the property, by membership
+  pub each_in : (xs : List A) → AllByRecursion P xs → (x : A) → IsIn xs x → P x
+  each_in [] h x none = absurd none
+  each_in (y ∷ ys) h x (inl same) = subst P same h.0
+  each_in (y ∷ ys) h x (inr later) = each_in ys h.1 x later
+
+  pub all_in : (xs : List A) → ((x : A) → IsIn xs x → P x) → AllByRecursion P xs
+  all_in [] h = tt
+  all_in (y ∷ ys) h = (h y (inl refl), all_in ys (λ x later. h x (inr later)))
 
 -- the rest from an index on, viewed by f, begins with the element there
 pub rest_from : {A B : Type 0} (f : A → B) (xs : List A) (i : ℕ) (x : A) → i < length xs → x ≡ get_or xs i x → map f (drop i xs) ≡ f x ∷ map f (drop (i + 1) xs)

@@ -1,5 +1,5 @@
 use Rattle.std.proofs.Common.{None, refl}
-use Rattle.just_host.proofs.Paths.{runs_done, runs_ends, runs_gives, runs_on}
+use Rattle.just_interaction.proofs.Paths.{runs_done, runs_ends, runs_gives, runs_on}
 use Rattle.just_expression.proofs.builtin.call.Goals as goal
 
 pub returns-in-Ok : goal.returns-in-Ok

@@ -1,6 +1,6 @@
 use Rattle.std.proofs.Common.{◌∙◌, ap, ◌∷◌, [], refl}
 use Rattle.just_expression.specs.Prelude.{Gave, fault_view, fixed_view, frames_view, pairs_view, token_view}
-use Rattle.just_host.proofs.Paths.{runs_stopped}
+use Rattle.just_interaction.proofs.Paths.{runs_stopped}
 use Rattle.just_expression.proofs.Exits.{runs_exit}
 use Rattle.just_expression.proofs.Commands.{itself, without_memory, written_asked, written_dry}
 use Rattle.just_expression.proofs.command.command_value.Goals as goal

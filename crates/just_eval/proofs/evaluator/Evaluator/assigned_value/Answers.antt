@@ -1,6 +1,6 @@
 use Rattle.std.proofs.Common.{◌≡◌, ◌∙◌, ◌∷◌, [], ap, sym, Some, string_bytes, option_map}
 use Rattle.just_eval.specs.Prelude.{Gave, text_numbered}
-use Rattle.just_host.proofs.Paths.{runs_done, runs_stopped}
+use Rattle.just_interaction.proofs.Paths.{runs_done, runs_stopped}
 use Rattle.just_expression.proofs.Exits.{runs_exit}
 use Rattle.just_eval.proofs.evaluator.Evaluator.assigned_value.Goals as goal
 

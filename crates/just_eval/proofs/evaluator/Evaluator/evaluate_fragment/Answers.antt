@@ -1,6 +1,6 @@
 use Rattle.std.proofs.Common.{ap, ◌∙◌}
 use Rattle.just_eval.specs.Prelude.{Gave, fragment_text}
-use Rattle.just_host.proofs.Paths.{runs_done, runs_ends, runs_on, runs_stopped}
+use Rattle.just_interaction.proofs.Paths.{runs_done, runs_ends, runs_on, runs_stopped}
 use Rattle.just_expression.proofs.Exits.{runs_exit}
 use Rattle.just_eval.proofs.evaluator.Evaluator.evaluate_fragment.Goals as goal
 

@@ -1,6 +1,6 @@
 use Rattle.std.proofs.Common.{◌≡◌, [], ◌∷◌, map, refl, ap, ◌∙◌, Some}
 use Rattle.just_eval.specs.Prelude.{frames_view, pairs_view, recipe_in, recipe_parameter_view, recipe_start, recipe_view, situation_of}
-use Rattle.just_host.proofs.Paths.{runs_stopped}
+use Rattle.just_interaction.proofs.Paths.{runs_stopped}
 use Rattle.just_expression.proofs.Exits.{runs_exit}
 use Rattle.just_eval.proofs.Evaluated.{attributes_end, bound, miscounted, other_count, same_count}
 use Rattle.just_eval.proofs.evaluator.Evaluator.evaluate_parameters_by_dynamic_scoping.Given.{Over}

@@ -1,5 +1,5 @@
 use Rattle.just_eval.specs.Prelude.{frames_view, name_view}
-use Rattle.just_host.proofs.Paths.{runs_stopped}
+use Rattle.just_interaction.proofs.Paths.{runs_stopped}
 use Rattle.just_expression.proofs.Exits.{runs_exit}
 use Rattle.just_eval.proofs.Stepwise.{turn_in}
 use Rattle.just_eval.proofs.evaluator.Evaluator.evaluate_step.Goals as goal

@@ -1,5 +1,5 @@
 use Rattle.std.proofs.Common.{◌∙◌, ap, sym}
-use Rattle.just_host.proofs.Paths.{runs_done, runs_ends, runs_on}
+use Rattle.just_interaction.proofs.Paths.{runs_done, runs_ends, runs_on}
 use Rattle.just_expression.proofs.Exits.{runs_exit}
 use Rattle.just_eval.specs.Prelude.{Gave, ended}
 use Rattle.just_eval.proofs.Constants.{unless_is}

@@ -1,7 +1,7 @@
 use Rattle.std.proofs.Common.{◌≡◌, true, false, length, ap, ◌∙◌, None, option_map}
 use Rattle.std.specs.Bool.{◌==◌}
 use Rattle.just_eval.specs.Prelude.{Gave, dynamic_meaning, gives, recipe_parameter_view, recipe_view, repeated, valued, view}
-use Rattle.just_host.proofs.Paths.{runs_done, runs_ends, runs_on, runs_stopped}
+use Rattle.just_interaction.proofs.Paths.{runs_done, runs_ends, runs_on, runs_stopped}
 use Rattle.just_expression.proofs.Exits.{runs_exit}
 use Rattle.just_eval.proofs.Constants.{unless_is}
 use Rattle.just_eval.proofs.Valued.{valued_argument, valued_dependency, valued_none, valued_value}

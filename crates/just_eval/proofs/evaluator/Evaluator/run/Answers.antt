@@ -1,7 +1,7 @@
 use Rattle.std.proofs.Common.{◌∙◌}
 use Rattle.std.proofs.lemmas.List.{drop_all}
 use Rattle.just_eval.specs.Prelude.{dynamically, frames_view, module_view, name_view}
-use Rattle.just_host.proofs.Paths.{runs_gives, runs_stopped}
+use Rattle.just_interaction.proofs.Paths.{runs_gives, runs_stopped}
 use Rattle.just_expression.proofs.Exits.{runs_exit}
 use Rattle.just_eval.proofs.Module.{run_ends, run_next}
 use Rattle.just_eval.proofs.evaluator.Evaluator.run.Goals as goal

@@ -7,7 +7,7 @@ use Rattle.just_expression.specs.Prelude.{BuiltIn, Defined, Gave, ListInStringCo
 use Rattle.just_expression.specs.Prelude.{meaning, name_view, parameter_view, program, reached_view, requires_text, situation, unindented_if, view}
 use Rattle.just_expression.specs.Prelude.{with_parameters}
 use Rattle.just_value.specs.Value.{is_truthy}
-use Rattle.just_host.proofs.Paths.{runs_done, runs_else, runs_ends, runs_gives, runs_on, runs_shut, runs_stopped, runs_then}
+use Rattle.just_interaction.proofs.Paths.{runs_done, runs_else, runs_ends, runs_gives, runs_on, runs_shut, runs_stopped, runs_then}
 use Rattle.just_expression.proofs.Exits.{runs_exit}
 use Rattle.just_expression.proofs.Calls.{body_runs, call_ends, call_refused, call_runs, inside_is, looked_at}
 use Rattle.just_expression.proofs.Leaves.{not_both}

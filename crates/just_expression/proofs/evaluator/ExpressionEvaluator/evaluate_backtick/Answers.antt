@@ -1,4 +1,4 @@
-use Rattle.just_host.proofs.Paths.{runs_note, runs_shut}
+use Rattle.just_interaction.proofs.Paths.{runs_note, runs_shut}
 use Rattle.std.proofs.Common.{refl}
 use Rattle.just_expression.proofs.evaluator.ExpressionEvaluator.evaluate_backtick.Goals as goal
 

@@ -1,4 +1,4 @@
-use Rattle.just_host.proofs.Paths.{runs_done, runs_note, runs_shut}
+use Rattle.just_interaction.proofs.Paths.{runs_done, runs_note, runs_shut}
 use Rattle.just_expression.specs.Prelude.{context_of, is_non_const, name_view}
 use Rattle.just_expression.proofs.Leaves.{reads, said, shuts}
 use Rattle.just_expression.proofs.evaluator.ExpressionEvaluator.evaluate_variable.Goals as goal

@@ -1,4 +1,4 @@
-use Rattle.just_host.proofs.Paths.{runs_gives}
+use Rattle.just_interaction.proofs.Paths.{runs_gives}
 use Rattle.just_expression.proofs.evaluator.ExpressionEvaluator.texts_in_place.Goals as goal
 
 pub returns-in-StringLiteral : goal.returns-in-StringLiteral

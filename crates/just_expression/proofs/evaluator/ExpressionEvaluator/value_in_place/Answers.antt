@@ -1,5 +1,5 @@
 use Rattle.std.proofs.Common.{◌≡◌, false, ap}
-use Rattle.just_host.proofs.Paths.{runs_done, runs_note}
+use Rattle.just_interaction.proofs.Paths.{runs_done, runs_note}
 use Rattle.just_expression.specs.Prelude.{context_of, is_non_const, name_view, open_in}
 use Rattle.just_meaning.specs.Meaning.{named}
 use Rattle.just_expression.proofs.Leaves.{reads}
