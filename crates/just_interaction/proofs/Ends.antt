@@ -12,8 +12,8 @@ AllEnd P (note x rest) = AllEnd P rest
 AllEnd {s} P (check p v next) = (a : s.Verdict) → AllEnd P (next a)
 
 -- continues from each outcome
-pub ends_bind : {s : Signature} {A B : Type 0} (P : Outcome s.Refusal A → Type 0) (Q : Outcome s.Refusal B → Type 0) (t : Tree s A) (go : A → Tree s B) → AllEnd P t
-    → ((o : Outcome s.Refusal A) → P o → AllEnd Q (bind (done o) go)) → AllEnd Q (bind t go)
+pub ends_bind : {s : Signature} {A B : Type 0} (P : Outcome s.Refusal A → Type 0) (Q : Outcome s.Refusal B → Type 0) (t : Tree s A) (go : A → Tree s B)
+    → AllEnd P t → ((o : Outcome s.Refusal A) → P o → AllEnd Q (bind (done o) go)) → AllEnd Q (bind t go)
 ends_bind P Q (done o) go h k = k o h
 ends_bind P Q (ask q next) go h k = λ a. ends_bind P Q (next a) go (h a) k
 ends_bind P Q (note x rest) go h k = ends_bind P Q rest go h k
@@ -26,7 +26,8 @@ ends_both P Q (note x rest) h k = ends_both P Q rest h k
 ends_both P Q (check p v next) h k = λ a. ends_both P Q (next a) (h a) (k a)
 
 -- a trace that is not stopped ends at an outcome of the tree
-pub ends_path : {s : Signature} {A : Type 0} (P : Outcome s.Refusal A → Type 0) → P Stopped → (t : Tree s A) {es : List (Event s)} {o : Outcome s.Refusal A} → AllEnd P t → Path (freely s) t es o → P o
+pub ends_path : {s : Signature} {A : Type 0} (P : Outcome s.Refusal A → Type 0) → P Stopped → (t : Tree s A) {es : List (Event s)}
+    {o : Outcome s.Refusal A} → AllEnd P t → Path (freely s) t es o → P o
 ends_path P stopped t h Ends = h
 ends_path P stopped t h Stops = stopped
 ends_path P stopped (ask q next) h (Asks {a = a} p) = ends_path P stopped (next a) (h a) p
@@ -42,7 +43,8 @@ ends_any (note x rest) = ends_any rest
 ends_any (check p v next) = λ a. ends_any (next a)
 
 -- two continuations that agree on the values that the tree may give
-pub ends_same : {s : Signature} {A B : Type 0} (P : Outcome s.Refusal A → Type 0) (t : Tree s A) (go other : A → Tree s B) → AllEnd P t → ((a : A) → P (Gave a) → go a ≡ other a)
+pub ends_same : {s : Signature} {A B : Type 0} (P : Outcome s.Refusal A → Type 0) (t : Tree s A) (go other : A → Tree s B)
+    → AllEnd P t → ((a : A) → P (Gave a) → go a ≡ other a)
     → bind t go ≡ bind t other
 ends_same P (done (Gave a)) go other h same = same a h
 ends_same P (done (Refused r)) go other h same = refl

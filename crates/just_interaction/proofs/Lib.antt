@@ -1,3 +1,4 @@
 pub mod Ends
-pub mod Paths
 pub mod Events
+pub mod Parts
+pub mod Paths

@@ -27,8 +27,8 @@ bind_bind (check p v next) go on = ap (check p v) (fun_ext (λ a. bind_bind (nex
 
 module _ {s : Signature} {rules : Rules s} where
   -- a path to a value, continued after the value
-  pub path_on : {A B : Type 0} {t : Tree s A} (go : A → Tree s B) {es fs : List (Event s)} {a : A} {o : Outcome s.Refusal B} → Path rules t es (Gave a) → Path rules (go a) fs o
-      → Path rules (bind t go) (es ++ fs) o
+  pub path_on : {A B : Type 0} {t : Tree s A} (go : A → Tree s B) {es fs : List (Event s)} {a : A} {o : Outcome s.Refusal B}
+      → Path rules t es (Gave a) → Path rules (go a) fs o → Path rules (bind t go) (es ++ fs) o
   path_on go Ends q = q
   path_on go (Asks p) q = Asks (path_on go p q)
   path_on go (Notes e p) q = Notes e (path_on go p q)
@@ -97,8 +97,8 @@ module _ {s : Signature} {rules : Rules s} {S : Type 0} {step : Step s S} {says 
   runs_stopped t = record { events = []; path = Stops; chain = refl }
 
   -- sequencing after a value
-  pub runs_on : {A B : Type 0} {old mid new : S} (t : Tree s A) (go : A → Tree s B) {a : A} {o : Outcome s.Refusal B} → Behaves rules step says old t (Gave a) mid
-      → Behaves rules step says mid (go a) o new → Behaves rules step says old (bind t go) o new
+  pub runs_on : {A B : Type 0} {old mid new : S} (t : Tree s A) (go : A → Tree s B) {a : A} {o : Outcome s.Refusal B}
+      → Behaves rules step says old t (Gave a) mid → Behaves rules step says mid (go a) o new → Behaves rules step says old (bind t go) o new
   runs_on t go r q =
       record { events = r.events ++ q.events; path = path_on go r.path q.path; chain = chain_append step says _ _ r.events q.events _ r.chain q.chain }
 
@@ -134,7 +134,8 @@ module _ {s : Signature} {rules : Rules s} {S : Type 0} {step : Step s S} {says 
   runs_check p v a next given = record { events = Checked p v a ∷ []; path = Checks Ends; chain = (given, refl) }
 
   -- a run that checks nothing
-  pub runs_checked : {A : Type 0} {old new : S} {t : Tree s A} {o : Outcome s.Refusal A} → Behaves rules step (unchecked s) old t o new → Behaves rules step says old t o new
+  pub runs_checked : {A : Type 0} {old new : S} {t : Tree s A} {o : Outcome s.Refusal A} → Behaves rules step (unchecked s) old t o new
+      → Behaves rules step says old t o new
   runs_checked {old = old} {new = new} r = record { events = r.events; path = r.path; chain = chain_checked step says old new r.events r.chain }
 
   pub answers_of : {A : Type 0} {old new : S} {t : Tree s A} {o : Outcome s.Refusal A} → Behaves rules step says old t o new → GoesByAnswers s step old new

@@ -20,7 +20,8 @@ freely s x = None
 
 -- A finite trace of a tree under rules: these events, and then this outcome. The first note that the rules refuse ends
 -- it. If memory runs out, it may stop at any point, so that traces are prefix-closed.
-pub data Path {s : Signature} {A : Type 0} (rules : Rules s) : Tree s A → List (Event s) → Outcome s.Refusal A → Type 0 where
+pub data Path {s : Signature} {A : Type 0} (rules : Rules s)
+    : Tree s A → List (Event s) → Outcome s.Refusal A → Type 0 where
   Ends : {o : Outcome s.Refusal A} → Path rules (done o) [] o
   Stops : {t : Tree s A} → Path rules t [] Stopped
   Asks : {q : s.Question} {next : s.Answer → Tree s A} {a : s.Answer} {es : List (Event s)} {o : Outcome s.Refusal A}

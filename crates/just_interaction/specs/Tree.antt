@@ -2,8 +2,9 @@
 use Rattle.just_interaction.specs.Outcome.{Outcome, Gave, Refused, Stopped}
 use Rattle.just_interaction.specs.Signature.{Signature}
 
--- An interaction tree: what is still to be done. It ends with an outcome (`Ret`), asks a question and has a branch for
--- each answer (`Vis`), makes a note and goes on (a labelled `Tau`), or checks a value and has a branch for each verdict.
+-- An interaction tree: what is still to be done. It ends with an outcome (`Ret`), asks a question and has a branch
+-- for each answer (`Vis`), makes a note and goes on (a labelled `Tau`), or checks a value and has a branch for each
+-- verdict.
 pub data Tree (s : Signature) (A : Type 0) : Type 0 where
   done : Outcome s.Refusal A → Tree s A
   ask : s.Question → (s.Answer → Tree s A) → Tree s A

@@ -82,8 +82,10 @@ module _ (c : Program) (environment : List (Text × Text)) (reached : PlainMembe
     variable_covered t (Some n) fit = ((Variable t (Some n), fit, refl), tt)
 
     built_in_covered : (t : Token) (f : built_in.Function) (vs : List Value) → reached (BuiltIn t f) → Covers (built_in_call c s t f vs)
-    built_in_covered t f vs fit = events_traces (ComesFrom c environment reached) (built_in_call c s t f vs) (λ es o p. all_in (ComesFrom c environment reached)
-        es (λ x i. by x (each_in (IsQuestion (IsAskedBy (builtin_of f))) es (events_path (IsQuestion (IsAskedBy (builtin_of f))) p (built_in_asks c s t f vs)) x i)
+    built_in_covered t f vs fit =
+        let asks = IsQuestion (IsAskedBy (builtin_of f)) in
+        events_traces (ComesFrom c environment reached) (built_in_call c s t f vs) (λ es o p. all_in (ComesFrom c environment reached) es
+        (λ x i. by x (each_in asks es (events_path asks p (built_in_asks c s t f vs)) x i)
         (λ q a is. record { events = es; outcome = o; path = p; answer = a; asked = subst (IsIn es) is i })))
       where
         by : (x : Event) → IsQuestion (IsAskedBy (builtin_of f)) x → ((q : _) (a : Answer) → x ≡ Asked q a → IsAskedIn (built_in_call c s t f vs) q)

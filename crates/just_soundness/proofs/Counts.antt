@@ -19,7 +19,8 @@ row_counts c d s i Nil look = refl
 row_counts c d s i (Cons e es) look = ends_bind (λ o. Unit {0}) (HasCount (suc (count es))) (bind (eval c d s e) (look i)) _
     (ends_any (bind (eval c d s e) (look i))) (one (row_counts c d s (suc i) es look))
   where
-    more : (v : Value) (o : Outcome (List Value)) → HasCount (count es) o → AllEnd {s = signature} (HasCount (suc (count es))) (bind (done o) (λ vs. gives (v ∷ vs)))
+    more : (v : Value) (o : Outcome (List Value)) → HasCount (count es) o
+        → AllEnd {s = signature} (HasCount (suc (count es))) (bind (done o) (λ vs. gives (v ∷ vs)))
     more v (Gave vs) h = ap suc h
     more v (Refused r) h = tt
     more v Stopped h = tt

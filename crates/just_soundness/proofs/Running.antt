@@ -1,15 +1,15 @@
 -- A run by rules, one name after another: each trace of a run follows them.
-use Rattle.std.proofs.Common.{◌≡◌, ℕ, Bool, true, false, ◌&&◌, not, List, [], ◌∷◌, ◌++◌, Option, Some, None, if◌then◌else◌, refl, ap}
+use Rattle.std.proofs.Common.{◌≡◌, ℕ, Bool, true, false, ◌&&◌, not, List, [], ◌∷◌, ◌++◌, Option, Some, None, if◌then◌else◌, refl, sym, ap, subst}
 use Rattle.std.proofs.lemmas.List.{append-nil}
 use Rattle.std.specs.Option.{is_some}
-use Rattle.just_syntax.specs.Plain.{Token, Assignment, Parameter}
+use Rattle.just_interaction.proofs.Parts.{Ended, Parts, Went, parts}
+use Rattle.just_interaction.proofs.Paths.{bind_bind, path_cut}
+use Rattle.just_syntax.specs.Plain.{Token, Assignment}
 use Rattle.just_value.specs.Value.{Value}
 use Rattle.just_value.specs.Frames.{Bound, Frames, bound_innermost, innermost}
 use Rattle.just_value.specs.Refusal.{Refusal, Internal}
 use Rattle.just_value.specs.Outcome.{Outcome, Gave, Refused, Stopped}
-use Rattle.just_host.specs.Interaction.{Asked, Begins, Checked, Event, Note, Noted, Path, Ends, Asks, Notes, Checks, Shuts, Tree, Verdict, ask, bind, check}
-use Rattle.just_host.specs.Interaction.{done, freely, gives, note}
-use Rattle.just_host.specs.Question.{Answer, Question}
+use Rattle.just_host.specs.Interaction.{Begins, Event, Noted, Path, Ends, Notes, Shuts, Tree, bind, freely, gives, note}
 use Rattle.just_host.specs.Interaction as interaction
 use Rattle.just_meaning.specs.Assignments.{assignment_at}
 use Rattle.just_meaning.specs.Blocks.{Block}
@@ -65,54 +65,6 @@ abbrev pub marked : List Block → List Event
 marked [] = []
 marked (b ∷ bs) = Noted (Begins b.number) ∷ (b.events ++ (end_mark b.number b.outcome ++ marked bs))
 
--- ---- one assignment
-
--- a value is bound, and then the run goes on
-abbrev value_bound : ℕ → (Value → Frames) → (Frames → Tree Frames) → Tree Value → Tree Frames
-value_bound n after go t = bind (bind t (λ v. note (interaction.Binds n v) (gives (after v)))) go
-
--- A trace of this is a trace to no value, or one to a value, with its mark and a trace of what follows.
-data Valued (n : ℕ) (after : Value → Frames) (go : Frames → Tree Frames) (t : Tree Value) : List Event → Outcome Frames → Type 0 where
-  Broken : {es : List Event} → (r : Refusal) → Path freely t es (Refused r) → Valued n after go t es (Refused r)
-  Halted : {es : List Event} → Path freely t es Stopped → Valued n after go t es Stopped
-  Made : {es fs : List Event} {o : Outcome Frames} → (v : Value) → Path freely t es (Gave v) → Path freely (go (after v)) fs o
-      → Valued n after go t (es ++ (Noted (interaction.Binds n v) ∷ fs)) o
-
-module _ (n : ℕ) (after : Value → Frames) (go : Frames → Tree Frames) where
-  valued_ask : (q : Question) (next : Answer → Tree Value) (a : Answer) {es : List Event} {o : Outcome Frames} → Valued n after go (next a) es o
-      → Valued n after go (ask q next) (Asked q a ∷ es) o
-  valued_ask q next a (Broken r p) = Broken r (Asks p)
-  valued_ask q next a (Halted p) = Halted (Asks p)
-  valued_ask q next a (Made v p k) = Made v (Asks p) k
-
-  valued_note : (x : Note) (rest : Tree Value) {es : List Event} {o : Outcome Frames} → Valued n after go rest es o
-      → Valued n after go (note x rest) (Noted x ∷ es) o
-  valued_note x rest (Broken r p) = Broken r (Notes refl p)
-  valued_note x rest (Halted p) = Halted (Notes refl p)
-  valued_note x rest (Made v p k) = Made v (Notes refl p) k
-
-  valued_check : (p : Parameter) (v : Value) (next : Verdict → Tree Value) (a : Verdict) {es : List Event} {o : Outcome Frames}
-      → Valued n after go (next a) es o → Valued n after go (check p v next) (Checked p v a ∷ es) o
-  valued_check p v next a (Broken r q) = Broken r (Checks q)
-  valued_check p v next a (Halted q) = Halted (Checks q)
-  valued_check p v next a (Made w q k) = Made w (Checks q) k
-
-  value_parts : (t : Tree Value) {es : List Event} {o : Outcome Frames} → Path freely (value_bound n after go t) es o → Valued n after go t es o
-  value_parts (done (Gave v)) (Notes e p) = Made v Ends p
-  value_parts (done (Gave v)) interaction.Stops = Halted interaction.Stops
-  value_parts (done (Gave v)) (Shuts e) = absurd (cc)
-  value_parts (done (Refused r)) Ends = Broken r Ends
-  value_parts (done (Refused r)) interaction.Stops = Halted interaction.Stops
-  value_parts (done Stopped) Ends = Halted Ends
-  value_parts (done Stopped) interaction.Stops = Halted Ends
-  value_parts (ask q next) (Asks {a = a} p) = valued_ask q next a (value_parts (next a) p)
-  value_parts (ask q next) interaction.Stops = Halted interaction.Stops
-  value_parts (note x rest) (Notes e p) = valued_note x rest (value_parts rest p)
-  value_parts (note x rest) interaction.Stops = Halted interaction.Stops
-  value_parts (note x rest) (Shuts e) = absurd (cc)
-  value_parts (check p v next) (Checks {a = a} q) = valued_check p v next a (value_parts (next a) q)
-  value_parts (check p v next) interaction.Stops = Halted interaction.Stops
-
 -- ---- traces follow the rules
 
 -- Blocks whose events, with the marks, are these follow the rules.
@@ -139,20 +91,29 @@ module _ (closing : Closing) (m : Module) where
     abbrev with_assigned_value : Value → Frames
     with_assigned_value v = bound_innermost frames (bound_in m a v)
 
+    -- what follows the value of the assignment
+    abbrev bound_and_going : Value → Tree Frames
+    bound_and_going v = note (interaction.Binds a.number v) (going left (with_assigned_value v))
+
     taken_rules : IsTaken m frames t a → AllByRules left → {es : List Event} {o : Outcome Frames}
-        → Valued a.number with_assigned_value (going left) (assigned closing m frames a) es o
-        → ByRules closing m frames (t ∷ left) (Noted (Begins a.number) ∷ es) o
-    taken_rules taken rest {es = es} (Broken r p) = record {
+        → Parts freely bound_and_going (assigned closing m frames a) es o → ByRules closing m frames (t ∷ left) (Noted (Begins a.number) ∷ es) o
+    taken_rules taken rest {es = es} (Ended (Some r) p) = record {
       blocks = record { number = a.number; events = es; outcome = Refused r } ∷ [];
       rules = Breaks a es r taken p;
       same = ap (λ fs. Noted (Begins a.number) ∷ fs) (append-nil es);
     }
-    taken_rules taken rest {es = es} (Halted p) = record {
+    taken_rules taken rest {es = es} (Ended None p) = record {
       blocks = record { number = a.number; events = es; outcome = Stopped } ∷ [];
       rules = Halts a es taken p;
       same = ap (λ fs. Noted (Begins a.number) ∷ fs) (append-nil es);
     }
-    taken_rules taken rest {o = o} (Made {es = es} {fs = fs} v p q) =
+    taken_rules taken rest (Went {es = es} v p interaction.Stops) = record {
+      blocks = record { number = a.number; events = es; outcome = Stopped } ∷ [];
+      rules = Halts a es taken (path_cut p);
+      same = refl;
+    }
+    taken_rules taken rest (Went v p (Shuts e)) = absurd (cc)
+    taken_rules taken rest {o = o} (Went {es = es} v p (Notes {es = fs} e q)) =
         let on = rest (with_assigned_value v) fs o q in
         record {
           blocks = record { number = a.number; events = es; outcome = Gave v } ∷ on.blocks;
@@ -169,9 +130,10 @@ module _ (closing : Closing) (m : Module) where
         let on = rest frames _ _ path in record { blocks = on.blocks; rules = Skips a b found e g on.rules; same = on.same }
     choice_rules found rest true e None g interaction.Stops = record { blocks = []; rules = Stops; same = refl }
     choice_rules found rest true e None g (Shuts s) = absurd (cc)
-    choice_rules found rest true e None g (Notes s path) =
+    choice_rules found rest true e None g {o = o} (Notes {es = fs} s path) =
         taken_rules (record { found = found; referenced = e; unbound = g }) rest
-        (value_parts a.number with_assigned_value (going left) (assigned closing m frames a) path)
+        (parts freely bound_and_going (assigned closing m frames a) (subst (λ t. Path freely t fs o) (sym (bind_bind (assigned closing m frames a)
+        (λ v. note (interaction.Binds a.number v) (gives (with_assigned_value v))) (going left))) path))
 
   named_rules : (frames : Frames) (t : Token) (left : List Token) → AllByRules left → (x : Option Assignment) → assignment_at m.assignments t.lexeme ≡ x
       → {es : List Event} {o : Outcome Frames} → Path freely (bind (turn_of closing m frames t x) (going left)) es o

@@ -1,6 +1,6 @@
 -- Lists: membership, properties of all elements, and the rest from an index on.
-use Rattle.std.proofs.Common.{◌≡◌, ◌≢◌, ◌↔◌, ◌⊎◌, inl, inr, ⊎_elim, ℕ, zero, suc, ◌+◌, ◌<◌, List, [], ◌∷◌, ◌++◌, map, length, get_or, drop, refl, sym, ap, ◌∙◌, subst}
-use Rattle.std.proofs.Common.{add-one, arith, drop-cons, Contains}
+use Rattle.std.proofs.Common.{◌≡◌, ◌≢◌, ◌↔◌, ◌⊎◌, inl, inr, ⊎_elim, ℕ, zero, suc, ◌+◌, ◌<◌, List, [], ◌∷◌, ◌++◌, map, length, get_or, drop, refl, sym, ap}
+use Rattle.std.proofs.Common.{◌∙◌, subst, add-one, arith, drop-cons, Contains}
 use Rattle.std.specs.List.{AllByRecursion}
 use Rattle.just_syntax.specs.Lists.{IsIn}
 
