@@ -4,27 +4,16 @@ use Rattle.std.proofs.Common.{ap, sym, ◌∙◌, subst}
 use Rattle.std.specs.Bool.{Decides}
 use Rattle.std.specs.Global.{Global}
 use Rattle.std.specs.BTreeMap.{BTreeMap, get, is_at}
-use Rattle.std.specs.Cmp.{unsigned_tied}
 use Rattle.std.specs.Cmp.Lexicographic.{slice_cmp}
-use Rattle.std.specs.declared.cmp.Ordering.{Ordering}
 use Rattle.std.specs.Map.{lookup}
 use Rattle.std.specs.Ordering.{is_eq, nat_cmp}
-use Rattle.std.proofs.lemmas.Bool.{eq-eqb, eqb-true}
-use Rattle.std.proofs.lemmas.Map.Text.{is_eq-slice_cmp}
-use Rattle.std.proofs.lemmas.Slice.Eq.{bytes_eq-Decides}
 use Rattle.just_changes.specs.Prelude.{IsIn, OfFunction, OfVariable, PlainNode, Text, all_read, found_nodes, nodes_view, readers_of}
+use Rattle.just_meaning.proofs.Names.{name_cmp, name_decides}
 use Rattle.just_syntax.proofs.Lists.{in_append, in_first, in_second}
+use Rattle.just_syntax.proofs.Members.{number_decides}
 use Rattle.just_changes.specs.declared.readers.Readers.{Readers}
 use Rattle.just_needs.specs.Graph.{AreAll}
 use Rattle.just_needs.specs.declared.node.Node as declared
-
-pub number_decides : (k n : ℕ) → Decides (is_at (nat_cmp k) n) (k ≡ n)
-number_decides k n = ((λ h. eqb-true k n (sym (unsigned_tied k n) ∙ h)), (λ e. unsigned_tied k n ∙ eq-eqb k n e))
-
-pub name_decides : (x y : Text) → Decides (is_eq (slice_cmp nat_cmp x y)) (x ≡ y)
-name_decides x y =
-    let both = bytes_eq-Decides x y in
-    ((λ h. both.0 (sym (is_eq-slice_cmp x y) ∙ h)), (λ e. is_eq-slice_cmp x y ∙ both.1 e))
 
 -- other keys keep their lists
 pub apart : {X P : Type 0} (b : Bool) (w o : Option X) → Decides b P → (P → ⊥) → cond b w o ≡ o
@@ -48,9 +37,6 @@ reader_by false old mid new all reader y d removed inserted items =
       (λ h. inr (subst (λ ys. IsIn ys y) same h)),
       (λ h. ⊎_elim (λ k. absurd (let e : false ≡ true = d.1 k.0 in cc)) (λ k. subst (λ ys. IsIn ys y) (sym same) k) h),
     )
-
-abbrev name_cmp : Bor Text → Bor Text → Ordering
-name_cmp x y = slice_cmp nat_cmp x.now y.now
 
 abbrev lists_named : BTreeMap (Bor Text) Lists → Text → Option Lists
 lists_named m t = lookup (is_at (λ (k : Bor Text). slice_cmp nat_cmp t k.now)) m.entries

@@ -13,7 +13,8 @@ use Rattle.just_syntax.specs.Keyed.{value_at}
 use Rattle.just_syntax.specs.declared.assignment.Assignment as declared
 use Rattle.just_syntax.specs.declared.function_definition.FunctionDefinition.{FunctionDefinition}
 use Rattle.just_syntax.proofs.Tables.{seen_at}
-use Rattle.just_changes.proofs.Lists.{apart, number_decides}
+use Rattle.just_changes.proofs.Lists.{apart}
+use Rattle.just_syntax.proofs.Members.{number_decides}
 
 -- a view through a reference
 pub seen_after : {X Y : Type 0} (f : X → Y) (o : Option (Bor X)) → option_map f (option_map (λ v. v.now) o) ≡ option_map (λ v. f v.now) o

@@ -1,6 +1,6 @@
 -- A step of the machine, and the course after it.
-use Rattle.std.specs.Prelude.{suc, drop, true, ◌+◌, ◌*◌, ◌<◌, ◌≤◌, length, ◌≡◌, List, [], ◌∷◌, ◌++◌, map, reverse, Result, Ok, Err, IfErr, IfOk, IsOk}
-use Rattle.std.specs.Prelude.{IsOkAnd, OnOk}
+use Rattle.std.specs.Prelude.{suc, drop, true, ◌+◌, ◌*◌, ◌<◌, ◌≤◌, length, ◌≡◌, List, [], ◌∷◌, ◌++◌, map, reverse, Result, Ok, Err, IfErr, IfOk}
+use Rattle.std.specs.Prelude.{IsOkAnd}
 use Rattle.std.proofs.Common.{◌∙◌, ap, arith, refl, subst, sym}
 use Rattle.std.proofs.lemmas.List.{map_push, reverse-append}
 use Rattle.just_syntax.specs.Plain as plain
@@ -44,10 +44,6 @@ pub waiting_more : (frames more : List written_frame.Frame) (frame : written_fra
 waiting_more frames more frame is =
     ap (λ fs. reverse (map machine_frame_view fs)) is ∙ ap reverse (map_push machine_frame_view frames frame)
     ∙ reverse-append (map machine_frame_view frames) (machine_frame_view frame ∷ [])
-
-pub on_ok : {T E : Type 0} {P : Type 0} (r : Result T E) → IsOk r → OnOk r P → P
-on_ok (Ok x) is h = h
-on_ok (Err x) is h = absurd (cc)
 
 pub on_err : {T E : Type 0} (P : E → Type 0) (r : Result T E) (x : E) → r ≡ Err x → IfErr r P → P x
 on_err P r x is h = subst (λ r. IfErr r P) is h

@@ -1,5 +1,5 @@
 -- The parts of a trace of two trees, one after the other.
-use Rattle.std.proofs.Common.{◌≡◌, List, [], ◌∷◌, ◌++◌, Option, Some, None}
+use Rattle.std.proofs.Common.{◌≡◌, List, ◌∷◌, ◌++◌, Option, Some, None}
 use Rattle.just_interaction.specs.Prelude.{Asked, Asks, Checked, Checks, Ends, Event, Gave, Noted, Notes, Outcome, Path, Refused, Rules, Shuts, Signature}
 use Rattle.just_interaction.specs.Prelude.{Stopped, Stops, Tree, ask, bind, check, done, note, without_value}
 

@@ -17,12 +17,12 @@ use Rattle.just_syntax.specs.NameSet.{is_name_in}
 abbrev pub AddsName : (Text → Bool) → (Text → Bool) → Text → Type 0
 AddsName old new name = (t : Text) → IsTrue (new t) ↔ ((name ≡ t) ⊎ IsTrue (old t))
 
-name_decides : (x y : Text) → Decides (is_eq (slice_cmp nat_cmp x y)) (x ≡ y)
+pub name_decides : (x y : Text) → Decides (is_eq (slice_cmp nat_cmp x y)) (x ≡ y)
 name_decides x y =
     let both = bytes_eq-Decides x y in
     ((λ h. both.0 (sym (is_eq-slice_cmp x y) ∙ h)), (λ e. is_eq-slice_cmp x y ∙ both.1 e))
 
-abbrev name_cmp : Bor Text → Bor Text → Ordering
+abbrev pub name_cmp : Bor Text → Bor Text → Ordering
 name_cmp x y = slice_cmp nat_cmp x.now y.now
 
 -- a set with one more name

@@ -15,7 +15,7 @@ use Rattle.just_host.specs.Interaction as note
 use Rattle.just_host.specs.Question.{Answer, command_question}
 use Rattle.just_builtins.specs.Shape.{builtin_of, is_text}
 use Rattle.just_builtins.specs.declared.function.Function as built_in
-use Rattle.just_meaning.specs.Callee.{Callee, Defined, LeftOut, accepts, built_in_or_unknown, callee, undefined}
+use Rattle.just_meaning.specs.Callee.{Callee, Defined, LeftOut, accepts, callee}
 use Rattle.just_meaning.specs.Callee as callee
 use Rattle.just_meaning.specs.Closings.{dynamic, inside, lexical}
 use Rattle.just_meaning.specs.Meaning.{AtLimit, Deeper, Program, Row, Situation, WithinLimit, answered, as_it_is, built_in_call, called}

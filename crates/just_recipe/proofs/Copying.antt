@@ -1,5 +1,5 @@
 -- Lists of copies, and settings that are made of copies.
-use Rattle.std.proofs.Common.{◌≡◌, ℕ, ◌+◌, ◌<◌, List, [], ◌∷◌, ◌++◌, Option, Some, Result, Ok, Err, IsOk, OnOk, ap, ap₂, append_assoc, get_or, length, map, sym}
+use Rattle.std.proofs.Common.{◌≡◌, ℕ, ◌+◌, ◌<◌, List, [], ◌∷◌, ◌++◌, Option, Some, ap, ap₂, append_assoc, get_or, length, map, sym}
 use Rattle.std.proofs.Common.{take, ◌∙◌}
 use Rattle.std.proofs.lemmas.List.{map-append, map_more}
 use Rattle.just_syntax.specs.Plain.{Expr, Interpreter, Setting, Text}
@@ -17,11 +17,6 @@ copied_more seen view f xs i d x old copies y within is so_far one =
     ap (map f) views ∙ map-append f (map view (take i xs)) (view x ∷ []) in
     map-append seen copies (y ∷ []) ∙ ap₂ (λ l z. l ++ z ∷ []) so_far one
     ∙ append_assoc (map seen old) (map f (map view (take i xs))) (f (view x) ∷ []) ∙ ap (λ l. map seen old ++ l) (sym more)
-
--- what holds of a success
-pub of_ok : {T E P : Type 0} (r : Result T E) → IsOk r → OnOk r P → P
-of_ok (Ok x) is h = h
-of_ok (Err e) is h = absurd (cc)
 
 -- a setting that is made of a copy of its command
 pub command_copied : {names : Text → Option ℕ} (make : Interpreter Expr → Setting)

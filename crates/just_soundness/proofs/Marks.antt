@@ -1,6 +1,6 @@
 -- The marks in a run's trace are those of its turns: no expression makes one. So its blocks follow the rules of a run.
 use Rattle.std.proofs.Common.{◌≡◌, ⊎_elim, inl, inr, ℕ, zero, suc, ◌-◌, Bool, true, false, List, [], ◌∷◌, ◌++◌, length, nat_eq, Option, Some, None}
-use Rattle.std.proofs.Common.{if◌then◌else◌, refl, sym, ap, ◌∙◌, subst}
+use Rattle.std.proofs.Common.{refl, sym, ap, ◌∙◌, subst}
 use Rattle.std.proofs.lemmas.List.{append-nil}
 use Rattle.std.specs.List.{AllByRecursion}
 use Rattle.just_interaction.proofs.Events.{AllEvents, events_bind, events_if, events_path}
@@ -11,8 +11,7 @@ use Rattle.just_value.specs.Value.{Value, Names}
 use Rattle.just_value.specs.Frames.{Frames, value_in}
 use Rattle.just_value.specs.Outcome.{Outcome, Gave, Refused, Stopped}
 use Rattle.just_host.specs.Interaction as interaction
-use Rattle.just_host.specs.Interaction.{Begins, Event, Noted, Path, Ends, Asks, Notes, Checks, Shuts, Tree, Verdict, ask, bind, check, done, freely, note}
-use Rattle.just_host.specs.Question.{Answer}
+use Rattle.just_host.specs.Interaction.{Begins, Event, Noted, Path, Tree, freely}
 use Rattle.just_builtins.specs.Called.{Called, Returned, Said, tree}
 use Rattle.just_builtins.specs.Meaning.{reply}
 use Rattle.just_builtins.specs.Reply as replies

@@ -98,7 +98,10 @@ impl<'src> Setting<'src> {
             "dotenv-path" => Some(Setting::DotenvPath(value)),
             "tempdir" => Some(Setting::Tempdir(value)),
             "working-directory" => Some(Setting::WorkingDirectory(value)),
-            _ => None,
+            _ => {
+                drop(value);
+                None
+            }
         }
     }
 

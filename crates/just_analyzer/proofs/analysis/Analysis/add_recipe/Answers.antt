@@ -1,7 +1,8 @@
 use Rattle.std.proofs.Common.{ap, false, map, refl, sym, ◌∙◌, ◌≡◌}
-use Rattle.std.specs.Prelude.{not, ◌&&◌, Result, Ok, Err, IsOk, OnOk}
+use Rattle.std.specs.Prelude.{not, ◌&&◌}
 use Rattle.std.proofs.lemmas.Result.{on_ok_weaker}
 use Rattle.just_syntax.proofs.Maps.{seen_with}
+use Rattle.just_syntax.proofs.Results.{on_ok}
 use Rattle.just_syntax.specs.Keyed.{with_value}
 use Rattle.just_syntax.specs.View.{name_view}
 use Rattle.just_parser.specs.View.{recipe_definition_view}
@@ -10,10 +11,6 @@ use Rattle.just_analyzer.specs.Analysis.{has_recipe}
 use Rattle.just_analyzer.specs.View.{analysis_view}
 use Rattle.just_analyzer.proofs.analysis.Analysis.add_recipe.Goals as goal
 use Rattle.just_analyzer.proofs.analysis.Analysis.add_recipe.Goals.{else-not-allowed, then-not-allowed}
-
-holds : {A E : Type 0} (r : Result A E) (P : Type 0) → OnOk r P → IsOk r → P
-holds (Ok x) P h is = h
-holds (Err e) P h is = absurd (cc)
 
 pub returns-in-Ok-clause-ok : goal.returns-in-Ok-clause-ok
 returns-in-Ok-clause-ok c =
@@ -25,7 +22,7 @@ returns-in-Ok-clause-ok c =
       | else-not-allowed w ↦ rw w.if-not-allowed.false refl
     ] in
     let goes = recipe_goes c.args.allowed.recipes old (recipe_definition_view c.args.recipe) (sym c.has_alias.ensures ∙ c.if-has_alias.false) free in
-    let fits = holds c.configure-configured.result _ c.configure-configured.ensures.ok c.in-Ok.ensures.ok.1 in
+    let fits = on_ok c.configure-configured.result c.in-Ok.ensures.ok.1 c.configure-configured.ensures.ok in
     let made = recipe_definition_view c.configure-configured.new.recipe in
     on_ok_weaker c.inserted.result (λ inserted. recipe_added old (recipe_definition_view c.args.recipe) made
     (map recipe_definition_view c.inserted.new.table) _ goes fits

@@ -1,9 +1,10 @@
 use Rattle.std.proofs.Common.{[], ap, refl, sym, ◌∷◌, arith}
 use Rattle.just_lexer.specs.declared.kind.TokenKind.TheVariants as kinds
+use Rattle.just_syntax.proofs.Results.{on_ok}
 use Rattle.just_syntax.specs.Plain as plain
 use Rattle.just_syntax.specs.View.{view}
 use Rattle.just_expression_parser.proofs.Actions.{expected_after}
-use Rattle.just_expression_parser.proofs.Steps.{on_ok, refused_on, state_on, taken_mark}
+use Rattle.just_expression_parser.proofs.Steps.{refused_on, state_on, taken_mark}
 use Rattle.just_expression_parser.specs.Machine as machine
 use Rattle.just_expression_parser.specs.Parsed.{goes, left, waiting}
 use Rattle.just_expression_parser.specs.declared.machine.Machine.{Machine}

@@ -1,9 +1,10 @@
 use Rattle.std.proofs.Common.{[], Global, Vec, ap, map, sym, ◌∙◌, arith, length}
+use Rattle.just_syntax.proofs.Results.{on_ok}
 use Rattle.just_syntax.specs.declared.expression.Expression.{Expression}
 use Rattle.just_lexer.specs.declared.kind.TokenKind.TheVariants as kinds
 use Rattle.just_syntax.specs.View.{view}
 use Rattle.just_expression_parser.proofs.Actions.{element_comma, element_last, element_refused}
-use Rattle.just_expression_parser.proofs.Steps.{on_err, on_ok, taken_mark}
+use Rattle.just_expression_parser.proofs.Steps.{on_err, taken_mark}
 use Rattle.just_expression_parser.specs.Machine as machine
 use Rattle.just_expression_parser.specs.Parsed.{form_view, goes, left, waiting}
 use Rattle.just_expression_parser.specs.declared.machine.Machine.{Machine}

@@ -3,12 +3,12 @@ use mathlib.Core.Path.{fun_ext}
 use Rattle.std.proofs.lemmas.Result.{IfOk-weaker}
 use Rattle.just_syntax.specs.View.{name_view, recipe_parameter_view}
 use Rattle.just_syntax.specs.declared.parameter.Parameter.{Parameter}
+use Rattle.just_syntax.proofs.Results.{on_ok}
 use Rattle.just_syntax.specs.Plain as plain
 use Rattle.just_resolve.specs.Prelude.{parameter_view, variable_named}
 use Rattle.just_resolve.proofs.Appending.{map_map}
 use Rattle.just_parser.specs.View.{recipe_definition_view}
 use Rattle.just_recipe.specs.Numbered.{numbered_recipe, numbered_recipe_view}
-use Rattle.just_recipe.proofs.Copying.{of_ok}
 use Rattle.just_recipe.proofs.numbering.Numbering.number.Goals as goal
 
 pub returns-clause-copy : goal.returns-clause-copy
@@ -21,7 +21,7 @@ returns-clause-copy c =
           ∙ ap (map (λ (p : Parameter). name_view p.name)) c.deref.ensures.value
           ∙ sym (map_map (λ (p : plain.Parameter). p.name) recipe_parameter_view c.args.definition.now.parameters.items);
       free = c.in_ok-numbers.ensures.free;
-      same = ap numbered_recipe_view kept.0 ∙ of_ok c.fill-filled.result kept.1 c.fill-filled.ensures.copy
+      same = ap numbered_recipe_view kept.0 ∙ on_ok c.fill-filled.result kept.1 c.fill-filled.ensures.copy
           ∙ ap (λ names. numbered_recipe names (map parameter_view c.deref-3.result.now) definition) (fun_ext c.clear_parameters.ensures.variables)
           ∙ ap (λ ps. numbered_recipe outside (map parameter_view ps) definition) c.deref-3.ensures.value;
     }) c.followed.ensures
