@@ -10,6 +10,7 @@ use just_recipe::numbered_recipe::{NumberedRecipe, numbered_recipe};
 use just_recipe::numbered_setting::numbered_setting;
 use just_resolve::names::Names;
 use just_resolve::resolve::resolve;
+use just_syntax::results::followed;
 use just_syntax::set::Set;
 use just_value::scope::Scope;
 use std::alloc::Global;
@@ -26,7 +27,7 @@ pub fn sets<'src>(alloc: Global) -> Result<Vec<Set<'src>>> {
     let mut sets = Vec::new(alloc);
     let added = add_sets(alloc, &parts, &mut sets);
     drop(parts);
-    after(added, sets)
+    followed(sets, added)
 }
 
 /// The recipe. Its parameters have the numbers 5 to 7.
@@ -42,7 +43,7 @@ fn parts<'src>(alloc: Global) -> Result<Analysis<'src>> {
     let items = parse(alloc, "justfile", SOURCE)?;
     let mut analysis = analyze(alloc, items, "/work/justfile", "/work")?;
     let resolved = resolve_module(alloc, &mut analysis.justfile);
-    after(resolved, analysis)
+    followed(analysis, resolved)
 }
 
 fn resolve_module<'src>(alloc: Global, module: &mut Justfile<'src>) -> Result<()> {
@@ -81,16 +82,8 @@ fn add_set<'src>(
     }
 }
 
-// Adds a value. It and `after` are generic, so that a failure needs no code that drops syntax.
+// Adds a value. It is generic, so that a failure needs no code that drops syntax.
 fn push<T: Drop>(values: &mut Vec<T>, value: T) -> Result<()> {
     values.push(value)?;
     Ok(())
-}
-
-// A value, if what was done with it succeeded.
-fn after<T: Drop>(done: Result<()>, value: T) -> Result<T> {
-    match done {
-        Ok(()) => Ok(value),
-        Err(error) => Err(error),
-    }
 }

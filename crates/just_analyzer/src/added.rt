@@ -14,7 +14,7 @@ ghost use Rattle.just_analyzer.specs.View.{IsAnalysisFault, alias_view, allowed_
 use crate::alias::Alias;
 use crate::analysis::Analysis;
 use crate::analysis_error::{AnalysisError, Fault};
-use crate::outcome::{after, allocated};
+use crate::outcome::allocated;
 use crate::parameters::configure;
 use just_parser::item::Item;
 use just_parser::recipe_definition::RecipeDefinition;
@@ -23,6 +23,7 @@ use just_syntax::function_definition::FunctionDefinition;
 use just_syntax::keyed::Keyed;
 use just_syntax::name::Name;
 use just_syntax::out_of_memory::OutOfMemory;
+use just_syntax::results::followed;
 use just_syntax::set::Set;
 use just_syntax::table::Table;
 use std::alloc::Global;
@@ -127,7 +128,7 @@ impl<'src> Analysis<'src> {
             return Err(fault(Fault::DuplicateRecipe, name));
         }
         let configured = configure(alloc, &mut recipe);
-        match after(configured, recipe) {
+        match followed(recipe, configured) {
             Ok(recipe) => inserted(&mut self.recipes, recipe),
             Err(error) => Err(error),
         }

@@ -11,8 +11,8 @@ ghost use Rattle.just_analyzer.specs.View.{IsAnalysisFault, allowed_view, analys
 use crate::added::Allowed;
 use crate::analysis::Analysis;
 use crate::analysis_error::AnalysisError;
-use crate::outcome::after;
 use just_parser::item::Item;
+use just_syntax::results::followed;
 use just_syntax::setting::Setting;
 use std::alloc::Global;
 
@@ -47,7 +47,7 @@ pub fn analyze<'src>(
         Ok(mut analysis) => {
             let grown = grow(alloc, &mut analysis, &mut items);
             drop(items);
-            after(grown, analysis)
+            followed(analysis, grown)
         }
         Err(_) => {
             drop(items);

@@ -8,11 +8,12 @@ ghost use Rattle.just_expression_parser.specs.Parsed.{GoesOn, goes};
 use crate::frame::{Frame, State};
 use crate::machine::{Machine, done};
 use crate::operator::OR;
-use crate::outcome::{allocated, followed};
+use crate::outcome::allocated;
 use crate::parse_error::ParseError;
 use just_lexer::kind::TokenKind;
 use just_syntax::expression::Expression;
 use just_syntax::name::Name;
+use just_syntax::results::followed;
 
 impl<'src> Machine<'_, 'src> {
     /// After the condition of an assertion, a comma and a message, or the parenthesis.

@@ -8,10 +8,11 @@ ghost use Rattle.just_expression_parser.specs.Parsed.{GoesOn, goes, state_view};
 use crate::frame::{Frame, State};
 use crate::machine::{Machine, done};
 use crate::operator::OR;
-use crate::outcome::{allocated, followed};
+use crate::outcome::allocated;
 use crate::parse_error::ParseError;
 use just_lexer::kind::TokenKind;
 use just_syntax::expression::Expression;
+use just_syntax::results::followed;
 use std::alloc::Global;
 
 impl<'src> Machine<'_, 'src> {

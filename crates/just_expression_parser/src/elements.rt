@@ -9,10 +9,11 @@ ghost use Rattle.just_expression_parser.specs.Parsed.{GoesOn, form_view, goes};
 use crate::frame::{Elements, Frame, State};
 use crate::machine::{Machine, done};
 use crate::operator::OR;
-use crate::outcome::{allocated, followed, with_item};
+use crate::outcome::{allocated, with_item};
 use crate::parse_error::ParseError;
 use just_lexer::kind::TokenKind;
 use just_syntax::expression::Expression;
+use just_syntax::results::followed;
 
 impl<'src> Machine<'_, 'src> {
     /// An element, or the end of the elements.

@@ -15,7 +15,7 @@ mod literal;
 mod machine;
 mod marks;
 mod operator;
-pub mod outcome;
+mod outcome;
 mod parse;
 pub mod parse_error;
 mod style;

@@ -18,12 +18,13 @@ use crate::cursor::Cursor;
 use crate::frame::{Elements, Frame, State};
 use crate::literal::{backtick, string};
 use crate::operator::{OR, Operator, SUM, VALUE, operator_at};
-use crate::outcome::{allocated, followed, pushed, pushed_twice};
+use crate::outcome::{allocated, pushed, pushed_twice};
 use crate::parse_error::{Fault, ParseError};
 use just_lexer::kind::TokenKind;
 use just_syntax::expression::Expression;
 use just_syntax::name::Name;
 use just_syntax::out_of_memory::OutOfMemory;
+use just_syntax::results::followed;
 use just_syntax::token::Token;
 use std::alloc::Global;
 

@@ -1,9 +1,10 @@
 // What becomes of parts. The functions are generic, so that a failing part needs no code that drops an expression.
 
-ghost use Rattle.std.specs.Prelude.{Err, IfErr, IfOk, IsOk, IsOkAnd, IsSomeAnd, Ok, OnOk, [], ◌++◌, ◌∷◌, ◌≡◌, ◌⊎◌};
+ghost use Rattle.std.specs.Prelude.{Err, IfErr, IfOk, IsOkAnd, IsSomeAnd, Ok, OnOk, [], ◌++◌, ◌∷◌, ◌≡◌, ◌⊎◌};
 
 use crate::parse_error::ParseError;
 use just_syntax::out_of_memory::OutOfMemory;
+use just_syntax::results::followed;
 use just_syntax::stack;
 
 /// A part, or `OutOfMemory`.
@@ -14,21 +15,6 @@ pub(crate) fn allocated<'src, T: Drop>(part: Result<T, OutOfMemory>) -> Result<T
     match part {
         Ok(part) => Ok(part),
         Err(_) => Err(ParseError::OutOfMemory),
-    }
-}
-
-/// A part, if what follows it is in order. It is `end.and(Ok(part))`, with clauses for each of the two outcomes.
-///
-/// # Errors
-///
-/// The error of what follows the part.
-pub fn followed<T: Drop, E: Drop>(part: T, end: Result<(), E>) -> Result<T, E>
-    ensures ok { IfOk result (λ kept. (kept ≡ part) × IsOk end) }
-    ensures refused { IfErr result (λ refusal. end ≡ Err refusal) }
-{
-    match end {
-        Ok(()) => Ok(part),
-        Err(refusal) => Err(refusal),
     }
 }
 

@@ -14,9 +14,9 @@ use crate::outcome::{found, pushed};
 use crate::parse_error::ParseError;
 use crate::parser::Parser;
 use crate::value::literal_of;
-use just_expression_parser::outcome::followed;
 use just_lexer::kind::TokenKind;
 use just_syntax::name::Name;
+use just_syntax::results::followed;
 use just_syntax::string_literal::StringLiteral;
 
 impl<'src> Parser<'_, 'src> {

@@ -8,11 +8,11 @@ ghost use Rattle.just_parser.specs.Phrase.{Read, expression, in_line};
 
 use crate::parse_error::ParseError;
 use crate::parser::Parser;
-use just_expression_parser::outcome::followed;
 use just_lexer::kind::TokenKind;
 use just_syntax::assignment::Assignment;
 use just_syntax::expression::Expression;
 use just_syntax::number::Number;
+use just_syntax::results::followed;
 
 impl<'src> Parser<'_, 'src> {
     /// `NAME := expression`, after its keywords. The variable has the number 0.

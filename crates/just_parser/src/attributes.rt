@@ -14,11 +14,11 @@ use crate::outcome::{paired, pushed};
 use crate::parse_error::ParseError;
 use crate::parser::Parser;
 use crate::written_attribute::WrittenAttribute;
-use just_expression_parser::outcome::followed;
 use just_lexer::kind::TokenKind;
 use just_syntax::attribute::Attribute;
 use just_syntax::expression::Expression;
 use just_syntax::name::Name;
+use just_syntax::results::followed;
 
 impl<'src> Parser<'_, 'src> {
     /// The attributes before an item, a line after another.

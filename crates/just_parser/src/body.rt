@@ -14,11 +14,11 @@ ghost use Rattle.just_parser.specs.Recipes.{interpolated, trimmed};
 use crate::outcome::pushed;
 use crate::parse_error::ParseError;
 use crate::parser::Parser;
-use just_expression_parser::outcome::followed;
 use just_lexer::kind::TokenKind;
 use just_syntax::expression::Expression;
 use just_syntax::fragment::Fragment;
 use just_syntax::line::Line;
+use just_syntax::results::followed;
 
 impl<'src> Parser<'_, 'src> {
     /// After empty lines, the body of a recipe, if it has one.

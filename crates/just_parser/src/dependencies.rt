@@ -14,9 +14,9 @@ use crate::dependency::Dependency;
 use crate::outcome::pushed;
 use crate::parse_error::ParseError;
 use crate::parser::Parser;
-use just_expression_parser::outcome::followed;
 use just_lexer::kind::TokenKind;
 use just_syntax::expression::Expression;
+use just_syntax::results::followed;
 
 impl<'src> Parser<'_, 'src> {
     /// Dependencies, after others.

@@ -17,8 +17,8 @@ use crate::parse_error::{Fault, ParseError};
 use crate::parser::Parser;
 use crate::start::{Start, start_of_item};
 use crate::written_attribute::WrittenAttribute;
-use just_expression_parser::outcome::followed;
 use just_lexer::kind::TokenKind;
+use just_syntax::results::followed;
 
 impl<'src> Parser<'_, 'src> {
     /// The items of a file, up to its end. A byte order mark may come first.

@@ -14,10 +14,10 @@ use crate::parse_error::ParseError;
 use crate::parser::Parser;
 use crate::recipe_definition::RecipeDefinition;
 use crate::written_attribute::WrittenAttribute;
-use just_expression_parser::outcome::followed;
 use just_lexer::kind::TokenKind;
 use just_syntax::attribute_set::AttributeSet;
 use just_syntax::recipe::Recipe;
+use just_syntax::results::followed;
 
 impl<'src> Parser<'_, 'src> {
     /// A recipe after its attributes, which are moved. Its parameters have the number 0.

@@ -9,8 +9,8 @@ ghost use Rattle.just_parser.specs.Phrase.{Read, in_line};
 use crate::parse_error::{Fault, ParseError};
 use crate::parser::Parser;
 use crate::setting_form::{SettingForm, form_of};
-use just_expression_parser::outcome::followed;
 use just_syntax::name::Name;
+use just_syntax::results::followed;
 use just_syntax::set::Set;
 use just_syntax::setting::Setting;
 

@@ -12,6 +12,7 @@ use just_syntax::function_definition::FunctionDefinition;
 use just_syntax::name::Name;
 use just_syntax::number::Number;
 use just_syntax::out_of_memory::OutOfMemory;
+use just_syntax::results::push;
 use just_syntax::string_literal::StringLiteral;
 use just_syntax::table::Table;
 use just_syntax::token::Token;
@@ -283,14 +284,4 @@ fn add_variable<'src, 'a>(
             number,
         },
     )
-}
-
-// Adds a member. It is generic, so that a failing allocation needs no code that drops a member.
-fn push<T: Drop>(all: &mut Vec<T>, member: T) -> Result<(), OutOfMemory>
-    ensures { OnOk result (all.new.items ≡ all.old.items ++ member ∷ []) }
-{
-    match all.push(member) {
-        Ok(()) => Ok(()),
-        Err(_) => Err(OutOfMemory),
-    }
 }

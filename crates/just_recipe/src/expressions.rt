@@ -10,7 +10,6 @@ ghost use Rattle.just_recipe.specs.Numbered.{numbered_recipe_view};
 ghost use Rattle.just_syntax.specs.View.{fragment_view, line_view, recipe_parameter_view, recipe_view, view};
 
 use crate::numbered_recipe::NumberedRecipe;
-use crate::outcome::pushed;
 use just_parser::dependency::Dependency;
 use just_syntax::attribute::Attribute;
 use just_syntax::expression::Expression;
@@ -19,6 +18,7 @@ use just_syntax::line::Line;
 use just_syntax::out_of_memory::OutOfMemory;
 use just_syntax::parameter::Parameter;
 use just_syntax::recipe::Recipe;
+use just_syntax::results::push;
 use std::alloc::Global;
 
 /// An expression of a recipe.
@@ -171,5 +171,5 @@ fn add<'src, 'a>(
     ensures { OnOk result (map part_view parts.new.items ≡ map part_view parts.old.items
         ++ view expression.now ∷ []) }
 {
-    pushed(parts, Part { expression })
+    push(parts, Part { expression })
 }

@@ -9,12 +9,12 @@ ghost use Rattle.just_syntax.specs.View.{function_view};
 
 use crate::expressions::{Part, expressions_of};
 use crate::numbered_recipe::NumberedRecipe;
-use crate::outcome::pushed;
 use just_resolution::fault::Fault;
 use just_resolution::known::site_fault;
 use just_resolution::sites::sites_in;
 use just_syntax::function_definition::FunctionDefinition;
 use just_syntax::out_of_memory::OutOfMemory;
+use just_syntax::results::push;
 use just_syntax::table::Table;
 use std::alloc::Global;
 
@@ -51,7 +51,7 @@ fn add_faults<'src>(
 {
     for site in &sites_in(alloc, part.expression)? {
         if let Some(fault) = site_fault(functions, site) {
-            pushed(faults, fault)?;
+            push(faults, fault)?;
         }
     }
     Ok(())

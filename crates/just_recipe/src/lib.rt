@@ -7,4 +7,3 @@ pub mod faults;
 pub mod numbered_recipe;
 pub mod numbered_setting;
 pub mod numbering;
-mod outcome;

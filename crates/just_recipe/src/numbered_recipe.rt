@@ -1,6 +1,6 @@
 // Recipes whose variables have numbers.
 
-ghost use Rattle.std.specs.Prelude.{IfOk, None, OnOk, [], length, map, option_map, ◌++◌, ◌≡◌};
+ghost use Rattle.std.specs.Prelude.{IfOk, None, Ok, OnOk, [], length, map, option_map, ◌++◌, ◌≡◌};
 ghost use Rattle.just_recipe.specs.Numbered.{IsNumberedCopy, numbered_attribute, numbered_attributes};
 ghost use Rattle.just_recipe.specs.Numbered.{numbered_dependency, numbered_fragment, numbered_in_turn, numbered_line};
 ghost use Rattle.just_recipe.specs.Numbered.{numbered_parameter, numbered_recipe, numbered_recipe_view};
@@ -15,7 +15,6 @@ ghost use Rattle.just_syntax.specs.View.{recipe_parameter_view};
 
 use crate::numbered_setting::add_numbered;
 use crate::numbering::Numbering;
-use crate::outcome::{followed, paired, pushed};
 use just_host::justfile::Justfile;
 use just_parser::dependency::Dependency;
 use just_parser::recipe_definition::RecipeDefinition;
@@ -31,6 +30,7 @@ use just_syntax::number::Number;
 use just_syntax::out_of_memory::OutOfMemory;
 use just_syntax::parameter::Parameter;
 use just_syntax::recipe::Recipe;
+use just_syntax::results::{followed, push};
 use just_value::scope::Scope;
 use std::alloc::Global;
 
@@ -179,7 +179,7 @@ fn add_parameters<'src>(
 {
     for (parameter, (name, number)) in parameters.iter().zip(numbers) {
         let copy = numbered_parameter(alloc, parameter, *number, names)?;
-        pushed(copies, copy)?;
+        push(copies, copy)?;
         names.add_parameter(name, *number)?;
     }
     Ok(())
@@ -241,7 +241,7 @@ fn add_lines<'src>(
     for line in lines {
         let mut fragments = Vec::new(alloc);
         let added = add_fragments(alloc, &line.fragments, names, &mut fragments);
-        pushed(copies, Line::new(followed(fragments, added)?))?;
+        push(copies, Line::new(followed(fragments, added)?))?;
     }
     Ok(())
 }
@@ -257,7 +257,7 @@ fn add_fragments<'src>(
         ++ map (numbered_fragment (name_number names.now)) (map fragment_view fragments.now)) }
 {
     for fragment in fragments {
-        pushed(copies, numbered_fragment(alloc, fragment, names)?)?;
+        push(copies, numbered_fragment(alloc, fragment, names)?)?;
     }
     Ok(())
 }
@@ -295,7 +295,17 @@ fn add_dependencies<'src>(
         let added = add_numbered(&dependency.arguments, names, &mut arguments);
         let arguments = followed(arguments, added)?;
         let recipe = dependency.recipe;
-        pushed(copies, Dependency { arguments, recipe })?;
+        push(copies, Dependency { arguments, recipe })?;
     }
     Ok(())
+}
+
+// Two parts, if there is the second. It is generic, so that no caller drops syntax after a failure.
+fn paired<T: Drop, U: Drop>(first: T, second: Result<U, OutOfMemory>) -> Result<(T, U), OutOfMemory>
+    ensures { IfOk result (λ pair. (pair.0 ≡ first) × (second ≡ Ok pair.1)) }
+{
+    match second {
+        Ok(second) => Ok((first, second)),
+        Err(_) => Err(OutOfMemory),
+    }
 }

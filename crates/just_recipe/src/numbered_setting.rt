@@ -5,12 +5,12 @@ ghost use Rattle.just_recipe.specs.Setting.{numbered_interpreter, numbered_setti
 ghost use Rattle.just_resolve.specs.Prelude.{name_number, numbered_expression, view};
 ghost use Rattle.just_syntax.specs.View.{expression_interpreter_view, setting_view};
 
-use crate::outcome::{followed, pushed};
 use just_resolve::names::Names;
 use just_resolve::numbered::numbered;
 use just_syntax::expression::Expression;
 use just_syntax::interpreter::Interpreter;
 use just_syntax::out_of_memory::OutOfMemory;
+use just_syntax::results::{followed, push};
 use just_syntax::setting::Setting;
 use std::alloc::Global;
 
@@ -89,7 +89,7 @@ pub(crate) fn add_numbered<'src>(
         ++ map (numbered_expression (name_number names.now)) (map view expressions.now)) }
 {
     for expression in expressions {
-        pushed(copies, numbered(expression, names)?)?;
+        push(copies, numbered(expression, names)?)?;
     }
     Ok(())
 }

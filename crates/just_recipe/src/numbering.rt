@@ -7,7 +7,6 @@ ghost use Rattle.just_resolve.specs.Prelude.{AreBelow, Text, assignment_view, fi
 ghost use Rattle.just_resolve.specs.Prelude.{name_view, next_free, numbers_of, variable_named, visible};
 
 use crate::numbered_recipe::NumberedRecipe;
-use crate::outcome::followed;
 use just_host::justfile::Justfile;
 use just_parser::recipe_definition::RecipeDefinition;
 use just_resolve::free::Free;
@@ -17,6 +16,7 @@ use just_syntax::name::Name;
 use just_syntax::out_of_memory::OutOfMemory;
 use just_syntax::parameter::Parameter;
 use just_syntax::recipe::Recipe;
+use just_syntax::results::followed;
 use just_value::scope::Scope;
 use std::alloc::Global;
 

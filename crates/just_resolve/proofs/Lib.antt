@@ -16,7 +16,6 @@ pub mod Rings
 pub mod Searching
 pub mod Sorting
 pub mod Stepping
-pub mod Successes
 pub mod Steps
 pub mod Unordered
 pub mod Unused

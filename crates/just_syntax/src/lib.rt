@@ -29,6 +29,7 @@ pub mod parameter_kind;
 pub mod place;
 mod printed;
 pub mod recipe;
+pub mod results;
 pub mod set;
 pub mod setting;
 pub mod stack;

@@ -1,6 +1,6 @@
 use Rattle.std.proofs.Common.{◌≡◌, ap, map, ◌∙◌}
 use Rattle.just_parser.specs.View.{dependency_view}
-use Rattle.just_syntax.proofs.Results.{on_ok}
+use Rattle.just_syntax.proofs.Successes.{on_ok}
 use Rattle.just_syntax.specs.View.{name_view}
 use Rattle.just_recipe.specs.Numbered.{numbered_dependency}
 use Rattle.just_resolve.specs.Prelude.{name_number, numbered_expression, view}

@@ -1,7 +1,7 @@
 use Rattle.std.proofs.Common.{map}
+use Rattle.std.proofs.lemmas.Result.{IfOk-weaker}
 use Rattle.just_resolve.specs.Prelude.{assignment_view, frames_view, functions_view}
 use Rattle.just_resolve.proofs.Renumbering.{renumbered_distinct}
-use Rattle.just_resolve.proofs.Successes.{if_ok}
 use Rattle.just_resolve.proofs.name_faults.name_faults.Goals as goal
 
 pub ordered_faults-requires : goal.ordered_faults-requires
@@ -11,7 +11,7 @@ ordered_faults-requires c =
 
 pub returns : goal.returns
 returns c =
-    if_ok c.ordered_faults.result
+    IfOk-weaker c.ordered_faults.result _ _
     (λ all found. record {
       functions' = functions_view c.in_ok-made.made;
       assignments' = map assignment_view c.in_ok-made.made.assignments;

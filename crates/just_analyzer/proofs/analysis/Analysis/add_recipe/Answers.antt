@@ -2,7 +2,7 @@ use Rattle.std.proofs.Common.{ap, false, map, refl, sym, ◌∙◌, ◌≡◌}
 use Rattle.std.specs.Prelude.{not, ◌&&◌}
 use Rattle.std.proofs.lemmas.Result.{on_ok_weaker}
 use Rattle.just_syntax.proofs.Maps.{seen_with}
-use Rattle.just_syntax.proofs.Results.{on_ok}
+use Rattle.just_syntax.proofs.Successes.{on_ok}
 use Rattle.just_syntax.specs.Keyed.{with_value}
 use Rattle.just_syntax.specs.View.{name_view}
 use Rattle.just_parser.specs.View.{recipe_definition_view}

@@ -1,6 +1,6 @@
 use Rattle.std.proofs.Common.{[], ap, sym, ◌∷◌, arith, length}
 use Rattle.just_lexer.specs.declared.kind.TokenKind.TheVariants as kinds
-use Rattle.just_syntax.proofs.Results.{on_ok}
+use Rattle.just_syntax.proofs.Successes.{on_ok}
 use Rattle.just_syntax.specs.Plain as plain
 use Rattle.just_syntax.specs.View.{name_view, view}
 use Rattle.just_expression_parser.proofs.Actions.{assertion_end, assertion_refused, message_here}

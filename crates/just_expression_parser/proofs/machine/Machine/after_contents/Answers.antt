@@ -1,6 +1,6 @@
 use Rattle.std.proofs.Common.{[], refl, sym, ◌∷◌, arith}
 use Rattle.just_lexer.specs.declared.kind.TokenKind.TheVariants as kinds
-use Rattle.just_syntax.proofs.Results.{on_ok}
+use Rattle.just_syntax.proofs.Successes.{on_ok}
 use Rattle.just_syntax.specs.Plain as plain
 use Rattle.just_syntax.specs.View.{view}
 use Rattle.just_expression_parser.proofs.Actions.{expected_after}

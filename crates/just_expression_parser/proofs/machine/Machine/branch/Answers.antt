@@ -1,6 +1,6 @@
 use Rattle.std.proofs.Common.{ap, false, sym, true, ◌≡◌, ◌∙◌, arith, codes}
 use Rattle.just_lexer.specs.declared.kind.TokenKind.TheVariants as kinds
-use Rattle.just_syntax.proofs.Results.{on_ok}
+use Rattle.just_syntax.proofs.Successes.{on_ok}
 use Rattle.just_syntax.specs.View.{view}
 use Rattle.just_expression_parser.proofs.Starts.{braced_here, chained_here, unbraced_here}
 use Rattle.just_expression_parser.proofs.Steps.{goes_on, on_err, taken_mark, word_taken}

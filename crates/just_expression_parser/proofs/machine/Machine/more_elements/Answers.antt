@@ -1,5 +1,5 @@
 use Rattle.std.proofs.Common.{[], Global, Vec, ap, map, sym, ◌∙◌, arith, length}
-use Rattle.just_syntax.proofs.Results.{on_ok}
+use Rattle.just_syntax.proofs.Successes.{on_ok}
 use Rattle.just_syntax.specs.declared.expression.Expression.{Expression}
 use Rattle.just_lexer.specs.declared.kind.TokenKind.TheVariants as kinds
 use Rattle.just_syntax.specs.View.{view}

@@ -3,7 +3,7 @@ use mathlib.Core.Path.{fun_ext}
 use Rattle.std.proofs.lemmas.Result.{IfOk-weaker}
 use Rattle.just_syntax.specs.View.{name_view, recipe_parameter_view}
 use Rattle.just_syntax.specs.declared.parameter.Parameter.{Parameter}
-use Rattle.just_syntax.proofs.Results.{on_ok}
+use Rattle.just_syntax.proofs.Successes.{on_ok}
 use Rattle.just_syntax.specs.Plain as plain
 use Rattle.just_resolve.specs.Prelude.{parameter_view, variable_named}
 use Rattle.just_resolve.proofs.Appending.{map_map}
