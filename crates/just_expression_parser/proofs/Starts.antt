@@ -24,7 +24,7 @@ use Rattle.just_expression_parser.specs.declared.parse_error.ParseError.TheVaria
 
 -- ---- an expression never passes
 
-abbrev IsStart : Action → Type 0
+abbrev pub IsStart : Action → Type 0
 IsStart (Takes later inner) = Unit {0}
 IsStart (Passes e) = ⊥
 IsStart (Refuses fault) = Unit {0}
@@ -59,7 +59,7 @@ within_starts frame (Takes later inner) starts = tt
 within_starts frame (Passes e) starts = starts
 within_starts frame (Refuses fault) starts = tt
 
-expression_starts : (least : ℕ) (t : Lexeme) → IsStart (begins_expression least t)
+pub expression_starts : (least : ℕ) (t : Lexeme) → IsStart (begins_expression least t)
 unfolding begins_expression
 expression_starts least t =
     either (nat_le least 3 && is_word (codes "if") t) _ _ tt (either (nat_le least 3 && is_kind kinds.Slash t) _ _ tt
