@@ -10,7 +10,7 @@ use Rattle.just_lexer.specs.State.{Lexeme}
 use Rattle.just_lexer.specs.declared.kind.TokenKind.{TokenKind}
 use Rattle.just_lexer.specs.declared.kind.TokenKind.TheVariants as kinds
 use Rattle.just_expression_parser.proofs.Codes.{is_not_of_kind, is_of_kind}
-use Rattle.just_expression_parser.proofs.Runs.{frame_passes, frame_passes_end, frame_refuses, frame_refuses_end, frame_takes}
+use Rattle.just_expression_parser.proofs.Runs.{frame_completes, frame_passes, frame_passes_end, frame_refuses, frame_refuses_end, frame_takes}
 use Rattle.just_expression_parser.specs.Machine as machine
 use Rattle.just_expression_parser.specs.Machine.{Action, Done, MachineFrame, Next, Operators, Passes, Refused, Refuses, Takes, ends_with}
 use Rattle.just_expression_parser.specs.Machine.{Form, after_condition, after_element, closing_kind, expects, operators, parse, takes_it, with_elements}
@@ -18,6 +18,7 @@ use Rattle.just_expression_parser.specs.Operator.{level, operator_of}
 use Rattle.just_expression_parser.specs.Parsed.{IsNotAt, IsRefusalAt, IsRefused, next_lexeme}
 use Rattle.just_expression_parser.specs.Tokens.{Mark, One, Tokens, code, is_kind, lexeme}
 use Rattle.just_expression_parser.specs.declared.operator.Operator.{Operator}
+use Rattle.just_expression_parser.specs.declared.operator.Operator.TheVariants as of_two
 use Rattle.just_expression_parser.specs.declared.parse_error.Fault.TheVariants.{Expected}
 use Rattle.just_expression_parser.specs.declared.parse_error.ParseError.{ParseError}
 use Rattle.just_expression_parser.specs.declared.parse_error.ParseError.TheVariants.{OutOfMemory, Unexpected}
@@ -82,6 +83,21 @@ inside : (least below : ℕ) (e : Expr) (t : Lexeme) (o : Operator) → least �
     ≡ Takes (machine.Expression (level o)) (machine.Side e o t.token ∷ Operators least (level o) ∷ [])
 unfolding operators
 inside least below e t o low high = rw (le-leb least (level o) low, lt-ltb (level o) below high) refl
+
+-- no operator has the level of values
+passed : (e : Expr) (t : Lexeme) (o : Option Operator) → operators 4 4 e t o ≡ Passes e
+unfolding operators
+passed e t None = refl
+passed e t (Some of_two.Or) = refl
+passed e t (Some of_two.And) = refl
+passed e t (Some (of_two.Comparison c)) = refl
+passed e t (Some of_two.Concatenation) = refl
+passed e t (Some of_two.ListConcatenation) = refl
+passed e t (Some of_two.Join) = refl
+
+pub value_completes : (ts : Tokens) (e : Expr) (frames : List MachineFrame)
+    → parse ts (Done e) (Operators 4 4 ∷ frames) ≡ parse ts (Done e) frames
+value_completes ts e frames = frame_completes ts (Operators 4 4) frames e e (λ t. passed e t (operator_of t.kind)) refl
 
 pub no_token : (least below : ℕ) (ts : Tokens) (e : Expr) (frames : List MachineFrame) → None ≡ next_lexeme ts
     → parse ts (Done e) (Operators least below ∷ frames) ≡ parse ts (Done e) frames

@@ -48,7 +48,7 @@ unfolding repeated_phrase
 ended zero ends phrase ts is = refl
 ended (suc n) ends phrase ts is = rw is refl
 
-another : {A : Type 0} (n : ℕ) (ends : Tokens → Bool) (phrase : Phrase (List A)) (ts : Tokens) → ends ts ≡ false
+pub another : {A : Type 0} (n : ℕ) (ends : Tokens → Bool) (phrase : Phrase (List A)) (ts : Tokens) → ends ts ≡ false
     → repeated_phrase (suc n) ends phrase ts ≡ after_read (phrase ts) (λ found rest. prepended found (repeated_phrase n ends phrase rest))
 unfolding repeated_phrase
 another n ends phrase ts is = rw is refl
