@@ -14,7 +14,7 @@ loop-dependency-preserved c =
     let added = on_ok c.add_numbered-added.result c.in_ok-arguments.ensures.1 c.add_numbered-added.ensures in
     let arguments : map view c.in_ok-arguments.arguments.items ≡ map (numbered_expression names) (map view item.arguments.items) =
     rw (c.in_ok-arguments.ensures.0, ← c.deref.ensures.value) (rw c.new-arguments.ensures.items at added) in
-    ap (map dependency_view) c.in_ok-pushed.ensures
+    ap (map dependency_view) c.in_ok-push.ensures.ok
     ∙ copied_more dependency_view dependency_view (numbered_dependency names) c.args.dependencies.now c.loop-dependency.dependency-index _ item
     c.args.copies.now.items c.loop-dependency.copies.items _ c.loop-dependency-test.true c.dependency-item.is c.loop-dependency.invariant
     (ap (λ es. record { arguments = es; recipe = name_view item.recipe }) arguments)

@@ -10,5 +10,5 @@ loop-parameter-preserved c =
     numbered_next _ _ c.loop-parameter.invariant
     (ap (map recipe_parameter_view) c.in-Some.ensures.steps.0) (ap (map parameter_view) c.in-Some.ensures.steps.1)
     c.in_ok-copy.ensures
-    (ap (map recipe_parameter_view) c.in_ok-pushed.ensures ∙ map-append recipe_parameter_view c.loop-parameter.copies.items (c.in_ok-copy.copy ∷ []))
+    (ap (map recipe_parameter_view) c.in_ok-push.ensures.ok ∙ map-append recipe_parameter_view c.loop-parameter.copies.items (c.in_ok-copy.copy ∷ []))
     c.in_ok-add_parameter.ensures.parameters c.add_parameter.ensures.variables

@@ -31,6 +31,6 @@ returns-in-Err c = (
   tt,
   refused_on c.expect.result c.in-Err.refusal (left c.args.self.now) (machine.Otherwise (view c.args.condition) (view c.args.consequence))
       (waiting c.args.self.now) (view c.args.otherwise) kinds.BraceR
-      (machine.Done (plain.Conditional (view c.args.condition) (view c.args.consequence) (view c.args.otherwise))) ([]) c.in-Err.ensures.refused
+      (machine.Done (plain.Conditional (view c.args.condition) (view c.args.consequence) (view c.args.otherwise))) ([]) c.in-Err.ensures.err
       c.expect.ensures.err (λ t. refl) refl,
 )

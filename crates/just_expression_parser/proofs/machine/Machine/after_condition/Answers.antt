@@ -34,5 +34,5 @@ pub returns-in-Err : goal.returns-in-Err
 returns-in-Err c =
     let old = c.args.self.now in
     let none = c.in-None.ensures.none in
-    let at = rw none.0 at (on_err _ c.expect.result c.in-Err.refusal c.in-Err.ensures.refused c.expect.ensures.err) in
+    let at = rw none.0 at (on_err _ c.expect.result c.in-Err.refusal c.in-Err.ensures.err c.expect.ensures.err) in
     (tt, assertion_refused (name_view c.args.name) (view c.args.condition) (left old) (waiting old) c.in-Err.refusal none.1 at.0 at.1)

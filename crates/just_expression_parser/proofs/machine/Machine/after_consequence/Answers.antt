@@ -25,5 +25,5 @@ returns-in-Err c = (
   tt,
   refused_on c.expect.result c.in-Err.refusal (left c.args.self.now) (machine.Consequence (view c.args.condition)) (waiting c.args.self.now)
       (view c.args.consequence) kinds.BraceR
-      (machine.Else (view c.args.condition) (view c.args.consequence)) ([]) c.in-Err.ensures.refused c.expect.ensures.err (λ t. refl) refl,
+      (machine.Else (view c.args.condition) (view c.args.consequence)) ([]) c.in-Err.ensures.err c.expect.ensures.err (λ t. refl) refl,
 )

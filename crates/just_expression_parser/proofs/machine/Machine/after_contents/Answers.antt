@@ -25,5 +25,5 @@ pub returns-in-Err : goal.returns-in-Err
 returns-in-Err c = (
   tt,
   refused_on c.expect.result c.in-Err.refusal (left c.args.self.now) machine.Group (waiting c.args.self.now) (view c.args.contents) kinds.ParenR
-      (machine.Done (plain.Group (view c.args.contents))) [] c.in-Err.ensures.refused c.expect.ensures.err (λ t. refl) refl,
+      (machine.Done (plain.Group (view c.args.contents))) [] c.in-Err.ensures.err c.expect.ensures.err (λ t. refl) refl,
 )

@@ -32,6 +32,6 @@ returns-in-Err c = (
   tt,
   refused_on c.expect.result c.in-Err.refusal (left c.args.self.now) (machine.Message (view c.args.condition) (name_view c.args.name))
       (waiting c.args.self.now) (view c.args.message) kinds.ParenR
-      (machine.Done (plain.Assert (view c.args.condition) (view c.args.message) (name_view c.args.name))) ([]) c.in-Err.ensures.refused c.expect.ensures.err
+      (machine.Done (plain.Assert (view c.args.condition) (view c.args.message) (name_view c.args.name))) ([]) c.in-Err.ensures.err c.expect.ensures.err
       (λ t. refl) refl,
 )

@@ -23,5 +23,5 @@ pub returns-in-Err : goal.returns-in-Err
 returns-in-Err c = (
   tt,
   refused_on c.expect.result c.in-Err.refusal (left c.args.self.now) (machine.Condition) (waiting c.args.self.now) (view c.args.condition) kinds.BraceL
-      (machine.Expression 0) (machine.Consequence (view c.args.condition) ∷ []) c.in-Err.ensures.refused c.expect.ensures.err (λ t. refl) refl,
+      (machine.Expression 0) (machine.Consequence (view c.args.condition) ∷ []) c.in-Err.ensures.err c.expect.ensures.err (λ t. refl) refl,
 )

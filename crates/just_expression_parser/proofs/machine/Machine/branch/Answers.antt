@@ -31,7 +31,7 @@ returns-in-Ok c =
 pub returns-in-Err : goal.returns-in-Err
 returns-in-Err c =
     let none : c.take_word.result ≡ false = c.if-take_word.false in
-    let at = rw (c.take_word.ensures.stays none) at (on_err _ c.expect.result c.in-Err.refusal c.in-Err.ensures.refused c.expect.ensures.err) in (
+    let at = rw (c.take_word.ensures.stays none) at (on_err _ c.expect.result c.in-Err.refusal c.in-Err.ensures.err c.expect.ensures.err) in (
       tt,
       unbraced_here (view c.args.condition) (view c.args.consequence) (left c.args.self.now) (waiting c.args.self.now) c.in-Err.refusal
           (sym c.take_word.ensures.value ∙ none) at.0 at.1,

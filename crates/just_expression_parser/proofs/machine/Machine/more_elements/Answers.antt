@@ -45,5 +45,5 @@ pub returns-in-Err : goal.returns-in-Err
 returns-in-Err c es e all =
     let old = c.args.self.now in
     let none = c.in-None.ensures.none in
-    let at = rw (none.0, c.close-in-None.ensures) at (on_err _ c.expect_comma.result c.in-Err.refusal c.in-Err.ensures.refused c.expect_comma.ensures.err) in
+    let at = rw (none.0, c.close-in-None.ensures) at (on_err _ c.expect_comma.result c.in-Err.refusal c.in-Err.ensures.err c.expect_comma.ensures.err) in
     (tt, element_refused (form_view c.args.form) es e (left old) (waiting old) c.in-Err.refusal (rw c.close.ensures at none.1) at.0 at.1)

@@ -24,4 +24,4 @@ returns-clause-copy c =
       same = ap numbered_recipe_view kept.0 ∙ on_ok c.fill-filled.result kept.1 c.fill-filled.ensures.copy
           ∙ ap (λ names. numbered_recipe names (map parameter_view c.deref-3.result.now) definition) (fun_ext c.clear_parameters.ensures.variables)
           ∙ ap (λ ps. numbered_recipe outside (map parameter_view ps) definition) c.deref-3.ensures.value;
-    }) c.followed.ensures
+    }) c.followed.ensures.ok
