@@ -4,3 +4,13 @@ pub mod Reading
 pub mod Values
 pub mod Trimmed
 pub mod Texts
+pub mod Predictive
+pub mod Turns
+pub mod ReadTokens
+pub mod ReadExpressions
+pub mod ReadForms
+pub mod ReadArguments
+pub mod ReadAttributes
+pub mod ReadRecipes
+pub mod ReadSettings
+pub mod ReadItems

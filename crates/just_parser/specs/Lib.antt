@@ -6,4 +6,5 @@ pub mod Settings
 pub mod Attributes
 pub mod Recipes
 pub mod Items
+pub mod Laws
 pub mod Parsed

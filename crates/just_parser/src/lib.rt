@@ -12,6 +12,7 @@ mod function;
 mod ignored;
 pub mod item;
 mod items;
+pub mod laws;
 mod names;
 mod outcome;
 mod parameters;
