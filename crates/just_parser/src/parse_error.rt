@@ -42,7 +42,8 @@ pub enum ParseError<'src> {
         kind: FaultKind,
         token: Token<'src>,
     },
-    /// The first token that continues no item; `None` for the end.
+    /// The refused token, with which no item goes on; `None` for the end. What decides four faults is
+    /// [`refuses_early`](crate::laws::refuses_early).
     Unexpected {
         fault: Fault,
         token: Option<Token<'src>>,

@@ -30,8 +30,9 @@ use std::alloc::Global;
 ///
 /// # Errors
 ///
-/// `Lex`, if the text has no tokens. `Unexpected` with the first token that continues no item, and what was expected
-/// there. `OutOfMemory`, if an allocation fails, or if forms nest too deeply, as in `parse_expression`.
+/// `Lex`, if the text has no tokens. `Unexpected` with the first token that no item goes on with, and what was expected
+/// there; an unknown setting, an empty command and an item that does not fit are told by up to two tokens after it
+/// ([`refuses_early`](crate::laws::refuses_early)). `OutOfMemory`, if an allocation fails, or if forms nest too deeply, as in `parse_expression`.
 pub fn parse<'src>(
     alloc: Global,
     path: &'src str,
