@@ -3,9 +3,14 @@
 
 A case is written if each of its commands has one answer, and each of its questions is a command or an environment variable. Expressions get
 parentheses where their trees need them. Compared are the values of the variables, the questions in their order, and whether the run is
-refused. The last line is 'N justfiles, M wrong'; the status is 1 if M is not 0."""
+refused. The last line is 'N justfiles, M wrong'; the status is 1 if M is not 0.
+
+    tools/justfiles.py --expressions > crates/just_analyzer_tests/src/stored.rt
+
+writes the expressions of these justfiles, one of each shape, as the table of texts that the tests print as they are read."""
 
 import concurrent.futures
+import contextlib
 import glob
 import os
 import re
@@ -20,6 +25,9 @@ VALUE = 4
 
 # Deeper expressions are not written.
 DEEPEST = 500
+
+# Longer expressions are no rows of the table.
+LONGEST = 300
 
 
 class Unwritable(Exception):
@@ -207,22 +215,54 @@ def difference(program, case):
     return "" if same else f"status {ended.returncode}\n{text}{ended.stdout.decode()}{ended.stderr.decode()}instead of\n" + "\n".join(case.answer)
 
 
-def tried(program, path):
-    """The result for a stored case: why it was not written, or how it differs."""
+def read(path):
+    """The stored case of a file."""
     with open(path, "rb") as it:
         text, _, answer = (part.decode(errors="replace") for part in it.read().partition(b"\n=> "))
     status, *lines = answer.split("\n")
+    if status not in ("0", "2") or "unresolved" in lines or len(text) > 100_000 or "\ufffd" in text:
+        raise Unwritable("no run of a resolved module, or a long text")
+    return Case(text, lines)
+
+
+def tried(program, path):
+    """The result for a stored case: why it was not written, or how it differs."""
     try:
-        if status not in ("0", "2") or "unresolved" in lines or len(text) > 100_000 or "\ufffd" in text:
-            raise Unwritable("no run of a resolved module, or a long text")
-        return "", difference(program, Case(text, lines))
+        return "", difference(program, read(path))
     except Unwritable as reason:
         return str(reason), ""
 
 
+def expressions(paths):
+    """The expressions of the justfiles, the shortest of each shape: names, numbers and texts are no part of a shape."""
+    found = {}
+    for path in paths:
+        with contextlib.suppress(Unwritable):
+            for row in read(path).justfile().split("\n"):
+                _, _, text = row.partition(" := ")
+                shape = re.sub(r"[A-Za-z0-9_]+", "a", text)
+                if text and len(text) <= LONGEST:
+                    found[shape] = min(found.get(shape, text), text, key=lambda it: (len(it), it))
+    return sorted(found.values())
+
+
+def print_table(texts):
+    """Prints the texts as a table of Rattle."""
+    print("// The expressions of the stored cases, one of each shape, as `tools/justfiles.py --expressions` writes them.")
+    print("\npub(crate) const STORED: &[&str] = &[")
+    for text in texts:
+        literal = text.replace("\\", "\\\\").replace('"', '\\"')
+        literal = re.sub(r"[\x00-\x1f\x7f]", lambda it: f"\\u{{{ord(it[0]):x}}}", literal)
+        print(f'    "{literal}",')
+    print("];")
+
+
 def main():
-    program = built("just_explain")[0]
     paths = sorted(glob.glob(f"{TOP}/crates/just_stored_cases/data/*.case"))
+    if sys.argv[1:] == ["--expressions"]:
+        print_table(expressions(paths))
+        return 0
+    program = built("just_explain")[0]
     with concurrent.futures.ThreadPoolExecutor(os.cpu_count()) as pool:
         results = list(pool.map(lambda path: (path, *tried(program, path)), paths))
     written = [(path, found) for path, reason, found in results if not reason]

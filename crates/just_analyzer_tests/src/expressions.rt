@@ -1,5 +1,6 @@
 // Texts and what they are read as.
 
+use crate::stored::STORED;
 use just_expression_parser::{parse_expression, significant};
 use just_lexer::lex;
 use just_lexer::lexeme::Lexeme;
@@ -110,6 +111,14 @@ fn is_said(rt: &impl Abort, alloc: Global, text: &str, wanted: &str) {
 #[test]
 fn printed_as_read(rt: HostRuntime) {
     for text in SAME {
+        is_printed(&rt, rt.alloc(), text, text);
+    }
+}
+
+// Each expression of the stored cases is read from the text that it is printed as.
+#[test]
+fn stored_printed_as_read(rt: HostRuntime) {
+    for text in STORED {
         is_printed(&rt, rt.alloc(), text, text);
     }
 }

@@ -10,4 +10,6 @@ mod items;
 #[cfg(test)]
 mod parts;
 #[cfg(test)]
+mod stored;
+#[cfg(test)]
 mod tokens;
