@@ -12,12 +12,14 @@ use just_value::error::CommandFault;
 use std::alloc::Global;
 
 /// Answers commands, environment variables and other questions for a text from what is given. A variable that is not
-/// given is absent, a path that is not given does not exist, and each number is 1. A command or another text that is not
-/// given is refused.
+/// given is absent, and a path that is not given does not exist. A command or another text that is not given is
+/// refused.
 #[derive(Drop)]
 pub(crate) struct Answers {
     commands: Vec<String>,
     texts: Vec<String>,
+    cpus: u64,
+    process_id: u64,
     others: MapHost,
 }
 
@@ -32,6 +34,8 @@ impl Answers {
         Ok(Answers {
             commands: given.answers.clone()?,
             texts: given.texts.clone()?,
+            cpus: given.cpus,
+            process_id: given.process_id,
             others,
         })
     }
@@ -78,8 +82,11 @@ impl Host for Answers {
         self.others.exists(alloc, path)
     }
 
-    fn number(&mut self, alloc: Global, question: NumberQuestion) -> Result<u64, OutOfMemory> {
-        self.others.number(alloc, question)
+    fn number(&mut self, _alloc: Global, question: NumberQuestion) -> Result<u64, OutOfMemory> {
+        match question {
+            NumberQuestion::Cpus => Ok(self.cpus),
+            NumberQuestion::ProcessId => Ok(self.process_id),
+        }
     }
 
     fn stack_budget(&self) -> usize {

@@ -4,7 +4,7 @@ use crate::given::Given;
 use crate::output::Output;
 use crate::request::{Request, Requested, Subject};
 use clap::error::ErrorKind;
-use clap::{Arg, ArgAction, ArgMatches, Command, Error};
+use clap::{Arg, ArgAction, ArgMatches, Command, Error, value_parser};
 use just_syntax::out_of_memory::OutOfMemory;
 use just_value::positional::Positional;
 use std::alloc::{AllocError, Global};
@@ -18,9 +18,13 @@ const ANSWER: &str =
     "What a command in backticks, or of `shell`, outputs. An answer belongs to the \
 command that it begins with, so both may contain `=`. The last answer to a command counts";
 
+const CPUS: &str = "The number of processors, which `num_cpus()` gives";
+
 const ENV: &str = "An environment variable. One that is not given is absent";
 
 const EXISTS: &str = "A path that exists, as a question for one is printed. No other does";
+
+const PROCESS_ID: &str = "The id of the process, which `just_pid()` gives";
 
 const TEXT: &str =
     "What a question for another text gets, by the question as it is printed: `os=linux`, or \
@@ -30,7 +34,7 @@ const WORDS: &str = "NAME=VALUE sets a variable, before any other word";
 
 const UNANSWERED: &str =
     "A command without an answer is refused, and so is what asks for another text, as `arch()` does, \
-without one. Each number, as that of `num_cpus()`, is 1.";
+without one.";
 
 /// What a command line asks for. The first word is the name of the program.
 ///
@@ -133,6 +137,8 @@ fn with_given<'a>(alloc: Global, command: Command<'a>) -> Result<Command<'a>, Al
         ))?
         .arg(repeated(alloc, "text", "QUESTION=TEXT", TEXT))?
         .arg(repeated(alloc, "exists", "PATH", EXISTS))?
+        .arg(number(alloc, "cpus", CPUS))?
+        .arg(number(alloc, "process-id", PROCESS_ID))?
         .arg(directory)?
         .arg(dry_run)?
         .arg(lists(alloc))
@@ -144,6 +150,16 @@ fn repeated<'a>(alloc: Global, name: &'a str, value: &'a str, help: &'a str) -> 
         .long(name)
         .value_name(value)
         .action(ArgAction::Append)
+        .help(help)
+}
+
+// An option whose value is a number, which is 1 without it.
+fn number<'a>(alloc: Global, name: &'a str, help: &'a str) -> Arg<'a> {
+    Arg::new(alloc, name)
+        .long(name)
+        .value_name("NUMBER")
+        .value_parser(value_parser!(u64))
+        .default_value("1")
         .help(help)
 }
 
@@ -204,6 +220,8 @@ fn fill<'a>(
 ) -> Result<Option<&'a str>, OutOfMemory> {
     given.dry_run = matches.get_flag("dry-run");
     given.lists = matches.get_flag("lists");
+    given.cpus = matches.get_one::<u64>("cpus").unwrap_or(1);
+    given.process_id = matches.get_one::<u64>("process-id").unwrap_or(1);
     given.directory = String::from_str(alloc, matches.get_str("directory").unwrap_or("."))?;
     add_paths(alloc, &mut given.existing, matches.get_strs("exists"))?;
     if let Some(word) = add_pairs(alloc, &mut given.variables, matches.get_strs("env"))? {

@@ -11,6 +11,8 @@ use std::collections::BTreeMap;
 pub struct Given {
     /// Each is a command, `=` and what it outputs.
     pub answers: Vec<String>,
+    /// The number of available processors.
+    pub cpus: u64,
     /// The directory of the justfile.
     pub directory: String,
     /// The variables of dotenv files.
@@ -20,6 +22,8 @@ pub struct Given {
     pub existing: Vec<String>,
     /// Whether `lists` is set, whatever the justfile sets.
     pub lists: bool,
+    /// The id of the process.
+    pub process_id: u64,
     /// Each is another question for a text, as it is printed, `=` and the text, such as `os=linux`.
     pub texts: Vec<String>,
     /// The environment variables.
@@ -27,24 +31,28 @@ pub struct Given {
 }
 
 impl Given {
-    /// Nothing. It allocates nothing.
+    /// Nothing, and one for each number. It allocates nothing.
     pub fn new(alloc: Global) -> Given
         ensures answers { result.answers.items ≡ [] }
+        ensures cpus { result.cpus ≡ 1 }
         ensures directory { string_bytes result.directory ≡ [] }
         ensures dotenv { pairs_view result.dotenv ≡ [] }
         ensures dry_run { result.dry_run ≡ false }
         ensures existing { result.existing.items ≡ [] }
         ensures lists { result.lists ≡ false }
+        ensures process_id { result.process_id ≡ 1 }
         ensures texts { result.texts.items ≡ [] }
         ensures variables { pairs_view result.variables ≡ [] }
     {
         Given {
             answers: Vec::new(alloc),
+            cpus: 1,
             directory: String::new(alloc),
             dotenv: BTreeMap::new(alloc),
             dry_run: false,
             existing: Vec::new(alloc),
             lists: false,
+            process_id: 1,
             texts: Vec::new(alloc),
             variables: BTreeMap::new(alloc),
         }

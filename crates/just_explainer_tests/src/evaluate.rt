@@ -84,6 +84,31 @@ error: call to function `os` failed: `os` has no answer
         0,
     ),
     (
+        "evaluate|--cpus|8|--process-id|42",
+        "x := num_cpus() + just_pid()\n",
+        "x = \"842\"\n  asks number cpus\n  asks number process_id\n",
+        "",
+        0,
+    ),
+    (
+        "evaluate",
+        "x := num_cpus()\n",
+        "x = \"1\"\n  asks number cpus\n",
+        "",
+        0,
+    ),
+    (
+        "evaluate|--cpus|x",
+        "x := num_cpus()\n",
+        "",
+        "\
+error: invalid value 'x' for '--cpus <NUMBER>': invalid digit found in string
+
+For more information, try '--help'.
+",
+        2,
+    ),
+    (
         "evaluate|nope",
         BUILD,
         "",

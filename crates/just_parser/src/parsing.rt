@@ -32,7 +32,8 @@ use std::alloc::Global;
 ///
 /// `Lex`, if the text has no tokens. `Unexpected` with the first token that no item goes on with, and what was expected
 /// there; an unknown setting, an empty command and an item that does not fit are told by up to two tokens after it
-/// ([`refuses_early`](crate::laws::refuses_early)). `OutOfMemory`, if an allocation fails, or if forms nest too deeply, as in `parse_expression`.
+/// ([`refuses_early`](crate::laws::refuses_early)). `OutOfMemory`, if an allocation fails, or if forms nest too deeply,
+/// as in `parse_expression`.
 pub fn parse<'src>(
     alloc: Global,
     path: &'src str,
