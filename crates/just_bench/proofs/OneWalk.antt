@@ -34,7 +34,7 @@ no_value : {A : Type 0} (v : A) (r : Option Refusal) → Gave v ≡ without_valu
 no_value v (Some r) e = absurd (cc)
 no_value v None e = absurd (cc)
 
-never_stopped : {A : Type 0} {v : A} → Gave v ≢ Stopped
+never_stopped : {A : Type 0} {v : A} → ◌≢◌ {A = Outcome A} (Gave v) Stopped
 never_stopped e = absurd (cc)
 
 gave_one : {A : Type 0} {v w : A} → ◌≡◌ {A = Outcome A} (Gave v) (Gave w) → v ≡ w
