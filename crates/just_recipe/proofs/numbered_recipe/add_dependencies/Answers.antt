@@ -11,9 +11,9 @@ pub loop-dependency-preserved : goal.loop-dependency-preserved
 loop-dependency-preserved c =
     let names = name_number c.args.names.now in
     let item = c.dependency-item.result in
-    let added = on_ok c.add_numbered-added.result c.in_ok-arguments.ensures.1 c.add_numbered-added.ensures in
+    let added = on_ok c.add_numbered-added.result c.in_ok-arguments.ensures.ok.1 c.add_numbered-added.ensures in
     let arguments : map view c.in_ok-arguments.arguments.items ≡ map (numbered_expression names) (map view item.arguments.items) =
-    rw (c.in_ok-arguments.ensures.0, ← c.deref.ensures.value) (rw c.new-arguments.ensures.items at added) in
+    rw (c.in_ok-arguments.ensures.ok.0, ← c.deref.ensures.value) (rw c.new-arguments.ensures.items at added) in
     ap (map dependency_view) c.in_ok-push.ensures.ok
     ∙ copied_more dependency_view dependency_view (numbered_dependency names) c.args.dependencies.now c.loop-dependency.dependency-index _ item
     c.args.copies.now.items c.loop-dependency.copies.items _ c.loop-dependency-test.true c.dependency-item.is c.loop-dependency.invariant
