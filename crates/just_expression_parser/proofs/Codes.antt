@@ -1,6 +1,6 @@
 -- Kinds and their numbers.
 use Rattle.std.specs.Prelude.{ℕ, ◌≡◌, ◌⊎◌, true, false, ◌==◌, if◌then◌else◌}
-use Rattle.std.proofs.Common.{◌∙◌, ap, refl, sym, inl, inr}
+use Rattle.std.proofs.Common.{◌∙◌, ap, refl, sym, inl, inr, ⊎_elim}
 use Rattle.std.proofs.lemmas.Bool.{eq-eqb}
 use Rattle.std.proofs.Math.Dec.{eqb}
 use Rattle.std.proofs.lemmas.Bool.Decides.{eqb_tells}
@@ -121,3 +121,11 @@ at_kind kind t =
       | inl same ↦ inl (sym (code_injective kind t.kind same.1))
       | inr differ ↦ inr (λ same. differ.1 (ap code (sym same)))
     ]
+
+-- a token is of its kind
+pub of_kind : (kind : TokenKind) (t : Lexeme) → is_kind kind t ≡ true → t.kind ≡ kind
+of_kind kind t is = ⊎_elim (λ same. same) (λ other. let e = is_not_of_kind kind t other in absurd (cc)) (at_kind kind t)
+
+-- and of no other
+pub of_one_kind : (kind other : TokenKind) (t : Lexeme) → is_kind kind t ≡ true → (kind ≡ other → ⊥) → is_kind other t ≡ false
+of_one_kind kind other t is apart = is_not_of_kind other t (λ same. apart (sym (of_kind kind t is) ∙ same))

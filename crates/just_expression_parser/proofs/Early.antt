@@ -73,8 +73,8 @@ end_of_frames [] e ending at r = sym (same_ending (Reading e) ending [] at (read
 end_of_frames (frame ∷ frames) e ending at r =
     end_of_frame frame frames e ending at (ends_with frame e) refl (λ after r. end_of_frames frames after ending at r) r
 
-refused_end : (next : Next) (frames : List MachineFrame) (f : Fault) (ending : Ending) (at : Tokens) → ends next ≡ Refuses f → parse [] next frames ≡ ending_at ending at
-    → at ≡ []
+refused_end : (next : Next) (frames : List MachineFrame) (f : Fault) (ending : Ending) (at : Tokens) → ends next ≡ Refuses f
+    → parse [] next frames ≡ ending_at ending at → at ≡ []
 refused_end next frames f ending at is r = sym (same_ending (Refusing f) ending [] at (sym (refuses_end next frames f is) ∙ r)).1
 
 passed_end : (next : Next) (frames : List MachineFrame) (e : Expr) (ending : Ending) (at : Tokens) → ends next ≡ Passes e

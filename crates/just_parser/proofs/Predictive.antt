@@ -14,6 +14,11 @@ abbrev pub IsRefusal : {A : Type 0} → Parsed A → Type 0
 IsRefusal (Read a ts) = ⊥
 IsRefusal (Refused fault ts) = Unit {0}
 
+-- nothing is read after a refusal
+pub still_refused : {A B : Type 0} (outcome : Parsed A) (next : A → Phrase B) → IsRefusal outcome → IsRefusal (after_read outcome next)
+still_refused (Read a ts) next is = absurd is
+still_refused (Refused fault ts) next is = tt
+
 -- what is read before a token is read before it whatever comes after it, and takes at least so many tokens
 pub record ReadsAgain {A : Type 0} (least : ℕ) (phrase : Phrase A) (ts : Tokens) (a : A) (t : Lexeme) (rest : Tokens) : Type 0 where
   pub used : Tokens
@@ -148,10 +153,6 @@ module _ {A : Type 0} (test : Tokens → Bool) (looks : LooksAtOne test) (phrase
 
 module _ {A B : Type 0} {least more : ℕ} (first : Phrase A) (next : A → Phrase B) (one : IsPredictive least first)
     (other : (a : A) → IsPredictive more (next a)) where
-  still_refused : (outcome : Parsed A) → IsRefusal outcome → IsRefusal (after_read outcome next)
-  still_refused (Read a ts) is = absurd is
-  still_refused (Refused fault ts) is = tt
-
   -- the second phrase is there again
   goes_on : (ts : Tokens) (a : A) (m : Lexeme) (ms : Tokens) (r : ReadsAgain least first ts a m ms) (front : Tokens) (t : Lexeme) (rest us : Tokens)
       → m ∷ ms ≡ front ++ t ∷ rest → after_read (first ((r.used ++ front) ++ t ∷ us)) next ≡ next a (front ++ t ∷ us)
@@ -182,7 +183,7 @@ module _ {A B : Type 0} {least more : ℕ} (first : Phrase A) (next : A → Phra
       → after_read outcome next ≡ Refused fault (t ∷ rest) → RefusesAgain (first >>= next) ts fault t rest
   then_refused ts fault t rest (Refused f at) is h =
       let r = one.refuses ts fault t rest (is ∙ same_refused f fault at (t ∷ rest) h) in
-      record { front = r.front; parts = r.parts; again = λ us alike. still_refused (first (r.front ++ t ∷ us)) (r.again us alike) }
+      record { front = r.front; parts = r.parts; again = λ us alike. still_refused (first (r.front ++ t ∷ us)) next (r.again us alike) }
   then_refused ts fault t rest (Read a []) is h = absurd (no_end _ t rest ((other a).refuses [] fault t rest h).parts)
   then_refused ts fault t rest (Read a (m ∷ ms)) is h =
       let r = one.reads ts a m ms is in

@@ -1,10 +1,9 @@
 -- Expressions and values are predictive.
-use Rattle.std.specs.Prelude.{ℕ, ◌≡◌, ◌≤◌, ◌⊎◌, Bool, true, false, [], ◌∷◌, ◌++◌, length, bytes_eq, codes}
-use Rattle.std.proofs.Common.{◌∙◌, ap, arith, inl, refl, subst, sym, ⊎_elim}
+use Rattle.std.specs.Prelude.{ℕ, ◌≡◌, ◌≤◌, Bool, true, false, [], ◌∷◌, ◌++◌, length, bytes_eq, codes}
+use Rattle.std.proofs.Common.{◌∙◌, ap, arith, inl, refl, subst, sym}
 use Rattle.std.proofs.lemmas.List.{length-append}
 use Rattle.just_lexer.specs.State.{Lexeme}
 use Rattle.just_syntax.specs.Plain.{Expr, Literal, StringLiteral, Token}
-use Rattle.just_lexer.specs.declared.kind.TokenKind.{TokenKind}
 use Rattle.just_lexer.specs.declared.kind.TokenKind.TheVariants as kinds
 use Rattle.just_expression_parser.specs.Grammar as grammar
 use Rattle.just_expression_parser.specs.Machine as machine
@@ -12,7 +11,7 @@ use Rattle.just_expression_parser.specs.Machine.{Action, Done, Expression, Opera
 use Rattle.just_expression_parser.specs.Machine.{begins_value, parse}
 use Rattle.just_expression_parser.specs.Tokens.{Tokens, code, is_kind, is_word, lexeme}
 use Rattle.just_expression_parser.specs.declared.parse_error.Fault as syntax
-use Rattle.just_expression_parser.proofs.Codes.{at_kind, is_not_of_kind}
+use Rattle.just_expression_parser.proofs.Codes.{of_kind}
 use Rattle.just_expression_parser.proofs.Early.{Early, Reading, Refusing, early}
 use Rattle.just_expression_parser.proofs.Actions.{value_completes}
 use Rattle.just_expression_parser.proofs.Runs.{refuses, takes}
@@ -90,10 +89,6 @@ unfolding value
 value_is ts = refl
 
 -- ---- names
-
--- a token is of its kind
-pub of_kind : (kind : TokenKind) (t : Lexeme) → is_kind kind t ≡ true → t.kind ≡ kind
-of_kind kind t is = ⊎_elim (λ same. same) (λ other. let e = is_not_of_kind kind t other in absurd (cc)) (at_kind kind t)
 
 abbrev IsTake : Action → Type 0
 IsTake (Takes next inner) = Unit {0}

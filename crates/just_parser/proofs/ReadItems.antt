@@ -3,11 +3,10 @@ use Rattle.std.specs.Prelude.{ℕ, suc, ◌≡◌, ◌≤◌, ◌⊎◌, Bool, t
 use Rattle.std.proofs.Common.{◌∙◌, ap, arith, inl, inr, refl, subst, sym}
 use Rattle.std.proofs.lemmas.List.{append-nil}
 use Rattle.just_lexer.specs.State.{Lexeme}
-use Rattle.just_lexer.specs.declared.kind.TokenKind.{TokenKind}
 use Rattle.just_lexer.specs.declared.kind.TokenKind.TheVariants as kinds
 use Rattle.just_syntax.specs.Plain.{Token}
 use Rattle.just_expression_parser.specs.Tokens.{Tokens, is_at, is_kind}
-use Rattle.just_expression_parser.proofs.Codes.{is_not_of_kind}
+use Rattle.just_expression_parser.proofs.Codes.{of_one_kind}
 use Rattle.just_parser.specs.Attributes.{are_private, attributes}
 use Rattle.just_parser.specs.Items.{after_keyword, alias, assignment, assignment_item, function, function_parameter, item, item_after, item_line, item_of}
 use Rattle.just_parser.specs.Items.{items, set, setting_with_form, unexport}
@@ -22,7 +21,7 @@ use Rattle.just_parser.specs.declared.start.Start.{Start}
 use Rattle.just_parser.specs.declared.start.Start.TheVariants as starts
 use Rattle.just_parser.specs.Laws.{HasNoItems, RefusesEarly, lookahead}
 use Rattle.just_parser.proofs.ReadAttributes.{reads_attributes}
-use Rattle.just_parser.proofs.ReadExpressions.{of_kind, reads_expression}
+use Rattle.just_parser.proofs.ReadExpressions.{reads_expression}
 use Rattle.just_parser.proofs.Predictive.{IsPredictive, IsRefusal, ReadsAgain, RefusesAgain, TakesToken, any, at_least, follows, gives, refused_at}
 use Rattle.just_parser.proofs.Predictive.{refuses_next}
 use Rattle.just_parser.proofs.Predictive.{reads_some, refused_first, takes_then}
@@ -257,16 +256,13 @@ keyword_is ts =
     (of_keyword (ends_with_name (codes "unexport") ts) _ _ tt
     (of_keyword (is_unsupported ts) starts.Unsupported starts.Recipe tt tt)))))
 
-not_of : (kind : TokenKind) (t : Lexeme) → is_kind kinds.Identifier t ≡ true → (kinds.Identifier ≡ kind → ⊥) → is_kind kind t ≡ false
-not_of kind t name other = is_not_of_kind kind t (λ same. other (sym (of_kind kinds.Identifier t name) ∙ same))
-
 -- two names begin what a keyword begins
 names_begin : (x t : Lexeme) (rest : Tokens) → is_kind kinds.Identifier x ≡ true → is_kind kinds.Identifier t ≡ true
     → IsOfKeyword (start_of_item (x ∷ t ∷ rest))
 unfolding start_of_item start_of_name
 names_begin x t rest first second =
-    let no_mark : is_kind kinds.ColonEquals t ≡ false = not_of kinds.ColonEquals t second (λ same. cc) in
-    let no_open : is_kind kinds.ParenL t ≡ false = not_of kinds.ParenL t second (λ same. cc) in
+    let no_mark : is_kind kinds.ColonEquals t ≡ false = of_one_kind kinds.Identifier kinds.ColonEquals t second (λ same. cc) in
+    let no_open : is_kind kinds.ParenL t ≡ false = of_one_kind kinds.Identifier kinds.ParenL t second (λ same. cc) in
     rw (first, no_mark, no_open) (keyword_is (x ∷ t ∷ rest))
 
 -- ---- an item after its attributes

@@ -7,7 +7,7 @@ use Rattle.just_syntax.specs.Plain.{Fragment, Parameter, Token}
 use Rattle.just_syntax.specs.declared.parameter_kind.ParameterKind.{ParameterKind}
 use Rattle.just_syntax.specs.declared.parameter_kind.ParameterKind.TheVariants.{Plus, Singular, Star}
 use Rattle.just_expression_parser.specs.Tokens.{Tokens, is_at, is_kind}
-use Rattle.just_expression_parser.proofs.Codes.{is_not_of_kind}
+use Rattle.just_expression_parser.proofs.Codes.{of_one_kind}
 use Rattle.just_parser.specs.Phrase.{Phrase, Read, Refused, ◌>>=◌, ◌>>◌, accepted, after_read, give, line_end, many, one}
 use Rattle.just_parser.specs.Plain.{RecipeDefinition, WrittenAttribute}
 use Rattle.just_parser.specs.Recipes.{blank, body, call, default, dependencies, dependency, dependency_argument, dependency_arguments, fragments}
@@ -15,7 +15,7 @@ use Rattle.just_parser.specs.Recipes.{indented_lines, interpolated, is_after_bla
 use Rattle.just_parser.specs.Recipes.{bare, line_fragment, parts, recipe, recipe_line, recipe_parameter, recipe_parameters, subsequents, trimmed, variadic}
 use Rattle.just_parser.specs.declared.parse_error.Fault.{Fault}
 use Rattle.just_parser.proofs.Repeated.{ended}
-use Rattle.just_parser.proofs.ReadExpressions.{of_kind, reads_expression, reads_value}
+use Rattle.just_parser.proofs.ReadExpressions.{reads_expression, reads_value}
 use Rattle.just_parser.proofs.Predictive.{IsPredictive, ReadsOn, TakesToken, any, at_least, follows, gives, reads_on_then}
 use Rattle.just_parser.proofs.Predictive.{takes_then, then_reads_on, then_takes}
 use Rattle.just_parser.proofs.Turns.{TakesSome, many_of, many_reads_on, many_takes, repeats, takes_some}
@@ -64,12 +64,9 @@ reads_parameters = follows (many_of is_after_parameters (λ t rest us. refl) (re
 
 -- a name begins a parameter
 module _ (t : Lexeme) (is : is_kind kinds.Identifier t ≡ true) where
-  no_dollar : is_kind kinds.Dollar t ≡ false
-  no_dollar = is_not_of_kind kinds.Dollar t (λ same. let name = of_kind kinds.Identifier t is in cc)
-
   parameter_takes : TakesToken (recipe_parameter Singular) t
   unfolding recipe_parameter
-  parameter_takes = then_takes (accepted kinds.Dollar) (named_parameter Singular) t false (not_accepted kinds.Dollar t no_dollar)
+  parameter_takes = then_takes (accepted kinds.Dollar) (named_parameter Singular) t false (not_accepted kinds.Dollar t (of_one_kind kinds.Identifier kinds.Dollar t is (λ same. cc)))
       (takes_then t (any (takes_one kinds.Identifier)) (λ name. reads_after_name Singular false name) (takes_kind kinds.Identifier t is))
 
   going : (rest : Tokens) → is_after_parameters (t ∷ rest) ≡ false
@@ -207,7 +204,7 @@ unfolding recipe
 reads_recipe all = follows (accepts kinds.At) (λ quiet. (reads_after_quiet all quiet).predictive)
 
 no_at : (t : Lexeme) → is_kind kinds.Identifier t ≡ true → is_kind kinds.At t ≡ false
-no_at t is = is_not_of_kind kinds.At t (λ same. let name = of_kind kinds.Identifier t is in cc)
+no_at t is = of_one_kind kinds.Identifier kinds.At t is (λ same. cc)
 
 -- a name begins a recipe
 pub recipe_takes : (all : List WrittenAttribute) (t : Lexeme) → is_kind kinds.Identifier t ≡ true → TakesToken (recipe all) t

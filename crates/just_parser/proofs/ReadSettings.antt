@@ -25,7 +25,7 @@ use Rattle.just_parser.proofs.ReadAttributes.{reads_string}
 use Rattle.just_parser.proofs.ReadExpressions.{complete, derived, reads_expression, reads_value}
 use Rattle.just_parser.proofs.ReadForms.{IsOfStrings, reads_form, reads_string_as}
 use Rattle.just_parser.proofs.Predictive.{IsPredictive, ReadsAgain, IsRefusal, RefusesAgain, any, by_test, follows, gives, refused_at, refuses_next}
-use Rattle.just_parser.proofs.Predictive.{same_read}
+use Rattle.just_parser.proofs.Predictive.{same_read, still_refused}
 use Rattle.just_parser.proofs.ReadTokens.{Begins, after_one, begins, by_kind, ends_its_line, one_here, takes_one}
 
 -- ---- flags
@@ -169,10 +169,7 @@ module _ {A B : Type 0} (phrase : Phrase A) (one : IsPredictive 1 phrase) (made 
 
   made_refused : (us : Tokens) → IsRefusal (phrase us) → IsRefusal (made us)
   made_refused [] refused = subst IsRefusal (sym nothing) tt
-  made_refused (x ∷ us) refused = subst IsRefusal (sym (something x us)) (stays (phrase (x ∷ us)) refused) where
-    stays : (o : Parsed A) → IsRefusal o → IsRefusal (after_read o (λ a. give (make x.token a)))
-    stays (Read a ts) is = absurd is
-    stays (Refused fault ts) is = tt
+  made_refused (x ∷ us) refused = subst IsRefusal (sym (something x us)) (still_refused (phrase (x ∷ us)) (λ a. give (make x.token a)) refused)
 
   read_with : (ts : Tokens) (b : B) (t : Lexeme) (rest : Tokens) → made ts ≡ Read b (t ∷ rest) → ReadsAgain 1 made ts b t rest
   read_with [] b t rest h = absurd (cc)

@@ -4,24 +4,16 @@ use Rattle.std.proofs.Common.{◌∙◌, ap, arith, refl, subst, sym}
 use Rattle.std.proofs.lemmas.List.{append_assoc, length-append}
 use Rattle.just_lexer.specs.State.{Lexeme}
 use Rattle.just_expression_parser.specs.Tokens.{Tokens}
-use Rattle.just_parser.specs.Phrase.{Parsed, Phrase, Read, Refused, after_read, many, prepended, repeated_phrase}
+use Rattle.just_parser.specs.Phrase.{Parsed, Phrase, Read, Refused, after_read, give, many, prepended, repeated_phrase}
 use Rattle.just_parser.specs.declared.parse_error.Fault.{Fault}
 use Rattle.just_parser.proofs.Repeated.{another, ended, read_alone, refused_alone}
 use Rattle.just_parser.specs.Laws.{lookahead}
 use Rattle.just_parser.proofs.Predictive.{IsPredictive, ReadsAgain, IsRefusal, RefusesAgain, LooksAtOne, ReadsOn, TakesToken, any}
-use Rattle.just_parser.proofs.Predictive.{first_stays, no_end, not_shorter, reads_some, same_read, same_test}
+use Rattle.just_parser.proofs.Predictive.{first_stays, no_end, not_shorter, reads_some, same_read, same_test, still_refused}
 
 none_left : {A : Type 0} (ends : Tokens → Bool) (phrase : Phrase (List A)) (ts : Tokens) → repeated_phrase zero ends phrase ts ≡ Read [] ts
 unfolding repeated_phrase
 none_left ends phrase ts = refl
-
-refused_before : {A : Type 0} (front : List A) (outcome : Parsed (List A)) → IsRefusal outcome → IsRefusal (prepended front outcome)
-refused_before front (Read a ts) is = absurd is
-refused_before front (Refused fault ts) is = tt
-
-refused_after : {A B : Type 0} (outcome : Parsed A) (next : A → Phrase B) → IsRefusal outcome → IsRefusal (after_read outcome next)
-refused_after (Read a ts) next is = absurd is
-refused_after (Refused fault ts) next is = tt
 
 -- a phrase takes a token, where the end has not come
 abbrev pub TakesSome : {A : Type 0} → (Tokens → Bool) → Phrase (List A) → Type 0
@@ -93,7 +85,7 @@ module _ {A : Type 0} (ends : Tokens → Bool) (looks : LooksAtOne ends) (phrase
   refused_again ts found x mid r fault t rest s going some us zero fits alike = absurd (no_turn r.used s.front t us fits)
   refused_again ts found x mid r fault t rest s going some us (suc m) fits alike =
       let next = turn ts found x mid r s.front t rest us s.parts going some m fits in
-      subst IsRefusal (sym next.0) (refused_before found (repeated_phrase m ends phrase (s.front ++ t ∷ us)) (s.again us m next.1 alike))
+      subst IsRefusal (sym next.0) (still_refused (repeated_phrase m ends phrase (s.front ++ t ∷ us)) (λ more. give (found ++ more)) (s.again us m next.1 alike))
 
   refused_here : (ts : Tokens) (fault : Fault) (t : Lexeme) (rest : Tokens) (r : RefusesAgain phrase ts fault t rest) → ends ts ≡ false → (us : Tokens) (m : ℕ)
       → length (r.front ++ t ∷ us) ≤ m → take (lookahead fault) us ≡ take (lookahead fault) rest
@@ -102,7 +94,7 @@ module _ {A : Type 0} (ends : Tokens → Bool) (looks : LooksAtOne ends) (phrase
   refused_here ts fault t rest r going us (suc m) fits alike =
       let still : ends (r.front ++ t ∷ us) ≡ false = sym (same_test ends looks r.front t rest us) ∙ ap ends (sym r.parts) ∙ going in
       subst IsRefusal (sym (another m ends phrase (r.front ++ t ∷ us) still))
-      (refused_after (phrase (r.front ++ t ∷ us)) (λ found rest. prepended found (repeated_phrase m ends phrase rest)) (r.again us alike))
+      (still_refused (phrase (r.front ++ t ∷ us)) (λ found rest. prepended found (repeated_phrase m ends phrase rest)) (r.again us alike))
 
   -- ---- so many turns
 
