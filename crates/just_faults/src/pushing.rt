@@ -5,6 +5,7 @@ ghost use Rattle.just_faults.specs.Prelude.{module_fault_view, with_some};
 
 use just_resolution::fault::Fault;
 use just_syntax::out_of_memory::OutOfMemory;
+use just_syntax::results::push;
 
 // Adds a fault, if there is one.
 pub(crate) fn add_some<'src>(
@@ -25,8 +26,5 @@ fn add<'src>(all: &mut Vec<Fault<'src>>, fault: Fault<'src>) -> Result<(), OutOf
     ensures { OnOk result (map module_fault_view all.new.items ≡ with_some (map module_fault_view all.old.items)
         (Some (module_fault_view fault.entry))) }
 {
-    match all.push(fault) {
-        Ok(()) => Ok(()),
-        Err(_) => Err(OutOfMemory),
-    }
+    push(all, fault)
 }

@@ -5,6 +5,7 @@ ghost use Rattle.just_needs.specs.Prelude.{OfVariable, node_view, nodes_view};
 
 use just_syntax::number::Number;
 use just_syntax::out_of_memory::OutOfMemory;
+use just_syntax::results;
 use std::alloc::Global;
 use std::collections::HashSet;
 
@@ -35,10 +36,7 @@ impl<'src> Node<'src> {
 pub fn push<'src>(nodes: &mut Vec<Node<'src>>, node: &Node<'src>) -> Result<(), OutOfMemory>
     ensures { OnOk result (nodes_view nodes.new.items ≡ nodes_view nodes.old.items ++ node_view node.now ∷ []) }
 {
-    match nodes.push(node.duplicate()) {
-        Ok(()) => Ok(()),
-        Err(_) => Err(OutOfMemory),
-    }
+    results::push(nodes, node.duplicate())
 }
 
 // The variables with these numbers.

@@ -16,6 +16,7 @@ use just_syntax::number::Number;
 use just_syntax::number_set::NumberSet;
 use just_syntax::out_of_memory::OutOfMemory;
 use just_syntax::parameter::Parameter;
+use just_syntax::results::push;
 use just_syntax::table::Table;
 use just_value::scope::Scope;
 use std::alloc::Global;
@@ -104,10 +105,7 @@ fn add_number<'src>(
 ) -> Result<(), OutOfMemory>
     ensures { OnOk result (numbers.new.items ≡ numbers.old.items ++ (name.now, number) ∷ []) }
 {
-    match numbers.push((*name, number)) {
-        Ok(()) => Ok(()),
-        Err(_) => Err(OutOfMemory),
-    }
+    push(numbers, (*name, number))
 }
 
 // The first name with the number of an earlier one.

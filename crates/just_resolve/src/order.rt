@@ -14,6 +14,7 @@ use just_syntax::assignment::Assignment;
 use just_syntax::name::Name;
 use just_syntax::number::Number;
 use just_syntax::out_of_memory::OutOfMemory;
+use just_syntax::results::push;
 use just_syntax::table::Table;
 use just_value::scope::Scope;
 use std::alloc::Global;
@@ -47,7 +48,10 @@ fn in_text_order(alloc: Global, assignments: &Table<Assignment>) -> Result<Vec<N
 {
     let mut places = Vec::new(alloc);
     for assignment in assignments.iter() {
-        add_place(&mut places, assignment.name.token.offset, assignment.number)?;
+        push(
+            &mut places,
+            (assignment.name.token.offset, assignment.number),
+        )?;
     }
     places.sort_by_key(|place| place.0)?;
     numbers_at(alloc, &places)
@@ -62,20 +66,6 @@ fn numbers_at(alloc: Global, places: &[(usize, Number)]) -> Result<Vec<Number>, 
         numbers.push(*number)?;
     }
     Ok(numbers)
-}
-
-// Adds an offset with a number.
-fn add_place(
-    places: &mut Vec<(usize, Number)>,
-    offset: usize,
-    number: Number,
-) -> Result<(), OutOfMemory>
-    ensures { OnOk result (places.new.items ≡ places.old.items ++ (offset, number) ∷ []) }
-{
-    match places.push((offset, number)) {
-        Ok(()) => Ok(()),
-        Err(_) => Err(OutOfMemory),
-    }
 }
 
 // The variables that some variables reach, including themselves, in the order in which a walk from them leaves them.
@@ -128,10 +118,7 @@ pub(crate) fn names_of<'src>(
 fn add_name<'src>(names: &mut Vec<Name<'src>>, name: &Name<'src>) -> Result<(), OutOfMemory>
     ensures { OnOk result (map name_view names.new.items ≡ map name_view names.old.items ++ name_view name.now ∷ []) }
 {
-    match names.push(*name) {
-        Ok(()) => Ok(()),
-        Err(_) => Err(OutOfMemory),
-    }
+    push(names, *name)
 }
 
 // The names of assignments by their numbers.

@@ -15,6 +15,7 @@ use just_syntax::function_definition::FunctionDefinition;
 use just_syntax::name::Name;
 use just_syntax::number::Number;
 use just_syntax::out_of_memory::OutOfMemory;
+use just_syntax::results::push;
 use just_syntax::table::Table;
 use just_value::scope::Scope;
 use std::alloc::Global;
@@ -101,10 +102,7 @@ fn add_declared<'a, 'src>(
     ensures { OnOk result (map declared_view all.new.items
         ≡ map declared_view all.old.items ++ (assignment_view assignment.entry.now, number) ∷ []) }
 {
-    match all.push(Declared { assignment, number }) {
-        Ok(()) => Ok(()),
-        Err(_) => Err(OutOfMemory),
-    }
+    push(all, Declared { assignment, number })
 }
 
 // The names of assignments with their numbers.
@@ -131,10 +129,7 @@ pub(crate) fn add_pair<'src>(
     ensures { OnOk result (map parameter_view pairs.new.items
         ≡ map parameter_view pairs.old.items ++ (name_view name.now, number) ∷ []) }
 {
-    match pairs.push((*name, number)) {
-        Ok(()) => Ok(()),
-        Err(_) => Err(OutOfMemory),
-    }
+    push(pairs, (*name, number))
 }
 
 // Adds copies of assignments with their new numbers.

@@ -1,6 +1,6 @@
 // Walks over the graph of what variables and functions read, depth first.
 
-ghost use Rattle.std.specs.Prelude.{IfOk, IsTrue, MatchOption, OnOk, [], false, if◌then◌else◌, map, not, reverse};
+ghost use Rattle.std.specs.Prelude.{IfOk, IsTrue, MatchOption, OnOk, [], false, if◌then◌else◌, map, not};
 ghost use Rattle.std.specs.Prelude.{◌++◌, ◌↔◌, ◌∷◌, ◌≡◌, ◌⊎◌};
 ghost use Rattle.just_resolve.specs.Prelude.{Enter, Leave, OfVariable, PlainNode, all_entered, entered_in, graph_view};
 ghost use Rattle.just_resolve.specs.Prelude.{node_view, nodes_view, path_in, read_by, step_view, steps_in, variable_in};
@@ -11,6 +11,7 @@ use just_needs::node::Node;
 use just_needs::reached::Reached;
 use just_syntax::number::Number;
 use just_syntax::out_of_memory::OutOfMemory;
+use just_syntax::results::push;
 use std::alloc::Global;
 
 // A node that is to be entered, or one that was entered and is left after the steps above it.
@@ -126,8 +127,5 @@ fn add_step<'src>(
         ++ (if is_entered then Leave (node_view node.now) else Enter (node_view node.now)) ∷ []) }
 {
     let node = node.duplicate();
-    match steps.push(Step { node, is_entered }) {
-        Ok(()) => Ok(()),
-        Err(_) => Err(OutOfMemory),
-    }
+    push(steps, Step { node, is_entered })
 }
