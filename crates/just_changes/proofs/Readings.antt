@@ -1,8 +1,9 @@
 -- Collecting what is read, one reading after another.
-use Rattle.std.proofs.Common.{◌≡◌, ◌↔◌, ◌⊎◌, inl, inr, ⊎_elim, ℕ, Bool, true, false, List, [], ◌∷◌, Option, Some, None, ap, sym, ◌∙◌, subst}
-use Rattle.just_changes.specs.Prelude.{AmongSites, CallOf, Expr, IsOneMention, IsOneVariable, Mentions, OfFunction, OfVariable, PlainNode, Site, Text, sites_in}
-use Rattle.just_meaning.specs.Reaches.{Mention, VariableOf}
-use Rattle.just_resolution.proofs.Occurrences.{Mentioned, mentioned}
+use Rattle.std.proofs.Common.{◌≡◌, ◌↔◌, ◌⊎◌, inl, inr, ⊎_elim, ℕ, Bool, true, false, List, [], ◌∷◌, Option, Some, None, refl, ap, sym, ◌∙◌, subst}
+use Rattle.just_changes.specs.Prelude.{AmongOccurrences, CallOf, Expr, IsIn, IsNodeAt, IsOneVariable, Mentions, Occurrence, OfFunction, OfVariable, PlainNode}
+use Rattle.just_changes.specs.Prelude.{Text, mention_of, occurrences_in}
+use Rattle.just_syntax.specs.Occurrences.{CallAt, CommandAt, CommandOf, VariableAt, VariableOf}
+use Rattle.just_syntax.proofs.Occurring.{some_mentioned}
 
 -- ---- what was collected and what remains
 
@@ -61,53 +62,44 @@ variable_one own number k (OfVariable n) is h = let e : Some k ≡ Some n = sym 
 
 -- ---- what is mentioned
 
--- one more site, given the sites after it: a function that is called there
-function_by : (own : ℕ → Type 0) (ss : List Site) (t : Text) (m : Mention) → AmongSites own ss (OfFunction t) ↔ ((k : ℕ) × Mentioned ss (CallOf t k)) →
-    (IsOneMention own m (OfFunction t) ⊎ AmongSites own ss (OfFunction t)) ↔ ((k : ℕ) × ((m ≡ CallOf t k) ⊎ Mentioned ss (CallOf t k)))
-function_by own ss t (CallOf name j) rest = (
-  (λ h. ⊎_elim (λ e. (j, inl (let same : name ≡ t = cc in ap (λ (u : Text). CallOf u j) same))) (λ k. let r = rest.0 k in (r.0, inr r.1)) h),
-  (λ h. ⊎_elim (λ e. inl (let same : name ≡ t = cc in ap OfFunction same)) (λ k. inr (rest.1 (h.0, k))) h.1),
-)
-function_by own ss t (VariableOf number) rest = (
-  (λ h. ⊎_elim (λ bad. absurd bad) (λ k. let r = rest.0 k in (r.0, inr r.1)) h),
-  (λ h. ⊎_elim (λ e. absurd (let bad : VariableOf number ≡ CallOf t h.0 = e in cc)) (λ k. inr (rest.1 (h.0, k))) h.1),
-)
-
--- a function that is called at one of these sites
-function_among : (own : ℕ → Type 0) (ss : List Site) (t : Text) → AmongSites own ss (OfFunction t) ↔ ((k : ℕ) × Mentioned ss (CallOf t k))
-function_among own [] t = ((λ h. absurd h), (λ h. absurd h.1))
-function_among own (s ∷ ss) t = function_by own ss t s.mention (function_among own ss t)
-
--- one more site: a variable there that is not an own one
-variable_by : (own : ℕ → Type 0) (ss : List Site) (n : ℕ) (m : Mention) → AmongSites own ss (OfVariable n) ↔ (Mentioned ss (VariableOf (Some n)) × (own n → ⊥))
-    →
-    (IsOneMention own m (OfVariable n) ⊎ AmongSites own ss (OfVariable n)) ↔ (((m ≡ VariableOf (Some n)) ⊎ Mentioned ss (VariableOf (Some n))) × (own n → ⊥))
-variable_by own ss n (CallOf name j) rest = (
-  (λ h. ⊎_elim (λ e. absurd (let bad : OfFunction name ≡ OfVariable n = e in cc)) (λ k. let r = rest.0 k in (inr r.0, r.1)) h),
-  (λ h. ⊎_elim (λ e. absurd (let bad : CallOf name j ≡ VariableOf (Some n) = e in cc)) (λ k. inr (rest.1 (k, h.1))) h.0),
-)
-variable_by own ss n (VariableOf number) rest = (
-  (λ h. ⊎_elim (λ k. (inl (ap VariableOf k.0), k.1)) (λ k. let r = rest.0 k in (inr r.0, r.1)) h),
-  (λ h. ⊎_elim (λ e. inl (let same : number ≡ Some n = cc in same, h.1)) (λ k. inr (rest.1 (k, h.1))) h.0),
-)
-
--- a variable at one of these sites that is not an own one
-variable_among : (own : ℕ → Type 0) (ss : List Site) (n : ℕ) → AmongSites own ss (OfVariable n) ↔ (Mentioned ss (VariableOf (Some n)) × (own n → ⊥))
-variable_among own [] n = ((λ h. absurd h), (λ h. h.0))
-variable_among own (s ∷ ss) n = variable_by own ss n s.mention (variable_among own ss n)
-
--- what an expression mentions is what occurs at its sites
-pub sites_are : (own : ℕ → Type 0) (e : Expr) (x : PlainNode) → Mentions own e x ↔ AmongSites own (sites_in e) x
-sites_are own e (OfFunction t) =
-    let all = function_among own (sites_in e) t in (
-      (λ h. all.1 (h.0, (mentioned e (CallOf t h.0)).1 h.1)),
-      (λ h. let k = all.0 h in (k.0, (mentioned e (CallOf t k.0)).0 k.1)),
+-- a node that occurs at one of these occurrences
+among : (own : ℕ → Type 0) (os : List Occurrence) (x : PlainNode) → AmongOccurrences own os x ↔ ((o : Occurrence) × IsIn os o × IsNodeAt own o x)
+among own [] x = ((λ h. absurd h), (λ h. absurd h.1))
+among own (o ∷ os) x =
+    let rest = among own os x in (
+      (λ h. ⊎_elim (λ here. (o, inl refl, here)) (λ k. let r = rest.0 k in (r.0, inr r.1, r.2)) h),
+      (λ h. ⊎_elim (λ e. inl (subst (λ r. IsNodeAt own r x) (sym e) h.2)) (λ k. inr (rest.1 (h.0, k, h.2))) h.1),
     )
-sites_are own e (OfVariable n) =
-    let all = variable_among own (sites_in e) n in (
-      (λ h. all.1 ((mentioned e (VariableOf (Some n))).1 h.0, h.1)),
-      (λ h. let k = all.0 h in ((mentioned e (VariableOf (Some n))).0 k.0, k.1)),
-    )
+
+function_there : (own : ℕ → Type 0) (name : Text) (o : Occurrence) → IsNodeAt own o (OfFunction name) ↔ ((k : ℕ) × (mention_of o ≡ CallOf name k))
+function_there own name (CommandAt t text) = ((λ h. absurd h), (λ h. absurd (let bad : CommandOf text ≡ CallOf name h.0 = h.1 in cc)))
+function_there own name (CallAt t k) = (
+  (λ e. (k, let same : t.lexeme ≡ name = cc in ap (λ (u : Text). CallOf u k) same)),
+  (λ h. let is : CallOf t.lexeme k ≡ CallOf name h.0 = h.1 in let same : t.lexeme ≡ name = cc in ap OfFunction same),
+)
+function_there own name (VariableAt t number) = ((λ h. absurd h), (λ h. absurd (let bad : VariableOf number ≡ CallOf name h.0 = h.1 in cc)))
+
+variable_there : (own : ℕ → Type 0) (n : ℕ) (o : Occurrence) → IsNodeAt own o (OfVariable n) ↔ ((own n → ⊥) × (mention_of o ≡ VariableOf (Some n)))
+variable_there own n (CommandAt t text) = ((λ h. absurd h), (λ h. absurd (let bad : CommandOf text ≡ VariableOf (Some n) = h.1 in cc)))
+variable_there own n (CallAt t k) = (
+  (λ e. absurd (let bad : OfFunction t.lexeme ≡ OfVariable n = e in cc)),
+  (λ h. absurd (let bad : CallOf t.lexeme k ≡ VariableOf (Some n) = h.1 in cc)),
+)
+variable_there own n (VariableAt t number) = (
+  (λ h. (h.1, ap VariableOf h.0)),
+  (λ h. (let is : VariableOf number ≡ VariableOf (Some n) = h.1 in let same : number ≡ Some n = cc in same, h.0)),
+)
+
+-- what an expression mentions is what occurs at its occurrences
+pub occurrences_are : (own : ℕ → Type 0) (e : Expr) (x : PlainNode) → Mentions own e x ↔ AmongOccurrences own (occurrences_in e) x
+occurrences_are own e (OfFunction name) =
+    let here = among own (occurrences_in e) (OfFunction name) in
+    let called = some_mentioned (λ o. IsNodeAt own o (OfFunction name)) (λ k. CallOf name k) (function_there own name) e in
+    ((λ h. here.1 (called.1 h)), (λ h. called.0 (here.0 h)))
+occurrences_are own e (OfVariable n) =
+    let here = among own (occurrences_in e) (OfVariable n) in
+    let read = some_mentioned (λ o. IsNodeAt own o (OfVariable n)) (λ foreign. VariableOf (Some n)) (variable_there own n) e in
+    ((λ h. here.1 (read.1 (h.1, h.0))), (λ h. let m = read.0 (here.0 h) in (m.1, m.0)))
 
 -- with the same own numbers, the same is mentioned
 pub mentions_alike : (own other : ℕ → Type 0) (e : Expr) → ((n : ℕ) → other n → own n) → (x : PlainNode) → Mentions own e x → Mentions other e x

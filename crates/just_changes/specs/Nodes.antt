@@ -3,8 +3,8 @@ use Rattle.std.specs.Prelude.{◌≡◌, ◌↔◌, ◌⊎◌, ℕ, Bool, IsTrue
 use Rattle.just_syntax.specs.Plain.{Text, Assignment, Expr, Function}
 use Rattle.just_syntax.specs.Lists.{IsIn}
 use Rattle.just_value.specs.Frames.{Frames, value_in}
-use Rattle.just_meaning.specs.Reaches.{Mention, VariableOf, CallOf, IsAmong, Occurs}
-use Rattle.just_resolution.specs.Sites.{Site}
+use Rattle.just_syntax.specs.Occurrences.{CallAt, CallOf, CommandAt, Occurrence, VariableAt, VariableOf}
+use Rattle.just_meaning.specs.Reaches.{IsAmong, Occurs}
 use Rattle.just_needs.specs.Graph.{IsReadFrom, PlainNode, OfFunction, OfVariable}
 
 -- a module and its overrides: the assignment and the override of each number, and the function of each name
@@ -60,14 +60,15 @@ IsOneVariable own number (OfFunction name) = ⊥
 IsOneVariable own number (OfVariable n) = (number ≡ Some n) × (own n → ⊥)
 
 -- the node is this variable, or the called function
-abbrev pub IsOneMention : (ℕ → Type 0) → Mention → PlainNode → Type 0
-IsOneMention own (VariableOf number) x = IsOneVariable own number x
-IsOneMention own (CallOf name k) x = OfFunction name ≡ x
+abbrev pub IsNodeAt : (ℕ → Type 0) → Occurrence → PlainNode → Type 0
+IsNodeAt own (CommandAt t text) x = ⊥
+IsNodeAt own (CallAt t n) x = OfFunction t.lexeme ≡ x
+IsNodeAt own (VariableAt t number) x = IsOneVariable own number x
 
--- the node occurs at one of these sites
-abbrev pub AmongSites : (ℕ → Type 0) → List Site → PlainNode → Type 0
-AmongSites own [] x = ⊥
-AmongSites own (s ∷ ss) x = IsOneMention own s.mention x ⊎ AmongSites own ss x
+-- the node occurs at one of these occurrences
+abbrev pub AmongOccurrences : (ℕ → Type 0) → List Occurrence → PlainNode → Type 0
+AmongOccurrences own [] x = ⊥
+AmongOccurrences own (o ∷ os) x = IsNodeAt own o x ⊎ AmongOccurrences own os x
 
 -- What is touched between two versions: the nodes that differ, and the readers, in the first version, of touched nodes.
 pub record IsTouchedBetween (v u : Version) (outer : Frames) (touched : PlainNode → Bool) : Type 0 where

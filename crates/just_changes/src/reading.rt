@@ -1,22 +1,23 @@
 // What reads what in a module.
 
 ghost use Rattle.std.specs.Prelude.{IfOk, IsTrue, OnOk, ◌↔◌, ◌≡◌, ◌⊎◌};
-ghost use Rattle.just_changes.specs.Prelude.{AmongSites, AssignmentReads, FunctionReads, IsIn, IsOneMention};
+ghost use Rattle.just_changes.specs.Prelude.{AmongOccurrences, AssignmentReads, FunctionReads, IsIn, IsNodeAt};
 ghost use Rattle.just_changes.specs.Prelude.{IsOneVariable, IsWhole, Mentions, OfFunction, OfVariable, PlainNode};
 ghost use Rattle.just_changes.specs.Prelude.{ReadsItself, assignment_view, frames_view, function_view, is_number_in};
-ghost use Rattle.just_changes.specs.Prelude.{node_view, readers_of, site_view, sites_view, version_view, view};
+ghost use Rattle.just_changes.specs.Prelude.{node_view, occurrence_view, occurrences_view, readers_of, version_view};
+ghost use Rattle.just_changes.specs.Prelude.{view};
 
 use crate::readers::Readers;
 use crate::version::Version;
 use just_needs::node::Node;
 use just_resolution::numbers::own_numbers;
-use just_resolution::site::{Mention, Site};
-use just_resolution::sites::sites_in;
 use just_syntax::assignment::Assignment;
 use just_syntax::expression::Expression;
 use just_syntax::function_definition::FunctionDefinition;
 use just_syntax::name::Name;
 use just_syntax::number::Number;
+use just_syntax::occurrence::Occurrence;
+use just_syntax::occurrences::occurrences_in;
 use just_syntax::out_of_memory::OutOfMemory;
 use just_value::scope::Scope;
 use std::alloc::Global;
@@ -96,42 +97,47 @@ fn add_mentions<'src>(
         ↔ (((node_view reader.now ≡ y) × Mentions (λ n. IsTrue (is_number_in own.now n)) (view expression.now) x)
         ⊎ IsIn (readers_of readers.old x) y)) }
 {
-    let sites = sites_in(alloc, expression)?;
-    add_sites(readers, reader, own, &sites)?;
+    let occurrences = occurrences_in(alloc, expression)?;
+    add_occurrences(readers, reader, own, &occurrences)?;
     Ok(())
 }
 
-// Adds a reader of what occurs at these sites, own numbers aside.
-fn add_sites<'src>(
+// Adds a reader of these occurrences, own numbers aside.
+fn add_occurrences<'src>(
     readers: &mut Readers<'src>,
     reader: &Node<'src>,
     own: &BTreeSet<Number>,
-    sites: &[Site<'src>],
+    occurrences: &[Occurrence<'src, '_>],
 ) -> Result<(), OutOfMemory>
     ensures { OnOk result ((x y : PlainNode) → IsIn (readers_of readers.new x) y
-        ↔ (((node_view reader.now ≡ y) × AmongSites (λ n. IsTrue (is_number_in own.now n)) (sites_view sites.now) x)
+        ↔ (((node_view reader.now ≡ y) × AmongOccurrences (λ n. IsTrue (is_number_in own.now n))
+        (occurrences_view occurrences.now) x)
         ⊎ IsIn (readers_of readers.old x) y)) }
 {
-    for site in sites {
-        add_site(readers, reader, own, site)?;
+    for occurrence in occurrences {
+        add_occurrence(readers, reader, own, occurrence)?;
     }
     Ok(())
 }
 
-// Adds a reader of what occurs at a site, own numbers aside.
-fn add_site<'src>(
+// Adds a reader of an occurrence, own numbers aside.
+fn add_occurrence<'src>(
     readers: &mut Readers<'src>,
     reader: &Node<'src>,
     own: &BTreeSet<Number>,
-    site: &Site<'src>,
+    occurrence: &Occurrence<'src, '_>,
 ) -> Result<(), OutOfMemory>
     ensures { OnOk result ((x y : PlainNode) → IsIn (readers_of readers.new x) y
-        ↔ (((node_view reader.now ≡ y) × IsOneMention (λ n. IsTrue (is_number_in own.now n))
-        (site_view site.now).mention x) ⊎ IsIn (readers_of readers.old x) y)) }
+        ↔ (((node_view reader.now ≡ y) × IsNodeAt (λ n. IsTrue (is_number_in own.now n))
+        (occurrence_view occurrence.now) x) ⊎ IsIn (readers_of readers.old x) y)) }
 {
-    match site.mention {
-        Mention::Call { arguments: _ } => add_call(readers, reader, &site.name),
-        Mention::Variable { number } => add_variable(readers, reader, own, number),
+    match occurrence {
+        Occurrence::Command {
+            contents: _,
+            token: _,
+        } => Ok(()),
+        Occurrence::Call { name, arguments: _ } => add_call(readers, reader, name),
+        Occurrence::Variable { name: _, number } => add_variable(readers, reader, own, *number),
     }
 }
 

@@ -1,7 +1,8 @@
 -- All faults of a module, from those of its parts.
 use Rattle.std.proofs.Common.{◌≡◌, ◌↔◌, List, [], ◌∷◌, ◌++◌, map, refl}
 use Rattle.just_faults.specs.Prelude.{AddsFaults, AddsUnknown, AreFaults, Assignments, Frames, Function, IsFaulty, IsFirstFault, IsResolved}
-use Rattle.just_faults.specs.Prelude.{IsSound, ModuleFault, SiteOf, all_sites, name_places, number_places, numbered_assignments, numbered_parameters}
+use Rattle.just_faults.specs.Prelude.{IsSound, ModuleFault, OccurrenceOf, all_occurrences, name_places, number_places}
+use Rattle.just_faults.specs.Prelude.{numbered_assignments, numbered_parameters}
 use Rattle.just_faults.specs.Prelude.{parameter_places, places}
 use Rattle.just_resolution.proofs.Faults.{apart, sound_if_resolved}
 use Rattle.just_resolution.proofs.Finding.{not_sound}
@@ -12,15 +13,15 @@ module _ (functions : List Function) (assignments : Assignments) (outer : Frames
   pub all_of : (of_numbers of_values of_bodies all : List ModuleFault)
       → AddsFaults functions assignments outer (number_places [] (numbered_assignments assignments.all ++ numbered_parameters functions)
       ++ parameter_places (numbered_parameters functions)) [] of_numbers
-      → AddsUnknown functions (all_sites (map (λ a. a.value) assignments.all)) of_numbers of_values
-      → AddsUnknown functions (all_sites (map (λ f. f.body) functions)) of_values of_bodies
+      → AddsUnknown functions (all_occurrences (map (λ a. a.value) assignments.all)) of_numbers of_values
+      → AddsUnknown functions (all_occurrences (map (λ f. f.body) functions)) of_values of_bodies
       → AddsFaults functions assignments outer (name_places assignments [] assignments.order) of_bodies all → AreFaults functions assignments outer all
   all_of of_numbers of_values of_bodies all numbered valued embodied ordered =
       let sound = IsSound functions assignments outer in
       let faulty = IsFaulty functions assignments outer in
       all_found sound faulty (places functions assignments) all
-      (adds_both sound faulty _ _ _ _ _ numbered (adds_both sound faulty _ _ _ _ _ (adds_map sound faulty SiteOf _ _ _ valued)
-      (adds_both sound faulty _ _ _ _ _ (adds_map sound faulty SiteOf _ _ _ embodied) ordered)))
+      (adds_both sound faulty _ _ _ _ _ numbered (adds_both sound faulty _ _ _ _ _ (adds_map sound faulty OccurrenceOf _ _ _ valued)
+      (adds_both sound faulty _ _ _ _ _ (adds_map sound faulty OccurrenceOf _ _ _ embodied) ordered)))
 
   -- there is none exactly if the module is resolved
   pub none_if_resolved : {A : Type 0} (seen : A → ModuleFault) (all : List A) → AreFaults functions assignments outer (map seen all)

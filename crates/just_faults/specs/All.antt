@@ -3,9 +3,8 @@ use Rattle.std.specs.Prelude.{◌≡◌, ◌⊎◌, List, [], ◌∷◌, ◌++�
 use Rattle.just_syntax.specs.Plain.{Function}
 use Rattle.just_value.specs.Frames.{Frames}
 use Rattle.just_meaning.specs.Assignments.{Assignments}
-use Rattle.just_meaning.specs.Resolved.{IsKnown}
-use Rattle.just_resolution.specs.Fault.{CheckedPlace, IsFaulty, IsSound, ModuleFault, mention_fault, places}
-use Rattle.just_resolution.specs.Sites.{Site}
+use Rattle.just_resolution.specs.Fault.{CheckedPlace, HasFault, IsFaulty, IsKnownAt, IsSound, ModuleFault, places}
+use Rattle.just_syntax.specs.Occurrences.{Occurrence}
 
 -- these are the faults of some items, in order: one of each faulty item, and none of a sound one
 abbrev pub FindsAll : {X F : Type 0} → (X → Type 0) → (X → F → Type 0) → List X → List F → Type 0
@@ -40,7 +39,6 @@ abbrev pub AddsFaults : List Function → Assignments → Frames → List Checke
 AddsFaults functions assignments outer =
     Adds (IsSound functions assignments outer) (IsFaulty functions assignments outer)
 
--- the same for the faults of sites
-abbrev pub AddsUnknown : List Function → List Site → List ModuleFault → List ModuleFault → Type 0
-AddsUnknown functions =
-    Adds (λ s. IsKnown functions s.mention) (λ s f. mention_fault functions s.token s.mention ≡ Some f)
+-- the same for the faults of occurrences
+abbrev pub AddsUnknown : List Function → List Occurrence → List ModuleFault → List ModuleFault → Type 0
+AddsUnknown functions = Adds (IsKnownAt functions) (HasFault functions)

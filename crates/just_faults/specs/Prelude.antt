@@ -13,11 +13,12 @@ pub use Rattle.just_value.specs.View.{frames_view}
 pub use Rattle.just_resolution.specs.Admitted.{FindsMisplaced, IsAdmitted, IsNumberOf, ReadsReadable}
 pub use Rattle.just_resolution.specs.Fault.{BoundParameter, CheckedPlace, DuplicateNumber, IsFaulty, IsFirstFault}
 pub use Rattle.just_resolution.specs.Fault.{IsMisplaced, IsSound, IsTakenOrBound, MayComeNext, ModuleFault, NameOf}
-pub use Rattle.just_resolution.specs.Fault.{NumberOf, ParameterOf, ReadsUntaken, SiteOf, mention_fault, name_places}
-pub use Rattle.just_resolution.specs.Fault.{number_places, numbered_assignments, numbered_parameters, parameter_places}
-pub use Rattle.just_resolution.specs.Fault.{places, site_places}
+pub use Rattle.just_resolution.specs.Fault.{HasFault, IsKnownAt, NumberOf, OccurrenceOf, ParameterOf, ReadsUntaken}
+pub use Rattle.just_resolution.specs.Fault.{name_places, number_places, numbered_assignments, numbered_parameters}
+pub use Rattle.just_resolution.specs.Fault.{occurrence_fault, occurrence_places, parameter_places, places}
 pub use Rattle.just_resolution.specs.First.{IsFirstFaulty}
-pub use Rattle.just_resolution.specs.Seen.{is_number_taken, is_readable, module_fault_view, site_view, sites_view}
-pub use Rattle.just_resolution.specs.Sites.{Site, all_sites, sites_in}
+pub use Rattle.just_resolution.specs.Seen.{is_number_taken, is_readable, module_fault_view}
+pub use Rattle.just_syntax.specs.Occurrences.{Occurrence, all_occurrences, mention_of, occurrences_in, occurs_at}
 pub use Rattle.just_faults.specs.All.{Adds, AddsFaults, AddsUnknown, AreFaults, FindsAll, with_some}
 pub use Rattle.just_faults.specs.Passed.{IsPassed}
+pub use Rattle.just_syntax.specs.View.{occurrence_view, occurrences_view}

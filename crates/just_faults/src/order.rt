@@ -11,11 +11,11 @@ use just_resolution::fault::Fault;
 use just_resolution::order::take;
 use just_resolution::readable::Readable;
 use just_resolution::references::is_referenced;
-use just_resolution::site::Site;
 use just_syntax::assignment::Assignment;
 use just_syntax::function_definition::FunctionDefinition;
 use just_syntax::name::Name;
 use just_syntax::number::Number;
+use just_syntax::occurrence::Occurrence;
 use just_syntax::out_of_memory::OutOfMemory;
 use just_syntax::table::Table;
 use just_value::scope::Scope;
@@ -24,11 +24,11 @@ use std::collections::{BTreeSet, HashSet};
 
 // Adds a fault for each name that is no assignment's, or that of an assignment that reads what is neither taken earlier
 // nor bound outside.
-pub(crate) fn add_order_faults<'src>(
+pub(crate) fn add_order_faults<'src, 'a>(
     alloc: Global,
     all: &mut Vec<Fault<'src>>,
-    functions: &Table<FunctionDefinition<'src>>,
-    assignments: &Table<Assignment<'src>>,
+    functions: &'a Table<FunctionDefinition<'src>>,
+    assignments: &'a Table<Assignment<'src>>,
     evaluation_order: &[Name<'src>],
     outer: &Scope<'src, '_>,
     variable_references: Option<&HashSet<Number>>,
@@ -41,12 +41,12 @@ pub(crate) fn add_order_faults<'src>(
     let mut readable = Readable::new(alloc, outer, assignments.len())?;
     let mut passed = BTreeSet::new(alloc);
     let mut admitted = BTreeSet::new(alloc);
-    let mut sites = Vec::new(alloc);
+    let mut occurrences = Vec::new(alloc);
     let mut pending = Vec::new(alloc);
     for name in evaluation_order {
         let fault = take_next(
             alloc,
-            &mut sites,
+            &mut occurrences,
             &mut pending,
             functions,
             assignments,
@@ -64,12 +64,12 @@ pub(crate) fn add_order_faults<'src>(
 // Takes the assignment with a name if it is referenced, and returns the reason if it may not come next. One that passed
 // may come again. The numbers of assignments need not be distinct here, so it is the name that passes. The rest of the
 // order does not matter: the clauses use an empty one.
-fn take_next<'src>(
+fn take_next<'src, 'a>(
     alloc: Global,
-    sites: &mut Vec<Site<'src>>,
+    occurrences: &mut Vec<Occurrence<'src, 'a>>,
     pending: &mut Vec<&'src str>,
-    functions: &Table<FunctionDefinition<'src>>,
-    assignments: &Table<Assignment<'src>>,
+    functions: &'a Table<FunctionDefinition<'src>>,
+    assignments: &'a Table<Assignment<'src>>,
     variable_references: Option<&HashSet<Number>>,
     readable: &mut Readable<'src, '_, '_>,
     passed: &mut BTreeSet<&'src str>,
@@ -99,7 +99,13 @@ fn take_next<'src>(
                 return Ok(None);
             }
             let fault = take(
-                alloc, sites, pending, functions, readable, admitted, assignment,
+                alloc,
+                occurrences,
+                pending,
+                functions,
+                readable,
+                admitted,
+                assignment,
             )?;
             if fault.is_some() {
                 return Ok(fault);

@@ -17,7 +17,8 @@ use Rattle.just_meaning.specs.Internal.{IfRefused, IsFinal}
 use Rattle.just_meaning.specs.Meaning.{Program, AtLimit, eval}
 use Rattle.just_meaning.specs.Blocks.{Block, blocks_of}
 use Rattle.just_meaning.specs.Module.{Module, assigned, lexically, or_override, situation_at}
-use Rattle.just_meaning.specs.Reaches.{Mention, VariableOf, CallOf, Occurs}
+use Rattle.just_syntax.specs.Occurrences.{CallOf, CommandOf, Mention, VariableOf}
+use Rattle.just_meaning.specs.Reaches.{Occurs}
 use Rattle.just_meaning.specs.Stage.{Constants, Found, at_start, const_meaning, stage_found}
 use Rattle.just_meaning.proofs.Distinct.{distinct_front}
 use Rattle.just_interaction.proofs.Ends.{AllEnd}
@@ -124,6 +125,7 @@ module _ (m : Constants) (lists : Bool) (outer : Frames) (n : Module) (others : 
 
       same_reads : (x : Mention) → Occurs k.assignment.value x
           → ReadsAlike (UpToShut k.opened ends) (λ name. Unit {0}) (value_in (k.frame ∷ outer)) (value_in frames) x
+      same_reads (CommandOf text) h = tt
       same_reads (VariableOf None) h = tt
       same_reads (VariableOf (Some j)) h = λ t. (k.steady j h, names j h)
       same_reads (CallOf name i) h = tt

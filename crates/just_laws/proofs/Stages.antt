@@ -13,7 +13,8 @@ use Rattle.just_value.specs.Refusal.{Refusal, Const}
 use Rattle.just_value.specs.Outcome.{Outcome, Gave, Refused, Stopped, and_then}
 use Rattle.just_meaning.specs.Assignments.{assignment_at}
 use Rattle.just_meaning.specs.Module.{bound_of}
-use Rattle.just_meaning.specs.Reaches.{VariableOf, Occurs}
+use Rattle.just_syntax.specs.Occurrences.{VariableOf}
+use Rattle.just_meaning.specs.Reaches.{Occurs}
 use Rattle.just_meaning.specs.Resolved.{AreAssignments, AreDistinct, HasValue, IsResolvedConst}
 use Rattle.just_meaning.specs.Stage.{Constants, StageState, Found, after_assignment, after_outcome, at_start, const_assigned, found_later, found_here, is_due}
 use Rattle.just_meaning.specs.Stage.{stage, stage_found, with_open, with_settled}

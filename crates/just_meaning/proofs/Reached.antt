@@ -1,7 +1,8 @@
 -- What expressions reach.
 use Rattle.std.proofs.Common.{◌≡◌, ℕ, List, Some}
 use Rattle.just_syntax.specs.Plain.{Text, Function, Expr}
-use Rattle.just_meaning.specs.Reaches.{CallOf, function_at, Occurs, Reaches, Here, Later}
+use Rattle.just_syntax.specs.Occurrences.{CallOf}
+use Rattle.just_meaning.specs.Reaches.{function_at, Occurs, Reaches, Here, Later}
 
 -- what a reached function's body calls is reached
 pub reaches_on : (functions : List Function) {e : Expr} {name further : Text} (f : Function) (n : ℕ) → Reaches functions e name

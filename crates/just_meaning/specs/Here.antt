@@ -8,7 +8,8 @@ use Rattle.just_value.specs.Frames.{Frames, value_in}
 use Rattle.just_meaning.specs.Closings.{lexical}
 use Rattle.just_meaning.specs.Meaning.{Program, Situation, eval}
 use Rattle.just_meaning.specs.Parameters.{Meanings}
-use Rattle.just_meaning.specs.Reaches.{ReadsBeyond, Occurs, VariableOf}
+use Rattle.just_syntax.specs.Occurrences.{VariableOf}
+use Rattle.just_meaning.specs.Reaches.{ReadsBeyond, Occurs}
 use Rattle.just_meaning.specs.Resolved.{AllKnown, AreDistinct, HasValue, parameter_numbers}
 
 -- the program, how many calls may be pending, and the situation

@@ -7,10 +7,12 @@ use Rattle.just_value.specs.Value.{Value, Names}
 use Rattle.just_value.specs.Frames.{Frames, value_in}
 use Rattle.just_meaning.specs.Assignments.{Assignments, assignment_at}
 use Rattle.just_meaning.specs.Callee.{Accepts, callee}
-use Rattle.just_meaning.specs.Reaches.{Mention, VariableOf, CallOf, Occurs, Reads}
+use Rattle.just_syntax.specs.Occurrences.{CallOf, CommandOf, Mention, VariableOf}
+use Rattle.just_meaning.specs.Reaches.{Occurs, Reads}
 
 -- the variable has a number, or the called name takes this many arguments
 abbrev pub IsKnown : List Function → Mention → Type 0
+IsKnown functions (CommandOf text) = Unit {0}
 IsKnown functions (VariableOf None) = ⊥
 IsKnown functions (VariableOf (Some n)) = Unit {0}
 IsKnown functions (CallOf name n) = Accepts (callee functions name) n

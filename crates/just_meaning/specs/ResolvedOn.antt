@@ -4,7 +4,8 @@ use Rattle.std.specs.List.{AllByRecursion}
 use Rattle.just_syntax.specs.Plain as plain
 use Rattle.just_syntax.specs.Plain.{Expr, Interpreter, Set}
 use Rattle.just_value.specs.Frames.{value_in}
-use Rattle.just_meaning.specs.Reaches.{Occurs, VariableOf}
+use Rattle.just_syntax.specs.Occurrences.{VariableOf}
+use Rattle.just_meaning.specs.Reaches.{Occurs}
 use Rattle.just_meaning.specs.Resolved.{HasValue, IsNumbered}
 use Rattle.just_meaning.specs.Stage.{StageState}
 

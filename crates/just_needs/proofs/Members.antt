@@ -1,4 +1,4 @@
--- The members of sets after an insertion, and what is mentioned at one more site.
+-- The members of sets after an insertion, and what is mentioned at one more occurrence.
 use Rattle.std.proofs.Common.{◌≡◌, ◌↔◌, ◌⊎◌, inl, inr, ⊎_elim, ℕ, true, cond, nat_eq, List, [], ◌∷◌, ◌++◌, map, Option, Some, IsTrue, Bor, ap, sym, ◌∙◌}
 use Rattle.std.proofs.Common.{subst}
 use Rattle.std.specs.Bool.{Decides}
@@ -7,9 +7,12 @@ use Rattle.std.specs.HashSet.{HashSet, contains}
 use Rattle.std.specs.declared.hash.BuildHasherDefault.{BuildHasherDefault}
 use Rattle.std.specs.declared.hash.FoldHasher.{FoldHasher}
 use Rattle.std.proofs.lemmas.Bool.{eq-eqb, eqb-true}
+use Rattle.just_syntax.proofs.Lists.{in_map}
 use Rattle.just_syntax.proofs.Members.{added}
-use Rattle.just_needs.specs.Prelude.{IsIn, OfFunction, OfVariable, PlainNode, Site, Text, has, is_name_in, is_reached}
-use Rattle.just_meaning.specs.Reaches.{Mention}
+use Rattle.just_syntax.proofs.Occurring.{some_occurs}
+use Rattle.just_needs.specs.Prelude.{Expr, IsIn, Occurrence, Occurs, OfFunction, OfVariable, PlainNode, Text, has, is_name_in, is_reached, mention_of}
+use Rattle.just_needs.specs.Prelude.{occurrences_in}
+use Rattle.just_syntax.specs.Occurrences.{Mention}
 
 abbrev pub Numbers : Type 0
 Numbers = HashSet ℕ (BuildHasherDefault FoldHasher)
@@ -50,22 +53,32 @@ pub variable_added : (old new : Numbers) (functions : BTreeSet (Bor Text)) (k : 
 variable_added old new functions k added (OfFunction t) = apart (λ e. cc)
 variable_added old new functions k added (OfVariable n) = renamed (λ e. ap OfVariable e) (λ e. cc) (added n)
 
--- ---- what is mentioned at sites
+-- ---- what is mentioned at occurrences
 
-mentioned_more : (x : Mention) (ss : List Site) (s : Site) → IsIn (map (λ r. r.mention) (ss ++ s ∷ [])) x
-    ↔ ((s.mention ≡ x) ⊎ IsIn (map (λ r. r.mention) ss) x)
-mentioned_more x [] s = ((λ h. h), (λ h. h))
-mentioned_more x (r ∷ ss) s =
-    let rest = mentioned_more x ss s in (
+-- one of these occurrences mentions it
+abbrev pub IsMentioned : List Occurrence → Mention → Type 0
+IsMentioned os x = IsIn (map mention_of os) x
+
+-- what is mentioned at the occurrences of an expression occurs in it
+pub mentioned : (e : Expr) (x : Mention) → IsMentioned (occurrences_in e) x ↔ Occurs e x
+mentioned e x =
+    let among = in_map mention_of (occurrences_in e) x in
+    let occurs = some_occurs (λ o. mention_of o ≡ x) e in
+    ((λ h. occurs.0 (among.0 h)), (λ h. among.1 (occurs.1 h)))
+
+mentioned_more : (x : Mention) (os : List Occurrence) (o : Occurrence) → IsMentioned (os ++ o ∷ []) x ↔ ((mention_of o ≡ x) ⊎ IsMentioned os x)
+mentioned_more x [] o = ((λ h. h), (λ h. h))
+mentioned_more x (r ∷ os) o =
+    let rest = mentioned_more x os o in (
       (λ h. ⊎_elim (λ e. inr (inl e)) (λ k. ⊎_elim (λ e. inl e) (λ j. inr (inr j)) (rest.0 k)) h),
       (λ h. ⊎_elim (λ e. inr (rest.1 (inl e))) (λ k. ⊎_elim (λ e. inl e) (λ j. inr (rest.1 (inr j))) k) h),
     )
 
--- one more site
-pub mention_more : {A B : Type 0} (x : Mention) (ss next : List Site) (s : Site) → next ≡ ss ++ s ∷ [] → A ↔ IsIn (map (λ r. r.mention) ss) x
-    → B ↔ ((s.mention ≡ x) ⊎ A) → B ↔ IsIn (map (λ r. r.mention) next) x
-mention_more x ss next s is was added =
-    let more = mentioned_more x ss s in (
-      (λ b. subst (λ rs. IsIn (map (λ r. r.mention) rs) x) (sym is) (more.1 (⊎_elim (λ e. inl e) (λ a. inr (was.0 a)) (added.0 b)))),
-      (λ h. added.1 (⊎_elim (λ e. inl e) (λ k. inr (was.1 k)) (more.0 (subst (λ rs. IsIn (map (λ r. r.mention) rs) x) is h)))),
+-- one more occurrence
+pub mention_more : {A B : Type 0} (x : Mention) (os next : List Occurrence) (o : Occurrence) → next ≡ os ++ o ∷ [] → A ↔ IsMentioned os x
+    → B ↔ ((mention_of o ≡ x) ⊎ A) → B ↔ IsMentioned next x
+mention_more x os next o is was added =
+    let more = mentioned_more x os o in (
+      (λ b. subst (λ rs. IsMentioned rs x) (sym is) (more.1 (⊎_elim (λ e. inl e) (λ a. inr (was.0 a)) (added.0 b)))),
+      (λ h. added.1 (⊎_elim (λ e. inl e) (λ k. inr (was.1 k)) (more.0 (subst (λ rs. IsMentioned rs x) is h)))),
     )

@@ -3,58 +3,46 @@ use Rattle.std.proofs.Common.{◌≡◌, ◌↔◌, inl, inr, ⊎_elim, ℕ, Boo
 use Rattle.std.proofs.Common.{◌∙◌, Bor, ◌&&◌, not, option_map, if◌then◌else◌}
 use Rattle.std.specs.List.{list_any}
 use Rattle.std.proofs.lemmas.Bool.{eq-eqb, eqb-true, or_cases, or_left, or_right}
-use Rattle.just_needs.specs.Prelude.{CallOf, Expr, IsIn, Occurs, OfFunction, OfVariable, Site, Text, VariableOf, node_at, nodes_at, nodes_in, sites_in}
-use Rattle.just_needs.specs.Prelude.{Function, function_at, function_view, owns, read_by_body}
-use Rattle.just_meaning.specs.Reaches.{IsAmong, Mention}
-use Rattle.just_syntax.proofs.Lists.{in_append}
+use Rattle.just_needs.specs.Prelude.{CallOf, Expr, Function, IsIn, Occurrence, Occurs, OfFunction, OfVariable, Text, VariableOf, function_at, function_view}
+use Rattle.just_needs.specs.Prelude.{mention_of, node_at, nodes_at, nodes_in, occurrences_in, owns, read_by_body}
+use Rattle.just_syntax.specs.Occurrences.{CallAt, CommandAt, CommandOf, VariableAt}
+use Rattle.just_meaning.specs.Reaches.{IsAmong}
 use Rattle.just_syntax.proofs.Tables.{seen_at}
 use Rattle.just_syntax.specs.Keyed.{value_at}
 use Rattle.just_syntax.specs.declared.function_definition.FunctionDefinition.{FunctionDefinition}
-use Rattle.just_resolution.proofs.Occurrences.{Mentioned, mentioned}
+use Rattle.just_syntax.proofs.Occurring.{listed_mentioned}
 
 -- ---- variables
 
 variable_if : (is_followed : ℕ → Bool) (k n : ℕ) (b : Bool) → is_followed k ≡ b → IsIn (if b then OfVariable k ∷ [] else []) (OfVariable n)
-    ↔ ((VariableOf (Some k) ≡ VariableOf (Some n)) × IsTrue (is_followed n))
+    ↔ (IsTrue (is_followed n) × (VariableOf (Some k) ≡ VariableOf (Some n)))
 variable_if is_followed k n true is = (
-  (λ h. ⊎_elim (λ e. let same : k ≡ n = cc in (ap (λ j. VariableOf (Some j)) same, sym (ap is_followed same) ∙ is)) (λ bad. absurd bad) h),
-  (λ h. inl (let same : k ≡ n = cc in ap OfVariable same)),
+  (λ h. ⊎_elim (λ e. let same : k ≡ n = cc in (sym (ap is_followed same) ∙ is, ap (λ j. VariableOf (Some j)) same)) (λ bad. absurd bad) h),
+  (λ h. inl (let one : VariableOf (Some k) ≡ VariableOf (Some n) = h.1 in let same : k ≡ n = cc in ap OfVariable same)),
 )
 variable_if is_followed k n false is = (
   (λ h. absurd h),
-  (λ h. let one : VariableOf (Some k) ≡ VariableOf (Some n) = h.0 in let same : k ≡ n = cc in
-      let e : false ≡ true = sym is ∙ ap is_followed same ∙ h.1 in absurd (cc)),
+  (λ h. let one : VariableOf (Some k) ≡ VariableOf (Some n) = h.1 in let same : k ≡ n = cc in
+      let e : false ≡ true = sym is ∙ ap is_followed same ∙ h.0 in absurd (cc)),
 )
 
-variable_there : (is_followed : ℕ → Bool) (m : Mention) (n : ℕ) → IsIn (node_at is_followed m) (OfVariable n)
-    ↔ ((m ≡ VariableOf (Some n)) × IsTrue (is_followed n))
-variable_there is_followed (VariableOf None) n = ((λ h. absurd h), (λ h. let bad : VariableOf None ≡ VariableOf (Some n) = h.0 in absurd (cc)))
-variable_there is_followed (VariableOf (Some k)) n = variable_if is_followed k n (is_followed k) refl
-variable_there is_followed (CallOf name k) n = (
-  (λ h. ⊎_elim (λ bad. absurd (let e : OfFunction name ≡ OfVariable n = bad in cc)) (λ bad. absurd bad) h),
-  (λ h. let bad : CallOf name k ≡ VariableOf (Some n) = h.0 in absurd (cc)),
+variable_there : (is_followed : ℕ → Bool) (n : ℕ) (o : Occurrence) → IsIn (node_at is_followed o) (OfVariable n)
+    ↔ (IsTrue (is_followed n) × (mention_of o ≡ VariableOf (Some n)))
+variable_there is_followed n (CommandAt t text) =
+    ((λ h. absurd h), (λ h. absurd (let bad : CommandOf text ≡ VariableOf (Some n) = h.1 in cc)))
+variable_there is_followed n (CallAt t k) = (
+  (λ h. ⊎_elim (λ bad. absurd (let e : OfFunction t.lexeme ≡ OfVariable n = bad in cc)) (λ bad. absurd bad) h),
+  (λ h. absurd (let bad : CallOf t.lexeme k ≡ VariableOf (Some n) = h.1 in cc)),
 )
-
-variable_among : (is_followed : ℕ → Bool) (ss : List Site) (n : ℕ) → IsIn (nodes_at is_followed ss) (OfVariable n)
-    ↔ (Mentioned ss (VariableOf (Some n)) × IsTrue (is_followed n))
-variable_among is_followed [] n = ((λ h. absurd h), (λ h. absurd h.0))
-variable_among is_followed (s ∷ ss) n =
-    let here = variable_there is_followed s.mention n in
-    let rest = variable_among is_followed ss n in
-    let both = in_append (node_at is_followed s.mention) (nodes_at is_followed ss) (OfVariable n) in (
-      (λ h. ⊎_elim (λ k. let m = here.0 k in (inl m.0, m.1)) (λ k. let m = rest.0 k in (inr m.0, m.1)) (both.0 h)),
-      (λ h. ⊎_elim (λ k. both.1 (inl (here.1 (k, h.1)))) (λ k. both.1 (inr (rest.1 (k, h.1)))) h.0),
-    )
+variable_there is_followed n (VariableAt t None) = ((λ h. absurd h), (λ h. absurd (let bad : VariableOf None ≡ VariableOf (Some n) = h.1 in cc)))
+variable_there is_followed n (VariableAt t (Some k)) = variable_if is_followed k n (is_followed k) refl
 
 -- a variable is a node if it occurs and is followed
 pub variable_in : (is_followed : ℕ → Bool) (e : Expr) (n : ℕ) → IsIn (nodes_in is_followed e) (OfVariable n)
     ↔ (Occurs e (VariableOf (Some n)) × IsTrue (is_followed n))
 variable_in is_followed e n =
-    let all = variable_among is_followed (sites_in e) n in
-    let there = mentioned e (VariableOf (Some n)) in (
-      (λ h. let m = all.0 h in (there.0 m.0, m.1)),
-      (λ h. all.1 (there.1 h.0, h.1)),
-    )
+    let all = listed_mentioned (node_at is_followed) (OfVariable n) (λ followed. VariableOf (Some n)) (variable_there is_followed n) e in
+    ((λ h. let m = all.0 h in (m.1, m.0)), (λ h. all.1 (h.1, h.0)))
 
 -- ---- functions
 
@@ -62,44 +50,35 @@ function_if : (is_followed : ℕ → Bool) (k : ℕ) (t : Text) (b : Bool) → I
 function_if is_followed k t true h = ⊎_elim (λ bad. let e : OfVariable k ≡ OfFunction t = bad in cc) (λ bad. bad) h
 function_if is_followed k t false h = h
 
-function_there : (is_followed : ℕ → Bool) (m : Mention) (t : Text) → IsIn (node_at is_followed m) (OfFunction t) ↔ ((k : ℕ) × (m ≡ CallOf t k))
-function_there is_followed (VariableOf None) t = ((λ h. absurd h), (λ h. let bad : VariableOf None ≡ CallOf t h.0 = h.1 in absurd (cc)))
-function_there is_followed (VariableOf (Some n)) t =
-    ((λ h. absurd (function_if is_followed n t (is_followed n) h)), (λ h. let bad : VariableOf (Some n) ≡ CallOf t h.0 = h.1 in absurd (cc)))
-function_there is_followed (CallOf name k) t = (
-  (λ h. ⊎_elim (λ e. (k, let same : name ≡ t = cc in ap (λ (u : Text). CallOf u k) same)) (λ bad. absurd bad) h),
-  (λ h. inl (let is : CallOf name k ≡ CallOf t h.0 = h.1 in let same : name ≡ t = cc in ap OfFunction same)),
+function_there : (is_followed : ℕ → Bool) (name : Text) (o : Occurrence) → IsIn (node_at is_followed o) (OfFunction name)
+    ↔ ((k : ℕ) × (mention_of o ≡ CallOf name k))
+function_there is_followed name (CommandAt t text) = ((λ h. absurd h), (λ h. absurd (let bad : CommandOf text ≡ CallOf name h.0 = h.1 in cc)))
+function_there is_followed name (CallAt t k) = (
+  (λ h. ⊎_elim (λ e. (k, let same : t.lexeme ≡ name = cc in ap (λ (u : Text). CallOf u k) same)) (λ bad. absurd bad) h),
+  (λ h. inl (let is : CallOf t.lexeme k ≡ CallOf name h.0 = h.1 in let same : t.lexeme ≡ name = cc in ap OfFunction same)),
+)
+function_there is_followed name (VariableAt t None) = ((λ h. absurd h), (λ h. absurd (let bad : VariableOf None ≡ CallOf name h.0 = h.1 in cc)))
+function_there is_followed name (VariableAt t (Some n)) = (
+  (λ h. absurd (function_if is_followed n name (is_followed n) h)),
+  (λ h. absurd (let bad : VariableOf (Some n) ≡ CallOf name h.0 = h.1 in cc)),
 )
 
-function_among : (is_followed : ℕ → Bool) (ss : List Site) (t : Text) → IsIn (nodes_at is_followed ss) (OfFunction t) ↔ ((k : ℕ) × Mentioned ss (CallOf t k))
-function_among is_followed [] t = ((λ h. absurd h), (λ h. absurd h.1))
-function_among is_followed (s ∷ ss) t =
-    let here = function_there is_followed s.mention t in
-    let rest = function_among is_followed ss t in
-    let both = in_append (node_at is_followed s.mention) (nodes_at is_followed ss) (OfFunction t) in (
-      (λ h. ⊎_elim (λ k. let m = here.0 k in (m.0, inl m.1)) (λ k. let m = rest.0 k in (m.0, inr m.1)) (both.0 h)),
-      (λ h. ⊎_elim (λ k. both.1 (inl (here.1 (h.0, k)))) (λ k. both.1 (inr (rest.1 (h.0, k)))) h.1),
-    )
-
 -- a function is a node if it is called
-pub function_in : (is_followed : ℕ → Bool) (e : Expr) (t : Text) → IsIn (nodes_in is_followed e) (OfFunction t) ↔ ((k : ℕ) × Occurs e (CallOf t k))
-function_in is_followed e t =
-    let all = function_among is_followed (sites_in e) t in (
-      (λ h. let m = all.0 h in (m.0, (mentioned e (CallOf t m.0)).0 m.1)),
-      (λ h. all.1 (h.0, (mentioned e (CallOf t h.0)).1 h.1)),
-    )
+pub function_in : (is_followed : ℕ → Bool) (e : Expr) (name : Text) → IsIn (nodes_in is_followed e) (OfFunction name) ↔ ((k : ℕ) × Occurs e (CallOf name k))
+function_in is_followed e name = listed_mentioned (node_at is_followed) (OfFunction name) (λ k. CallOf name k) (function_there is_followed name) e
 
 -- ---- tests that agree
 
 -- with equal tests, the nodes are the same
-node_alike : (p q : ℕ → Bool) → ((n : ℕ) → p n ≡ q n) → (m : Mention) → node_at p m ≡ node_at q m
-node_alike p q same (VariableOf None) = refl
-node_alike p q same (VariableOf (Some n)) = ap (λ b. if b then OfVariable n ∷ [] else []) (same n)
-node_alike p q same (CallOf name k) = refl
+node_alike : (p q : ℕ → Bool) → ((n : ℕ) → p n ≡ q n) → (o : Occurrence) → node_at p o ≡ node_at q o
+node_alike p q same (CommandAt t text) = refl
+node_alike p q same (CallAt t n) = refl
+node_alike p q same (VariableAt t None) = refl
+node_alike p q same (VariableAt t (Some n)) = ap (λ b. if b then OfVariable n ∷ [] else []) (same n)
 
-pub nodes_alike : (p q : ℕ → Bool) → ((n : ℕ) → p n ≡ q n) → (ss : List Site) → nodes_at p ss ≡ nodes_at q ss
+pub nodes_alike : (p q : ℕ → Bool) → ((n : ℕ) → p n ≡ q n) → (os : List Occurrence) → nodes_at p os ≡ nodes_at q os
 nodes_alike p q same [] = refl
-nodes_alike p q same (s ∷ ss) = ap (λ ns. ns ++ nodes_at p ss) (node_alike p q same s.mention) ∙ ap (λ ns. node_at q s.mention ++ ns) (nodes_alike p q same ss)
+nodes_alike p q same (o ∷ os) = ap (λ ns. ns ++ nodes_at p os) (node_alike p q same o) ∙ ap (λ ns. node_at q o ++ ns) (nodes_alike p q same os)
 
 -- ---- sets of numbers
 
@@ -127,7 +106,7 @@ pub body_read : (o : Option Function) (f : Function) (is_followed own : ℕ → 
     → nodes_in (λ n. is_followed n && not (own n)) f.body ≡ read_by_body is_followed o
 body_read o f is_followed own found owns_if =
     nodes_alike (λ n. is_followed n && not (own n)) (λ n. is_followed n && not (owns f n))
-    (λ n. ap (λ b. is_followed n && not b) (same_test (own n) (owns f n) (owns_if n) (listed (map (λ p. p.1) f.parameters) n))) (sites_in f.body)
+    (λ n. ap (λ b. is_followed n && not b) (same_test (own n) (owns f n) (owns_if n) (listed (map (λ p. p.1) f.parameters) n))) (occurrences_in f.body)
     ∙ ap (read_by_body is_followed) (sym found)
 
 -- the result of a look-up, as plain data

@@ -4,8 +4,8 @@ use Rattle.std.specs.Prelude.{if◌then◌else◌}
 use Rattle.std.specs.List.{flat_map, list_any}
 use Rattle.just_syntax.specs.Lists.{IsIn}
 use Rattle.just_syntax.specs.Plain.{Text, Assignment, Expr, Function}
-use Rattle.just_meaning.specs.Reaches.{Mention, VariableOf, CallOf, function_at}
-use Rattle.just_resolution.specs.Sites.{Site, sites_in}
+use Rattle.just_syntax.specs.Occurrences.{CallAt, CommandAt, Occurrence, VariableAt, occurrences_in}
+use Rattle.just_meaning.specs.Reaches.{function_at}
 
 -- a variable, or a function of the file by its name
 pub data PlainNode : Type 0 where
@@ -24,17 +24,18 @@ variable_at is_followed None = []
 variable_at is_followed (Some n) = if is_followed n then OfVariable n ∷ [] else []
 
 -- the called function, or the variable if its number is followed
-abbrev pub node_at : (ℕ → Bool) → Mention → List PlainNode
-node_at is_followed (VariableOf number) = variable_at is_followed number
-node_at is_followed (CallOf name k) = OfFunction name ∷ []
+abbrev pub node_at : (ℕ → Bool) → Occurrence → List PlainNode
+node_at is_followed (CommandAt t text) = []
+node_at is_followed (CallAt t n) = OfFunction t.lexeme ∷ []
+node_at is_followed (VariableAt t number) = variable_at is_followed number
 
--- the nodes at some sites
-abbrev pub nodes_at : (ℕ → Bool) → List Site → List PlainNode
-nodes_at is_followed ss = flat_map (λ s. node_at is_followed s.mention) ss
+-- the nodes at some occurrences
+abbrev pub nodes_at : (ℕ → Bool) → List Occurrence → List PlainNode
+nodes_at is_followed os = flat_map (node_at is_followed) os
 
 -- the nodes that occur in an expression
 abbrev pub nodes_in : (ℕ → Bool) → Expr → List PlainNode
-nodes_in is_followed e = nodes_at is_followed (sites_in e)
+nodes_in is_followed e = nodes_at is_followed (occurrences_in e)
 
 -- whether the number is that of one of the function's parameters
 abbrev pub owns : Function → ℕ → Bool

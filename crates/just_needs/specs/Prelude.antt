@@ -1,8 +1,8 @@
 -- The names that the contracts and proofs of this crate share, passed on from one place. Declares nothing.
-pub use Rattle.just_meaning.specs.Reaches.{CallOf, Occurs, VariableOf, function_at}
+pub use Rattle.just_syntax.specs.Occurrences.{CallOf, Occurrence, VariableOf, mention_of, occurrences_in, occurs_at}
+pub use Rattle.just_meaning.specs.Reaches.{Occurs, function_at}
 pub use Rattle.just_meaning.specs.View.{functions_view}
-pub use Rattle.just_resolution.specs.Seen.{is_number_in, mention_view, site_view, sites_view}
-pub use Rattle.just_resolution.specs.Sites.{Site, sites_in}
+pub use Rattle.just_resolution.specs.Seen.{is_number_in}
 pub use Rattle.just_syntax.specs.Lists.{IsIn}
 pub use Rattle.just_syntax.specs.NameSet.{is_name_in}
 pub use Rattle.just_syntax.specs.NumberSet.{is_member}
@@ -18,3 +18,4 @@ pub use Rattle.just_needs.specs.Graph.{unless_overridden, values_numbered, varia
 pub use Rattle.just_needs.specs.Needed.{IsFollowed, IsNeeded, StaysResolved}
 pub use Rattle.just_needs.specs.View.{found_values, graph_nodes, graph_view, has, is_reached, node_view}
 pub use Rattle.just_needs.specs.View.{nodes_view, read_in, values_in, values_looked_up}
+pub use Rattle.just_syntax.specs.View.{occurrence_view, occurrences_view}

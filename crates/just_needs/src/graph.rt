@@ -4,19 +4,19 @@ ghost use Rattle.std.specs.Prelude.{IfOk, IsTrue, OnOk, map, not, ℕ, ◌&&◌,
 ghost use Rattle.std.specs.List.{flat_map};
 ghost use Rattle.just_needs.specs.Prelude.{IsFollowed, OfFunction, OfVariable, assignment_view, found_values};
 ghost use Rattle.just_needs.specs.Prelude.{frames_view, graph_view, is_member, is_number_in, node_at, node_view};
-ghost use Rattle.just_needs.specs.Prelude.{nodes_at, nodes_in, nodes_view, read_by, site_view, sites_view};
+ghost use Rattle.just_needs.specs.Prelude.{nodes_at, nodes_in, nodes_view, read_by, occurrence_view, occurrences_view};
 ghost use Rattle.just_needs.specs.Prelude.{values_in, values_numbered, variable_at, view};
 
 use crate::node::{Node, push};
 use crate::numbered::{Valued, by_number, followed_numbers};
 use just_host::justfile::Justfile;
 use just_resolution::numbers::own_numbers;
-use just_resolution::site::{Mention, Site};
-use just_resolution::sites::sites_in;
 use just_syntax::expression::Expression;
 use just_syntax::function_definition::FunctionDefinition;
 use just_syntax::number::Number;
 use just_syntax::number_set::NumberSet;
+use just_syntax::occurrence::Occurrence;
+use just_syntax::occurrences::occurrences_in;
 use just_syntax::out_of_memory::OutOfMemory;
 use just_syntax::table::Table;
 use just_value::scope::Scope;
@@ -143,42 +143,48 @@ fn add_nodes<'src>(
     ensures { OnOk result (nodes_view nodes.new.items ≡ nodes_view nodes.old.items
         ++ nodes_in (λ n. is_member followed.now n && not (is_number_in own.now n)) (view expression.now)) }
 {
-    let sites = sites_in(alloc, expression)?;
-    add_sites(nodes, followed, own, &sites)
+    let occurrences = occurrences_in(alloc, expression)?;
+    add_occurrences(nodes, followed, own, &occurrences)
 }
 
-// Adds the nodes at these sites, own numbers aside.
-fn add_sites<'src>(
+// Adds the nodes of these occurrences, own numbers aside.
+fn add_occurrences<'src>(
     nodes: &mut Vec<Node<'src>>,
     followed: &NumberSet,
     own: &BTreeSet<Number>,
-    sites: &[Site<'src>],
+    occurrences: &[Occurrence<'src, '_>],
 ) -> Result<(), OutOfMemory>
     ensures { OnOk result (nodes_view nodes.new.items ≡ nodes_view nodes.old.items
-        ++ nodes_at (λ n. is_member followed.now n && not (is_number_in own.now n)) (sites_view sites.now)) }
+        ++ nodes_at (λ n. is_member followed.now n && not (is_number_in own.now n))
+        (occurrences_view occurrences.now)) }
 {
-    for site in sites {
-        add_site(nodes, followed, own, site)?;
+    for occurrence in occurrences {
+        add_occurrence(nodes, followed, own, occurrence)?;
     }
     Ok(())
 }
 
-// Adds the node at a site, own numbers aside.
-fn add_site<'src>(
+// Adds the node of an occurrence, own numbers aside.
+fn add_occurrence<'src>(
     nodes: &mut Vec<Node<'src>>,
     followed: &NumberSet,
     own: &BTreeSet<Number>,
-    site: &Site<'src>,
+    occurrence: &Occurrence<'src, '_>,
 ) -> Result<(), OutOfMemory>
     ensures { OnOk result (nodes_view nodes.new.items ≡ nodes_view nodes.old.items
-        ++ node_at (λ n. is_member followed.now n && not (is_number_in own.now n)) (site_view site.now).mention) }
+        ++ node_at (λ n. is_member followed.now n && not (is_number_in own.now n))
+        (occurrence_view occurrence.now)) }
 {
-    match site.mention {
-        Mention::Call { arguments: _ } => {
-            let name = site.name.lexeme();
+    match occurrence {
+        Occurrence::Command {
+            contents: _,
+            token: _,
+        } => Ok(()),
+        Occurrence::Call { name, arguments: _ } => {
+            let name = name.lexeme();
             push(nodes, &Node::Function { name })
         }
-        Mention::Variable { number } => add_variable(nodes, followed, own, number),
+        Occurrence::Variable { name: _, number } => add_variable(nodes, followed, own, *number),
     }
 }
 

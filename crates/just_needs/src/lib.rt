@@ -1,6 +1,5 @@
 // What a run needs: the variables of an expression, and the variables that have to be evaluated for some names. It
-// builds on the definitions of `just_meaning` and on the walk over expressions of the test of resolution, and never on
-// the evaluator.
+// builds on the definitions of `just_meaning`, and never on the evaluator.
 #![tactic(auto)]
 
 pub mod graph;

@@ -2,12 +2,13 @@
 
 ghost use Rattle.std.specs.Prelude.{IfOk, IsTrue, OnOk, Some, map, nat_eq, ℕ, ◌↔◌, ◌≡◌, ◌⊎◌};
 ghost use Rattle.std.specs.List.{list_any};
-ghost use Rattle.just_needs.specs.Prelude.{IsIn, Occurs, VariableOf, has, site_view, sites_view, view};
+ghost use Rattle.just_needs.specs.Prelude.{IsIn, Occurs, VariableOf, has, mention_of, occurrence_view};
+ghost use Rattle.just_needs.specs.Prelude.{occurrences_view, view};
 
-use just_resolution::site::{Mention, Site};
-use just_resolution::sites::sites_in;
 use just_syntax::expression::Expression;
 use just_syntax::number::Number;
+use just_syntax::occurrence::Occurrence;
+use just_syntax::occurrences::occurrences_in;
 use just_syntax::out_of_memory::OutOfMemory;
 use std::alloc::Global;
 use std::collections::HashSet;
@@ -22,30 +23,30 @@ pub fn references(alloc: Global, expression: &Expression) -> Result<HashSet<Numb
     ensures { IfOk result (λ set. (n : ℕ) → IsTrue (list_any (nat_eq n) set.keys)
         ↔ Occurs (view expression.now) (VariableOf (Some n))) }
 {
-    let sites = sites_in(alloc, expression)?;
-    variables_at(alloc, &sites)
+    let occurrences = occurrences_in(alloc, expression)?;
+    variables_at(alloc, &occurrences)
 }
 
-// The numbers of the variables at these sites.
-fn variables_at(alloc: Global, sites: &[Site]) -> Result<HashSet<Number>, OutOfMemory>
+// The numbers of the variables among these occurrences.
+fn variables_at(alloc: Global, occurrences: &[Occurrence]) -> Result<HashSet<Number>, OutOfMemory>
     ensures { IfOk result (λ set. (n : ℕ) → IsTrue (has set n)
-        ↔ IsIn (map (λ s. s.mention) (sites_view sites.now)) (VariableOf (Some n))) }
+        ↔ IsIn (map mention_of (occurrences_view occurrences.now)) (VariableOf (Some n))) }
 {
     let mut variables = HashSet::new(alloc);
-    for site in sites {
-        add_variable(&mut variables, site)?;
+    for occurrence in occurrences {
+        add_variable(&mut variables, occurrence)?;
     }
     Ok(variables)
 }
 
 // Adds the number of a variable, if it is one that has a number.
-fn add_variable(variables: &mut HashSet<Number>, site: &Site) -> Result<(), OutOfMemory>
+fn add_variable(variables: &mut HashSet<Number>, occurrence: &Occurrence) -> Result<(), OutOfMemory>
     ensures { OnOk result ((n : ℕ) → IsTrue (has variables.new n)
-        ↔ (((site_view site.now).mention ≡ VariableOf (Some n)) ⊎ IsTrue (has variables.old n))) }
+        ↔ ((mention_of (occurrence_view occurrence.now) ≡ VariableOf (Some n)) ⊎ IsTrue (has variables.old n))) }
 {
-    match site.mention {
-        Mention::Call { arguments: _ } => Ok(()),
-        Mention::Variable { number } => add_number(variables, number),
+    match occurrence {
+        Occurrence::Variable { name: _, number } => add_number(variables, *number),
+        _ => Ok(()),
     }
 }
 

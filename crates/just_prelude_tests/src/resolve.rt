@@ -6,8 +6,6 @@ mod name_faults;
 
 use crate::texts::{analyzed, number_of, numbered_module, pairs, push};
 use just_host::justfile::Justfile;
-use just_resolution::site::Mention;
-use just_resolution::sites::sites_in;
 use just_resolve::names::Names;
 use just_resolve::numbered::numbered;
 use just_resolve::resolve::resolve;
@@ -16,6 +14,8 @@ use just_syntax::expression::Expression;
 use just_syntax::function_definition::FunctionDefinition;
 use just_syntax::name::Name;
 use just_syntax::number::Number;
+use just_syntax::occurrence::Occurrence;
+use just_syntax::occurrences::occurrences_in;
 use just_value::binding::Binding;
 use just_value::scope::Scope;
 use just_value::value::Value;
@@ -264,9 +264,9 @@ fn add_list(rt: &impl Abort, all: &mut String, numbers: &str) {
 // The numbers of the variables in an expression, in the order of its text.
 fn read_numbers(expression: &Expression, rt: &impl Abort, alloc: Global) -> String {
     let mut numbers = String::new(alloc);
-    for site in &sites_in(alloc, expression).expect(rt, "no memory") {
-        if let Mention::Variable { number } = site.mention {
-            add_number(rt, &mut numbers, number);
+    for occurrence in &occurrences_in(alloc, expression).expect(rt, "no memory") {
+        if let Occurrence::Variable { name: _, number } = occurrence {
+            add_number(rt, &mut numbers, *number);
         }
     }
     numbers

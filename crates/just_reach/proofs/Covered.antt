@@ -1,14 +1,12 @@
--- Each event of an evaluation comes from a member that is reached: one recursion over the forms of expression, and one
--- over the number of calls that may be pending.
-use Rattle.std.proofs.Common.{◌≡◌, inl, inr, ℕ, zero, suc, Bool, true, false, List, [], ◌∷◌, ◌++◌, if◌then◌else◌, Option, Some, None, refl, ap}
+-- Each event of an evaluation comes from a member that is reached: one recursion over the number of calls that may be
+-- pending.
+use Rattle.std.proofs.Common.{◌≡◌, ℕ, zero, suc, Bool, true, false, List, [], ◌∷◌, ◌++◌, if◌then◌else◌, Option, Some, None, refl, ap}
 use Rattle.std.proofs.Common.{subst, nat_eq, length}
 use Rattle.just_syntax.proofs.Lists.{all_in, each_in}
-use Rattle.just_syntax.specs.Plain.{Text, Token, Expr, And, Assert, AssertOnly, Backtick, Comparison, Concatenation, Conditional, ConditionalOnly, FormatString}
-use Rattle.just_syntax.specs.Plain.{Function, Group, Join, JoinOnly, ListOf, ListConcatenation, Not, Or, StringLiteral, Exprs, Nil, Cons, Pieces, NoPiece}
-use Rattle.just_syntax.specs.Plain.{Piece, count}
+use Rattle.just_syntax.specs.Plain.{Expr, Exprs, Function, Text, Token, count}
 use Rattle.just_syntax.specs.Plain as plain
 use Rattle.just_syntax.specs.Lists.{IsIn}
-use Rattle.just_value.specs.Value.{Names, Value, is_truthy}
+use Rattle.just_value.specs.Value.{Names, Value}
 use Rattle.just_value.specs.Frames.{value_in}
 use Rattle.just_host.specs.Interaction.{Asked, Checked, Event, Noted, Tree, ask, bind, done, gives}
 use Rattle.just_host.specs.Interaction as note
@@ -20,11 +18,12 @@ use Rattle.just_meaning.specs.Callee as callee
 use Rattle.just_meaning.specs.Closings.{dynamic, inside, lexical}
 use Rattle.just_meaning.specs.Meaning.{AtLimit, Deeper, Program, Row, Situation, WithinLimit, answered, as_it_is, built_in_call, called}
 use Rattle.just_meaning.specs.Meaning.{command}
-use Rattle.just_meaning.specs.Meaning.{eval, eval_pieces, eval_row, is_regex, one_text, texts_of, variable}
+use Rattle.just_meaning.specs.Meaning.{eval, eval_row, one_text, texts_of, variable}
 use Rattle.just_meaning.specs.Reaches.{function_at}
+use Rattle.just_soundness.proofs.Forms.{holds_each}
 use Rattle.just_reach.specs.Law.{ByBuiltIn, ByCommand, ComesFrom, IsAskedIn, IsScoped, Lexically, Dynamically}
-use Rattle.just_reach.specs.Member.{PlainMember, BuiltIn, Call, Command, Unknown, Variable, called_member}
-use Rattle.just_reach.specs.Reached.{OccursAt, OccursAtRow, OccursAtPieces}
+use Rattle.just_reach.specs.Member.{PlainMember, BuiltIn, Call, Command, Unknown, Variable, called_member, member_of}
+use Rattle.just_reach.specs.Reached.{OccursAt}
 use Rattle.just_reach.proofs.Asking.{IsAskedBy, IsQuestion, built_in_asks}
 use Rattle.just_reach.proofs.Calls.{defined_is}
 use Rattle.just_interaction.proofs.Events.{AllEvents, events_bind, events_if, events_path, events_traces}
@@ -119,63 +118,19 @@ module _ (c : Program) (environment : List (Text × Text)) (reached : PlainMembe
     entered t LeftOut fit = (Unknown t, fit, refl)
     entered t callee.Unknown fit = (Unknown t, fit, refl)
 
-    mutual
-      pub expression_covered : (e : Expr) → AllReached (OccursAt c.functions e) → Covers (eval c d s e)
-      expression_covered (And l r) fit =
-          covers_bind (eval c d s l) _ (expression_covered l (λ x y. fit x (inl y)))
-          (λ v. covers_if (is_truthy v) _ _ (expression_covered r (λ x y. fit x (inr y))) tt)
-      expression_covered (Assert e m t) fit =
-          covers_bind (eval c d s e) _ (expression_covered e (λ x y. fit x (inl y)))
-          (λ v. covers_if (is_truthy v) _ _ tt (covers_bind _ _ (covers_bind (eval c d s m) _ (expression_covered m (λ x y. fit x (inr y))) (λ w. tt))
-          (λ text. tt)))
-      expression_covered (AssertOnly e t) fit =
-          covers_bind (eval c d s e) _ (expression_covered e fit) (λ v. covers_if (is_truthy v) _ _ tt tt)
-      expression_covered (Backtick text t) fit = command_covered text t (fit (Command t text) refl)
-      expression_covered (plain.Call t es) fit =
-          let k = callee c.functions t.lexeme in
-          let here = fit (called_member k t) (inl refl) in
-          (entered t k here, call_covered t (count es) (eval_row c d s 0 es) k refl here (λ look h. row_covered 0 es look h (λ x y. fit x (inr y))))
-      expression_covered (Comparison l o r t) fit =
-          covers_if (is_regex o) _ _ tt (covers_bind (eval c d s l) _ (expression_covered l (λ x y. fit x (inl y)))
-          (λ v. covers_bind (eval c d s r) _ (expression_covered r (λ x y. fit x (inr y))) (λ w. tt)))
-      expression_covered (Concatenation l t r) fit =
-          covers_bind (eval c d s l) _ (expression_covered l (λ x y. fit x (inl y)))
-          (λ v. covers_bind (eval c d s r) _ (expression_covered r (λ x y. fit x (inr y))) (λ w. tt))
-      expression_covered (Conditional e a b) fit =
-          covers_bind (eval c d s e) _ (expression_covered e (λ x y. fit x (inl y)))
-          (λ v. covers_if (is_truthy v) _ _ (expression_covered a (λ x y. fit x (inr (inl y)))) (expression_covered b (λ x y. fit x (inr (inr y)))))
-      expression_covered (ConditionalOnly e a) fit =
-          covers_bind (eval c d s e) _ (expression_covered e (λ x y. fit x (inl y)))
-          (λ v. covers_if (is_truthy v) _ _ (expression_covered a (λ x y. fit x (inr y))) tt)
-      expression_covered (FormatString start pieces) fit = covers_bind (eval_pieces c d s pieces) _ (pieces_covered pieces fit) (λ text. tt)
-      expression_covered (Group e) fit = expression_covered e fit
-      expression_covered (Join l t r) fit =
-          covers_bind (eval c d s l) _ (expression_covered l (λ x y. fit x (inl y)))
-          (λ v. covers_bind (eval c d s r) _ (expression_covered r (λ x y. fit x (inr y))) (λ w. tt))
-      expression_covered (JoinOnly t r) fit = covers_bind (eval c d s r) _ (expression_covered r fit) (λ w. tt)
-      expression_covered (ListOf es t) fit = covers_bind (eval_row c d s 0 es as_it_is) _ (row_covered 0 es as_it_is (λ i v. tt) fit) (λ vs. tt)
-      expression_covered (ListConcatenation l t r) fit =
-          covers_bind (eval c d s l) _ (expression_covered l (λ x y. fit x (inl y)))
-          (λ v. covers_bind (eval c d s r) _ (expression_covered r (λ x y. fit x (inr y))) (λ w. tt))
-      expression_covered (Not e) fit = covers_bind (eval c d s e) _ (expression_covered e fit) (λ v. tt)
-      expression_covered (Or l r) fit =
-          covers_bind (eval c d s l) _ (expression_covered l (λ x y. fit x (inl y)))
-          (λ v. covers_if (is_truthy v) _ _ tt (expression_covered r (λ x y. fit x (inr y))))
-      expression_covered (StringLiteral literal) fit = tt
-      expression_covered (plain.Variable t number) fit = variable_covered t number (fit (Variable t number) refl)
-
-      row_covered : (i : ℕ) (es : Exprs) (look : ℕ → Value → Tree Value) → ((i : ℕ) (v : Value) → Covers (look i v)) → AllReached (OccursAtRow c.functions es)
-          → Covers (eval_row c d s i es look)
-      row_covered i Nil look h fit = tt
-      row_covered i (Cons e es) look h fit =
-          covers_bind _ _ (covers_bind (eval c d s e) (look i) (expression_covered e (λ x y. fit x (inl y))) (h i))
-          (λ v. covers_bind (eval_row c d s (suc i) es look) _ (row_covered (suc i) es look h (λ x y. fit x (inr y))) (λ vs. tt))
-
-      pieces_covered : (pieces : Pieces) → AllReached (OccursAtPieces c.functions pieces) → Covers (eval_pieces c d s pieces)
-      pieces_covered NoPiece fit = tt
-      pieces_covered (Piece e literal pieces) fit =
-          covers_bind (eval c d s e) _ (expression_covered e (λ x y. fit x (inl y)))
-          (λ v. covers_bind (eval_pieces c d s pieces) _ (pieces_covered pieces (λ x y. fit x (inr y))) (λ text. tt))
+    pub expression_covered : (e : Expr) → AllReached (OccursAt c.functions e) → Covers (eval c d s e)
+    expression_covered e fit =
+        holds_each (λ A t. Covers t) (λ A a. tt) (λ A B t go h k. covers_bind t go h k)
+        (record { assertion = λ message t. tt; operation = λ l o r t. tt; regex = λ t. tt }) c d s
+        (λ x o. member_of c.functions o ≡ x) reached (λ text t fit. command_covered text t (fit (Command t text) refl)) calls
+        (λ number t fit. variable_covered t number (fit (Variable t number) refl)) e fit
+      where
+        calls : (t : Token) (es : Exprs) → AllReached (λ x. called_member (callee c.functions t.lexeme) t ≡ x) → IsRowCovered (eval_row c d s 0 es)
+            → Covers (eval c d s (plain.Call t es))
+        calls t es fit rows =
+            let k = callee c.functions t.lexeme in
+            let here = fit (called_member k t) refl in
+            (entered t k here, call_covered t (count es) (eval_row c d s 0 es) k refl here rows)
 
   -- ---- bodies
 

@@ -5,6 +5,5 @@ pub mod Law
 pub mod Listed
 pub mod Reaching
 pub mod Recipe
-pub mod Rows
 pub mod Walk
 pub mod Work

@@ -3,7 +3,8 @@ use Rattle.std.proofs.Common.{◌≡◌, ◌↔◌, ◌⊎◌, inl, inr, ⊎_eli
 use Rattle.just_syntax.specs.Plain.{Text, Assignment, Function, Expr}
 use Rattle.just_syntax.specs.Lists.{IsIn}
 use Rattle.just_meaning.proofs.Reached.{reaches_on}
-use Rattle.just_meaning.specs.Reaches.{CallOf, Reaches, Here, Later, Occurs, function_at}
+use Rattle.just_syntax.specs.Occurrences.{CallOf}
+use Rattle.just_meaning.specs.Reaches.{Reaches, Here, Later, Occurs, function_at}
 use Rattle.just_reach.specs.Member.{PlainMember, Call}
 use Rattle.just_reach.specs.Members.{members, members_of_value, members_of_values}
 use Rattle.just_reach.specs.Reached.{InBody, IsReached, IsReachedByOne, IsReachedFrom, IsReachedInRun, OccursAt, Starts}

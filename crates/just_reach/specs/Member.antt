@@ -1,9 +1,10 @@
 -- What evaluation may reach, as plain data.
-use Rattle.std.specs.Prelude.{ℕ, ◌++◌, Option, codes}
-use Rattle.just_syntax.specs.Plain.{Text, Token}
+use Rattle.std.specs.Prelude.{ℕ, ◌++◌, List, Option, codes}
+use Rattle.just_syntax.specs.Plain.{Function, Text, Token}
+use Rattle.just_syntax.specs.Occurrences.{CallAt, CommandAt, Occurrence, VariableAt}
 use Rattle.just_builtins.specs.declared.function.Function as built_in
 use Rattle.just_meaning.specs.Callee as callee
-use Rattle.just_meaning.specs.Callee.{Callee}
+use Rattle.just_meaning.specs.Callee.{Callee, callee}
 
 -- a call of a built-in function, of a function that the file defines, or of a name that stands for neither; a command
 -- with its text; a variable with its number, if it has one
@@ -20,6 +21,12 @@ called_member (callee.Defined f) t = Call t
 called_member (callee.BuiltIn f) t = BuiltIn t f
 called_member callee.LeftOut t = Unknown t
 called_member callee.Unknown t = Unknown t
+
+-- what occurs in an expression of a file with these functions
+abbrev pub member_of : List Function → Occurrence → PlainMember
+member_of functions (CommandAt t text) = Command t text
+member_of functions (CallAt t n) = called_member (callee functions t.lexeme) t
+member_of functions (VariableAt t number) = Variable t number
 
 -- where it occurs
 abbrev pub member_token : PlainMember → Token

@@ -1,59 +1,19 @@
 -- The members that occur in expressions, as lists.
 use Rattle.std.specs.Prelude.{◌≡◌, ℕ, ◌+◌, ◌≤◌, Bool, List, [], ◌∷◌, ◌++◌, length, Option, Some, None, if◌then◌else◌}
 use Rattle.std.specs.List.{flat_map}
-use Rattle.just_syntax.specs.Plain.{Text, Token, Assignment, Function, Expr, And, Assert, AssertOnly, Backtick}
-use Rattle.just_syntax.specs.Plain.{Comparison, Concatenation, Conditional, ConditionalOnly, FormatString, Group, Join}
-use Rattle.just_syntax.specs.Plain.{JoinOnly, ListOf, ListConcatenation, Not, Or, StringLiteral, Exprs, Nil, Cons}
-use Rattle.just_syntax.specs.Plain.{Pieces, NoPiece, Piece}
-use Rattle.just_syntax.specs.Plain as plain
-use Rattle.just_meaning.specs.Callee.{callee}
+use Rattle.just_syntax.specs.Plain.{Text, Assignment, Function, Expr}
+use Rattle.just_syntax.specs.Occurrences.{Occurrence, occurrences_in}
 use Rattle.just_meaning.specs.Reaches.{function_at}
-use Rattle.just_reach.specs.Member.{PlainMember, Call, Command, Variable, called_member}
+use Rattle.just_reach.specs.Member.{PlainMember, Call, member_of}
 
--- these members, and then a call
-abbrev pub with_call : List Function → List PlainMember → Token → List PlainMember
-with_call functions ms t = ms ++ called_member (callee functions t.lexeme) t ∷ []
+-- these members, and one for each occurrence
+abbrev pub with_members : List Function → List PlainMember → List Occurrence → List PlainMember
+with_members functions ms [] = ms
+with_members functions ms (o ∷ os) = with_members functions (ms ++ member_of functions o ∷ []) os
 
 -- these members, and then those in an expression, in the order of its text
-abbrev mutual
-  pub members : List Function → List PlainMember → Expr → List PlainMember
-  members functions ms (And l r) = members functions (members functions ms l) r
-  members functions ms (Assert e m t) = members functions (members functions ms e) m
-  members functions ms (AssertOnly e t) = members functions ms e
-  members functions ms (Backtick text t) = ms ++ Command t text ∷ []
-  members functions ms (plain.Call t es) = members_of_row functions (with_call functions ms t) es
-  members functions ms (Comparison l o r t) = members functions (members functions ms l) r
-  members functions ms (Concatenation l t r) = members functions (members functions ms l) r
-  members functions ms (Conditional e a b) = members functions (members functions (members functions ms e) a) b
-  members functions ms (ConditionalOnly e a) = members functions (members functions ms e) a
-  members functions ms (FormatString start pieces) = members_of_pieces functions ms pieces
-  members functions ms (Group e) = members functions ms e
-  members functions ms (Join l t r) = members functions (members functions ms l) r
-  members functions ms (JoinOnly t r) = members functions ms r
-  members functions ms (ListOf es t) = members_of_row functions ms es
-  members functions ms (ListConcatenation l t r) = members functions (members functions ms l) r
-  members functions ms (Not e) = members functions ms e
-  members functions ms (Or l r) = members functions (members functions ms l) r
-  members functions ms (StringLiteral literal) = ms
-  members functions ms (plain.Variable t number) = ms ++ Variable t number ∷ []
-
-  pub members_of_row : List Function → List PlainMember → Exprs → List PlainMember
-  members_of_row functions ms Nil = ms
-  members_of_row functions ms (Cons e es) = members_of_row functions (members functions ms e) es
-
-  pub members_of_pieces : List Function → List PlainMember → Pieces → List PlainMember
-  members_of_pieces functions ms NoPiece = ms
-  members_of_pieces functions ms (Piece e literal pieces) =
-      members_of_pieces functions (members functions ms e) pieces
-
--- the same for an optional expression
-abbrev pub members_of_some : List Function → List PlainMember → Option Expr → List PlainMember
-members_of_some functions ms None = ms
-members_of_some functions ms (Some e) = members functions ms e
-
--- the same for a call
-abbrev pub members_of_call : List Function → List PlainMember → Token → Exprs → List PlainMember
-members_of_call functions ms t es = members_of_row functions (with_call functions ms t) es
+abbrev pub members : List Function → List PlainMember → Expr → List PlainMember
+members functions ms e = with_members functions ms (occurrences_in e)
 
 -- the same for the body of a function, if there is one
 abbrev pub members_of_body : List Function → List PlainMember → Option Function → List PlainMember

@@ -14,6 +14,7 @@ use just_syntax::assignment::Assignment;
 use just_syntax::expression::Expression;
 use just_syntax::function_definition::FunctionDefinition;
 use just_syntax::number::Number;
+use just_syntax::occurrence::Occurrence;
 use just_syntax::out_of_memory::OutOfMemory;
 use just_syntax::table::Table;
 use std::alloc::Global;
@@ -53,8 +54,9 @@ pub fn reach<'src, 'a>(
         IfOk result (λ all. HasBodiesOnce known (members_in known (view expression.now)) (members_view all.items)) }
 {
     let mut all = Vec::new(alloc);
-    add(&mut all, functions, expression)?;
-    add_bodies(alloc, &mut all, functions)?;
+    let mut occurrences = Vec::new(alloc);
+    add(&mut all, &mut occurrences, functions, expression)?;
+    add_bodies(alloc, &mut all, &mut occurrences, functions)?;
     Ok(all)
 }
 
@@ -83,14 +85,23 @@ pub fn reach_of_run<'src, 'a>(
         (members_view all.items)) }
 {
     let mut all = Vec::new(alloc);
-    add_values(&mut all, &module.functions, &module.assignments, references)?;
-    add_bodies(alloc, &mut all, &module.functions)?;
+    let mut occurrences = Vec::new(alloc);
+    let functions = &module.functions;
+    add_values(
+        &mut all,
+        &mut occurrences,
+        functions,
+        &module.assignments,
+        references,
+    )?;
+    add_bodies(alloc, &mut all, &mut occurrences, functions)?;
     Ok(all)
 }
 
-// Adds what occurs in the values of the referenced assignments.
+// Adds what occurs in the values of the referenced assignments. `occurrences` is filled anew for each, here and below.
 fn add_values<'src, 'a>(
     all: &mut Vec<Member<'src, 'a>>,
+    occurrences: &mut Vec<Occurrence<'src, 'a>>,
     functions: &'a Table<FunctionDefinition<'src>>,
     assignments: &'a Table<Assignment<'src>>,
     references: Option<&HashSet<Number>>,
@@ -99,7 +110,7 @@ fn add_values<'src, 'a>(
         (is_referenced_in references.entry) (members_view all.old.items) (map assignment_view assignments.now)) }
 {
     for assignment in assignments {
-        add_value(all, functions, assignment, references)?;
+        add_value(all, occurrences, functions, assignment, references)?;
     }
     Ok(())
 }
@@ -107,6 +118,7 @@ fn add_values<'src, 'a>(
 // Adds what occurs in the value of an assignment, if it is referenced.
 fn add_value<'src, 'a>(
     all: &mut Vec<Member<'src, 'a>>,
+    occurrences: &mut Vec<Occurrence<'src, 'a>>,
     functions: &'a Table<FunctionDefinition<'src>>,
     assignment: &'a Assignment<'src>,
     references: Option<&HashSet<Number>>,
@@ -115,7 +127,7 @@ fn add_value<'src, 'a>(
         (is_referenced_in references.entry) (members_view all.old.items) (assignment_view assignment.now)) }
 {
     if is_referenced(references, assignment.number) {
-        add(all, functions, &assignment.value)
+        add(all, occurrences, functions, &assignment.value)
     } else {
         Ok(())
     }
@@ -135,6 +147,7 @@ fn is_referenced(references: Option<&HashSet<Number>>, number: Number) -> bool
 fn add_bodies<'src, 'a>(
     alloc: Global,
     all: &mut Vec<Member<'src, 'a>>,
+    occurrences: &mut Vec<Occurrence<'src, 'a>>,
     functions: &'a Table<FunctionDefinition<'src>>,
 ) -> Result<(), OutOfMemory>
     ensures exact { OnOk result ((x : PlainMember) → IsIn (members_view all.new.items) x
@@ -155,7 +168,7 @@ fn add_bodies<'src, 'a>(
         if !is_new {
             continue;
         }
-        add_body(all, functions, name)?;
+        add_body(all, occurrences, functions, name)?;
     }
     Ok(())
 }
@@ -173,6 +186,7 @@ fn called_name<'src>(member: &Member<'src, '_>) -> Option<&'src str>
 // Adds what occurs in the body of the function with a name, if the file defines one.
 fn add_body<'src, 'a>(
     all: &mut Vec<Member<'src, 'a>>,
+    occurrences: &mut Vec<Occurrence<'src, 'a>>,
     functions: &'a Table<FunctionDefinition<'src>>,
     name: &str,
 ) -> Result<(), OutOfMemory>
@@ -180,7 +194,7 @@ fn add_body<'src, 'a>(
         ≡ members_of_body known (members_view all.old.items) (function_at known name.now)) }
 {
     match functions.get(name) {
-        Some(function) => add(all, functions, &function.body),
+        Some(function) => add(all, occurrences, functions, &function.body),
         None => Ok(()),
     }
 }

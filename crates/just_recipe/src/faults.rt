@@ -10,9 +10,9 @@ ghost use Rattle.just_syntax.specs.View.{function_view};
 use crate::expressions::{Part, expressions_of};
 use crate::numbered_recipe::NumberedRecipe;
 use just_resolution::fault::Fault;
-use just_resolution::known::site_fault;
-use just_resolution::sites::sites_in;
+use just_resolution::known::occurrence_fault;
 use just_syntax::function_definition::FunctionDefinition;
+use just_syntax::occurrences::occurrences_in;
 use just_syntax::out_of_memory::OutOfMemory;
 use just_syntax::results::push;
 use just_syntax::table::Table;
@@ -49,8 +49,8 @@ fn add_faults<'src>(
     ensures { OnOk result (map module_fault_view faults.new.items ≡ map module_fault_view faults.old.items
         ++ expression_faults (map function_view functions.now) (part_view part.now)) }
 {
-    for site in &sites_in(alloc, part.expression)? {
-        if let Some(fault) = site_fault(functions, site) {
+    for occurrence in &occurrences_in(alloc, part.expression)? {
+        if let Some(fault) = occurrence_fault(functions, occurrence) {
             push(faults, fault)?;
         }
     }

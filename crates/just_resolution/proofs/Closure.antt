@@ -3,7 +3,7 @@ use Rattle.std.proofs.Common.{◌≡◌, ◌↔◌, ◌⊎◌, inl, inr, ⊎_eli
 use Rattle.std.proofs.Common.{Some, None, refl, ap, sym, ◌∙◌, subst, arith, IsTrue, IsSome, is_some, Bor, length-append, option_to_list}
 use Rattle.std.proofs.lemmas.List.{map-append}
 use Rattle.just_resolution.specs.Prelude.{CallOf, Expr, FindsBeyond, FindsBody, FindsUnreadable, Function, IsAdmitted, IsAmong, IsIn, Occurs, ReadsWithin, Text}
-use Rattle.just_resolution.specs.Prelude.{Token, VariableOf, called_names, calls_of, function_at, sites_in, texts}
+use Rattle.just_resolution.specs.Prelude.{Token, VariableOf, called_names, calls_of, function_at, occurrences_in, texts}
 use Rattle.std.specs.Str.{bytes_eq}
 use Rattle.std.proofs.lemmas.Bool.{or_cases, or_left, or_right}
 use Rattle.std.proofs.lemmas.Slice.Eq.{bytes_eq-Decides}
@@ -35,7 +35,7 @@ own_out own readable off h = subst (λ b. (b || readable) ≡ true) off h
 
 -- what is found in the body of a function that a look-up found
 pub body_found : (o : Option Function) (f : Function) (own readable : ℕ → Bool) (r : Option Token) → o ≡ Some f
-    → ((n : ℕ) → IsTrue (own n) ↔ IsAmong f.parameters n) → FindsUnreadable (λ n. IsTrue (own n || readable n)) (sites_in f.body) r →
+    → ((n : ℕ) → IsTrue (own n) ↔ IsAmong f.parameters n) → FindsUnreadable (λ n. IsTrue (own n || readable n)) (occurrences_in f.body) r →
     FindsBody o (λ n. IsTrue (readable n)) r
 body_found o f own readable r found owns h =
     subst (λ (p : Option Function). FindsBody p (λ n. IsTrue (readable n)) r) (sym found)
@@ -43,7 +43,7 @@ body_found o f own readable r found owns h =
     (λ n. (
       (λ k. ⊎_elim (λ mine. inl ((owns n).0 mine)) (λ other. inr other) (or_cases (own n) (readable n) k)),
       (λ k. ⊎_elim (λ mine. or_left (own n) (readable n) ((owns n).1 mine)) (λ other. or_right (own n) (readable n) other) k),
-    )) (sites_in f.body) r h)
+    )) (occurrences_in f.body) r h)
 
 -- nothing is found in a function's body: it reads only its parameters and what is readable
 pub body_reads : (o : Option Function) (readable : ℕ → Bool) (r : Option Token) → is_some r ≡ false → FindsBody o (λ n. IsTrue (readable n)) r → (f : Function)
@@ -65,7 +65,7 @@ module _ (functions : List Function) where
     ReadsOnlyReadable = ReadsWithin functions e here readable
 
     -- at the start nothing more is admitted, and what the expression calls is pending
-    pub begins : (admitted : Text → Bool) (pending : List Text) → IsAdmitted functions readable admitted → pending ≡ called_names (sites_in e)
+    pub begins : (admitted : Text → Bool) (pending : List Text) → IsAdmitted functions readable admitted → pending ≡ called_names (occurrences_in e)
         → ((n : ℕ) → Occurs e (VariableOf (Some n)) → IsTrue (here n)) → IsWalked functions e here readable admitted pending
     begins admitted pending closed is own = record {
       start = λ name n s. inr (subst (λ names. IsIn names name) (sym is) ((all_called e name).1 (n, s)));
@@ -77,18 +77,18 @@ module _ (functions : List Function) where
 
     -- what is found in the expression itself
     pub found_at_once : (own : ℕ → Bool) (r : Option Token) → is_some r ≡ true → ((n : ℕ) → own n ≡ false)
-        → FindsUnreadable (λ n. IsTrue (own n || here n)) (sites_in e) r → FindsBeyond functions e here readable r
+        → FindsUnreadable (λ n. IsTrue (own n || here n)) (occurrences_in e) r → FindsBeyond functions e here readable r
     found_at_once own r some none h = by r some
         (unreadable_alike (λ n. IsTrue (own n || here n)) (λ n. IsTrue (here n))
-        (λ n. ((λ k. own_out (own n) (here n) (none n) k), (λ k. or_right (own n) (here n) k))) (sites_in e) r h)
+        (λ n. ((λ k. own_out (own n) (here n) (none n) k), (λ k. or_right (own n) (here n) k))) (occurrences_in e) r h)
       where
-        by : (q : Option Token) → is_some q ≡ true → FindsUnreadable (λ n. IsTrue (here n)) (sites_in e) q → FindsBeyond functions e here readable q
+        by : (q : Option Token) → is_some q ≡ true → FindsUnreadable (λ n. IsTrue (here n)) (occurrences_in e) q → FindsBeyond functions e here readable q
         by None some_q k = absurd (let bad : false ≡ true = some_q in cc)
         by (Some v) some_q k = inl k
 
     -- nothing is found in the expression itself
     pub reads_at_once : (own : ℕ → Bool) (r : Option Token) → is_some r ≡ false → ((n : ℕ) → own n ≡ false)
-        → FindsUnreadable (λ n. IsTrue (own n || here n)) (sites_in e) r → (n : ℕ) → Occurs e (VariableOf (Some n)) → IsTrue (here n)
+        → FindsUnreadable (λ n. IsTrue (own n || here n)) (occurrences_in e) r → (n : ℕ) → Occurs e (VariableOf (Some n)) → IsTrue (here n)
     reads_at_once own r nothing none h n s = own_out (own n) (here n) (none n) (reads_all (λ k. IsTrue (own k || here k)) e r nothing h n s)
 
     -- what is found in the body of a reached function
@@ -179,7 +179,7 @@ module _ (functions : List Function) where
 -- for each function that is not admitted: one, and the number of its calls
 abbrev pub work : List Function → (Text → Bool) → ℕ
 work [] admitted = 0
-work (f ∷ fs) admitted = cond (admitted f.name.lexeme) 0 (suc (length (called_names (sites_in f.body)))) + work fs admitted
+work (f ∷ fs) admitted = cond (admitted f.name.lexeme) 0 (suc (length (called_names (occurrences_in f.body)))) + work fs admitted
 
 module _ (admitted next : Text → Bool) (kept : (t : Text) → IsTrue (admitted t) → IsTrue (next t)) where
   part_kept : (a b : Bool) (w : ℕ) → (IsTrue a → IsTrue b) → cond b 0 w ≤ cond a 0 w
@@ -191,7 +191,7 @@ module _ (admitted next : Text → Bool) (kept : (t : Text) → IsTrue (admitted
   pub work_kept : (fs : List Function) → work fs next ≤ work fs admitted
   work_kept [] = omega arith
   work_kept (f ∷ fs) =
-      let here = part_kept (admitted f.name.lexeme) (next f.name.lexeme) (suc (length (called_names (sites_in f.body)))) (kept f.name.lexeme) in
+      let here = part_kept (admitted f.name.lexeme) (next f.name.lexeme) (suc (length (called_names (occurrences_in f.body)))) (kept f.name.lexeme) in
       let rest = work_kept fs in
       omega (arith, here, rest)
 
@@ -202,24 +202,25 @@ module _ (admitted next : Text → Bool) (kept : (t : Text) → IsTrue (admitted
 
   -- one more function is admitted
   work_falls : (fs : List Function) (name : Text) (f : Function) → function_at fs name ≡ Some f → admitted name ≡ false → next name ≡ true →
-      work fs next + suc (length (called_names (sites_in f.body))) ≤ work fs admitted
+      work fs next + suc (length (called_names (occurrences_in f.body))) ≤ work fs admitted
   work_falls [] name f found off on = absurd (cc)
   work_falls (g ∷ gs) name f found off on = by (bytes_eq name g.name.lexeme) refl found (λ later. work_falls gs name f later off on)
     where
       by : (b : Bool) → bytes_eq name g.name.lexeme ≡ b → cond b (Some g) (function_at gs name) ≡ Some f →
-          (function_at gs name ≡ Some f → work gs next + suc (length (called_names (sites_in f.body))) ≤ work gs admitted)
-          → work (g ∷ gs) next + suc (length (called_names (sites_in f.body))) ≤ work (g ∷ gs) admitted
+          (function_at gs name ≡ Some f → work gs next + suc (length (called_names (occurrences_in f.body))) ≤ work gs admitted)
+          → work (g ∷ gs) next + suc (length (called_names (occurrences_in f.body))) ≤ work (g ∷ gs) admitted
       by true e is again =
           let key : name ≡ g.name.lexeme = (bytes_eq-Decides name g.name.lexeme).0 e in
           let same : g ≡ f = cc in
-          let here = part_falls (admitted g.name.lexeme) (next g.name.lexeme) (suc (length (called_names (sites_in g.body)))) (ap admitted (sym key) ∙ off)
+          let calls = suc (length (called_names (occurrences_in g.body))) in
+          let here = part_falls (admitted g.name.lexeme) (next g.name.lexeme) calls (ap admitted (sym key) ∙ off)
           (ap next (sym key) ∙ on) in
           let rest = work_kept gs in
-          let size : length (called_names (sites_in g.body)) ≡ length (called_names (sites_in f.body)) =
-          ap (λ (h : Function). length (called_names (sites_in h.body))) same in
+          let size : length (called_names (occurrences_in g.body)) ≡ length (called_names (occurrences_in f.body)) =
+          ap (λ (h : Function). length (called_names (occurrences_in h.body))) same in
           omega (arith, here, rest, size)
       by false e is again =
-          let here = part_kept (admitted g.name.lexeme) (next g.name.lexeme) (suc (length (called_names (sites_in g.body)))) (kept g.name.lexeme) in
+          let here = part_kept (admitted g.name.lexeme) (next g.name.lexeme) (suc (length (called_names (occurrences_in g.body)))) (kept g.name.lexeme) in
           let rest = again is in
           omega (arith, here, rest)
 

@@ -1,11 +1,11 @@
 -- What a search decides.
 use Rattle.std.proofs.Common.{◌≡◌, ◌↔◌, ℕ, Bool, true, false, List, [], map, Option, Some, None, is_some, not, option_map, refl, ap, sym, ◌∙◌, IsTrue}
 use Rattle.just_resolution.specs.Prelude.{AllKnown, AreAssignments, AreDistinct, AreInOrder, Assignments, BoundParameter, Expr, Finds, FindsBeyond, FindsBound}
-use Rattle.just_resolution.specs.Prelude.{FindsUnknown, Frames, Function, HasValue, IsFaulty, IsIn, IsKnown, IsSound, Mention, ModuleFault, Occurs, ReadsWithin}
-use Rattle.just_resolution.specs.Prelude.{Token, all_sites, mention_fault, name_places, number_places, sites_in, value_in}
+use Rattle.just_resolution.specs.Prelude.{FindsUnknown, Frames, Function, HasFault, HasValue, IsFaulty, IsIn, IsKnown, IsKnownAt, IsSound, Mention, ModuleFault}
+use Rattle.just_resolution.specs.Prelude.{Occurs, ReadsWithin, Token, all_occurrences, name_places, number_places, occurrences_in, value_in}
 use Rattle.just_resolution.proofs.Faults.{all_distinct, apart, names_if, unbound_if, unreadable_apart}
 use Rattle.just_resolution.proofs.Finding.{finds_none, some_seen}
-use Rattle.just_resolution.proofs.Occurrences.{fault_unknown, known_all, sound_occurs}
+use Rattle.just_resolution.proofs.Occurrences.{fault_unknown, known_all, known_in}
 
 -- ---- answers
 
@@ -54,20 +54,20 @@ module _ {A : Type 0} (seen : A → ModuleFault) (o : Option A) where
       (option_map seen o) found)
       (unbound_if outer ps))
 
-  pub known_decided : (functions : List Function) (e : Expr) → FindsUnknown functions (sites_in e) (option_map seen o) → (is_some o ≡ false)
+  pub known_decided : (functions : List Function) (e : Expr) → FindsUnknown functions (occurrences_in e) (option_map seen o) → (is_some o ≡ false)
       ↔ ((x : Mention) → Occurs e x → IsKnown functions x)
   known_decided functions e found =
       through (as_seen seen o) (through
-      (finds_none (λ s. IsKnown functions s.mention) (λ s f. mention_fault functions s.token s.mention ≡ Some f)
-      (λ s f. fault_unknown functions s.token s.mention f) (sites_in e) (option_map seen o) found)
-      (sound_occurs (IsKnown functions) e))
+      (finds_none (IsKnownAt functions) (HasFault functions)
+      (fault_unknown functions) (occurrences_in e) (option_map seen o) found)
+      (known_in functions e))
 
-  pub all_known_decided : (functions : List Function) (es : List Expr) → FindsUnknown functions (all_sites es) (option_map seen o) → (is_some o ≡ false)
+  pub all_known_decided : (functions : List Function) (es : List Expr) → FindsUnknown functions (all_occurrences es) (option_map seen o) → (is_some o ≡ false)
       ↔ AllKnown functions es
   all_known_decided functions es found =
       through (as_seen seen o) (through
-      (finds_none (λ s. IsKnown functions s.mention) (λ s f. mention_fault functions s.token s.mention ≡ Some f)
-      (λ s f. fault_unknown functions s.token s.mention f) (all_sites es) (option_map seen o) found)
+      (finds_none (IsKnownAt functions) (HasFault functions)
+      (fault_unknown functions) (all_occurrences es) (option_map seen o) found)
       (known_all functions es))
 
   pub order_decided : (functions : List Function) (assignments : Assignments) (outer : Frames) (order : List Token) →

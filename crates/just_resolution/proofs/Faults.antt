@@ -7,43 +7,45 @@ use Rattle.std.proofs.lemmas.List.{map-append}
 use Rattle.std.proofs.lemmas.Map.Iter.{rest_more}
 use Rattle.std.specs.Map.Iter.{TakesFirst, deref}
 use Rattle.just_resolution.specs.Prelude.{AreAssignments, AreDistinct, AreInOrder, Assignment, Assignments, BoundParameter, Expr, Finds, FindsUnknown, Frames}
-use Rattle.just_resolution.specs.Prelude.{Function, HasValue, IsAmong, IsFaulty, IsFirstFault, IsIn, IsKnown, IsMisplaced, IsResolved, IsSound, IsUnreadable}
-use Rattle.just_resolution.specs.Prelude.{MayBeRead, MayComeNext, ModuleFault, NameOf, NumberOf, Occurs, Parameter, ParameterOf, Site, Token, VariableOf}
-use Rattle.just_resolution.specs.Prelude.{all_sites, assignment_at, mention_fault, name_places, number_places, numbered_assignments, numbered_parameters}
-use Rattle.just_resolution.specs.Prelude.{parameter_numbers, parameter_places, sites_in, value_in, with_taken}
+use Rattle.just_resolution.specs.Prelude.{Function, HasFault, HasValue, IsAmong, IsFaulty, IsFirstFault, IsIn, IsKnownAt, IsMisplaced, IsResolved, IsSound}
+use Rattle.just_resolution.specs.Prelude.{IsUnreadable, IsUnreadableAt, MayBeRead, MayComeNext, ModuleFault, NameOf, NumberOf, Occurrence, Occurs, Parameter}
+use Rattle.just_resolution.specs.Prelude.{ParameterOf, Token, VariableOf}
+use Rattle.just_resolution.specs.Prelude.{all_occurrences, assignment_at, name_places, number_places, numbered_assignments, numbered_parameters}
+use Rattle.just_resolution.specs.Prelude.{occurrences_in, parameter_numbers, parameter_places, value_in, with_taken}
 use Rattle.just_syntax.proofs.Lists.{all_append, all_map}
 use Rattle.just_meaning.specs.Reaches.{ReadsBeyond}
 use Rattle.just_meaning.proofs.Distinct.{distinct_front}
-use Rattle.just_resolution.specs.Fault.{CheckedPlace, SiteOf, places, site_places}
+use Rattle.just_resolution.specs.Fault.{CheckedPlace, OccurrenceOf, occurrence_places, places}
 use Rattle.just_resolution.specs.Unreadable.{IsFirstUnreadable}
 use Rattle.just_resolution.proofs.Finding.{Leads, finds_left, finds_map, finds_right, leads_out, leads_past, not_sound, sound_if}
 use Rattle.just_resolution.proofs.Occurrences.{all_may_be_read, fault_unknown, known_all}
 
--- what is found at the remaining sites is found at all
-abbrev pub LeadsUnknown : List Function → List Site → List Site → Type 0
-LeadsUnknown functions left all = Leads (λ s. IsKnown functions s.mention) (λ s f. mention_fault functions s.token s.mention ≡ Some f) left all
+-- what is found at the remaining occurrences is found at all
+abbrev pub LeadsUnknown : List Function → List Occurrence → List Occurrence → Type 0
+LeadsUnknown functions left all = Leads (IsKnownAt functions) (HasFault functions) left all
 
-module _ (functions : List Function) (start left all front : List Site) (r : Option ModuleFault) (before : LeadsUnknown functions start all)
+module _ (functions : List Function) (start left all front : List Occurrence) (r : Option ModuleFault) (before : LeadsUnknown functions start all)
     (is : start ≡ front ++ left) (found : FindsUnknown functions front r) where
   -- nothing is found in a part
   pub unknown_past : is_some r ≡ false → LeadsUnknown functions left all
   unknown_past none =
-      leads_past (λ s. IsKnown functions s.mention) (λ s f. mention_fault functions s.token s.mention ≡ Some f) start left all before front r is none found
+      leads_past (IsKnownAt functions) (HasFault functions) start left all before front r is none found
 
   -- something is found in a part
   pub unknown_out : is_some r ≡ true → FindsUnknown functions all r
   unknown_out some =
-      leads_out (λ s. IsKnown functions s.mention) (λ s f. mention_fault functions s.token s.mention ≡ Some f) start left all before front r is some found
+      leads_out (IsKnownAt functions) (HasFault functions) start left all before front r is some found
 
--- the sites of some items begin with those of the next item
-pub sites_left : {X Y : Type 0} (seen : X → Y) (part : Y → Expr) (start left : List X) (r : Option (Bor X)) (x : Bor X) → r ≡ Some x
-    → TakesFirst (deref {X = X}) start r left → all_sites (map part (map seen start)) ≡ sites_in (part (seen x.now)) ++ all_sites (map part (map seen left))
-sites_left {X = X} seen part start left r x is steps =
-    ap (λ (xs : List X). all_sites (map part (map seen xs))) (rest_more (deref {X = X}) start left r x is steps)
+-- the occurrences of some items begin with those of the next item
+pub occurrences_left : {X Y : Type 0} (seen : X → Y) (part : Y → Expr) (start left : List X) (r : Option (Bor X)) (x : Bor X) → r ≡ Some x
+    → TakesFirst (deref {X = X}) start r left
+    → all_occurrences (map part (map seen start)) ≡ occurrences_in (part (seen x.now)) ++ all_occurrences (map part (map seen left))
+occurrences_left {X = X} seen part start left r x is steps =
+    ap (λ (xs : List X). all_occurrences (map part (map seen xs))) (rest_more (deref {X = X}) start left r x is steps)
 
 -- the same for variables that may not be read
-abbrev pub LeadsUnreadable : (ℕ → Type 0) → List Site → List Site → Type 0
-LeadsUnreadable readable left all = Leads (λ s. MayBeRead readable s.mention) (λ s variable. (s.token ≡ variable) × (MayBeRead readable s.mention → ⊥)) left all
+abbrev pub LeadsUnreadable : (ℕ → Type 0) → List Occurrence → List Occurrence → Type 0
+LeadsUnreadable readable left all = Leads (MayBeRead readable) (IsUnreadableAt readable) left all
 
 -- the same for parameters
 abbrev pub LeadsBound : Frames → List (Token × ℕ) → List (Token × ℕ) → Type 0
@@ -60,8 +62,8 @@ among_cases (p ∷ ps) n =
 first_apart : (readable : ℕ → Type 0) (e : Expr) (variable : Token) → IsFirstUnreadable readable e variable
     → ((n : ℕ) → Occurs e (VariableOf (Some n)) → readable n) → ⊥
 first_apart readable e variable first all =
-    not_sound (λ s. MayBeRead readable s.mention) (λ s t. (s.token ≡ t) × (MayBeRead readable s.mention → ⊥)) (λ s t bad fine. bad.1 fine) (sites_in e) variable
-    first ((all_may_be_read readable e).1 all)
+    not_sound (MayBeRead readable) (IsUnreadableAt readable) (λ o t bad fine. bad.1 fine) (occurrences_in e) variable first
+    ((all_may_be_read readable e).1 all)
 
 -- an expression with an unreadable variable does not read only what it may
 pub unreadable_apart : (functions : List Function) (here readable : ℕ → Type 0) (e : Expr) (variable : Token) → IsUnreadable functions here readable e variable
@@ -85,7 +87,7 @@ module _ (functions : List Function) (assignments : Assignments) (outer : Frames
   pub apart : (place : CheckedPlace) (f : ModuleFault) → IsFaulty functions assignments outer place f → IsSound functions assignments outer place → ⊥
   apart (NumberOf t n earlier) f bad fine = fine bad.1
   apart (ParameterOf t n) f bad fine = fine bad.1
-  apart (SiteOf s) f bad fine = fault_unknown functions s.token s.mention f bad fine
+  apart (OccurrenceOf o) f bad fine = fault_unknown functions o f bad fine
   apart (NameOf t taken) f bad fine = misplaced_apart functions assignments _ t f bad fine
 
   -- ---- what is sound
@@ -183,10 +185,10 @@ module _ (functions : List Function) (assignments : Assignments) (outer : Frames
   parameters = parameter_places (numbered_parameters functions)
 
   abbrev values : List CheckedPlace
-  values = site_places (map (λ a. a.value) assignments.all)
+  values = occurrence_places (map (λ a. a.value) assignments.all)
 
   abbrev bodies : List CheckedPlace
-  bodies = site_places (map (λ f. f.body) functions)
+  bodies = occurrence_places (map (λ f. f.body) functions)
 
   abbrev names : List CheckedPlace
   names = name_places assignments [] assignments.order
@@ -218,8 +220,8 @@ module _ (functions : List Function) (assignments : Assignments) (outer : Frames
               distinct = subst AreDistinct whole (distinct.0 b.0);
               unbound = λ n one. unbound.0 ((all_map Sound (λ (p : Token × ℕ). ParameterOf p.0 p.1) (numbered_parameters functions)).0 b.1) n
                   (subst (λ ns. IsIn ns n) (sym (numbers_of functions)) one);
-              values = in_values.0 ((all_map Sound SiteOf (all_sites (map (λ a. a.value) assignments.all))).0 c.0);
-              bodies = in_bodies.0 ((all_map Sound SiteOf (all_sites (map (λ f. f.body) functions))).0 d.0);
+              values = in_values.0 ((all_map Sound OccurrenceOf (all_occurrences (map (λ a. a.value) assignments.all))).0 c.0);
+              bodies = in_bodies.0 ((all_map Sound OccurrenceOf (all_occurrences (map (λ f. f.body) functions))).0 d.0);
               named = e.0;
               in_order = e.1;
             }),
@@ -230,9 +232,9 @@ module _ (functions : List Function) (assignments : Assignments) (outer : Frames
                 (unbound.1 (λ n one. r.unbound n (subst (λ ns. IsIn ns n) (numbers_of functions) one))),
           ),
           third.1 (
-            (all_map Sound SiteOf (all_sites (map (λ a. a.value) assignments.all))).1 (in_values.1 r.values),
+            (all_map Sound OccurrenceOf (all_occurrences (map (λ a. a.value) assignments.all))).1 (in_values.1 r.values),
             fourth.1 (
-              (all_map Sound SiteOf (all_sites (map (λ f. f.body) functions))).1 (in_bodies.1 r.bodies),
+              (all_map Sound OccurrenceOf (all_occurrences (map (λ f. f.body) functions))).1 (in_bodies.1 r.bodies),
               in_order.1 (r.named, r.in_order),
             ),
           ),
@@ -272,31 +274,34 @@ module _ (functions : List Function) (assignments : Assignments) (outer : Frames
         ((all_distinct functions assignments outer (numbered_assignments assignments.all ++ numbered_parameters functions)).0 sound.0))
 
     -- a fault in a value
-    pub first_value : (r : Option ModuleFault) → is_some r ≡ true → FindsUnknown functions (all_sites (map (λ a. a.value) assignments.all)) r
+    pub first_value : (r : Option ModuleFault) → is_some r ≡ true → FindsUnknown functions (all_occurrences (map (λ a. a.value) assignments.all)) r
         → Finds Sound Faulty (places functions assignments) r
     first_value r some found =
         after_numbers r
-        (finds_left Sound Faulty values (bodies ++ names) r some (finds_map Sound Faulty SiteOf (all_sites (map (λ a. a.value) assignments.all)) r found))
+        (finds_left Sound Faulty values (bodies ++ names) r some
+        (finds_map Sound Faulty OccurrenceOf (all_occurrences (map (λ a. a.value) assignments.all)) r found))
 
     module _ (value : Option ModuleFault) (no_value : is_some value ≡ false)
-        (values_found : FindsUnknown functions (all_sites (map (λ a. a.value) assignments.all)) value) where
+        (values_found : FindsUnknown functions (all_occurrences (map (λ a. a.value) assignments.all)) value) where
       after_values : (r : Option ModuleFault) → Finds Sound Faulty (bodies ++ names) r → Finds Sound Faulty (places functions assignments) r
       after_values r found =
           after_numbers r
           (finds_right Sound Faulty values (bodies ++ names) r
-          (sound_if Sound Faulty values value no_value (finds_map Sound Faulty SiteOf (all_sites (map (λ a. a.value) assignments.all)) value
+          (sound_if Sound Faulty values value no_value (finds_map Sound Faulty OccurrenceOf (all_occurrences (map (λ a. a.value) assignments.all)) value
           values_found)) found)
 
       -- a fault in a body
-      pub first_body : (r : Option ModuleFault) → is_some r ≡ true → FindsUnknown functions (all_sites (map (λ f. f.body) functions)) r
+      pub first_body : (r : Option ModuleFault) → is_some r ≡ true → FindsUnknown functions (all_occurrences (map (λ f. f.body) functions)) r
           → Finds Sound Faulty (places functions assignments) r
       first_body r some found =
-          after_values r (finds_left Sound Faulty bodies names r some (finds_map Sound Faulty SiteOf (all_sites (map (λ f. f.body) functions)) r found))
+          after_values r (finds_left Sound Faulty bodies names r some
+          (finds_map Sound Faulty OccurrenceOf (all_occurrences (map (λ f. f.body) functions)) r found))
 
       -- a fault of the order, or none
-      pub first_name : (body : Option ModuleFault) → is_some body ≡ false → FindsUnknown functions (all_sites (map (λ f. f.body) functions)) body
+      pub first_name : (body : Option ModuleFault) → is_some body ≡ false → FindsUnknown functions (all_occurrences (map (λ f. f.body) functions)) body
           → (r : Option ModuleFault) → Finds Sound Faulty names r → Finds Sound Faulty (places functions assignments) r
       first_name body no_body bodies_found r found =
           after_values r
           (finds_right Sound Faulty bodies names r
-          (sound_if Sound Faulty bodies body no_body (finds_map Sound Faulty SiteOf (all_sites (map (λ f. f.body) functions)) body bodies_found)) found)
+          (sound_if Sound Faulty bodies body no_body
+          (finds_map Sound Faulty OccurrenceOf (all_occurrences (map (λ f. f.body) functions)) body bodies_found)) found)

@@ -3,11 +3,10 @@ mod Deciding
 pub mod Faults
 pub mod Finding
 mod Numbering
+pub mod Occurrences
 pub mod Ordering
 mod Readers
 mod Resolving
-mod Rows
 pub mod Sets
-pub mod Occurrences
 pub mod Tables
 mod Turns

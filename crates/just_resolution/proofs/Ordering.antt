@@ -5,7 +5,7 @@ use Rattle.std.proofs.lemmas.Bool.{or_cases, or_left, or_right}
 use Rattle.just_resolution.specs.Prelude.{AreDistinct, Assignment, Assignments, Expr, Finds, FindsMisplaced, Frames, Function, HasValue, IsAdmitted, IsAmong}
 use Rattle.just_resolution.specs.Prelude.{IsFaulty, IsIn, IsMisplaced, IsNumberOf, IsSound, IsTakenBy, IsUnreadable, MayComeNext, ModuleFault, NameOf}
 use Rattle.just_resolution.specs.Prelude.{ReadsReadable, ReadsUntaken, Text, Token, Value, assignment_at, frames_view, is_number_taken, is_readable}
-use Rattle.just_resolution.specs.Prelude.{name_places, name_view, sites_in, value_at, value_in, with_taken}
+use Rattle.just_resolution.specs.Prelude.{name_places, name_view, occurrences_in, value_at, value_in, with_taken}
 use Rattle.just_value.specs.declared.scope.Scope.{Scope}
 use Rattle.just_resolution.specs.Fault.{IsTakenOrBound}
 use Rattle.just_resolution.specs.Unreadable.{IsUnreadableBeyond}
@@ -192,12 +192,12 @@ module _ (functions : List Function) (assignments : Assignments) where
       found = b.found;
       first = unreadable_alike (λ n. IsAmong b.function.parameters n ⊎ P n) (λ n. IsAmong b.function.parameters n ⊎ Q n)
           (λ n. ((λ h. ⊎_elim (λ k. inl k) (λ k. inr ((same n).0 k)) h), (λ h. ⊎_elim (λ k. inl k) (λ k. inr ((same n).1 k)) h)))
-          (sites_in b.function.body) (Some v) b.first;
+          (occurrences_in b.function.body) (Some v) b.first;
     }
 
     reads_alike : (P Q : ℕ → Type 0) (e : Expr) (v : Token) → ((n : ℕ) → P n ↔ Q n) → IsUnreadable functions P P e v → IsUnreadable functions Q Q e v
-    reads_alike P Q e v same (inl first) = inl (unreadable_alike P Q same (sites_in e) (Some v) first)
-    reads_alike P Q e v same (inr later) = inr (unreadable_alike P Q same (sites_in e) None later.0, beyond_alike P Q e v same later.1)
+    reads_alike P Q e v same (inl first) = inl (unreadable_alike P Q same (occurrences_in e) (Some v) first)
+    reads_alike P Q e v same (inr later) = inr (unreadable_alike P Q same (occurrences_in e) None later.0, beyond_alike P Q e v same later.1)
 
     pub misplaced_alike : (P Q : ℕ → Type 0) (t : Token) (f : ModuleFault) → ((n : ℕ) → P n ↔ Q n) → IsMisplaced functions assignments P t f
         → IsMisplaced functions assignments Q t f

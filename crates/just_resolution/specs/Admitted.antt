@@ -5,42 +5,42 @@ use Rattle.just_syntax.specs.Plain.{Text, Token, Assignment, Expr, Function, Par
 use Rattle.just_value.specs.Frames.{Frames, value_in}
 use Rattle.just_meaning.specs.Assignments.{Assignments, assignment_at}
 use Rattle.just_meaning.specs.Here.{expressions_of}
-use Rattle.just_meaning.specs.Resolved.{AllKnown, HasValue, IsKnown, MentionsKnown}
-use Rattle.just_meaning.specs.Reaches.{Mention, VariableOf, CallOf, IsAmong, Reads, ReadsBeyond, Occurs, function_at}
-use Rattle.just_resolution.specs.Fault.{ModuleFault, BoundParameter, IsMisplaced, MayComeNext, mention_fault}
+use Rattle.just_meaning.specs.Resolved.{AllKnown, HasValue, MentionsKnown}
+use Rattle.just_syntax.specs.Occurrences.{CallAt, CallOf, CommandAt, Occurrence, VariableAt, VariableOf, occurrences_in}
+use Rattle.just_meaning.specs.Reaches.{IsAmong, Reads, ReadsBeyond, Occurs, function_at}
+use Rattle.just_resolution.specs.Fault.{BoundParameter, HasFault, IsKnownAt, IsMisplaced, MayComeNext, ModuleFault}
 use Rattle.just_resolution.specs.First.{Finds}
-use Rattle.just_resolution.specs.Sites.{Site, sites_in}
-use Rattle.just_resolution.specs.Unreadable.{IsUnreadable, MayBeRead}
+use Rattle.just_resolution.specs.Unreadable.{IsUnreadable, IsUnreadableAt, MayBeRead}
 
 -- whether a number, if there is one, passes a test
 abbrev pub may_be_read : (ℕ → Bool) → Option ℕ → Bool
 may_be_read test None = true
 may_be_read test (Some n) = test n
 
--- whether it is a call, or a variable whose number, if it has one, passes a test
-abbrev pub may_occur : (ℕ → Bool) → Mention → Bool
-may_occur test (VariableOf number) = may_be_read test number
-may_occur test (CallOf name k) = true
+-- whether it is no variable, or one whose number, if it has one, passes a test
+abbrev pub may_occur : (ℕ → Bool) → Occurrence → Bool
+may_occur test (CommandAt t text) = true
+may_occur test (CallAt t n) = true
+may_occur test (VariableAt t number) = may_be_read test number
 
--- whether it is a call, or a variable with a number
-abbrev pub is_numbered : Mention → Bool
-is_numbered (VariableOf number) = is_some number
-is_numbered (CallOf name k) = true
+-- whether it is no variable, or one with a number
+abbrev pub is_numbered : Occurrence → Bool
+is_numbered (CommandAt t text) = true
+is_numbered (CallAt t n) = true
+is_numbered (VariableAt t number) = is_some number
 
--- the result of a search among sites: nothing, or the fault of the first that is not known
-abbrev pub FindsUnknown : List Function → List Site → Option ModuleFault → Type 0
-FindsUnknown functions ss found =
-    Finds (λ s. IsKnown functions s.mention) (λ s f. mention_fault functions s.token s.mention ≡ Some f) ss found
+-- the result of a search among occurrences: nothing, or the fault of the first that is not known
+abbrev pub FindsUnknown : List Function → List Occurrence → Option ModuleFault → Type 0
+FindsUnknown functions os found = Finds (IsKnownAt functions) (HasFault functions) os found
 
 -- the result of a search among parameters: nothing, or the first that is bound outside
 abbrev pub FindsBound : Frames → List (Token × ℕ) → Option ModuleFault → Type 0
 FindsBound outer ps found = Finds (λ p. HasValue (value_in outer) p.1 → ⊥) (λ p f. (BoundParameter p.0 ≡ f)
     × HasValue (value_in outer) p.1) ps found
 
--- the result of a search among sites: nothing, or the first variable that may not be read
-abbrev pub FindsUnreadable : (ℕ → Type 0) → List Site → Option Token → Type 0
-FindsUnreadable readable ss found = Finds (λ s. MayBeRead readable s.mention) (λ s variable. (s.token ≡ variable)
-    × (MayBeRead readable s.mention → ⊥)) ss found
+-- the result of a search among occurrences: nothing, or the first variable that may not be read
+abbrev pub FindsUnreadable : (ℕ → Type 0) → List Occurrence → Option Token → Type 0
+FindsUnreadable readable os found = Finds (MayBeRead readable) (IsUnreadableAt readable) os found
 
 -- an admitted function reads only its own parameters and what is readable, and calls only admitted functions
 pub record IsAdmitted (functions : List Function) (readable : ℕ → Bool) (admitted : Text → Bool) : Type 0 where
@@ -62,7 +62,8 @@ FindsBeyond functions e here readable found = MatchOption found (ReadsWithin fun
 -- the same for the body of a function, if there is one: it may read its own parameters too
 abbrev pub FindsBody : Option Function → (ℕ → Type 0) → Option Token → Type 0
 FindsBody None readable found = found ≡ None
-FindsBody (Some f) readable found = FindsUnreadable (λ n. IsAmong f.parameters n ⊎ readable n) (sites_in f.body) found
+FindsBody (Some f) readable found =
+    FindsUnreadable (λ n. IsAmong f.parameters n ⊎ readable n) (occurrences_in f.body) found
 
 -- By themselves these expressions read only these numbers. Through functions they read only what bodies may read.
 abbrev pub AllReadBy : List Function → (ℕ → Type 0) → (ℕ → Bool) → List Expr → Type 0

@@ -8,10 +8,10 @@ use Rattle.just_meaning.specs.Assignments.{Assignments, assignment_at}
 use Rattle.just_meaning.specs.Callee.{Callee, Unknown, accepts, callee}
 use Rattle.just_meaning.specs.Messages.{miscounted_text, unevaluated_text, unknown_assignment_text}
 use Rattle.just_meaning.specs.Messages.{unknown_function_text, unresolved_text}
-use Rattle.just_meaning.specs.Reaches.{Mention, VariableOf, CallOf, Reads}
+use Rattle.just_syntax.specs.Occurrences.{CallAt, CommandAt, Occurrence, VariableAt, all_occurrences, mention_of}
+use Rattle.just_meaning.specs.Reaches.{Reads}
 use Rattle.just_meaning.specs.Resolved.{HasValue, IsKnown, with_taken}
 use Rattle.just_resolution.specs.First.{IsFirstFaulty}
-use Rattle.just_resolution.specs.Sites.{Site, all_sites}
 use Rattle.just_resolution.specs.Unreadable.{IsUnreadable}
 
 -- a fault, and the token where it occurs
@@ -62,10 +62,19 @@ abbrev pub call_fault : Callee → Token → ℕ → Option ModuleFault
 call_fault c t n = if accepts c n then None else Some (miscalled c t n)
 
 -- a variable with no number, or a faulty call
-abbrev pub mention_fault : List Function → Token → Mention → Option ModuleFault
-mention_fault functions t (VariableOf None) = Some (UndefinedVariable t)
-mention_fault functions t (VariableOf (Some n)) = None
-mention_fault functions t (CallOf name n) = call_fault (callee functions name) t n
+abbrev pub occurrence_fault : List Function → Occurrence → Option ModuleFault
+occurrence_fault functions (CommandAt t text) = None
+occurrence_fault functions (CallAt t n) = call_fault (callee functions t.lexeme) t n
+occurrence_fault functions (VariableAt t None) = Some (UndefinedVariable t)
+occurrence_fault functions (VariableAt t (Some n)) = None
+
+-- what occurs here is known
+abbrev pub IsKnownAt : List Function → Occurrence → Type 0
+IsKnownAt functions o = IsKnown functions (mention_of o)
+
+-- what occurs here has this fault
+abbrev pub HasFault : List Function → Occurrence → ModuleFault → Type 0
+HasFault functions o f = occurrence_fault functions o ≡ Some f
 
 -- the name is that of an assignment which, if referenced, reads only what is readable
 abbrev pub MayComeNext : List Function → Assignments → (ℕ → Type 0) → Token → Type 0
@@ -95,7 +104,7 @@ pub data CheckedPlace : Type 0 where
   -- a parameter of a function, and its number
   ParameterOf : Token → ℕ → CheckedPlace
   -- a variable or a call
-  SiteOf : Site → CheckedPlace
+  OccurrenceOf : Occurrence → CheckedPlace
   -- a name of the evaluation order, and the numbers that are taken before it
   NameOf : Token → List ℕ → CheckedPlace
 
@@ -108,14 +117,14 @@ module _ (functions : List Function) (assignments : Assignments) (outer : Frames
   abbrev pub IsSound : CheckedPlace → Type 0
   IsSound (NumberOf t n earlier) = IsIn earlier n → ⊥
   IsSound (ParameterOf t n) = HasValue (value_in outer) n → ⊥
-  IsSound (SiteOf s) = IsKnown functions s.mention
+  IsSound (OccurrenceOf o) = IsKnownAt functions o
   IsSound (NameOf t taken) = MayComeNext functions assignments (IsTakenOrBound outer taken) t
 
   -- this is a fault at this place
   abbrev pub IsFaulty : CheckedPlace → ModuleFault → Type 0
   IsFaulty (NumberOf t n earlier) f = (DuplicateNumber t ≡ f) × IsIn earlier n
   IsFaulty (ParameterOf t n) f = (BoundParameter t ≡ f) × HasValue (value_in outer) n
-  IsFaulty (SiteOf s) f = mention_fault functions s.token s.mention ≡ Some f
+  IsFaulty (OccurrenceOf o) f = HasFault functions o f
   IsFaulty (NameOf t taken) f = IsMisplaced functions assignments (IsTakenOrBound outer taken) t f
 
 -- assignments, each with its number
@@ -134,8 +143,8 @@ number_places earlier (p ∷ ps) = NumberOf p.0 p.1 earlier ∷ number_places (p
 abbrev pub parameter_places : List (Token × ℕ) → List CheckedPlace
 parameter_places ps = map (λ p. ParameterOf p.0 p.1) ps
 
-abbrev pub site_places : List Expr → List CheckedPlace
-site_places es = map SiteOf (all_sites es)
+abbrev pub occurrence_places : List Expr → List CheckedPlace
+occurrence_places es = map OccurrenceOf (all_occurrences es)
 
 abbrev pub name_places : Assignments → List ℕ → List Token → List CheckedPlace
 name_places assignments taken [] = []
@@ -148,8 +157,8 @@ abbrev pub places : List Function → Assignments → List CheckedPlace
 places functions assignments =
     number_places [] (numbered_assignments assignments.all ++ numbered_parameters functions)
     ++ parameter_places (numbered_parameters functions)
-    ++ (site_places (map (λ a. a.value) assignments.all)
-    ++ (site_places (map (λ f. f.body) functions)
+    ++ (occurrence_places (map (λ a. a.value) assignments.all)
+    ++ (occurrence_places (map (λ f. f.body) functions)
     ++ name_places assignments [] assignments.order))
 
 -- it is a fault at one of the places, and the places before it have none

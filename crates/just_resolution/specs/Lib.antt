@@ -1,4 +1,4 @@
-pub mod Sites
+pub mod Called
 pub mod First
 pub mod Unreadable
 pub mod Fault

@@ -1,4 +1,4 @@
--- Sites, faults, sets and names as plain data.
+-- Faults, sets and names as plain data.
 use Rattle.std.specs.Prelude.{◌≡◌, ℕ, Bool, ◌||◌, List, [], Option, Some, None, map, is_some}
 use Rattle.std.specs.Borrow.{Bor}
 use Rattle.std.specs.BTreeSet.{BTreeSet, contains_by}
@@ -7,31 +7,15 @@ use Rattle.just_syntax.specs.NumberSet.{is_member}
 use Rattle.just_syntax.specs.Plain.{Text, Token, Attribute, Expr}
 use Rattle.just_syntax.specs.View.{name_view, recipe_view, view}
 use Rattle.just_syntax.specs.declared.expression.Expression.{Expression}
-use Rattle.just_syntax.specs.declared.name.Name.{Name}
 use Rattle.just_syntax.specs.declared.recipe.Recipe.{Recipe}
 use Rattle.just_value.specs.Frames.{value_in}
 use Rattle.just_value.specs.View.{frames_view}
-use Rattle.just_meaning.specs.Reaches as reaches
 use Rattle.just_resolution.specs.declared.fault.Fault as declared_fault
 use Rattle.just_resolution.specs.declared.fault.Fault.TheVariants as faults
 use Rattle.just_resolution.specs.declared.here.Reader.{Reader}
 use Rattle.just_resolution.specs.declared.readable.Readable.{Readable}
-use Rattle.just_resolution.specs.declared.site.Mention.{Mention}
-use Rattle.just_resolution.specs.declared.site.Mention.TheVariants.{Call, Variable}
-use Rattle.just_resolution.specs.declared.site.Site as declared_site
 use Rattle.just_resolution.specs.Fault.{ModuleFault, ArgumentCountMismatch, BoundParameter, DuplicateNumber}
 use Rattle.just_resolution.specs.Fault.{UndefinedFunction, UndefinedVariable, UnknownAssignment, UntakenVariable}
-use Rattle.just_resolution.specs.Sites.{Site}
-
-abbrev pub mention_view : Name → Mention → reaches.Mention
-mention_view name (Call n) = reaches.CallOf name.token.lexeme.now n
-mention_view name (Variable number) = reaches.VariableOf number
-
-abbrev pub site_view : declared_site.Site → Site
-site_view s = record { token = name_view s.name; mention = mention_view s.name s.mention }
-
-abbrev pub sites_view : List declared_site.Site → List Site
-sites_view ss = map site_view ss
 
 abbrev pub module_fault_view : declared_fault.Fault → ModuleFault
 module_fault_view (faults.ArgumentCountMismatch function n) = ArgumentCountMismatch (name_view function) n

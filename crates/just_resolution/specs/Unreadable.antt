@@ -2,24 +2,29 @@
 use Rattle.std.specs.Prelude.{◌≡◌, ◌⊎◌, ℕ, List, Some, None}
 use Rattle.std.specs.List.{AllByRecursion}
 use Rattle.just_syntax.specs.Plain.{Text, Token, Expr, Function}
-use Rattle.just_meaning.specs.Reaches.{Mention, VariableOf, CallOf, IsAmong, Reaches, function_at}
+use Rattle.just_syntax.specs.Occurrences.{CallAt, CommandAt, Occurrence, VariableAt, occurrences_in, occurs_at}
+use Rattle.just_meaning.specs.Reaches.{IsAmong, Reaches, function_at}
 use Rattle.just_resolution.specs.First.{IsFirstFaulty}
-use Rattle.just_resolution.specs.Sites.{sites_in}
 
 -- a variable's number is readable, if it has one
-abbrev pub MayBeRead : (ℕ → Type 0) → Mention → Type 0
-MayBeRead readable (VariableOf None) = Unit {0}
-MayBeRead readable (VariableOf (Some n)) = readable n
-MayBeRead readable (CallOf name n) = Unit {0}
+abbrev pub MayBeRead : (ℕ → Type 0) → Occurrence → Type 0
+MayBeRead readable (CommandAt t text) = Unit {0}
+MayBeRead readable (CallAt t n) = Unit {0}
+MayBeRead readable (VariableAt t None) = Unit {0}
+MayBeRead readable (VariableAt t (Some n)) = readable n
+
+-- the variable that occurs here may not be read
+abbrev pub IsUnreadableAt : (ℕ → Type 0) → Occurrence → Token → Type 0
+IsUnreadableAt readable o variable = (occurs_at o ≡ variable) × (MayBeRead readable o → ⊥)
 
 -- each variable in an expression may be read
 abbrev pub AllMayBeRead : (ℕ → Type 0) → Expr → Type 0
-AllMayBeRead readable e = AllByRecursion (λ s. MayBeRead readable s.mention) (sites_in e)
+AllMayBeRead readable e = AllByRecursion (MayBeRead readable) (occurrences_in e)
 
 -- the first variable in an expression that may not be read
 abbrev pub IsFirstUnreadable : (ℕ → Type 0) → Expr → Token → Type 0
-IsFirstUnreadable readable e variable = IsFirstFaulty (λ s. MayBeRead readable s.mention) (λ s. (s.token ≡ variable)
-    × (MayBeRead readable s.mention → ⊥)) (sites_in e)
+IsFirstUnreadable readable e variable =
+    IsFirstFaulty (MayBeRead readable) (λ o. IsUnreadableAt readable o variable) (occurrences_in e)
 
 -- the first variable in the body of a reached function that is neither its parameter nor readable
 pub record IsUnreadableBeyond (functions : List Function) (readable : ℕ → Type 0) (e : Expr)

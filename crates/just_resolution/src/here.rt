@@ -16,11 +16,11 @@ use crate::numbers::{
     add_parameter_numbers, add_recipe_numbers, assignment_numbers, number_fault, parameter_fault,
 };
 use crate::readable::Readable;
-use crate::site::Site;
 use just_host::execution_context::ExecutionContext;
 use just_host::justfile::Justfile;
 use just_syntax::expression::Expression;
 use just_syntax::function_definition::FunctionDefinition;
+use just_syntax::occurrence::Occurrence;
 use just_syntax::out_of_memory::OutOfMemory;
 use just_syntax::parameter::Parameter;
 use just_syntax::recipe::Recipe;
@@ -56,13 +56,13 @@ pub(crate) fn are_parameters_apart<'src>(
 }
 
 // Whether everything that is evaluated is known and bound before it is read.
-pub(crate) fn are_readable_here<'src, 'run>(
+pub(crate) fn are_readable_here<'src, 'a, 'run>(
     alloc: Global,
-    context: &ExecutionContext<'src, 'run>,
-    scope: &Scope<'src, 'run>,
-    recipe: Option<&Recipe<'src>>,
-    parameters: &[Parameter<'src>],
-    expressions: Vec<&Expression<'src>>,
+    context: &'a ExecutionContext<'src, 'run>,
+    scope: &'a Scope<'src, 'run>,
+    recipe: Option<&'a Recipe<'src>>,
+    parameters: &'a [Parameter<'src>],
+    expressions: Vec<&'a Expression<'src>>,
 ) -> Result<bool, OutOfMemory>
     ensures { let functions = functions_view context.now.«module».now in let own = value_in (frames_view scope.now) in
         let base = value_in (frames_view context.now.scope.now) in
@@ -80,7 +80,7 @@ pub(crate) fn are_readable_here<'src, 'run>(
         here,
         bodies,
         admitted: BTreeSet::new(alloc),
-        sites: Vec::new(alloc),
+        occurrences: Vec::new(alloc),
         pending: Vec::new(alloc),
     };
     reader.may_occur_and_follow(alloc, recipe, parameters, expressions)
@@ -96,16 +96,16 @@ struct Reader<'src, 'a, 'run> {
     bodies: Readable<'src, 'a, 'run>,
     admitted: BTreeSet<&'src str>,
     // Filled anew for each expression that is scanned.
-    sites: Vec<Site<'src>>,
+    occurrences: Vec<Occurrence<'src, 'a>>,
     pending: Vec<&'src str>,
 }
 
-impl<'src> Reader<'src, '_, '_> {
+impl<'src, 'a> Reader<'src, 'a, '_> {
     // Whether an expression is known and reads only what it may.
     fn may_occur(
         &mut self,
         alloc: Global,
-        expression: &Expression<'src>,
+        expression: &'a Expression<'src>,
     ) -> Result<bool, OutOfMemory>
         requires closed { IsAdmitted (map function_view self.old.functions.now) (is_readable self.old.bodies)
             (is_name_in self.old.admitted) }
@@ -116,12 +116,12 @@ impl<'src> Reader<'src, '_, '_> {
             → IsAdmitted (map function_view self.old.functions.now) (is_readable self.old.bodies)
             (is_name_in self.new.admitted)) }
     {
-        if expression_fault(&mut self.sites, self.functions, expression)?.is_some() {
+        if expression_fault(&mut self.occurrences, self.functions, expression)?.is_some() {
             return Ok(false);
         }
         let unreadable = first_unreadable(
             alloc,
-            &mut self.sites,
+            &mut self.occurrences,
             &mut self.pending,
             self.functions,
             &self.here,
@@ -136,7 +136,7 @@ impl<'src> Reader<'src, '_, '_> {
     fn may_all_occur(
         &mut self,
         alloc: Global,
-        expressions: Vec<&Expression<'src>>,
+        expressions: Vec<&'a Expression<'src>>,
     ) -> Result<bool, OutOfMemory>
         requires closed { IsAdmitted (map function_view self.old.functions.now) (is_readable self.old.bodies)
             (is_name_in self.old.admitted) }
@@ -161,9 +161,9 @@ impl<'src> Reader<'src, '_, '_> {
     fn may_occur_and_follow(
         &mut self,
         alloc: Global,
-        recipe: Option<&Recipe<'src>>,
-        parameters: &[Parameter<'src>],
-        expressions: Vec<&Expression<'src>>,
+        recipe: Option<&'a Recipe<'src>>,
+        parameters: &'a [Parameter<'src>],
+        expressions: Vec<&'a Expression<'src>>,
     ) -> Result<bool, OutOfMemory>
         requires closed { IsAdmitted (map function_view self.old.functions.now) (is_readable self.old.bodies)
             (is_name_in self.old.admitted) }
@@ -189,7 +189,7 @@ impl<'src> Reader<'src, '_, '_> {
     fn may_follow(
         &mut self,
         alloc: Global,
-        parameters: &[Parameter<'src>],
+        parameters: &'a [Parameter<'src>],
     ) -> Result<bool, OutOfMemory>
         requires closed { IsAdmitted (map function_view self.old.functions.now) (is_readable self.old.bodies)
             (is_name_in self.old.admitted) }

@@ -1,20 +1,22 @@
 // The first variable without a number, or call that its name does not take.
 
-ghost use Rattle.std.specs.Prelude.{IfOk, IsTrue, map, not, option_map, ◌↔◌, ◌≡◌};
+ghost use Rattle.std.specs.Prelude.{IfOk, IsTrue, [], map, not, option_map, ◌↔◌, ◌≡◌};
 ghost use Rattle.std.specs.List.{list_all};
-ghost use Rattle.just_resolution.specs.Prelude.{AllNumbered, FindsUnknown, IsNumbered, accepts, all_sites};
-ghost use Rattle.just_resolution.specs.Prelude.{assignment_view, call_fault, callee, function_view, is_numbered};
-ghost use Rattle.just_resolution.specs.Prelude.{is_unknown, mention_fault, module_fault_view, name_view, site_view};
-ghost use Rattle.just_resolution.specs.Prelude.{sites_in, sites_view, undefined, view};
+ghost use Rattle.just_resolution.specs.Prelude.{AllNumbered, FindsUnknown, IsNumbered, VariableAt, accepts};
+ghost use Rattle.just_resolution.specs.Prelude.{all_occurrences, assignment_view, call_fault, callee, function_view};
+ghost use Rattle.just_resolution.specs.Prelude.{is_numbered, is_unknown, module_fault_view, name_view};
+ghost use Rattle.just_resolution.specs.Prelude.{occurrence_fault, occurrence_view, occurrences_in, occurrences_view};
+ghost use Rattle.just_resolution.specs.Prelude.{undefined, view};
 
 use crate::fault::Fault;
-use crate::site::{Mention, Site};
-use crate::sites::refill;
 use just_builtins::function::{get, is_left_out};
 use just_syntax::assignment::Assignment;
 use just_syntax::expression::Expression;
 use just_syntax::function_definition::FunctionDefinition;
 use just_syntax::name::Name;
+use just_syntax::number::Number;
+use just_syntax::occurrence::Occurrence;
+use just_syntax::occurrences::refill;
 use just_syntax::out_of_memory::OutOfMemory;
 use just_syntax::table::Table;
 use std::alloc::Global;
@@ -81,32 +83,45 @@ fn call_fault<'src>(
     }
 }
 
-/// The fault of a variable or a call, if there is one. It allocates nothing.
-pub fn site_fault<'src>(
-    functions: &Table<FunctionDefinition<'src>>,
-    site: &Site<'src>,
-) -> Option<Fault<'src>>
-    ensures { let seen = site_view site.now in option_map module_fault_view result
-        ≡ mention_fault (map function_view functions.now) seen.token seen.mention }
+// The fault of a variable, if there is one.
+fn variable_fault<'src>(name: &Name<'src>, number: Option<Number>) -> Option<Fault<'src>>
+    ensures { option_map module_fault_view result
+        ≡ occurrence_fault [] (VariableAt (name_view name.now) number) }
 {
-    let variable = site.name;
-    match site.mention {
-        Mention::Call { arguments } => call_fault(functions, &site.name, arguments),
-        Mention::Variable { number: Some(_) } => None,
-        Mention::Variable { number: None } => Some(Fault::UndefinedVariable { variable }),
+    match number {
+        Some(_) => None,
+        None => Some(Fault::UndefinedVariable { variable: *name }),
     }
 }
 
-// The first fault at these sites.
-fn sites_fault<'src>(
+/// The fault of a variable or a call, if there is one; a command has none. It allocates nothing.
+pub fn occurrence_fault<'src>(
     functions: &Table<FunctionDefinition<'src>>,
-    sites: &[Site<'src>],
+    occurrence: &Occurrence<'src, '_>,
 ) -> Option<Fault<'src>>
-    ensures { FindsUnknown (map function_view functions.now) (sites_view sites.now)
+    ensures { option_map module_fault_view result
+        ≡ occurrence_fault (map function_view functions.now) (occurrence_view occurrence.now) }
+{
+    match occurrence {
+        Occurrence::Command {
+            contents: _,
+            token: _,
+        } => None,
+        Occurrence::Call { name, arguments } => call_fault(functions, name, *arguments),
+        Occurrence::Variable { name, number } => variable_fault(name, *number),
+    }
+}
+
+// The first fault among these occurrences.
+fn occurrences_fault<'src>(
+    functions: &Table<FunctionDefinition<'src>>,
+    occurrences: &[Occurrence<'src, '_>],
+) -> Option<Fault<'src>>
+    ensures { FindsUnknown (map function_view functions.now) (occurrences_view occurrences.now)
         (option_map module_fault_view result) }
 {
-    for site in sites {
-        let fault = site_fault(functions, site);
+    for occurrence in occurrences {
+        let fault = occurrence_fault(functions, occurrence);
         if fault.is_some() {
             return fault;
         }
@@ -114,17 +129,17 @@ fn sites_fault<'src>(
     None
 }
 
-// The first fault in an expression. `sites` is filled anew.
-pub(crate) fn expression_fault<'src>(
-    sites: &mut Vec<Site<'src>>,
+// The first fault in an expression. `occurrences` is filled anew.
+pub(crate) fn expression_fault<'src, 'a>(
+    occurrences: &mut Vec<Occurrence<'src, 'a>>,
     functions: &Table<FunctionDefinition<'src>>,
-    expression: &Expression<'src>,
+    expression: &'a Expression<'src>,
 ) -> Result<Option<Fault<'src>>, OutOfMemory>
-    ensures { IfOk result (λ fault. FindsUnknown (map function_view functions.now) (sites_in (view expression.now))
-        (option_map module_fault_view fault)) }
+    ensures { IfOk result (λ fault. FindsUnknown (map function_view functions.now)
+        (occurrences_in (view expression.now)) (option_map module_fault_view fault)) }
 {
-    refill(sites, expression)?;
-    Ok(sites_fault(functions, sites.as_slice()))
+    refill(occurrences, expression)?;
+    Ok(occurrences_fault(functions, occurrences.as_slice()))
 }
 
 // The first fault in the values of assignments.
@@ -134,12 +149,12 @@ pub(crate) fn values_fault<'src>(
     assignments: &Table<Assignment<'src>>,
 ) -> Result<Option<Fault<'src>>, OutOfMemory>
     ensures { IfOk result (λ fault. FindsUnknown (map function_view functions.now)
-        (all_sites (map (λ a. a.value) (map assignment_view assignments.now)))
+        (all_occurrences (map (λ a. a.value) (map assignment_view assignments.now)))
         (option_map module_fault_view fault)) }
 {
-    let mut sites = Vec::new(alloc);
+    let mut occurrences = Vec::new(alloc);
     for assignment in assignments {
-        let fault = expression_fault(&mut sites, functions, &assignment.value)?;
+        let fault = expression_fault(&mut occurrences, functions, &assignment.value)?;
         if fault.is_some() {
             return Ok(fault);
         }
@@ -153,12 +168,12 @@ pub(crate) fn bodies_fault<'src>(
     functions: &Table<FunctionDefinition<'src>>,
 ) -> Result<Option<Fault<'src>>, OutOfMemory>
     ensures { let all = map function_view functions.now in
-        IfOk result (λ fault. FindsUnknown all (all_sites (map (λ f. f.body) all))
+        IfOk result (λ fault. FindsUnknown all (all_occurrences (map (λ f. f.body) all))
         (option_map module_fault_view fault)) }
 {
-    let mut sites = Vec::new(alloc);
+    let mut occurrences = Vec::new(alloc);
     for function in functions {
-        let fault = expression_fault(&mut sites, functions, &function.body)?;
+        let fault = expression_fault(&mut occurrences, functions, &function.body)?;
         if fault.is_some() {
             return Ok(fault);
         }
@@ -167,31 +182,31 @@ pub(crate) fn bodies_fault<'src>(
 }
 
 // Whether each variable has a number.
-fn are_numbered(sites: &[Site]) -> bool
-    ensures { result ≡ list_all (λ s. is_numbered (site_view s).mention) sites.now }
+fn are_numbered(occurrences: &[Occurrence]) -> bool
+    ensures { result ≡ list_all (λ o. is_numbered (occurrence_view o)) occurrences.now }
 {
-    sites.iter().all(|site| is_numbered(site))
+    occurrences.iter().all(|occurrence| is_numbered(occurrence))
 }
 
-// Whether it is a call, or a variable with a number.
-fn is_numbered(site: &Site) -> bool
-    ensures { result ≡ is_numbered (site_view site.now).mention }
+// Whether it is no variable, or one with a number.
+fn is_numbered(occurrence: &Occurrence) -> bool
+    ensures { result ≡ is_numbered (occurrence_view occurrence.now) }
 {
-    match site.mention {
-        Mention::Call { arguments: _ } => true,
-        Mention::Variable { number } => number.is_some(),
+    match occurrence {
+        Occurrence::Variable { name: _, number } => number.is_some(),
+        _ => true,
     }
 }
 
-// Whether each variable in an expression has a number. `sites` is filled anew.
-fn is_expression_numbered<'src>(
-    sites: &mut Vec<Site<'src>>,
-    expression: &Expression<'src>,
+// Whether each variable in an expression has a number. `occurrences` is filled anew.
+fn is_expression_numbered<'src, 'a>(
+    occurrences: &mut Vec<Occurrence<'src, 'a>>,
+    expression: &'a Expression<'src>,
 ) -> Result<bool, OutOfMemory>
     ensures { IfOk result (λ answer. IsTrue answer ↔ IsNumbered (view expression.now)) }
 {
-    refill(sites, expression)?;
-    Ok(are_numbered(sites.as_slice()))
+    refill(occurrences, expression)?;
+    Ok(are_numbered(occurrences.as_slice()))
 }
 
 // Whether each variable in the values of assignments has a number.
@@ -202,9 +217,9 @@ pub(crate) fn are_values_numbered<'src>(
     ensures { IfOk result (λ answer. IsTrue answer
         ↔ AllNumbered (map (λ a. a.value) (map assignment_view assignments.now))) }
 {
-    let mut sites = Vec::new(alloc);
+    let mut occurrences = Vec::new(alloc);
     for assignment in assignments {
-        if !is_expression_numbered(&mut sites, &assignment.value)? {
+        if !is_expression_numbered(&mut occurrences, &assignment.value)? {
             return Ok(false);
         }
     }

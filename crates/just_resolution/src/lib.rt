@@ -17,5 +17,3 @@ pub mod references;
 pub mod resolved;
 pub mod resolved_const;
 pub mod resolved_here;
-pub mod site;
-pub mod sites;

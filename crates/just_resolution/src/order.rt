@@ -11,11 +11,11 @@ use crate::admitted::first_unreadable;
 use crate::fault::Fault;
 use crate::readable::Readable;
 use crate::references::is_referenced;
-use crate::site::Site;
 use just_syntax::assignment::Assignment;
 use just_syntax::function_definition::FunctionDefinition;
 use just_syntax::name::Name;
 use just_syntax::number::Number;
+use just_syntax::occurrence::Occurrence;
 use just_syntax::out_of_memory::OutOfMemory;
 use just_syntax::table::Table;
 use just_value::scope::Scope;
@@ -24,10 +24,10 @@ use std::collections::{BTreeSet, HashSet};
 
 // The fault of the first name that is no assignment's, or that of an assignment that reads what is neither taken
 // earlier nor bound outside.
-pub(crate) fn order_fault<'src>(
+pub(crate) fn order_fault<'src, 'a>(
     alloc: Global,
-    functions: &Table<FunctionDefinition<'src>>,
-    assignments: &Table<Assignment<'src>>,
+    functions: &'a Table<FunctionDefinition<'src>>,
+    assignments: &'a Table<Assignment<'src>>,
     evaluation_order: &[Name<'src>],
     outer: &Scope<'src, '_>,
     variable_references: Option<&HashSet<Number>>,
@@ -41,12 +41,12 @@ pub(crate) fn order_fault<'src>(
 {
     let mut readable = Readable::new(alloc, outer, assignments.len())?;
     let mut admitted = BTreeSet::new(alloc);
-    let mut sites = Vec::new(alloc);
+    let mut occurrences = Vec::new(alloc);
     let mut pending = Vec::new(alloc);
     for name in evaluation_order {
         let fault = take_next(
             alloc,
-            &mut sites,
+            &mut occurrences,
             &mut pending,
             functions,
             assignments,
@@ -64,12 +64,12 @@ pub(crate) fn order_fault<'src>(
 
 // Takes the assignment with a name if it is referenced, and returns the reason if it may not come next. One that was
 // already taken may come again. The rest of the order does not matter: the clauses use an empty one.
-fn take_next<'src>(
+fn take_next<'src, 'a>(
     alloc: Global,
-    sites: &mut Vec<Site<'src>>,
+    occurrences: &mut Vec<Occurrence<'src, 'a>>,
     pending: &mut Vec<&'src str>,
-    functions: &Table<FunctionDefinition<'src>>,
-    assignments: &Table<Assignment<'src>>,
+    functions: &'a Table<FunctionDefinition<'src>>,
+    assignments: &'a Table<Assignment<'src>>,
     variable_references: Option<&HashSet<Number>>,
     readable: &mut Readable<'src, '_, '_>,
     admitted: &mut BTreeSet<&'src str>,
@@ -100,7 +100,13 @@ fn take_next<'src>(
                 return Ok(None);
             }
             take(
-                alloc, sites, pending, functions, readable, admitted, assignment,
+                alloc,
+                occurrences,
+                pending,
+                functions,
+                readable,
+                admitted,
+                assignment,
             )
         }
         None => Ok(Some(Fault::UnknownAssignment { assignment: *name })),
@@ -116,14 +122,14 @@ fn take_next<'src>(
 /// # Errors
 ///
 /// `OutOfMemory`, if an allocation fails: what `readable` and `admitted` say then is not to be used.
-pub fn take<'src>(
+pub fn take<'src, 'a>(
     alloc: Global,
-    sites: &mut Vec<Site<'src>>,
+    occurrences: &mut Vec<Occurrence<'src, 'a>>,
     pending: &mut Vec<&'src str>,
-    functions: &Table<FunctionDefinition<'src>>,
+    functions: &'a Table<FunctionDefinition<'src>>,
     readable: &mut Readable<'src, '_, '_>,
     admitted: &mut BTreeSet<&'src str>,
-    assignment: &Assignment<'src>,
+    assignment: &'a Assignment<'src>,
 ) -> Result<Option<Fault<'src>>, OutOfMemory>
     requires closed { IsAdmitted (map function_view functions.now) (is_readable readable.old)
         (is_name_in admitted.old) }
@@ -140,7 +146,14 @@ pub fn take<'src>(
 {
     let value = &assignment.value;
     let found = first_unreadable(
-        alloc, sites, pending, functions, readable, readable, admitted, value,
+        alloc,
+        occurrences,
+        pending,
+        functions,
+        readable,
+        readable,
+        admitted,
+        value,
     )?;
     readable.take(assignment.number)?;
     if let Some(variable) = found {

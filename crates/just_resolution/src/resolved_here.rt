@@ -30,13 +30,13 @@ use std::alloc::Global;
 /// # Errors
 ///
 /// `OutOfMemory` if an allocation fails: nothing is decided, and `expressions` is consumed all the same.
-pub fn resolved_here<'src, 'run>(
+pub fn resolved_here<'src, 'a, 'run>(
     alloc: Global,
-    context: &ExecutionContext<'src, 'run>,
-    scope: &Scope<'src, 'run>,
-    recipe: Option<&Recipe<'src>>,
-    parameters: &[Parameter<'src>],
-    expressions: Vec<&Expression<'src>>,
+    context: &'a ExecutionContext<'src, 'run>,
+    scope: &'a Scope<'src, 'run>,
+    recipe: Option<&'a Recipe<'src>>,
+    parameters: &'a [Parameter<'src>],
+    expressions: Vec<&'a Expression<'src>>,
 ) -> Result<bool, OutOfMemory>
     ensures exact { IfOk result (λ answer. IsTrue answer ↔ IsResolvedWith context.now (frames_view scope.now)
         (attributes_of recipe.entry) (map recipe_parameter_view parameters.now)

@@ -2,24 +2,23 @@
 use Rattle.std.proofs.Common.{◌≡◌, ◌⊎◌, inl, inr, ⊎_elim, ℕ, List, [], ◌∷◌, ◌++◌, map, Option, Some, None, refl, ap, sym, ◌∙◌, subst}
 use Rattle.std.proofs.Common.{option_map}
 use Rattle.std.specs.List.{AllByRecursion}
-use Rattle.just_syntax.proofs.Lists.{in_append}
+use Rattle.just_syntax.specs.Occurrences.{CallAt, CommandAt, Occurrence, VariableAt, VariableOf, all_occurrences, mention_of, occurrences_in}
+use Rattle.just_syntax.proofs.Lists.{in_append, in_map}
+use Rattle.just_syntax.proofs.Occurring.{some_occurs}
 use Rattle.just_value.specs.Value.{Value}
 use Rattle.just_meaning.specs.Assignments.{Assignments}
-use Rattle.just_meaning.specs.Reaches.{CallOf, IsAmong, Mention, Occurs, Reads, VariableOf}
+use Rattle.just_meaning.specs.Reaches.{IsAmong, Occurs, Reads}
 use Rattle.just_meaning.specs.Resolved.{with_taken}
 use Rattle.just_resolution.specs.Fault.{CheckedPlace, IsFaulty, IsFirstFault, IsSound, IsTakenOrBound, ModuleFault, NameOf}
-use Rattle.just_resolution.specs.Fault.{ParameterOf, SiteOf, name_places}
-use Rattle.just_resolution.specs.Fault.{number_places, numbered_parameters, parameter_places, places, site_places}
+use Rattle.just_resolution.specs.Fault.{OccurrenceOf, ParameterOf, name_places}
+use Rattle.just_resolution.specs.Fault.{number_places, numbered_parameters, occurrence_places, parameter_places, places}
 use Rattle.just_resolution.specs.First.{IsFirstFaulty}
-use Rattle.just_resolution.specs.Sites.{Site, all_sites, sites_in}
-use Rattle.just_resolution.specs.Unreadable.{IsFirstUnreadable, IsUnreadable, MayBeRead}
+use Rattle.just_resolution.specs.Unreadable.{IsFirstUnreadable, IsUnreadable, IsUnreadableAt, MayBeRead}
 use Rattle.just_resolution.proofs.Faults.{all_numbers, numbers_of}
-use Rattle.just_resolution.proofs.Occurrences.{mentioned}
 use Rattle.just_resolve.specs.Prelude.{AreDistinct, AreFoundByName, AreSorted, Assignment, DependsOn, DependsOnItself, Expr, Frames, Function, HasValue}
 use Rattle.just_resolve.specs.Prelude.{IsIn, IsOfCycle, IsOfMention, IsRenumbered, IsSortedOrder, PlainNode, Token, bound_names, graph_of}
 use Rattle.just_resolve.specs.Prelude.{numbered_assignments, ordered, parameter_numbers, read_by, value_in}
 use Rattle.just_resolve.proofs.Depending.{depends}
-use Rattle.just_resolve.proofs.Indexing.{in_map}
 use Rattle.just_resolve.proofs.Mentions.{mention_is}
 use Rattle.just_resolve.proofs.Numbering.{free_distinct, free_unbound}
 use Rattle.just_resolve.proofs.Reading.{reads_given}
@@ -32,17 +31,18 @@ first_at sound faulty (x ∷ xs) h =
 
 -- ---- variables that may not be read
 
-not_readable : (readable : ℕ → Type 0) (m : Mention) → (MayBeRead readable m → ⊥) → (n : ℕ) × (m ≡ VariableOf (Some n)) × (readable n → ⊥)
-not_readable readable (VariableOf None) h = absurd (h tt)
-not_readable readable (VariableOf (Some n)) h = (n, refl, h)
-not_readable readable (CallOf name n) h = absurd (h tt)
+not_readable : (readable : ℕ → Type 0) (o : Occurrence) → (MayBeRead readable o → ⊥) → (n : ℕ) × (mention_of o ≡ VariableOf (Some n)) × (readable n → ⊥)
+not_readable readable (CommandAt t text) h = absurd (h tt)
+not_readable readable (CallAt t n) h = absurd (h tt)
+not_readable readable (VariableAt t None) h = absurd (h tt)
+not_readable readable (VariableAt t (Some n)) h = (n, refl, h)
 
 unreadable_in : (readable : ℕ → Type 0) (e : Expr) (t : Token) → IsFirstUnreadable readable e t
     → (n : ℕ) × Occurs e (VariableOf (Some n)) × (readable n → ⊥)
 unreadable_in readable e t h =
-    let s = first_at (λ (s : Site). MayBeRead readable s.mention) (λ (s : Site). (s.token ≡ t) × (MayBeRead readable s.mention → ⊥)) (sites_in e) h in
-    let n = not_readable readable s.0.mention s.2.1 in
-    (n.0, (mentioned e (VariableOf (Some n.0))).0 ((in_map (λ (s : Site). s.mention) (sites_in e) (VariableOf (Some n.0))).1 (s.0, s.1, n.1)), n.2)
+    let o = first_at (MayBeRead readable) (λ r. IsUnreadableAt readable r t) (occurrences_in e) h in
+    let n = not_readable readable o.0 o.2.1 in
+    (n.0, (some_occurs (λ r. mention_of r ≡ VariableOf (Some n.0)) e).0 (o.0, o.1, n.1), n.2)
 
 -- a variable that is read, by the expression itself or through functions
 unreadable_read : (functions : List Function) (readable : ℕ → Type 0) (e : Expr) (t : Token) → IsUnreadable functions readable readable e t
@@ -73,10 +73,10 @@ module _ (functions : List Function) (assignments : Assignments) (outer : Frames
   abbrev IsFaultAt : CheckedPlace → Type 0
   IsFaultAt place = IsFaulty functions assignments outer place f
 
-  site_is : (es : List Expr) (place : CheckedPlace) → IsIn (site_places es) place → IsFaultAt place → IsOfMention f
-  site_is es place there h =
-      let s = (in_map SiteOf (all_sites es) place).0 there in
-      mention_is functions s.0.token s.0.mention f (subst IsFaultAt (sym s.2) h)
+  occurrence_is : (es : List Expr) (place : CheckedPlace) → IsIn (occurrence_places es) place → IsFaultAt place → IsOfMention f
+  occurrence_is es place there h =
+      let o = (in_map OccurrenceOf (all_occurrences es) place).0 there in
+      mention_is functions o.0 f (subst IsFaultAt (sym o.2) h)
 
   -- no number occurs twice
   number_is : (earlier : List ℕ) (ps : List (Token × ℕ)) → AreDistinct (map (λ p. p.1) ps)
@@ -162,8 +162,8 @@ module _ (outer : Frames) (functions functions' : List Function) (assignments al
       let second = λ (p : Token × ℕ). p.1 in
       let number_list = number_places [] (numbered_assignments all ++ ps) in
       let parameter_list = parameter_places ps in
-      let value_list = site_places (map (λ (a : Assignment). a.value) all) in
-      let body_list = site_places (map (λ (g : Function). g.body) functions') in
+      let value_list = occurrence_places (map (λ (a : Assignment). a.value) all) in
+      let body_list = occurrence_places (map (λ (g : Function). g.body) functions') in
       let name_list = name_places m [] order in
       let has = sorted.named in
       let at = first_at (IsSound functions' m outer) (λ place. IsFaulty functions' m outer place f) (places functions' m) first in
@@ -178,9 +178,9 @@ module _ (outer : Frames) (functions functions' : List Function) (assignments al
       (λ k. absurd (parameter_is functions' m outer f ps none_bound place k at.2))
       ((in_append number_list parameter_list place).0 k))
       (λ k. ⊎_elim
-      (λ k. inl (site_is functions' m outer f (map (λ (a : Assignment). a.value) all) place k at.2))
+      (λ k. inl (occurrence_is functions' m outer f (map (λ (a : Assignment). a.value) all) place k at.2))
       (λ k. ⊎_elim
-      (λ k. inl (site_is functions' m outer f (map (λ (g : Function). g.body) functions') place k at.2))
+      (λ k. inl (occurrence_is functions' m outer f (map (λ (g : Function). g.body) functions') place k at.2))
       (λ k. inr (name_is functions' all outer order f found given [] has.members has.known
       (subst (AreSorted (read_by (graph_of functions' all outer)) []) (sym has.numbered) sorted.sorted) place
       (subst (λ names. IsIn (name_places m [] names) place) (sym has.named) k) at.2))

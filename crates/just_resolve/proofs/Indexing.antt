@@ -1,5 +1,5 @@
 -- Assignments by their numbers.
-use Rattle.std.proofs.Common.{◌≡◌, ◌↔◌, inl, inr, ⊎_elim, ◌+◌, ◌<◌, ℕ, Bool, true, false, cond, List, [], ◌∷◌, ◌++◌, map, drop, take, Some, None}
+use Rattle.std.proofs.Common.{◌≡◌, ◌↔◌, inl, inr, ◌+◌, ◌<◌, ℕ, Bool, true, false, cond, List, [], ◌∷◌, ◌++◌, map, drop, take, Some, None}
 use Rattle.std.proofs.Common.{IsSome, IfSome, nat_eq}
 use Rattle.std.proofs.Common.{get_or, length, refl, ap, sym, ◌∙◌, subst, option_map}
 use Rattle.std.specs.HashMap.{HashMap}
@@ -10,7 +10,7 @@ use Rattle.std.proofs.lemmas.Bool.{eq-eqb, eqb-true}
 use Rattle.std.specs.Str.{bytes_eq}
 use Rattle.std.proofs.lemmas.List.{append_assoc, append-nil, take-append-drop}
 use Rattle.std.proofs.lemmas.List.Sorted.{Contains-permutation, IsPermutation-sym}
-use Rattle.just_syntax.proofs.Lists.{all_append, in_append, in_of, of_in}
+use Rattle.just_syntax.proofs.Lists.{all_append, in_append, in_map, in_of, of_in}
 use Rattle.just_syntax.specs.Keyed.{value_at}
 use Rattle.just_resolution.proofs.Sets.{front, taken_more}
 use Rattle.just_syntax.specs.declared.name.Name.{Name}
@@ -18,14 +18,6 @@ use Rattle.just_resolve.specs.Prelude.{AreDistinct, Assignment, HasNames, IsIn, 
 use Rattle.just_resolve.proofs.Rings.{one_assignment}
 
 -- ---- membership
-
-pub in_map : {A B : Type 0} (f : A → B) (xs : List A) (y : B) → IsIn (map f xs) y ↔ ((x : A) × IsIn xs x × (f x ≡ y))
-in_map f [] y = ((λ h. absurd h), (λ h. absurd h.1))
-in_map f (x ∷ xs) y =
-    let rest = in_map f xs y in (
-      (λ h. ⊎_elim (λ e. (x, inl refl, e)) (λ k. let r = rest.0 k in (r.0, inr r.1, r.2)) h),
-      (λ h. ⊎_elim (λ e. inl (ap f e ∙ h.2)) (λ k. inr (rest.1 (h.0, k, h.2))) h.1),
-    )
 
 permuted : {A B : Type 0} (f : A → B) (xs ys : List A) (y : B) → IsPermutation xs ys → IsIn (map f xs) y → IsIn (map f ys) y
 permuted f xs ys y p h =

@@ -13,7 +13,8 @@ use Rattle.just_value.specs.Frames.{Bound}
 use Rattle.std.specs.Str.{bytes_eq}
 use Rattle.just_syntax.specs.Keyed.{IsInOrder, value_at}
 use Rattle.just_resolve.specs.Prelude.{Frame, IsIn, Text, Token, first_named, frame_names}
-use Rattle.just_resolve.proofs.Indexing.{all_in, in_map}
+use Rattle.just_resolve.proofs.Indexing.{all_in}
+use Rattle.just_syntax.proofs.Lists.{in_map}
 
 -- what a look-up finds is in the list
 pub found_there : {V : Type 0} (key : V → Text) (name : Text) (all : List V) (v : V) → value_at key name all ≡ Some v → IsIn all v

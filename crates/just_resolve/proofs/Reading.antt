@@ -14,7 +14,8 @@ use Rattle.just_value.specs.Value.{Value}
 use Rattle.just_value.specs.declared.binding.Binding.{Binding}
 use Rattle.just_value.specs.declared.scope.Scope.{Scope, Scope', Held-Scope-outer, None', Some'}
 use Rattle.just_value.specs.View.{outer_view}
-use Rattle.just_meaning.specs.Reaches.{CallOf, IsAmong, Occurs, OccursIn, OccursInPieces, Reads, VariableOf}
+use Rattle.just_syntax.specs.Occurrences.{CallOf, CommandOf, Occurrence, SomeOccursInPieces, SomeOccursInRow, VariableOf, mention_of}
+use Rattle.just_meaning.specs.Reaches.{IsAmong, Occurs, Reads}
 use Rattle.just_resolution.proofs.Faults.{numbers_alone}
 use Rattle.just_resolve.specs.Prelude.{Assignment, Expr, Frames, Function, HasValue, IsIn, IsRenumbered, IsRenumberedAssignment, IsRenumberedFunction, Pairwise}
 use Rattle.just_resolve.specs.Prelude.{Text, Token, bound_names, bound_view, first_named, frame_names, frame_view, frames_view, numbered_assignments}
@@ -28,13 +29,16 @@ module _ (names : Text → Option ℕ) (P : ℕ → Type 0) (given : (t : Text) 
   abbrev by_name : Numbering
   by_name t number = names t
 
+  abbrev IsVariable : ℕ → Occurrence → Type 0
+  IsVariable n o = mention_of o ≡ VariableOf (Some n)
+
   mutual
     -- each number that is read is that of a name
     pub number_read : (e : Expr) (n : ℕ) → Occurs (numbered_expression names e) (VariableOf (Some n)) → P n
     number_read (And l r) n h = ⊎_elim (λ k. number_read l n k) (λ k. number_read r n k) h
     number_read (Assert e m t) n h = ⊎_elim (λ k. number_read e n k) (λ k. number_read m n k) h
     number_read (AssertOnly e t) n h = number_read e n h
-    number_read (Backtick text t) n h = absurd h
+    number_read (Backtick text t) n h = absurd (let bad : CommandOf text ≡ VariableOf (Some n) = h in cc)
     number_read (Call t es) n h =
         ⊎_elim (λ k. absurd (let bad : CallOf t.lexeme (count (renumbered_row by_name es)) ≡ VariableOf (Some n) = k in cc)) (λ k. row_read es n k) h
     number_read (Comparison l o r t) n h = ⊎_elim (λ k. number_read l n k) (λ k. number_read r n k) h
@@ -54,11 +58,11 @@ module _ (names : Text → Option ℕ) (P : ℕ → Type 0) (given : (t : Text) 
     number_read (Variable t number) n h =
         let is : VariableOf (names t.lexeme) ≡ VariableOf (Some n) = h in let same : names t.lexeme ≡ Some n = cc in given t.lexeme n same
 
-    row_read : (es : Exprs) (n : ℕ) → OccursIn (renumbered_row by_name es) (VariableOf (Some n)) → P n
+    row_read : (es : Exprs) (n : ℕ) → SomeOccursInRow (IsVariable n) (renumbered_row by_name es) → P n
     row_read Nil n h = absurd h
     row_read (Cons e es) n h = ⊎_elim (λ k. number_read e n k) (λ k. row_read es n k) h
 
-    pieces_read : (pieces : Pieces) (n : ℕ) → OccursInPieces (renumbered_pieces by_name pieces) (VariableOf (Some n)) → P n
+    pieces_read : (pieces : Pieces) (n : ℕ) → SomeOccursInPieces (IsVariable n) (renumbered_pieces by_name pieces) → P n
     pieces_read NoPiece n h = absurd h
     pieces_read (Piece e literal pieces) n h = ⊎_elim (λ k. number_read e n k) (λ k. pieces_read pieces n k) h
 

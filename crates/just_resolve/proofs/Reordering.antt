@@ -2,14 +2,14 @@
 use Rattle.std.proofs.Common.{◌≡◌, inl, inr, ⊎_elim, ℕ, List, [], ◌∷◌, ◌++◌, map, sym, ◌∙◌, ap, subst}
 use Rattle.std.specs.List.{AllByRecursion}
 use Rattle.std.proofs.lemmas.List.{append_assoc}
+use Rattle.just_syntax.specs.Occurrences.{Occurrence, all_occurrences}
 use Rattle.just_syntax.proofs.Lists.{all_append, all_map}
 use Rattle.just_meaning.specs.Assignments.{Assignments, assignment_at}
 use Rattle.just_meaning.specs.Resolved.{AllKnown, with_taken}
 use Rattle.just_resolution.specs.Fault.{ArgumentCountMismatch, BoundParameter, CheckedPlace, DuplicateNumber, IsFaulty, IsFirstFault, IsSound, ModuleFault}
-use Rattle.just_resolution.specs.Fault.{NameOf, NumberOf, ParameterOf, SiteOf, UndefinedFunction, UndefinedVariable, UnknownAssignment, UntakenVariable}
-use Rattle.just_resolution.specs.Fault.{name_places, number_places, numbered_parameters, parameter_places, site_places}
+use Rattle.just_resolution.specs.Fault.{NameOf, NumberOf, OccurrenceOf, ParameterOf, UndefinedFunction, UndefinedVariable, UnknownAssignment, UntakenVariable}
+use Rattle.just_resolution.specs.Fault.{name_places, number_places, numbered_parameters, occurrence_places, parameter_places}
 use Rattle.just_resolution.specs.First.{IsFirstFaulty}
-use Rattle.just_resolution.specs.Sites.{Site, all_sites}
 use Rattle.just_resolution.proofs.Occurrences.{known_all}
 use Rattle.just_resolve.specs.Prelude.{Assignment, Frames, Function, IsOfMention, IsUntaken, Token, numbered_assignments, ordered}
 use Rattle.just_resolve.proofs.Mentions.{mention_is}
@@ -27,9 +27,9 @@ parameters_fixed : (ps : List (Token × ℕ)) → AllByRecursion IsFixed (parame
 parameters_fixed [] = tt
 parameters_fixed (p ∷ ps) = (tt, parameters_fixed ps)
 
-sites_fixed : (ss : List Site) → AllByRecursion IsFixed (map SiteOf ss)
-sites_fixed [] = tt
-sites_fixed (s ∷ ss) = (tt, sites_fixed ss)
+occurrences_fixed : (ss : List Occurrence) → AllByRecursion IsFixed (map OccurrenceOf ss)
+occurrences_fixed [] = tt
+occurrences_fixed (s ∷ ss) = (tt, occurrences_fixed ss)
 
 -- a place of the order
 abbrev IsOfOrder : CheckedPlace → Type 0
@@ -45,20 +45,20 @@ module _ (functions : List Function) (old new : Assignments) (outer : Frames) (f
   sound_still : (place : CheckedPlace) → IsFixed place → IsSound functions old outer place → IsSound functions new outer place
   sound_still (NumberOf t n earlier) fixed h = h
   sound_still (ParameterOf t n) fixed h = h
-  sound_still (SiteOf s) fixed h = h
+  sound_still (OccurrenceOf s) fixed h = h
   sound_still (NameOf t taken) fixed h = absurd fixed
 
   faulty_still : (place : CheckedPlace) → IsFixed place → IsFaulty functions old outer place f → IsFaulty functions new outer place f
   faulty_still (NumberOf t n earlier) fixed h = h
   faulty_still (ParameterOf t n) fixed h = h
-  faulty_still (SiteOf s) fixed h = h
+  faulty_still (OccurrenceOf s) fixed h = h
   faulty_still (NameOf t taken) fixed h = absurd fixed
 
   -- a place of the order has no such fault
   none_of_order : (place : CheckedPlace) → IsOfOrder place → IsFaulty functions old outer place f → ⊥
   none_of_order (NumberOf t n earlier) named h = named
   none_of_order (ParameterOf t n) named h = named
-  none_of_order (SiteOf s) named h = named
+  none_of_order (OccurrenceOf s) named h = named
   none_of_order (NameOf t taken) named (inl u) = subst IsOfMention (sym u.0) mention
   none_of_order (NameOf t taken) named (inr r) = subst IsOfMention (sym r.3.1) mention
 
@@ -85,10 +85,10 @@ module _ (functions : List Function) (all : List Assignment) where
   parameters = parameter_places (numbered_parameters functions)
 
   abbrev values : List CheckedPlace
-  values = site_places (map (λ a. a.value) all)
+  values = occurrence_places (map (λ a. a.value) all)
 
   abbrev bodies : List CheckedPlace
-  bodies = site_places (map (λ g. g.body) functions)
+  bodies = occurrence_places (map (λ g. g.body) functions)
 
   -- the places that are the same in each order
   abbrev front : List CheckedPlace
@@ -98,7 +98,10 @@ module _ (functions : List Function) (all : List Assignment) where
   front_fixed = (all_append IsFixed (numbers ++ parameters) (values ++ bodies)).1 (
     (all_append IsFixed numbers parameters).1
         (numbers_fixed [] (numbered_assignments all ++ numbered_parameters functions), parameters_fixed (numbered_parameters functions)),
-    (all_append IsFixed values bodies).1 (sites_fixed (all_sites (map (λ a. a.value) all)), sites_fixed (all_sites (map (λ g. g.body) functions))),
+    (all_append IsFixed values bodies).1 (
+      occurrences_fixed (all_occurrences (map (λ a. a.value) all)),
+      occurrences_fixed (all_occurrences (map (λ g. g.body) functions)),
+    ),
   )
 
   grouped : (names : List CheckedPlace) → (numbers ++ parameters) ++ (values ++ (bodies ++ names)) ≡ front ++ names
@@ -134,7 +137,7 @@ module _ (functions : List Function) (m : Assignments) (outer : Frames) (f : Mod
   not_fixed : (place : CheckedPlace) → IsFixed place → IsFaulty functions m outer place f → ⊥
   not_fixed (NumberOf t n earlier) fixed h = subst IsUntaken (sym h.0) untaken
   not_fixed (ParameterOf t n) fixed h = subst IsUntaken (sym h.0) untaken
-  not_fixed (SiteOf s) fixed h = not_both f (mention_is functions s.token s.mention f h) untaken
+  not_fixed (OccurrenceOf o) fixed h = not_both f (mention_is functions o f h) untaken
   not_fixed (NameOf t taken) fixed h = fixed
 
   sound_before : (xs ys : List CheckedPlace) → AllByRecursion IsFixed xs
@@ -152,11 +155,12 @@ known_before functions all outer order f untaken first =
     let sound = sound_before functions m outer f untaken (front functions all) (name_places m [] order) (front_fixed functions all)
     (subst (λ (xs : List CheckedPlace). IsFirstFaulty (IsSound functions m outer) (λ y. IsFaulty functions m outer y f) xs)
     (grouped functions all (name_places m [] order)) first) in
-    let sites = (all_append (IsSound functions m outer) (numbers functions all ++ parameters functions all) (values functions all ++ bodies functions all)).0
+    let occurrences = (all_append (IsSound functions m outer) (numbers functions all ++ parameters functions all)
+    (values functions all ++ bodies functions all)).0
     sound in
-    let each = (all_append (IsSound functions m outer) (values functions all) (bodies functions all)).0 sites.1 in (
+    let each = (all_append (IsSound functions m outer) (values functions all) (bodies functions all)).0 occurrences.1 in (
       (known_all functions (map (λ (a : Assignment). a.value) all)).0
-          ((all_map (IsSound functions m outer) SiteOf (all_sites (map (λ (a : Assignment). a.value) all))).0 each.0),
+          ((all_map (IsSound functions m outer) OccurrenceOf (all_occurrences (map (λ (a : Assignment). a.value) all))).0 each.0),
       (known_all functions (map (λ (g : Function). g.body) functions)).0
-          ((all_map (IsSound functions m outer) SiteOf (all_sites (map (λ (g : Function). g.body) functions))).0 each.1),
+          ((all_map (IsSound functions m outer) OccurrenceOf (all_occurrences (map (λ (g : Function). g.body) functions))).0 each.1),
     )

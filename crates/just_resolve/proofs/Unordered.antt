@@ -7,7 +7,8 @@ use Rattle.just_meaning.specs.Assignments.{Assignments, assignment_at}
 use Rattle.just_resolve.specs.Prelude.{AreDistinct, Assignment, Frames, Function, IsIn, IsOrder, IsResolved, IsRing, ReadInTurn, Token}
 use Rattle.just_resolve.specs.Prelude.{ordered, parameter_numbers}
 use Rattle.just_resolve.specs.Hopeless.{AreFoundByName, AreUnbound}
-use Rattle.just_resolve.proofs.Indexing.{all_in, in_map}
+use Rattle.just_resolve.proofs.Indexing.{all_in}
+use Rattle.just_syntax.proofs.Lists.{in_map}
 use Rattle.just_resolve.proofs.Lookups.{found_there}
 use Rattle.just_resolve.proofs.Numbering.{first_distinct}
 use Rattle.just_resolve.proofs.Rings.{one_assignment}

@@ -20,7 +20,8 @@ use Rattle.just_builtins.specs.Shape.{builtin_of}
 use Rattle.just_builtins.specs.Table.{function_named, is_left_out}
 use Rattle.just_builtins.specs.declared.function.Function as built_in
 use Rattle.just_meaning.specs.Callee.{Defined, BuiltIn, LeftOut, accepts, built_in_or_unknown, callee, defined_or, undefined}
-use Rattle.just_meaning.specs.Reaches.{Mention, VariableOf, CallOf, function_at, IsAmong, Occurs, Reaches, Here, ReadsBeyond}
+use Rattle.just_syntax.specs.Occurrences.{CallOf, CommandOf, Mention, VariableOf}
+use Rattle.just_meaning.specs.Reaches.{function_at, IsAmong, Occurs, Reaches, Here, ReadsBeyond}
 use Rattle.just_meaning.specs.Meaning.{Program, Situation, Deeper, AtLimit, WithinLimit, Row, as_it_is, built_in_context, called, eval, eval_row, named}
 use Rattle.just_meaning.specs.Meaning.{returned, texts_of, variable}
 use Rattle.just_meaning.specs.Messages.{miscounted_text}
@@ -97,6 +98,7 @@ moved names shown below s =
 -- the condition on what occurs in an expression: a variable that is not refused has one value, and a call is one of
 -- these
 abbrev pub ReadsAlike : Sight → (Text → Type 0) → Names → Names → Mention → Type 0
+ReadsAlike m C names others (CommandOf text) = Unit {0}
 ReadsAlike m C names others (VariableOf None) = Unit {0}
 ReadsAlike m C names others (VariableOf (Some n)) = (t : Token) → IsSteady m (Read t n) × (ends_at m (Read t n) ≡ false → names n ≡ others n)
 ReadsAlike m C names others (CallOf f n) = C f
@@ -204,6 +206,7 @@ module _ (fixed : Fixed) (functions others : List Function) (base other : Names)
       same_reads : (name : Text) (f : Function) (vs : List Value) → C name → function_at functions name ≡ Some f → length f.parameters ≡ length vs
           → (s : Situation) (x : Mention) → Occurs f.body x
           → ReadsAlike Whole C (inside base s f vs).names (over (with_parameters [] f.parameters vs) other) x
+      same_reads name f vs reached found fits s (CommandOf text) h = tt
       same_reads name f vs reached found fits s (VariableOf None) h = tt
       same_reads name f vs reached found fits s (VariableOf (Some n)) h =
           λ t. (tt, λ e. parameters_same f.parameters vs base n fits other (λ beyond. held name f n reached found h beyond))
@@ -229,6 +232,7 @@ alike_lexical fixed functions others base other k s names shown below e same own
     held name f n reached found occurs out = beyond n (record { name = name; function = f; reached = reached; found = found; occurs = occurs; beyond = out })
 
     same_reads : (x : Mention) → Occurs e x → ReadsAlike Whole (Reaches functions e) s.names names x
+    same_reads (CommandOf text) h = tt
     same_reads (VariableOf None) h = tt
     same_reads (VariableOf (Some n)) h = λ t. (tt, λ e. own n h)
     same_reads (CallOf f n) h = Here n h

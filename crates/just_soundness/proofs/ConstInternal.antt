@@ -12,7 +12,8 @@ use Rattle.just_meaning.specs.Constant.{constantly, nowhere}
 use Rattle.just_meaning.specs.Internal.{IfRefused, IsInternal, IsNotInternal}
 use Rattle.just_meaning.specs.Meaning.{AtLimit, named}
 use Rattle.just_meaning.specs.Module.{situation_at}
-use Rattle.just_meaning.specs.Reaches.{Mention, VariableOf, CallOf, Occurs}
+use Rattle.just_syntax.specs.Occurrences.{CallOf, CommandOf, Mention, VariableOf}
+use Rattle.just_meaning.specs.Reaches.{Occurs}
 use Rattle.just_meaning.specs.Resolved.{AllNumbered, IsNumbered, HasValue, IsResolvedConst}
 use Rattle.just_meaning.specs.ResolvedOn.{IsResolvedOn}
 use Rattle.just_meaning.specs.Stage.{Constants, StageState, Staged, after_assignment, after_outcome, at_start, const_assigned, const_meaning, is_due, stage}
@@ -41,6 +42,7 @@ pub resolved_const : (s : StageState) (e : Expr) → IsResolvedOn s e → AllCon
 resolved_const s e resolved = const_eval IsOther s.is_open allows_others nowhere AtLimit (situation_at s.lists s.frames) e fine
   where
     fine : (x : Mention) → Occurs e x → Fine IsOther s.is_open (value_in s.frames) x
+    fine (CommandOf text) h = tt
     fine (VariableOf None) h = absurd (resolved.numbered h)
     fine (VariableOf (Some n)) h = known_fine s.is_open (value_in s.frames) n (resolved.known n h)
     fine (CallOf f n) h = tt

@@ -11,7 +11,8 @@ use Rattle.just_host.specs.Interaction.{Note, Event, Read, Entered, Command, Tre
 use Rattle.just_host.specs.Interaction.{Chain, Step, Behaves, unchecked}
 use Rattle.just_meaning.specs.Constant.{constant, constantly, unless_refused}
 use Rattle.just_meaning.specs.Internal.{IfRefused}
-use Rattle.just_meaning.specs.Reaches.{Mention, VariableOf, CallOf, Occurs}
+use Rattle.just_syntax.specs.Occurrences.{CallOf, CommandOf, Mention, VariableOf}
+use Rattle.just_meaning.specs.Reaches.{Occurs}
 use Rattle.just_meaning.specs.Meaning.{Program, Situation, Deeper, eval, named, variable}
 use Rattle.just_meaning.specs.Module.{or_override}
 use Rattle.just_soundness.proofs.Forms.{IsCongruence, OfForms, related_eval}
@@ -25,6 +26,7 @@ AllConst P is_open (note x rest) = constantly is_open x ≡ None → AllConst P 
 
 -- the refusals of a variable with no value have this property
 abbrev pub Fine : (Refusal → Type 0) → (ℕ → Bool) → Names → Mention → Type 0
+Fine P is_open names (CommandOf text) = Unit {0}
 Fine P is_open names (VariableOf number) = (t : Token) → AllConst P is_open (variable t number names)
 Fine P is_open names (CallOf f n) = Unit {0}
 
@@ -112,6 +114,7 @@ named_alike is_open t None = tt
 named_alike is_open t (Some v) = tt
 
 fine_alike : (is_open : ℕ → Bool) (names : Names) (x : Mention) → Fine IsConstEval is_open names x
+fine_alike is_open names (CommandOf text) = tt
 fine_alike is_open names (VariableOf None) = λ t. tt
 fine_alike is_open names (VariableOf (Some n)) = λ t e. named_alike is_open t (names n)
 fine_alike is_open names (CallOf f n) = tt

@@ -11,7 +11,7 @@ use Rattle.just_meaning.specs.Internal.{IfRefused, IsFinal}
 use Rattle.just_meaning.specs.Meaning.{Program, Situation, Deeper, AtLimit, WithinLimit, Row, as_it_is, called, eval, named}
 use Rattle.just_meaning.specs.Assignments.{assignment_at}
 use Rattle.just_meaning.specs.Module.{Module, assigned, dynamically, evaluated, is_taken, run, turn, turn_of}
-use Rattle.just_meaning.specs.Reaches.{Mention, VariableOf, CallOf}
+use Rattle.just_syntax.specs.Occurrences.{CallOf, CommandOf, Mention, VariableOf}
 use Rattle.just_interaction.proofs.Ends.{ends_path}
 use Rattle.just_soundness.proofs.Refused.{AllRefused, IsRowRefused, MentionFits, Permits, refused_bind, refused_built_in, refused_eval, refused_if}
 use Rattle.just_soundness.proofs.Refused.{refused_override}
@@ -51,6 +51,7 @@ module _ (c : Program) (s : Situation) where
   final_called t Unknown d n row deeper h = tt
 
   final_mention : (x : Mention) → MentionFits IsFinal Any s.names x
+  final_mention (CommandOf text) = tt
   final_mention (VariableOf None) = λ t. tt
   final_mention (VariableOf (Some n)) = λ t. final_named t (s.names n)
   final_mention (CallOf f n) = tt

@@ -12,7 +12,8 @@ use Rattle.just_host.specs.Interaction.{Tree, bind, refuses}
 use Rattle.just_builtins.specs.Table.{function_named, is_left_out}
 use Rattle.just_builtins.specs.declared.function.Function as built_in
 use Rattle.just_meaning.specs.Callee.{Defined, BuiltIn, LeftOut, Accepts, accepts, built_in_or_unknown, callee, defined_or, undefined}
-use Rattle.just_meaning.specs.Reaches.{Mention, VariableOf, CallOf, function_at, IsAmong, Occurs, Reaches, Here, Reads, ReadsBeyond}
+use Rattle.just_syntax.specs.Occurrences.{CallOf, CommandOf, Mention, VariableOf}
+use Rattle.just_meaning.specs.Reaches.{function_at, IsAmong, Occurs, Reaches, Here, Reads, ReadsBeyond}
 use Rattle.just_meaning.specs.Resolved.{IsKnown, AllKnown, HasValue, AreAssignments, AreInOrder}
 use Rattle.just_meaning.specs.Messages.{miscounted_text}
 use Rattle.just_meaning.specs.Meaning.{Program, Situation, Deeper, AtLimit, WithinLimit, Row, as_it_is, built_in_call, called, eval, named, texts_of}
@@ -56,6 +57,7 @@ AreCallsSound C functions s (WithinLimit run) = (name : Text) (f : Function) (vs
 
 -- what is read has a value, and what is called is one of these functions and takes the arguments
 abbrev Holds : (Text → Type 0) → List Function → Names → Mention → Type 0
+Holds C functions names (CommandOf text) = Unit {0}
 Holds C functions names (VariableOf None) = ⊥
 Holds C functions names (VariableOf (Some n)) = HasValue names n
 Holds C functions names (CallOf f n) = C f × Accepts (callee functions f) n
@@ -90,6 +92,7 @@ module _ (c : Program) (d : Deeper) (s : Situation) (C : Text → Type 0) (sound
   called_never t n row reached counted h (Some f) e fits = defined_never t n row reached counted h f e fits d sound
 
   holds_fit : (x : Mention) → Holds C c.functions s.names x → MentionFits IsOther IsCallable s.names x
+  holds_fit (CommandOf text) h = tt
   holds_fit (VariableOf None) h = absurd h
   holds_fit (VariableOf (Some n)) h = λ t. subst (λ o. IsNotInternal (named t o)) (sym h.1) tt
   holds_fit (CallOf f n) h = h
@@ -117,6 +120,7 @@ module _ (c : Program) (base : Names) (C : Text → Type 0) (known : AllKnown c.
     where
       of_mention : (name : Text) (f : Function) (vs : List Value) → C name → function_at c.functions name ≡ Some f → length f.parameters ≡ length vs →
           (x : Mention) → Occurs f.body x → IsKnown c.functions x → Holds C c.functions (inside base s f vs).names x
+      of_mention name f vs reached found fits (CommandOf text) h is = tt
       of_mention name f vs reached found fits (VariableOf None) h is = is
       of_mention name f vs reached found fits (VariableOf (Some n)) h is =
           parameters_have f.parameters vs base n fits (λ beyond. held name f n reached found h beyond)
@@ -136,6 +140,7 @@ expression_never c base k s e bodies known own beyond = eval_never c (lexical c 
         k s
 
     of_mention : (x : Mention) → Occurs e x → IsKnown c.functions x → Holds (Reaches c.functions e) c.functions s.names x
+    of_mention (CommandOf text) h is = tt
     of_mention (VariableOf None) h is = is
     of_mention (VariableOf (Some n)) h is = own n h
     of_mention (CallOf f n) h is = (Here n h, is)

@@ -15,7 +15,8 @@ use Rattle.just_builtins.specs.declared.function.Function as built_in
 use Rattle.just_meaning.specs.Callee.{Callee, Defined, BuiltIn, LeftOut, built_in_or_unknown, callee, defined_or, undefined}
 use Rattle.just_meaning.specs.Callee as callees
 use Rattle.just_meaning.specs.Assignments.{Assignments, assignment_at}
-use Rattle.just_meaning.specs.Reaches.{Mention, VariableOf, CallOf, function_at, IsAmong, Occurs, Reaches, Here, ReadsBeyond}
+use Rattle.just_syntax.specs.Occurrences.{CallOf, CommandOf, Mention, VariableOf}
+use Rattle.just_meaning.specs.Reaches.{function_at, IsAmong, Occurs, Reaches, Here, ReadsBeyond}
 use Rattle.just_meaning.specs.Resolved.{IsResolved, AreInOrder, parameter_numbers, with_taken}
 use Rattle.just_meaning.specs.Messages.{miscounted_text}
 use Rattle.just_meaning.specs.Meaning.{Program, Situation, Deeper, Row, as_it_is, called, eval, eval_row, named, variable}
@@ -37,6 +38,7 @@ situation_with_names names s =
 
 -- the condition on everything that occurs in an expression
 abbrev ReadsSame : (Text → Type 0) → Names → Names → Mention → Type 0
+ReadsSame C names names' (CommandOf text) = Unit {0}
 ReadsSame C names names' (VariableOf None) = Unit {0}
 ReadsSame C names names' (VariableOf (Some n)) = names n ≡ names' n
 ReadsSame C names names' (CallOf f n) = C f
@@ -99,6 +101,7 @@ module _ (c : Program) (C : Text → Type 0)
     where
       same_reads : (x : Mention) → Occurs f.body x
           → ReadsSame C (inside (value_in s.below) s f vs).names (inside base (situation_with_names names s) f vs).names x
+      same_reads (CommandOf text) h = tt
       same_reads (VariableOf None) h = tt
       same_reads (VariableOf (Some n)) h =
           parameters_same f.parameters vs (value_in s.below) n fits base (λ beyond. on n (apart name f n reached found h beyond))
@@ -148,6 +151,7 @@ dynamic_is_lexical c k s e apart =
     k s (value_in s.below) s.names e same_reads (λ n free. refl)
   where
     same_reads : (x : Mention) → Occurs e x → ReadsSame (Reaches c.functions e) s.names s.names x
+    same_reads (CommandOf text) h = tt
     same_reads (VariableOf None) h = tt
     same_reads (VariableOf (Some n)) h = refl
     same_reads (CallOf f n) h = Here n h

@@ -6,7 +6,8 @@ use Rattle.just_syntax.proofs.Tables.{found_is}
 use Rattle.just_syntax.specs.Lists.{IsIn}
 use Rattle.just_syntax.proofs.Lists.{in_second, in_first}
 use Rattle.just_meaning.specs.Assignments.{Assignments, assignment_at}
-use Rattle.just_meaning.specs.Reaches.{Mention, function_at, IsAmong, Occurs}
+use Rattle.just_syntax.specs.Occurrences.{Mention}
+use Rattle.just_meaning.specs.Reaches.{function_at, IsAmong, Occurs}
 use Rattle.just_meaning.specs.Resolved.{IsKnown, AllKnown, AreDistinct, parameter_numbers, with_taken}
 
 -- ---- numbers

@@ -6,7 +6,8 @@ use Rattle.just_value.specs.Value.{Value}
 use Rattle.just_value.specs.Frames.{Bound, Frame, Frames, bound_innermost, innermost, with_bound}
 use Rattle.just_meaning.specs.Assignments.{assignment_at}
 use Rattle.just_meaning.specs.Module.{bound_of}
-use Rattle.just_meaning.specs.Reaches.{VariableOf, Occurs}
+use Rattle.just_syntax.specs.Occurrences.{VariableOf}
+use Rattle.just_meaning.specs.Reaches.{Occurs}
 use Rattle.just_meaning.specs.Resolved.{AreAssignments, AreInOrder, IsResolvedConst}
 use Rattle.just_meaning.specs.Stage.{Constants, StageState, at_start, is_due, with_open, with_settled}
 use Rattle.just_soundness.proofs.Bound.{bound_value}

@@ -21,7 +21,8 @@ use Rattle.just_meaning.specs.Internal.{IfRefused}
 use Rattle.just_meaning.specs.Meaning.{Program, Situation, Deeper, Row, answered, argument, as_it_is, built_in_call, built_in_context, called, eval, eval_row}
 use Rattle.just_meaning.specs.Meaning.{returned, texts_of, variable}
 use Rattle.just_meaning.specs.Module.{or_override}
-use Rattle.just_meaning.specs.Reaches.{Mention, VariableOf, CallOf, Occurs}
+use Rattle.just_syntax.specs.Occurrences.{CallOf, CommandOf, Mention, VariableOf}
+use Rattle.just_meaning.specs.Reaches.{Occurs}
 use Rattle.just_meaning.specs.Settings.{text_in}
 use Rattle.just_interaction.proofs.Ends.{AllEnd, ends_bind, ends_both}
 use Rattle.just_soundness.proofs.Counts.{HasCount, row_counts}
@@ -37,6 +38,7 @@ IsRowRefused P row = AreRowsRelated (λ A t u. AllRefused P t) row row
 
 -- the refusals of reading a variable have this property, and a call is one of these, with this many arguments
 abbrev pub MentionFits : (Refusal → Type 0) → (Text → ℕ → Type 0) → Names → Mention → Type 0
+MentionFits P C names (CommandOf text) = Unit {0}
 MentionFits P C names (VariableOf number) = (t : Token) → AllRefused P (variable t number names)
 MentionFits P C names (CallOf f n) = C f n
 

@@ -1,7 +1,7 @@
 -- Lists: membership, properties of all elements, and the rest from an index on.
 use Rattle.std.proofs.Common.{◌≡◌, ◌≢◌, ◌↔◌, ◌⊎◌, inl, inr, ⊎_elim, ℕ, zero, suc, ◌+◌, ◌<◌, List, [], ◌∷◌, ◌++◌, map, length, get_or, drop, refl, sym, ap}
 use Rattle.std.proofs.Common.{◌∙◌, subst, add-one, arith, drop-cons, Contains}
-use Rattle.std.specs.List.{AllByRecursion}
+use Rattle.std.specs.List.{AllByRecursion, flat_map}
 use Rattle.just_syntax.specs.Lists.{IsIn}
 
 pub in_append : {A : Type 0} (xs ys : List A) (x : A) → IsIn (xs ++ ys) x ↔ (IsIn xs x ⊎ IsIn ys x)
@@ -12,11 +12,38 @@ in_append (y ∷ xs) ys x =
       (λ h. ⊎_elim (λ k. ⊎_elim (λ j. inl j) (λ j. inr (rest.1 (inl j))) k) (λ k. inr (rest.1 (inr k))) h),
     )
 
+-- one element more at the end
+pub in_one_more : {A : Type 0} (xs : List A) (y x : A) → IsIn (xs ++ y ∷ []) x ↔ (IsIn xs x ⊎ (y ≡ x))
+in_one_more xs y x =
+    let both = in_append xs (y ∷ []) x in (
+      (λ h. ⊎_elim (λ k. inl k) (λ k. ⊎_elim (λ e. inr e) (λ bad. absurd bad) k) (both.0 h)),
+      (λ s. ⊎_elim (λ k. both.1 (inl k)) (λ e. both.1 (inr (inl e))) s),
+    )
+
 pub in_first : {A : Type 0} (xs ys : List A) (x : A) → IsIn xs x → IsIn (xs ++ ys) x
 in_first xs ys x h = (in_append xs ys x).1 (inl h)
 
 pub in_second : {A : Type 0} (xs ys : List A) (x : A) → IsIn ys x → IsIn (xs ++ ys) x
 in_second xs ys x h = (in_append xs ys x).1 (inr h)
+
+-- an element of a mapped list
+pub in_map : {A B : Type 0} (f : A → B) (xs : List A) (y : B) → IsIn (map f xs) y ↔ ((x : A) × IsIn xs x × (f x ≡ y))
+in_map f [] y = ((λ h. absurd h), (λ h. absurd h.1))
+in_map f (x ∷ xs) y =
+    let rest = in_map f xs y in (
+      (λ h. ⊎_elim (λ e. (x, inl refl, e)) (λ k. let r = rest.0 k in (r.0, inr r.1, r.2)) h),
+      (λ h. ⊎_elim (λ e. inl (ap f e ∙ h.2)) (λ k. inr (rest.1 (h.0, k, h.2))) h.1),
+    )
+
+-- an element of one of the lists that are joined
+pub in_flat_map : {A B : Type 0} (f : A → List B) (xs : List A) (y : B) → IsIn (flat_map f xs) y ↔ ((x : A) × IsIn xs x × IsIn (f x) y)
+in_flat_map f [] y = ((λ h. absurd h), (λ h. absurd h.1))
+in_flat_map f (x ∷ xs) y =
+    let rest = in_flat_map f xs y in
+    let both = in_append (f x) (flat_map f xs) y in (
+      (λ h. ⊎_elim (λ k. (x, inl refl, k)) (λ k. let r = rest.0 k in (r.0, inr r.1, r.2)) (both.0 h)),
+      (λ h. ⊎_elim (λ e. both.1 (inl (subst (λ z. IsIn (f z) y) (sym e) h.2))) (λ k. both.1 (inr (rest.1 (h.0, k, h.2)))) h.1),
+    )
 
 -- membership is std's `Contains`, which is by position
 pub in_of : {A : Type 0} (xs : List A) (x : A) → Contains xs x → IsIn xs x

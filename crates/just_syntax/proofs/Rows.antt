@@ -8,6 +8,7 @@ use Rattle.just_syntax.specs.declared.expression.Expression.TheViews as expressi
 use Rattle.just_syntax.specs.Prelude.{Call, FormatString, ListOf, literal_view, name_view, piece_views, printed, printed_call}
 use Rattle.just_syntax.specs.Prelude.{printed_pieces, printed_row, token_view, view, views}
 use Rattle.just_syntax.specs.Plain.{Cons, Piece, count}
+use Rattle.just_syntax.specs.Occurrences.{Occurrence, occurring, occurring_in_call, occurring_in_pieces, occurring_in_row}
 use Rattle.just_syntax.specs.declared.string_literal.StringLiteral.{StringLiteral as Written}
 use Rattle.just_syntax.specs.View.{row_view, pieces_view}
 
@@ -32,6 +33,18 @@ piece_items (more_of-Expression-FormatString-1-2 e literal rest) = ap (Piece (vi
 
 pub view_format_string : (start : _) (es : _) → view (expressions.FormatString start es) ≡ FormatString (literal_view start) (piece_views es.items)
 view_format_string start es = search (rules, the_lemmas, piece_items)
+
+-- ---- what occurs
+
+module _ (os : List Occurrence) where
+  pub occurring_list : (es : _) (t : _) → occurring os (view (expressions.List es t)) ≡ occurring_in_row os (views es.items)
+  occurring_list es t = ap (occurring os) (view_list es t)
+
+  pub occurring_call : (es : _) (name : _) → occurring os (view (expressions.Call es name)) ≡ occurring_in_call os (name_view name) (views es.items)
+  occurring_call es name = ap (occurring os) (view_call es name)
+
+  pub occurring_format_string : (start : _) (es : _) → occurring os (view (expressions.FormatString start es)) ≡ occurring_in_pieces os (piece_views es.items)
+  occurring_format_string start es = ap (occurring os) (view_format_string start es)
 
 -- ---- printed
 

@@ -15,6 +15,7 @@ pub mod Unindented
 pub mod NameBytes
 pub mod Levels
 pub mod Lists
+pub mod Occurrences
 pub mod NumberSet
 pub mod NameSet
 pub mod Prelude

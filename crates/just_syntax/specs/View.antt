@@ -27,6 +27,8 @@ use Rattle.just_syntax.specs.declared.function_definition.FunctionDefinition.{Fu
 use Rattle.just_syntax.specs.declared.enclosure.Enclosure.{Enclosure}
 use Rattle.just_syntax.specs.declared.interpreter.Interpreter.{Interpreter}
 use Rattle.just_syntax.specs.declared.line.Line.{Line}
+use Rattle.just_syntax.specs.declared.occurrence.Occurrence as declared_occurrence
+use Rattle.just_syntax.specs.declared.occurrence.Occurrence.TheVariants as occurrences
 use Rattle.just_syntax.specs.declared.parameter.Parameter.{Parameter}
 use Rattle.just_syntax.specs.declared.recipe.Recipe.{Recipe}
 use Rattle.just_syntax.specs.declared.set.Set as declared_set
@@ -36,6 +38,7 @@ use Rattle.just_syntax.specs.declared.string_context.StringContext as declared_c
 use Rattle.just_syntax.specs.declared.string_context.StringContext.TheVariants as contexts
 use Rattle.just_syntax.specs.declared.variable_error.VariableError.{VariableError}
 use Rattle.just_syntax.specs.declared.variable_error.VariableError.TheVariants as variables
+use Rattle.just_syntax.specs.Occurrences.{CallAt, CommandAt, Occurrence, VariableAt}
 use Rattle.just_syntax.specs.Plain as plain
 use Rattle.just_syntax.specs.StringContext.{StringContext, EnvKey, Function, Setting}
 use Rattle.just_syntax.specs.Plain.{Expr, Exprs, Pieces}
@@ -229,3 +232,11 @@ text_numbered m n = option_map string_bytes (lookup (nat_eq n) m.entries)
 abbrev pub unknown_name : VariableError → Option plain.Text
 unknown_name (variables.Unknown name) = Some name.now
 unknown_name variables.OutOfMemory = None
+
+abbrev pub occurrence_view : declared_occurrence.Occurrence → Occurrence
+occurrence_view (occurrences.Command contents t) = CommandAt (token_view t) contents.now
+occurrence_view (occurrences.Call name arguments) = CallAt (name_view name) arguments
+occurrence_view (occurrences.Variable name number) = VariableAt (name_view name) number
+
+abbrev pub occurrences_view : List declared_occurrence.Occurrence → List Occurrence
+occurrences_view os = map occurrence_view os

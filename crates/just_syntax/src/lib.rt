@@ -23,6 +23,8 @@ pub mod number;
 pub mod number_set;
 pub mod numbers;
 pub mod numerator;
+pub mod occurrence;
+pub mod occurrences;
 pub mod out_of_memory;
 pub mod parameter;
 pub mod parameter_kind;

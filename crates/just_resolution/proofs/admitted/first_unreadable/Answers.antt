@@ -1,6 +1,7 @@
 use Rattle.std.proofs.Common.{arith, ◌≡◌, ◌∙◌, ◌++◌, true, false, List, map, ap, sym, Bor, option_map}
 use Rattle.std.proofs.lemmas.Bool.{not-false, not-true}
-use Rattle.just_resolution.specs.Prelude.{Text, called_names, function_at, function_view, is_name_in, is_number_in, is_readable, name_view, sites_in, texts}
+use Rattle.just_resolution.specs.Prelude.{Text, called_names, function_at, function_view, is_name_in, is_number_in, is_readable, name_view}
+use Rattle.just_resolution.specs.Prelude.{occurrences_in, texts}
 use Rattle.just_resolution.specs.Prelude.{view}
 use Rattle.just_meaning.proofs.Names.{name_added}
 use Rattle.just_resolution.proofs.Closure.{admits, all_readable, begins, body_reads, closes, emptied, falls_admitted, falls_passed, found_at_once, found_within}
@@ -17,9 +18,9 @@ returns-then-is_some-clause-exact c =
 
 pub loop-name-init : goal.loop-name-init
 loop-name-init c =
-    let names : texts c.look_through.new.pending.items ≡ called_names (sites_in (view c.args.expression.now)) =
+    let names : texts c.look_through.new.pending.items ≡ called_names (occurrences_in (view c.args.expression.now)) =
     c.in_ok-at_once.ensures.calls (sym c.if-is_some.ensures)
-    ∙ ap (λ (bs : List (Bor Text)). texts bs ++ called_names (sites_in (view c.args.expression.now))) c.clear.ensures.items in
+    ∙ ap (λ (bs : List (Bor Text)). texts bs ++ called_names (occurrences_in (view c.args.expression.now))) c.clear.ensures.items in
     begins (map function_view c.args.functions.now) (view c.args.expression.now) (is_readable c.args.here.now) (is_readable c.args.readable.now)
     (is_name_in c.args.admitted.now) (texts c.look_through.new.pending.items) c.requires.closed names
     (reads_at_once (map function_view c.args.functions.now) (view c.args.expression.now) (is_readable c.args.here.now) (is_readable c.args.readable.now)

@@ -1,5 +1,5 @@
 use Rattle.std.proofs.Common.{map}
-use Rattle.just_resolution.specs.Prelude.{all_sites, function_view}
+use Rattle.just_resolution.specs.Prelude.{all_occurrences, function_view}
 use Rattle.just_resolution.proofs.Faults.{LeadsUnknown}
 use Rattle.just_resolution.proofs.known.bodies_fault.Given as goal
 
@@ -7,4 +7,4 @@ use Rattle.just_resolution.proofs.known.bodies_fault.Given as goal
 abbrev pub invariant-loop-function : goal.invariant-loop-function
 invariant-loop-function l =
     let functions = map function_view l.functions in
-    LeadsUnknown functions (all_sites (map (λ f. f.body) (map function_view l.function-iterator))) (all_sites (map (λ f. f.body) functions))
+    LeadsUnknown functions (all_occurrences (map (λ f. f.body) (map function_view l.function-iterator))) (all_occurrences (map (λ f. f.body) functions))

@@ -16,7 +16,7 @@ taking c = record {
   here = c.loop-parameter.self.here;
   bodies = c.args.self.now.bodies;
   admitted = c.loop-parameter.self.admitted;
-  sites = c.loop-parameter.self.sites;
+  occurrences = c.loop-parameter.self.occurrences;
   pending = c.loop-parameter.self.pending;
 }
 
